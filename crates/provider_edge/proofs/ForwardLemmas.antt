@@ -40,9 +40,11 @@ holds_forwarding c f keeps working is = record {
   tidy = tt;
 }
 
--- the marks are as they were
-pub holds_kept : (c : EdgeLists) (f : ForwardingLists) → KeepsForwarding c.forwarding f → c.stopped ≡ true → IfSome c.marks (IsTidy c.plan (seen (record c { forwarding = f }))) → IsEdge c → IsEdge (record c { forwarding = f })
-holds_kept c f keeps working tidy is = record {
+-- the edge has these marks
+pub holds_marked : (c : EdgeLists) (f : ForwardingLists) (marks : Option EndMarks) → KeepsForwarding c.forwarding f → c.stopped ≡ true → IfSome marks (IsTidy c.plan (seen (record c { forwarding = f }))) → IsEdge c
+    → IsEdge (record c { forwarding = f; marks = marks })
+unfolding seen
+holds_marked c f marks keeps working tidy is = record {
   checked = is.checked;
   peerings = is.peerings;
   held = is.held;
@@ -58,6 +60,10 @@ holds_kept c f keeps working tidy is = record {
   synced = λ going. absurd (cc (sym working ∙ going));
   tidy = tidy;
 }
+
+-- the marks are as they were
+pub holds_kept : (c : EdgeLists) (f : ForwardingLists) → KeepsForwarding c.forwarding f → c.stopped ≡ true → IfSome c.marks (IsTidy c.plan (seen (record c { forwarding = f }))) → IsEdge c → IsEdge (record c { forwarding = f })
+holds_kept c f keeps working tidy is = holds_marked c f c.marks keeps working tidy is
 
 pub keeps_forwarding : {m : Option EndMarks} (c : EdgeLists) (f : ForwardingLists) → Keeps c (record c { forwarding = f; marks = m })
 keeps_forwarding c f = record { plan = refl; me = refl; places = refl; count = refl; stopped = refl }
@@ -79,32 +85,32 @@ seen_kept change c f is keeps step =
     forwarding_now c f (keeps.me ∙ is.me) ∙ (step (seen c) ∙ ap change (forwarding_at c is.me))
 
 -- what is seen of an edge is no matter of its marks
-pub seen_unmarked : (c : EdgeLists) → seen (record c { marks = None }) ≡ seen c
+pub seen_marked : (c : EdgeLists) (marks : Option EndMarks) → seen (record c { marks = marks }) ≡ seen c
 unfolding seen
-seen_unmarked c = refl
+seen_marked c marks = refl
 
 -- a change after which the edge knows no marks
 pub seen_forwarding : (change : EdgeState → EdgeState) (c : EdgeLists) (f : ForwardingLists) → IsEdge c → KeepsForwarding c.forwarding f
     → ((edge : EdgeState) → with_forwarding f edge ≡ change (with_forwarding c.forwarding edge))
     → seen (record c { forwarding = f; marks = None }) ≡ change (seen c)
-seen_forwarding change c f is keeps step = seen_unmarked (record c { forwarding = f }) ∙ seen_kept change c f is keeps step
+seen_forwarding change c f is keeps step = seen_marked (record c { forwarding = f }) None ∙ seen_kept change c f is keeps step
 
 -- what was learned at the port that is found is forgotten
 pub seen_forgot : (test : Port → Bool) (c : EdgeLists) (f : ForwardingLists) (service : ServiceId) → IsEdge c → KeepsForwarding c.forwarding f
     → ((edge : EdgeState) → with_forwarding f edge
     ≡ with_addresses service (without_port (position test (ports_of c.forwarding.plan service c.forwarding.me)) (addresses_of (with_forwarding c.forwarding edge) service)) (with_forwarding c.forwarding edge))
-    → seen (record c { forwarding = f; marks = None })
+    → seen (record c { forwarding = f })
     ≡ with_addresses service (without_port (position test (ports_of c.plan service c.me)) (addresses_of (seen c) service)) (seen c)
 seen_forgot test c f service is keeps step =
-    seen_forwarding (λ edge. with_addresses service (without_port (position test (ports_of c.forwarding.plan service c.forwarding.me)) (addresses_of edge service)) edge) c f is keeps step
+    seen_kept (λ edge. with_addresses service (without_port (position test (ports_of c.forwarding.plan service c.forwarding.me)) (addresses_of edge service)) edge) c f is keeps step
     ∙ (ap (λ (p : Plan). with_addresses service (without_port (position test (ports_of p service c.forwarding.me)) (addresses_of (seen c) service)) (seen c)) is.plan
     ∙ ap (λ (m : EdgeId). with_addresses service (without_port (position test (ports_of c.plan service m)) (addresses_of (seen c) service)) (seen c)) is.me)
 
 pub seen_wire : (c : EdgeLists) (f : ForwardingLists) (wire : WireId) → IsEdge c → KeepsForwarding c.forwarding f
     → ((edge : EdgeState) → with_forwarding f edge ≡ forgetting_wire c.forwarding.plan wire (wire_row c.forwarding.plan wire) (with_forwarding c.forwarding edge))
-    → seen (record c { forwarding = f; marks = None }) ≡ forgetting_wire c.plan wire (wire_row c.plan wire) (seen c)
+    → seen (record c { forwarding = f }) ≡ forgetting_wire c.plan wire (wire_row c.plan wire) (seen c)
 seen_wire c f wire is keeps step =
-    seen_forwarding (λ edge. forgetting_wire c.forwarding.plan wire (wire_row c.forwarding.plan wire) edge) c f is keeps step
+    seen_kept (λ edge. forgetting_wire c.forwarding.plan wire (wire_row c.forwarding.plan wire) edge) c f is keeps step
     ∙ ap (λ (p : Plan). forgetting_wire p wire (wire_row p wire) (seen c)) is.plan
 
 pub seen_aged : (c : EdgeLists) (f : ForwardingLists) → IsEdge c → KeepsForwarding c.forwarding f

@@ -21,6 +21,7 @@ use Rattle.pw_signalling.specs.declared.binding.Binding.{Binding}
 use Rattle.pw_signalling.specs.declared.end_role.EndRole.{EndRole}
 use Rattle.pw_signalling.specs.declared.pw_end.PwEnd.{PwEnd}
 use Rattle.pw_signalling.specs.declared.told.Told.{Told}
+use Rattle.pw_stitch.specs.Stitch.{has_told}
 use Rattle.pw_tlvs.specs.declared.pw_status.PwStatus.{PwStatus}
 use Rattle.pw_ends.specs.Ends.{end_in, no_place, place_of}
 use Rattle.peer_dialogue.specs.Wish.{wish_by}
@@ -471,12 +472,17 @@ down_read c slot place end role bits why at read is bit so =
     ∙ ap (λ (e : EndState). down (role_at c.plan (seen c) (place_of c.ends slot)) ((seen c).bits (place_of c.ends slot).wire.0) e) read))
 
 -- an end that advertises nothing does not forward
-pub down_untold : (c : EdgeLists) (slot : ℕ) (end : EndState) (tells : Bool) → end ≡ end_in c.ends slot → tells ≡ is_some (own_told end.local) → tells ≡ false
+pub down_untold : (c : EdgeLists) (slot : ℕ) (end : EndState) (tells : Bool) → end ≡ end_in c.ends slot → tells ≡ has_told end.local → tells ≡ false
     → Some NoLocal ≡ down_at c.plan (seen c) (place_of c.ends slot)
 unfolding seen down
 down_untold c slot end tells read is none =
-    by (own_told (end_in c.ends slot).local) (sym (is ∙ ap (λ (e : EndState). is_some (own_told e.local)) read) ∙ none)
+    by (own_told (end_in c.ends slot).local) (told_own (end_in c.ends slot).local (sym (is ∙ ap (λ (e : EndState). has_told e.local) read) ∙ none))
   where
+    told_own : (own : LocalPart) → has_told own ≡ false → is_some (own_told own) ≡ false
+    told_own (Idle declined) untold = refl
+    told_own (Advertised label content) untold = absurd (cc (untold))
+    told_own (Withdrawing label) untold = refl
+
     role : EndRole
     role = role_at c.plan (seen c) (place_of c.ends slot)
 

@@ -1,6 +1,8 @@
 -- The rows of the messages about pseudowires, and what an end puts, exit by exit.
-use Rattle.std.proofs.Common.{◌≡◌, ◌==◌, ◌∙◌, ℕ, Bool, true, false, List, [], ◌∷◌, ◌++◌, Option, Some, None, cond, option_map, option_and_then, ap, sym}
+use Rattle.std.proofs.Common.{◌≡◌, ◌==◌, ◌∙◌, ℕ, Bool, true, false, List, [], ◌∷◌, ◌++◌, Option, Some, None, cond, option_map, option_and_then, ap, rules, sym}
 use Rattle.std.proofs.lemmas.Bool.{eq-eqb, ne_eqb}
+use Rattle.std.specs.Option.{option_eq}
+use Rattle.net_base.specs.contracts.trace.down.DownPartialEq.TheImpl.{eq-value}
 use Rattle.net_base.specs.declared.outside.link_call.LinkCall.{LinkCall}
 use Rattle.net_base.specs.declared.plan.Plan.{Plan}
 use Rattle.net_base.specs.declared.plan.places.EdgeId.{EdgeId}
@@ -165,6 +167,10 @@ tells_at told place content status edge mid calls out put telling puts =
     puts ∙ ap (says told place.peer (status_notification place.pw_id status content)) (changed_edge (telling_status place status) edge mid calls out telling)
 
 -- ---- a wire that began to forward, or stopped
+
+-- two causes are one exactly where they have one number
+pub causes_alike : (one other : Option Down) → option_eq eq-value.it one other ≡ (cause_number one == cause_number other)
+causes_alike one other = search rules
 
 pub down_same : (place : EndPlace) (wire : WireId) (down : Option Down) (edge : EdgeState) (calls : List LinkCall) (out : List Effect) → place.wire ≡ wire → (cause_number (edge.told_down wire.0) == cause_number down) ≡ true
     → at_edge edge calls out ≡ tells_down place down (at_edge edge calls out)

@@ -1,11 +1,16 @@
 -- What is read of the ends of an edge by their slots.
-use Rattle.std.proofs.Common.{◌≡◌, ◌&&◌, ◌∙◌, ℕ, Bool, true, false, not, Option, Some, None, option_map, position, ap, sym, subst}
+use Rattle.std.proofs.Common.{◌≡◌, ◌&&◌, ◌∙◌, ℕ, Bool, true, false, cond, not, Option, Some, None, option_map, position, ap, sym, subst}
 use Rattle.std.specs.Prelude.{IfSome}
 use Rattle.std.specs.List.{find}
+use Rattle.net_base.specs.declared.plan.wire_plan.Class.{Class}
+use Rattle.net_base.specs.declared.plan.wire_plan.Class.TheVariants as class
+use Rattle.net_base.specs.declared.plan.places.EdgeId.{EdgeId}
 use Rattle.net_base.specs.declared.plan.places.WireId.{WireId}
 use Rattle.net_base.specs.declared.plan.wire_plan.WirePlan.{WirePlan}
-use Rattle.net_base.specs.plan.Places.{wire_row}
+use Rattle.net_base.specs.plan.Paths.{is_last}
+use Rattle.net_base.specs.plan.Places.{is_mesh_class, wire_row}
 use Rattle.pw_signalling.specs.declared.end_role.EndRole.{EndRole}
+use Rattle.pw_signalling.specs.declared.end_role.EndRole.TheVariants as role
 use Rattle.pw_signalling.specs.End.{EndState}
 use Rattle.edge_model.specs.declared.end_place.EndPlace.{EndPlace}
 use Rattle.edge_model.specs.EndPlaces.{end_places}
@@ -21,6 +26,11 @@ use Rattle.provider_edge.specs.Lists.{EdgeLists, seen}
 -- ---- the wire of a slot is one of the plan
 
 -- ---- what is asked of the end of a slot
+
+-- a mesh wire has two equal ends
+pub mesh_role : (row : WirePlan) (me : EdgeId) (chosen : Bool) → row.class ≡ class.Mesh → role.Mesh ≡ end_role_of row me chosen
+mesh_role row me chosen mesh =
+    sym (ap (λ (k : Class). cond (is_mesh_class k) role.Mesh (cond (is_last me.0 row.path) role.Core (cond chosen role.Chosen role.NotChosen))) mesh)
 
 pub role_read : (c now : EdgeLists) (slot : ℕ) (place : EndPlace) (row : WirePlan) (chosen : Bool) (role : EndRole) → c ≡ now → place ≡ place_of now.ends slot → wire_row c.plan place.wire ≡ Some row
     → chosen ≡ is_chosen_wire place.wire ((seen now).chosen row.service.0) → role ≡ end_role_of row c.me chosen → role ≡ role_at now.plan (seen now) (place_of now.ends slot)

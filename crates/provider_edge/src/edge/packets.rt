@@ -2,6 +2,6 @@
 
 mod packet;
 mod ping;
-mod stitched;
+pub(crate) mod stitched;
 mod switched;
 mod verify;

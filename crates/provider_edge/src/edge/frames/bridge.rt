@@ -1,17 +1,15 @@
 //! An inner frame is bridged: copies of it leave at circuits and are sent on wires (RFC 4762 sections 4.1, 4.4 and 7.1).
-ghost use Rattle.std.specs.Prelude.{◌≡◌, ◌≤◌, ◌<◌, ◌+◌, ◌++◌, ◌∷◌, [], ℕ, List, Result, None, Ok, Err, true, length, slice_get, if◌then◌else◌, IfOk, IfSome, OnOk, MatchResult};
+ghost use Rattle.std.specs.Prelude.{◌≡◌, ◌≤◌, ◌<◌, ◌+◌, ◌++◌, [], ℕ, List, Result, None, Ok, Err, true, length, slice_get, if◌then◌else◌, IfOk, IfSome, OnOk, MatchResult};
 ghost use Rattle.net_base.specs.declared.trace.drop_cause.DropCause.{DropCause as Cause};
-ghost use Rattle.net_base.specs.plan.Places.{wire_row};
-ghost use Rattle.net_base.specs.trace.Frame.{dress};
 ghost use Rattle.eth_encap.specs.Fault.{cause_of};
 ghost use Rattle.hvpls_spokes.specs.Port.{ports_of};
 ghost use Rattle.hvpls_spokes.specs.PortSet.{has};
 ghost use Rattle.edge_model.specs.declared.effect.Effect.TheVariants.{Left};
 ghost use Rattle.edge_model.specs.Ends.{wire_end};
-ghost use Rattle.edge_model.specs.Frame.{copies, copy_by, forwarded, hearing, received, tag_of, targets_of};
-ghost use Rattle.edge_model.specs.Send.{sends, sends_copy, sends_under};
+ghost use Rattle.edge_model.specs.Frame.{copies, copy_by, forwarded, hearing, received, targets_of};
+ghost use Rattle.edge_model.specs.Send.{sends, sends_copy};
 ghost use Rattle.edge_model.specs.Synced.{InSync};
-ghost use Rattle.edge_model.specs.Work.{Agrees, Answers, GoesOn};
+ghost use Rattle.edge_model.specs.Work.{Agrees, Answers};
 ghost use Rattle.pw_ends.specs.Ends.{end_in, place_of};
 ghost use Rattle.edge_forwarding.specs.Forwarding.{open_ports};
 ghost use Rattle.provider_edge.specs.Taking.{copied_by};
@@ -27,12 +25,8 @@ use edge_forwarding::{dressed, join, packet_of};
 use edge_model::Effect;
 use eth_encap::FrameFault;
 use hvpls_spokes::{Port, PortSet, Ports};
-use net_base::{
-    Arrival, CircuitId, DropCause, EdgeId, Link, LinkStop, List, NoMemory, Octets, ServiceId,
-    WireId,
-};
+use net_base::{Arrival, DropCause, Link, LinkStop, NoMemory, Octets, ServiceId, WireId};
 use peer_dialogue::AtWork;
-use std::alloc::Global;
 
 impl Edge {
     // What came by a port of a service, and was read as parts that join to its inner frame: what has a fault is dropped, and teaches
@@ -64,7 +58,8 @@ impl Edge {
         self.bridge_octets(ingress, frame.as_slice(), work)
     }
 
-    // An inner frame came by a port of a service: it is heard by the bridge of the service, and then its copies go out.
+    // An inner frame came by a port of a service: it is heard by the bridge of the service, and then its copies go out by those ports
+    // that are targets, in port order.
     fn bridge_octets<L: Link>(
         &mut self,
         ingress: Ingress,
@@ -84,15 +79,23 @@ impl Edge {
             return Ok(());
         };
         let targets = self.hear_frame(arrival, ingress.service, frame);
+        let edge = &*self;
+        let Some(ports) = edge.ports(ingress.service) else {
+            return Ok(());
+        };
         let egress = Egress {
             came: ingress.came,
             targets: &targets,
             frame,
         };
-        self.put_copies(ingress.service, &egress, work)
+        for port in 0..ports.len() {
+            edge.put_copy(ports, port, &egress, work)?;
+        }
+        Ok(())
     }
 
-    // The bridge of a service hears an inner frame by a port that forwards, and decides on the targets.
+    // The bridge of a service hears an inner frame by a port that forwards, and decides on the targets. What always holds of an edge is
+    // proved again where this ends.
     fn hear_frame(&mut self, arrival: u16, service: ServiceId, frame: &[u8]) -> PortSet
         requires working { self.old.stopped ≡ true }
         requires service { service.0 < length self.old.plan.services }
@@ -106,30 +109,7 @@ impl Edge {
         self.forwarding.hear(arrival, service, frame)
     }
 
-    // The copies of an inner frame by those ports of a service that are targets, in port order.
-    fn put_copies<L: Link>(
-        &self,
-        service: ServiceId,
-        egress: &Egress<'_>,
-        work: &mut AtWork<'_, L>,
-    ) -> Result<(), NoMemory>
-        requires service { service.0 < length self.now.plan.services }
-        requires header { 14 ≤ length egress.now.frame.now }
-        ensures goes { WorkGoes L.calls work.old work.new }
-        ensures step { OnOk result ((told : Answers) → Agrees told (L.calls work.new.link.now)
-            → at_work L.calls self.now work.new
-            ≡ copies (has egress.now.targets.now) (copy_by self.now.plan told egress.now.came egress.now.frame.now) 0 (ports_of self.now.plan service self.now.me) (at_work L.calls self.now work.old)) }
-    {
-        let Some(ports) = self.ports(service) else {
-            return Ok(());
-        };
-        for port in 0..ports.len() {
-            self.put_copy(ports, port, egress, work)?;
-        }
-        Ok(())
-    }
-
-    // The ports of a service; `None` exactly where it has none at the edge.
+    // The ports of a service; `None` exactly where it has none at the edge. A function of its own, since it says so of the edge's plan.
     pub(crate) fn ports(&self, service: ServiceId) -> Option<&Ports>
         requires { service.0 < length self.now.plan.services }
         ensures some { IfSome result (λ ports. ports.now ≡ ports_of self.now.plan service self.now.me) }
@@ -160,44 +140,21 @@ impl Edge {
         let Some(port) = ports.get(port) else {
             return Ok(());
         };
-        match port {
-            Port::Circuit(circuit) => self.leave(
-                work.alloc,
-                circuit,
-                egress.frame,
-                &mut work.effects.list,
-            ),
-            Port::Mesh(wire) => self.send_copy(egress.came, wire, egress.frame, work),
-            Port::Spoke(wire) => self.send_copy(egress.came, wire, egress.frame, work),
-        }
-    }
-
-    // The frame leaves at a circuit, with the circuit's tag.
-    fn leave(
-        &self,
-        alloc: Global,
-        circuit: CircuitId,
-        frame: &[u8],
-        out: &mut List<Effect>,
-    ) -> Result<(), NoMemory>
-        requires header { 14 ≤ length frame.now }
-        ensures { OnOk result (out.new ≡ out.old ++ Left circuit (dress (tag_of self.now.plan circuit) frame.now) ∷ []) }
-    {
-        let bytes = dressed(alloc, self.tag_of(circuit), frame)?;
-        out.push(Effect::Left { circuit, bytes })
-    }
-
-    // The tag of a circuit.
-    fn tag_of(&self, circuit: CircuitId) -> Option<u16>
-        ensures { result ≡ tag_of self.now.plan circuit }
-    {
-        match self.plan.circuits.get(circuit.0 as usize) {
+        let circuit = match port {
+            Port::Circuit(circuit) => circuit,
+            Port::Mesh(wire) => return self.send_copy(egress.came, wire, egress.frame, work),
+            Port::Spoke(wire) => return self.send_copy(egress.came, wire, egress.frame, work),
+        };
+        let tag = match self.plan.circuits.get(circuit.0 as usize) {
             Some(row) => row.tag,
             None => None,
-        }
+        };
+        let bytes = dressed(work.alloc, tag, egress.frame)?;
+        work.effects.list.push(Effect::Left { circuit, bytes })
     }
 
-    // A copy is sent on a wire of which the edge is a terminal edge.
+    // A copy is sent on a wire of which the edge is a terminal edge, under the label that the peer advertises; nothing is where the end
+    // holds none.
     fn send_copy<L: Link>(
         &self,
         came: Arrival,
@@ -211,27 +168,9 @@ impl Edge {
             → at_work L.calls self.now work.new
             ≡ sends_copy self.now.plan told came frame.now (wire_end self.now.plan self.now.me wire) (at_work L.calls self.now work.old)) }
     {
-        match self.ends.terminal(wire) {
-            Some(slot) => self.send_by(slot, came, frame, work),
-            None => Ok(()),
-        }
-    }
-
-    // A copy is sent by the end of a slot, under the label that the peer advertises; nothing is where the end holds none.
-    fn send_by<L: Link>(
-        &self,
-        slot: usize,
-        came: Arrival,
-        frame: &[u8],
-        work: &mut AtWork<'_, L>,
-    ) -> Result<(), NoMemory>
-        requires slot { slot < length self.now.ends.places }
-        requires header { 14 ≤ length frame.now }
-        ensures goes { WorkGoes L.calls work.old work.new }
-        ensures step { OnOk result ((told : Answers) → Agrees told (L.calls work.new.link.now)
-            → at_work L.calls self.now work.new
-            ≡ sends_under told came frame.now self.now.me (place_of self.now.ends slot) (wire_row self.now.plan (place_of self.now.ends slot).wire) (end_in self.now.ends slot).remote (at_work L.calls self.now work.old)) }
-    {
+        let Some(slot) = self.ends.terminal(wire) else {
+            return Ok(());
+        };
         let place = self.place_at(slot);
         let Some(row) = self.plan.wires.get(place.wire.0 as usize) else {
             return Ok(());
@@ -244,6 +183,7 @@ impl Edge {
     }
 
     // A packet is sent by the end of a slot: what the link does not take is dropped.
+    #[tactic(auto, using(peer_dialogue::proofs::SpeakerLemmas::goes_by))]
     pub(crate) fn send<L: Link>(
         &self,
         slot: usize,
@@ -257,27 +197,15 @@ impl Edge {
             → at_work L.calls self.now work.new ≡ sends told (place_of self.now.ends slot) came packet (at_work L.calls self.now work.old)) }
     {
         let place = self.place_at(slot);
-        if !send_bytes(place.peer, packet.as_slice(), work.link)? {
-            return drop_for(DropCause::LinkFault, &mut work.effects.list);
+        match work.link.send(place.peer, packet.as_slice()) {
+            Ok(()) => work.effects.list.push(Effect::Sent {
+                peer: place.peer,
+                wire: place.wire,
+                arrival: came,
+                bytes: packet,
+            }),
+            Err(LinkStop::Failed) => drop_for(DropCause::LinkFault, &mut work.effects.list),
+            Err(LinkStop::NoMemory) => Err(NoMemory),
         }
-        work.effects.list.push(Effect::Sent {
-            peer: place.peer,
-            wire: place.wire,
-            arrival: came,
-            bytes: packet,
-        })
-    }
-}
-
-// Sends a packet, and answers whether the link took it.
-#[tactic(auto, using(peer_dialogue::proofs::SpeakerLemmas::goes_by))]
-fn send_bytes<L: Link>(peer: EdgeId, packet: &[u8], link: &mut L) -> Result<bool, NoMemory>
-    ensures called { IfOk result (λ taken. L.calls link.new ≡ L.calls link.old ++ record { peer = peer; packet = true; bytes = packet.now; taken = taken } ∷ []) }
-    ensures calls { GoesOn (L.calls link.old) (L.calls link.new) }
-{
-    match link.send(peer, packet) {
-        Ok(()) => Ok(true),
-        Err(LinkStop::Failed) => Ok(false),
-        Err(LinkStop::NoMemory) => Err(NoMemory),
     }
 }

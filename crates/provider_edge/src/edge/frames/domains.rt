@@ -9,34 +9,21 @@ ghost use Rattle.provider_edge.specs.Lists.{Keeps, seen};
 
 use crate::Edge;
 use net_base::{CircuitId, ServiceId};
-use vsi_bridge::Bridge;
 
 impl Edge {
     // Turns a circuit of a service at the edge, which unsettles no end.
+    #[tactic(auto, using(crate::proofs::ForwardLemmas::keeps_forwarding))]
     pub(crate) fn set_circuit(&mut self, circuit: CircuitId, service: ServiceId, on: bool)
         requires working { self.old.stopped ≡ true }
         requires own { own_service self.old.me (circuit_row self.old.plan circuit) ≡ Some service }
         ensures keeps { Keeps self.old self.new }
         ensures step { seen self.new ≡ with_circuit circuit on (seen self.old) }
     {
-        let marks = self.marks;
-        self.put_circuit(circuit, service, on);
-        self.keep_marks(marks);
-    }
-
-    // Turns a circuit of a service at the edge.
-    #[tactic(auto, using(crate::proofs::ForwardLemmas::holds_forwarding, crate::proofs::ForwardLemmas::keeps_forwarding))]
-    fn put_circuit(&mut self, circuit: CircuitId, service: ServiceId, on: bool)
-        requires working { self.old.stopped ≡ true }
-        requires own { own_service self.old.me (circuit_row self.old.plan circuit) ≡ Some service }
-        ensures keeps { Keeps self.old self.new }
-        ensures step { seen self.new ≡ with_circuit circuit on (seen self.old) }
-    {
-        self.marks = None;
         self.forwarding.turn(circuit, service, on);
     }
 
     // The bridge forgets what it learned at a circuit of a service at the edge, which unsettles no end.
+    #[tactic(auto, using(crate::proofs::ForwardLemmas::keeps_forwarding))]
     pub(crate) fn forget_circuit(&mut self, circuit: CircuitId, service: ServiceId)
         requires working { self.old.stopped ≡ true }
         requires own { own_service self.old.me (circuit_row self.old.plan circuit) ≡ Some service }
@@ -44,21 +31,6 @@ impl Edge {
         ensures step { seen self.new
             ≡ with_addresses service (without_port (position (is_circuit_port circuit) (ports_of self.old.plan service self.old.me)) (addresses_of (seen self.old) service)) (seen self.old) }
     {
-        let marks = self.marks;
-        self.drop_circuit(circuit, service);
-        self.keep_marks(marks);
-    }
-
-    // The bridge drops what it learned at a circuit of a service at the edge.
-    #[tactic(auto, using(crate::proofs::ForwardLemmas::holds_forwarding, crate::proofs::ForwardLemmas::keeps_forwarding))]
-    fn drop_circuit(&mut self, circuit: CircuitId, service: ServiceId)
-        requires working { self.old.stopped ≡ true }
-        requires own { own_service self.old.me (circuit_row self.old.plan circuit) ≡ Some service }
-        ensures keeps { Keeps self.old self.new }
-        ensures step { seen self.new
-            ≡ with_addresses service (without_port (position (is_circuit_port circuit) (ports_of self.old.plan service self.old.me)) (addresses_of (seen self.old) service)) (seen self.old) }
-    {
-        self.marks = None;
         self.forwarding.forget_circuit(circuit, service);
     }
 

@@ -12,8 +12,7 @@ ghost use Rattle.provider_edge.specs.Lists.{seen};
 use crate::Edge;
 use crate::ingress::Ingress;
 use edge_forwarding::read_inner;
-use eth_encap::FrameFault;
-use net_base::{Arrival, CircuitId, CircuitPlan, EdgeId, Link, NoMemory, ServiceId};
+use net_base::{Arrival, CircuitId, Link, NoMemory, ServiceId};
 use peer_dialogue::AtWork;
 
 impl Edge {
@@ -54,15 +53,8 @@ impl Edge {
         ensures { result ≡ own_service self.now.me (circuit_row self.now.plan circuit) }
     {
         match self.plan.circuits.get(circuit.0 as usize) {
-            Some(row) if is_at(row, self.me) => Some(row.service),
+            Some(row) if row.edge == self.me => Some(row.service),
             Some(_) | None => None,
         }
     }
-}
-
-// Whether the circuit with this row lies at the edge.
-fn is_at(row: &CircuitPlan, edge: EdgeId) -> bool
-    ensures { result ≡ (row.now.edge.0 == edge.0) }
-{
-    row.edge == edge
 }

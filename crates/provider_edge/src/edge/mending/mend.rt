@@ -27,19 +27,8 @@ impl Edge {
         if self.is_tidy() {
             return Ok(());
         }
-        self.mend_rounds(work)
-    }
-
-    // Round after round, until the link took each message of one.
-    fn mend_rounds<L: Link>(&mut self, work: &mut AtWork<'_, L>) -> Result<(), NoMemory>
-        requires working { self.old.stopped ≡ true }
-        ensures goes { Works L.calls self.old work.old self.new work.new }
-        ensures step { OnOk result ((told : Answers) → Agrees told (L.calls work.new.link.now)
-            → at_work L.calls self.new work.new ≡ mends self.old.plan told (at_work L.calls self.old work.old)) }
-    {
-        // Named so that what always holds of the fields is at hand for the proof.
-        let _ = &self.plan;
-        let rounds = self.count_rounds();
+        // Each round but the last one ends a session.
+        let rounds = self.plan.edges.len() + 1;
         for _round in 0..rounds {
             if !self.mend_once(work)? {
                 self.keep_marks(Some(EndMarks::none()));
@@ -47,13 +36,6 @@ impl Edge {
             }
         }
         Ok(())
-    }
-
-    // How often the edge mends at most: each round but the last one ends a session.
-    fn count_rounds(&self) -> usize
-        ensures { result ≡ length self.now.plan.edges + 1 }
-    {
-        self.plan.edges.len() + 1
     }
 
     // All steps once; answers whether the link did not take a message.

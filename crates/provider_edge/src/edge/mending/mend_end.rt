@@ -1,13 +1,12 @@
 //! One end is mended: what it tells follows what it should tell by now (RFC 8077 sections 6 and 6.3).
-ghost use Rattle.std.specs.Prelude.{◌≡◌, ◌<◌, ◌≤◌, ◌==◌, ◌&&◌, not, List, length, None, is_some, true, IfOk, OnOk, if◌then◌else◌};
+ghost use Rattle.std.specs.Prelude.{◌≡◌, ◌<◌, ◌≤◌, List, length, None, true, IfOk, OnOk};
 ghost use Rattle.net_base.specs.declared.outside.link_call.LinkCall.{LinkCall};
 ghost use Rattle.net_base.specs.plan.Places.{wire_row};
 ghost use Rattle.edge_model.specs.declared.end_place.EndPlace.{EndPlace};
 ghost use Rattle.pw_signalling.specs.AnyEnd.{end_of};
-ghost use Rattle.pw_signalling.specs.Down.{own_told};
 ghost use Rattle.pw_ends.specs.Ends.{HasKind, Holds, IsIdle, end_in, place_of};
-ghost use Rattle.edge_model.specs.Mend.{advertises_wish, cause_number, forgetting_wire, is_new_choice, mends_choice, mends_end, mends_status, stands, tells_down, tells_new_status, wish, withdraws_unless};
-ghost use Rattle.edge_model.specs.Role.{down_at, end_role_of, is_chosen_wire, role_at};
+ghost use Rattle.edge_model.specs.Mend.{advertises_wish, forgetting_wire, is_new_choice, mends_choice, mends_end, mends_status, stands, tells_down, wish};
+ghost use Rattle.edge_model.specs.Role.{down_at, is_chosen_wire, role_at};
 ghost use Rattle.edge_model.specs.State.{with_told_down};
 ghost use Rattle.edge_model.specs.Work.{Agrees, Answers};
 ghost use Rattle.provider_edge.specs.Mending.{forgotten_down, mended_down};
@@ -17,16 +16,17 @@ ghost use Rattle.provider_edge.specs.AtWork.{Works, at_work};
 ghost use Rattle.provider_edge.specs.Lists.{Keeps, seen};
 
 use crate::Edge;
+use crate::edge::packets::stitched::has_told;
 use edge_model::{Effect, EndPlace};
-use net_base::{Class, Down, Label, Link, List, NoMemory, ServiceId, WireId, WirePlan};
+use net_base::{Class, Down, Link, List, NoMemory, ServiceId, WireId};
 use peer_dialogue::{AtWork, PwMessage};
 use pw_ends::role_of;
 use pw_signalling::{EndRole, PwEnd, Told};
 use pw_stitch::is_same_but_status;
-use pw_tlvs::PwStatus;
 
 impl Edge {
-    // An end is advertised, withdrawn or left; answers whether the link did not take a message.
+    // An idle end is advertised, and one that advertises withdraws its label, and puts that, where what it has told no longer stands;
+    // answers whether the link did not take a message.
     pub(crate) fn mend_end<L: Link>(
         &mut self,
         slot: usize,
@@ -51,7 +51,14 @@ impl Edge {
                 }
                 let label = end.label();
                 let content = *end.told();
-                self.put_withdrawal(slot, label, content, work)
+                let place = self.place_at(slot);
+                self.withdraw(slot);
+                let message = PwMessage::Withdrawal {
+                    pw_id: place.pw_id,
+                    label,
+                    told: content,
+                };
+                self.say(place.peer, &message, work)
             }
             PwEnd::Withdrawing(_) => Ok(false),
         }
@@ -89,45 +96,19 @@ impl Edge {
         self.say(place.peer, &message, work)
     }
 
-    // An end that advertises withdraws its label, and puts that, where what it has told no longer stands.
-    fn put_withdrawal<L: Link>(
-        &mut self,
-        slot: usize,
-        label: Label,
-        content: Told,
-        work: &mut AtWork<'_, L>,
-    ) -> Result<bool, NoMemory>
-        requires working { self.old.stopped ≡ true }
-        requires slot { slot < length self.old.ends.places }
-        requires kind { content.kind ≤ 0x7FFF }
-        ensures goes { Works L.calls self.old work.old self.new work.new }
-        ensures step { IfOk result (λ failed. (told : Answers) → Agrees told (L.calls work.new.link.now)
-            → record { work = at_work L.calls self.new work.new; failed = failed }
-            ≡ withdraws_unless told (place_of self.old.ends slot) label content (wish self.old.plan (seen self.old) (place_of self.old.ends slot)) (at_work L.calls self.old work.old)) }
-    {
-        if self.still_stands(slot, &content) {
-            return Ok(false);
-        }
-        let place = self.place_at(slot);
-        self.withdraw(slot);
-        let message = PwMessage::Withdrawal {
-            pw_id: place.pw_id,
-            label,
-            told: content,
-        };
-        self.say(place.peer, &message, work)
-    }
-
-    // What an end has told still stands. A terminal end needs to know no more than that it should tell anything.
+    // What an end has told still stands: a terminal end's offer while it tells anything, and what a switching point passes on while no
+    // more than its status has changed (RFC 6073 section 10).
     fn still_stands(&self, slot: usize, content: &Told) -> bool
         requires { slot < length self.now.ends.places }
         ensures { result ≡ stands (place_of self.now.ends slot) content.now (wish self.now.plan (seen self.now) (place_of self.now.ends slot)) }
     {
-        let place = self.place_at(slot);
-        if place.terminal {
+        if self.place_at(slot).terminal {
             return self.has_wish(slot);
         }
-        stands(&place, content, self.wish(slot))
+        match self.wish(slot) {
+            Some(wished) => is_same_but_status(content, &wished),
+            None => false,
+        }
     }
 
     // A status that has changed is told, where the end's mapping carries one; answers whether the link did not take a message.
@@ -152,37 +133,18 @@ impl Edge {
                     return Ok(false);
                 }
                 let content = *end.told();
-                self.put_status(slot, content, status, work)
+                let place = self.place_at(slot);
+                self.tell(slot, status);
+                let message = PwMessage::Status {
+                    pw_id: place.pw_id,
+                    status,
+                    told: content,
+                };
+                self.say(place.peer, &message, work)
             }
             PwEnd::Idle(_) => Ok(false),
             PwEnd::Withdrawing(_) => Ok(false),
         }
-    }
-
-    // An end tells a new status, and puts that.
-    fn put_status<L: Link>(
-        &mut self,
-        slot: usize,
-        content: Told,
-        status: PwStatus,
-        work: &mut AtWork<'_, L>,
-    ) -> Result<bool, NoMemory>
-        requires working { self.old.stopped ≡ true }
-        requires slot { slot < length self.old.ends.places }
-        requires kind { content.kind ≤ 0x7FFF }
-        ensures goes { Works L.calls self.old work.old self.new work.new }
-        ensures step { IfOk result (λ failed. (told : Answers) → Agrees told (L.calls work.new.link.now)
-            → record { work = at_work L.calls self.new work.new; failed = failed }
-            ≡ tells_new_status told (place_of self.old.ends slot) content status (at_work L.calls self.old work.old)) }
-    {
-        let place = self.place_at(slot);
-        self.tell(slot, status);
-        let message = PwMessage::Status {
-            pw_id: place.pw_id,
-            status,
-            told: content,
-        };
-        self.say(place.peer, &message, work)
     }
 
     // A spoke that was chosen anew withdraws addresses; answers whether the link did not take that. Before this round the edge
@@ -213,16 +175,11 @@ impl Edge {
     {
         let wire = self.place_at(slot).wire;
         match self.plan.wires.get(wire.0 as usize) {
-            Some(row) => self.is_new(chosen, wire, row.service),
+            Some(row) => {
+                self.is_chosen(wire, row.service) && !is_wire_of(chosen, wire, row.service)
+            }
             None => false,
         }
-    }
-
-    // Whether the wire is the one that is chosen for a service now, and was not before.
-    fn is_new(&self, chosen: &[Option<WireId>], wire: WireId, service: ServiceId) -> bool
-        ensures { result ≡ (is_chosen_wire wire ((seen self.now).chosen service.0) && not (is_chosen_wire wire (view None chosen.now service.0))) }
-    {
-        self.is_chosen(wire, service) && !is_wire_of(chosen, wire, service)
     }
 
     // What was learned at a wire whose terminal end does not forward is forgotten; a wire that began to forward, or stopped, is told at
@@ -244,43 +201,21 @@ impl Edge {
             return Ok(());
         }
         let down = self.down_of(slot);
-        self.forget_by(place.wire, down);
+        if down.is_none() {
+            return self.tell_by(place.wire, down, out);
+        }
+        self.forget_wire(place.wire);
         self.tell_by(place.wire, down, out)
     }
 
-    // What was learned at a wire is forgotten, where its end does not forward for a cause.
-    fn forget_by(&mut self, wire: WireId, down: Option<Down>)
-        requires working { self.old.stopped ≡ true }
-        requires within { wire.0 < length self.old.plan.wires }
-        ensures keeps { Keeps self.old self.new }
-        ensures step { seen self.new ≡ (if is_some down then forgetting_wire self.old.plan wire (wire_row self.old.plan wire) (seen self.old) else seen self.old) }
-    {
-        if down.is_some() {
-            self.forget_wire(wire);
-        }
-    }
-
     // What was learned at a wire is forgotten, which unsettles no end.
+    #[tactic(auto, using(crate::proofs::ForwardLemmas::keeps_forwarding))]
     fn forget_wire(&mut self, wire: WireId)
         requires working { self.old.stopped ≡ true }
         requires within { wire.0 < length self.old.plan.wires }
         ensures keeps { Keeps self.old self.new }
         ensures step { seen self.new ≡ forgetting_wire self.old.plan wire (wire_row self.old.plan wire) (seen self.old) }
     {
-        let marks = self.marks;
-        self.drop_learned(wire);
-        self.keep_marks(marks);
-    }
-
-    // What was learned at a wire is dropped.
-    #[tactic(auto, using(crate::proofs::ForwardLemmas::holds_forwarding, crate::proofs::ForwardLemmas::keeps_forwarding))]
-    fn drop_learned(&mut self, wire: WireId)
-        requires working { self.old.stopped ≡ true }
-        requires within { wire.0 < length self.old.plan.wires }
-        ensures keeps { Keeps self.old self.new }
-        ensures step { seen self.new ≡ forgetting_wire self.old.plan wire (wire_row self.old.plan wire) (seen self.old) }
-    {
-        self.marks = None;
         self.forwarding.forget_wire(wire);
     }
 
@@ -297,23 +232,15 @@ impl Edge {
         ensures step { OnOk result ((place : EndPlace) (calls : List LinkCall) → place.wire ≡ wire
             → at_edge (seen self.new) calls out.new ≡ tells_down place down (at_edge (seen self.old) calls out.old)) }
     {
-        if is_same(self.told_last(wire), down) {
+        if self.forwarding.told_last(wire) == down {
             return Ok(());
         }
         self.set_told(wire, down);
         out.push(Effect::Wire { wire, down })
     }
 
-    // What was told last of the end of a wire.
-    #[tactic(auto, unfolding(crate::specs::Lists::seen))]
-    fn told_last(&self, wire: WireId) -> Option<Down>
-        requires { wire.0 < length self.now.plan.wires }
-        ensures { result ≡ (seen self.now).told_down wire.0 }
-    {
-        self.forwarding.told_last(wire)
-    }
-
     // This is told of the end of a wire, whose ends are marked.
+    #[tactic(auto, using(crate::proofs::ForwardLemmas::keeps_forwarding))]
     fn set_told(&mut self, wire: WireId, down: Option<Down>)
         requires working { self.old.stopped ≡ true }
         requires within { wire.0 < length self.old.plan.wires }
@@ -321,20 +248,8 @@ impl Edge {
         ensures step { seen self.new ≡ with_told_down wire down (seen self.old) }
     {
         let marks = self.marks_at(wire);
-        self.put_told(wire, down);
-        self.keep_marks(marks);
-    }
-
-    // This is told of the end of a wire.
-    #[tactic(auto, using(crate::proofs::ForwardLemmas::holds_forwarding, crate::proofs::ForwardLemmas::keeps_forwarding))]
-    fn put_told(&mut self, wire: WireId, down: Option<Down>)
-        requires working { self.old.stopped ≡ true }
-        requires within { wire.0 < length self.old.plan.wires }
-        ensures keeps { Keeps self.old self.new }
-        ensures step { seen self.new ≡ with_told_down wire down (seen self.old) }
-    {
-        self.marks = None;
         self.forwarding.tell(wire, down);
+        self.marks = marks;
     }
 
     // Where the end of a slot is, at a wire of the plan.
@@ -375,19 +290,11 @@ impl Edge {
     {
         let wire = self.place_at(slot).wire;
         match self.plan.wires.get(wire.0 as usize) {
-            Some(row) => self.role_in(row, wire),
+            Some(row) => match row.class {
+                Class::Mesh => EndRole::Mesh,
+                Class::Spoke => role_of(row, self.me, self.is_chosen(wire, row.service)),
+            },
             None => EndRole::Mesh,
-        }
-    }
-
-    // What its end of a wire is to the wire's service.
-    #[tactic(auto, unfolding(crate::specs::Lists::seen))]
-    fn role_in(&self, row: &WirePlan, wire: WireId) -> EndRole
-        ensures { result ≡ end_role_of row.now self.now.me (is_chosen_wire wire ((seen self.now).chosen row.now.service.0)) }
-    {
-        match row.class {
-            Class::Mesh => EndRole::Mesh,
-            Class::Spoke => role_of(row, self.me, self.is_chosen(wire, row.service)),
         }
     }
 
@@ -408,33 +315,12 @@ impl Edge {
         requires { slot < length self.now.ends.places }
         ensures { result ≡ down_at self.now.plan (seen self.now) (place_of self.now.ends slot) }
     {
-        if !advertises(self.end_in(slot)) {
+        if !has_told(self.end_in(slot)) {
             return Some(Down::NoLocal);
         }
         let place = self.place_at(slot);
         let role = self.role_of(slot);
         self.end_in(slot).why_down(role, self.bits_of(place.wire))
-    }
-}
-
-// Whether an end advertises a label.
-fn advertises(end: &PwEnd) -> bool
-    ensures { result ≡ is_some (own_told (end_of end.now).local) }
-{
-    match end {
-        PwEnd::Advertised(_) => true,
-        PwEnd::Idle(_) | PwEnd::Withdrawing(_) => false,
-    }
-}
-
-// What an end has told still stands: a terminal end's offer while it tells anything, and what a switching point passes on while no
-// more than its status has changed (RFC 6073 section 10).
-fn stands(place: &EndPlace, content: &Told, wished: Option<Told>) -> bool
-    ensures { result ≡ stands place.now content.now wished }
-{
-    match wished {
-        Some(wished) => place.terminal || is_same_but_status(content, &wished),
-        None => false,
     }
 }
 
@@ -445,29 +331,5 @@ fn is_wire_of(chosen: &[Option<WireId>], wire: WireId, service: ServiceId) -> bo
     match chosen.get(service.0 as usize) {
         Some(Some(chosen)) => *chosen == wire,
         Some(None) | None => false,
-    }
-}
-
-// Whether two answers why an end does not forward are the same.
-fn is_same(one: Option<Down>, other: Option<Down>) -> bool
-    ensures { result ≡ (cause_number one == cause_number other) }
-{
-    cause_number(one) == cause_number(other)
-}
-
-// The number of a cause in the order of causes, and 0 where there is none.
-fn cause_number(down: Option<Down>) -> u8
-    ensures { result ≡ cause_number down }
-{
-    match down {
-        None => 0,
-        Some(Down::NoLocal) => 1,
-        Some(Down::NoRemote) => 2,
-        Some(Down::CBit) => 3,
-        Some(Down::Kind) => 4,
-        Some(Down::Mtu) => 5,
-        Some(Down::LocalFault) => 6,
-        Some(Down::RemoteFault) => 7,
-        Some(Down::Standby) => 8,
     }
 }

@@ -1,19 +1,18 @@
 //! What an end should tell (RFC 8077 sections 6 and 6.3): a terminal end of itself, and a switching point what it has from its
 //! other side (RFC 6073 section 7).
 ghost use Rattle.std.specs.Prelude.{◌≡◌, ◌<◌, ◌≤◌, length, is_some, Some, true, false, IfSome};
-ghost use Rattle.net_base.specs.plan.Paths.{edge_address, offer_of};
+ghost use Rattle.net_base.specs.plan.Paths.{offer_of};
 ghost use Rattle.net_base.specs.plan.Places.{wire_row};
 ghost use Rattle.pw_tlvs.specs.Written.{has_vlan};
-ghost use Rattle.pw_stitch.specs.Passing.{own_point};
 ghost use Rattle.pw_ends.specs.Ends.{place_of};
-ghost use Rattle.edge_model.specs.Mend.{passed_wish, terminal_wish, wish, wish_by};
-ghost use Rattle.edge_model.specs.Role.{own_status, status_to_tell};
+ghost use Rattle.edge_model.specs.Mend.{passed_wish, terminal_wish, wish};
+ghost use Rattle.edge_model.specs.Role.{status_to_tell};
 ghost use Rattle.provider_edge.specs.Mending.{may_tell_end};
 ghost use Rattle.provider_edge.specs.Lists.{seen};
 
 use crate::Edge;
 use edge_model::EndPlace;
-use net_base::{EdgeId, WirePlan};
+use net_base::WirePlan;
 use peer_dialogue::terminal_wish;
 use pw_signalling::Told;
 use pw_stitch::{passed_status, wanted};
@@ -33,10 +32,15 @@ impl Edge {
         if !self.may_tell(&place) {
             return None;
         }
-        self.wish_by(slot, row)
+        if place.terminal {
+            self.terminal_wish(slot, row)
+        } else {
+            self.passed_wish(slot, row)
+        }
     }
 
-    // Whether a terminal end should tell anything.
+    // Whether a terminal end should tell anything. One without failure bits tells its offer, where its wire is on and the session with
+    // its peer is up.
     pub(crate) fn has_wish(&self, slot: usize) -> bool
         requires slot { slot < length self.now.ends.places }
         requires terminal { (place_of self.now.ends slot).terminal ≡ true }
@@ -44,23 +48,12 @@ impl Edge {
     {
         let place = self.place_at(slot);
         match self.plan.wires.get(place.wire.0 as usize) {
-            Some(row) => self.may_tell(&place) && self.tells_offer(slot, row),
+            Some(row) => {
+                self.may_tell(&place)
+                    && (self.bits_of(place.wire) == 0 || self.terminal_wish(slot, row).is_some())
+            }
             None => false,
         }
-    }
-
-    // Whether a terminal end should tell its offer, where its wire is on and the session with its peer is up: an end without failure
-    // bits should.
-    fn tells_offer(&self, slot: usize, row: &WirePlan) -> bool
-        requires slot { slot < length self.now.ends.places }
-        requires row { wire_row self.now.plan (place_of self.now.ends slot).wire ≡ Some row.now }
-        ensures { result ≡ is_some (terminal_wish self.now.plan (seen self.now) (place_of self.now.ends slot) (offer_of row.now (seen self.now).me.0)) }
-    {
-        let place = self.place_at(slot);
-        if self.bits_of(place.wire) == 0 {
-            return true;
-        }
-        self.terminal_wish(slot, row).is_some()
     }
 
     // The wire of an end is on, and the session with its peer is up.
@@ -70,21 +63,6 @@ impl Edge {
         ensures { result ≡ may_tell_end (seen self.now) place.now }
     {
         self.wires_on[place.wire.0 as usize] && self.is_up(place.peer)
-    }
-
-    // What an end of this wire should tell, where its wire is on and the session with its peer is up.
-    fn wish_by(&self, slot: usize, row: &WirePlan) -> Option<Told>
-        requires slot { slot < length self.now.ends.places }
-        requires row { wire_row self.now.plan (place_of self.now.ends slot).wire ≡ Some row.now }
-        ensures wish { result ≡ wish_by self.now.plan (seen self.now) (place_of self.now.ends slot) row.now }
-        ensures kind { IfSome result (λ told. told.kind ≤ 0x7FFF) }
-        ensures vlan { IfSome result (λ told. has_vlan told.vlan ≡ true) }
-    {
-        if self.place_at(slot).terminal {
-            self.terminal_wish(slot, row)
-        } else {
-            self.passed_wish(slot, row)
-        }
     }
 
     // What a terminal end tells of itself.
@@ -106,7 +84,7 @@ impl Edge {
         )
     }
 
-    // What a switching point has of the neighbour on the other side of an end, behind its own point.
+    // What a switching point has of the neighbour on the other side of an end, behind its own point (RFC 6073 section 7.4).
     fn passed_wish(&self, slot: usize, row: &WirePlan) -> Option<Told>
         requires slot { slot < length self.now.ends.places }
         requires switching { (place_of self.now.ends slot).terminal ≡ false }
@@ -116,39 +94,25 @@ impl Edge {
     {
         let place = self.place_at(slot);
         let from = row.mate(self.me, place.peer)?;
-        let point = self.own_point(row.pw_id, from);
+        let point = Point {
+            pw_id: Some(row.pw_id),
+            local: self.address_of(self.me),
+            remote: self.address_of(from),
+        };
         wanted(self.held_beside(slot, from), point)
     }
 
-    // The point of this edge for what it has from a neighbour under a PW ID (RFC 6073 section 7.4).
-    fn own_point(&self, pw_id: u32, from: EdgeId) -> Point
-        ensures { result ≡ own_point pw_id (edge_address self.now.plan self.now.me) (edge_address self.now.plan from) }
-    {
-        Point {
-            pw_id: Some(pw_id),
-            local: self.address_of(self.me),
-            remote: self.address_of(from),
-        }
-    }
-
-    // The status that an end tells: a switching point passes on that of its other side (RFC 6073 section 10).
+    // The status that an end tells: a terminal end its own failure bits, and that it stands by where it was not chosen, and a switching
+    // point what its other side tells (RFC 6073 section 10).
     pub(crate) fn status_to_tell(&self, slot: usize) -> PwStatus
         requires { slot < length self.now.ends.places }
         ensures { result ≡ status_to_tell self.now.plan (seen self.now) (place_of self.now.ends slot) }
     {
-        if self.place_at(slot).terminal {
-            self.own_status(slot)
+        let place = self.place_at(slot);
+        if place.terminal {
+            status_to_tell(self.role_of(slot), self.bits_of(place.wire))
         } else {
             passed_status(self.held_beyond(slot))
         }
-    }
-
-    // The status of a terminal end: its own failure bits, and that it stands by where it was not chosen.
-    fn own_status(&self, slot: usize) -> PwStatus
-        requires { slot < length self.now.ends.places }
-        ensures { result ≡ own_status self.now.plan (seen self.now) (place_of self.now.ends slot) }
-    {
-        let place = self.place_at(slot);
-        status_to_tell(self.role_of(slot), self.bits_of(place.wire))
     }
 }

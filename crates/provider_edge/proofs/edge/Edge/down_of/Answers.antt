@@ -7,5 +7,5 @@ returns c =
     down_read c.args.self.now c.args.slot c.place_at-place.result (end_of c.end_in-2.result.now) c.role_of-role.result c.bits_of.result c.why_down.result
     c.place_at-place.ensures.place c.end_in-2.ensures.end (c.role_of-role.ensures) (c.bits_of.ensures.bits) c.why_down.ensures.cause
 
-pub returns-then-not-advertises : goal.returns-then-not-advertises
-returns-then-not-advertises c = down_untold c.args.self.now c.args.slot (end_of c.end_in.result.now) c.advertises.result c.end_in.ensures.end c.advertises.ensures c.if-not-advertises.true
+pub returns-then-not-has_told : goal.returns-then-not-has_told
+returns-then-not-has_told c = down_untold c.args.self.now c.args.slot (end_of c.end_in.result.now) c.has_told.result c.end_in.ensures.end c.has_told.ensures c.if-not-has_told.true

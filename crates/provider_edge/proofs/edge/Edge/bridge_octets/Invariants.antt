@@ -4,12 +4,12 @@ use Rattle.edge_model.specs.Frame.{copies, copy_by}
 use Rattle.edge_model.specs.Work.{Agrees, Answers}
 use Rattle.peer_dialogue.specs.AtWork.{WorkGoes}
 use Rattle.provider_edge.specs.AtWork.{at_work}
-use Rattle.provider_edge.proofs.edge.Edge.put_copies.Given as goal
+use Rattle.provider_edge.proofs.edge.Edge.bridge_octets.Given as goal
 
 abbrev pub invariant-loop-port : goal.invariant-loop-port
 invariant-loop-port g l = record {
   goes : WorkGoes g.L.Link.calls l.fn.work l.work;
   step : (told : Answers) → Agrees told (g.L.Link.calls l.work.link.now)
-      → copies (has l.egress.targets.now) (copy_by l.self.plan told l.egress.came l.egress.frame.now) l.port (drop l.port l.ports) (at_work g.L.Link.calls l.self l.work)
-      ≡ copies (has l.egress.targets.now) (copy_by l.self.plan told l.egress.came l.egress.frame.now) 0 l.ports (at_work g.L.Link.calls l.self l.fn.work);
+      → copies (has l.egress.targets.now) (copy_by l.edge.plan told l.egress.came l.egress.frame.now) l.port (drop l.port l.ports) (at_work g.L.Link.calls l.edge l.work)
+      ≡ copies (has l.egress.targets.now) (copy_by l.edge.plan told l.egress.came l.egress.frame.now) 0 l.ports (at_work g.L.Link.calls l.edge l.fn.work);
 }

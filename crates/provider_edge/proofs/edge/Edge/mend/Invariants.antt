@@ -2,7 +2,7 @@ use Rattle.std.proofs.Common.{◌≡◌, ◌-◌}
 use Rattle.edge_model.specs.Mend.{mends_few}
 use Rattle.edge_model.specs.Work.{Agrees, Answers}
 use Rattle.provider_edge.specs.AtWork.{Works, at_work}
-use Rattle.provider_edge.proofs.edge.Edge.mend_rounds.Given as goal
+use Rattle.provider_edge.proofs.edge.Edge.mend.Given as goal
 
 abbrev pub invariant-loop-round : goal.invariant-loop-round
 invariant-loop-round g l = record {
