@@ -1,5 +1,5 @@
 //! The captures that a scenario plays.
-ghost use Rattle.std.specs.Prelude.{◌≡◌, ◌≢◌, ◌++◌, ◌∷◌, [], All, IfErr, IfOk, OnOk};
+ghost use Rattle.std.specs.Prelude.{◌≡◌, ◌≢◌, All, IfErr, IfOk, OnOk};
 ghost use Rattle.net_base.specs.outside.Outside.{NeverFall};
 ghost use Rattle.net_base.specs.plan.Planned.{IsFrame};
 ghost use Rattle.vplsnet.specs.Captures.{FailsToPlay, GainsPlayed, HasFrames, HasPlayed, IsNoCapture, IsToldAs};
@@ -58,17 +58,10 @@ fn add_played<F: Shelf>(
             return Ok(());
         }
     };
-    match frames_of(alloc, shelf, file) {
-        Ok(frames) => push(captures, frames),
-        Err(outcome) => Err(outcome),
-    }
-}
-
-// Adds frames.
-fn push(captures: &mut List<List<Octets>>, frames: List<Octets>) -> Result<(), Outcome>
-    ensures added { OnOk result (captures.new ≡ captures.old ++ frames ∷ []) }
-    ensures want { IfErr result (λ outcome. outcome ≡ Outcome.NoMemory) }
-{
+    let frames = match frames_of(alloc, shelf, file) {
+        Ok(frames) => frames,
+        Err(outcome) => return Err(outcome),
+    };
     match captures.push(frames) {
         Ok(()) => Ok(()),
         Err(NoMemory) => Err(Outcome::NoMemory),
@@ -95,7 +88,7 @@ fn frames_of<F: Shelf>(alloc: Global, shelf: &mut F, file: &str) -> Result<List<
     }
 }
 
-// The outcome of a fault of the file of this name. The name takes memory.
+// The outcome of a fault of the file of this name. The name takes memory. Apart, since the lemmas of `frames_of` rest on its clause.
 fn refused(alloc: Global, file: &str, fault: CaptureFault) -> Outcome
     requires { fault ≢ CaptureFault.NoMemory }
     ensures { IsToldAs (λ told. told ≡ fault) file.now result }
