@@ -4,10 +4,9 @@ ghost use Rattle.std.specs.Str.{bytes_eq};
 ghost use Rattle.net_base.specs.plan.Accepted.{IsChecked};
 ghost use Rattle.text_lines.specs.Written.{PutsOn};
 ghost use Rattle.vplsnet.specs.Asked.{asked_by};
-ghost use Rattle.vplsnet.specs.Capture.{captured, circuit_of as place_of, lacks_circuit, lacking as lacks, left_at};
+ghost use Rattle.vplsnet.specs.Capture.{circuit_of as place_of, lacks_circuit, left_at};
 
 use crate::request::Request;
-use crate::scenario_run::ScenarioRun;
 use capture_text::put_capture;
 use net_base::{CircuitId, CircuitPlan, Failed, Plan, Sink};
 use psn_net::Network;
@@ -17,60 +16,18 @@ use text_lines::Page;
 pub fn missing_circuit<'a>(request: Request<'a>, plan: &Plan) -> Option<&'a str>
     ensures { option_map (λ circuit. circuit.now) result ≡ lacks_circuit (asked_by request.entry) plan.now }
 {
-    match request {
-        Request::Capture { circuit, .. } => lacking(plan, circuit),
-        Request::Replay { .. }
-        | Request::Tables { .. }
-        | Request::Decode { .. }
-        | Request::Rehearse { .. } => None,
-    }
-}
-
-// The name of a circuit, where the plan lacks it.
-fn lacking<'a>(plan: &Plan, circuit: &'a str) -> Option<&'a str>
-    ensures { option_map (λ circuit. circuit.now) result ≡ lacks circuit.now (place_of plan.now circuit.now) }
-{
+    let Request::Capture { circuit, .. } = request else {
+        return None;
+    };
     match circuit_of(plan.circuits.as_slice(), circuit.as_bytes()) {
         Some(_) => None,
         None => Some(circuit),
     }
 }
 
-// The place of the circuit of this name.
-fn circuit_of(circuits: &[CircuitPlan], name: &[u8]) -> Option<usize>
-    ensures place { result ≡ position (λ row. bytes_eq name.now row.name) circuits.now }
-    ensures within { IfSome result (λ place. place < length circuits.now) }
-{
-    circuits.iter().position(|row| has_name(row, name))
-}
-
-// Whether a circuit has this name.
-fn has_name(row: &CircuitPlan, name: &[u8]) -> bool
-    ensures { result ≡ bytes_eq name.now row.now.name }
-{
-    name == row.name.as_slice()
-}
-
-/// Puts a capture of the frames that left a circuit in a run, and of a run that a limit stopped nothing.
+/// Puts a capture of the frames that left the circuit of this name, and nothing where there is none.
 #[tactic(auto, using(text_lines::proofs::WrittenLemmas::goes_none))]
-pub fn put_captured<K: Sink>(
-    page: &mut Page,
-    sink: &mut K,
-    run: &ScenarioRun,
-    circuit: &str,
-) -> Result<(), Failed>
-    requires checked { IsChecked run.now.network.plan }
-    ensures { PutsOn K.taken K.faults page.old page.new sink.old sink.new result (captured run.now.network circuit.now run.now.stop) }
-{
-    match run.stop {
-        None => put_left(page, sink, &run.network, circuit),
-        Some(_) => Ok(()),
-    }
-}
-
-// Puts a capture of the frames that left the circuit of this name, and nothing where there is none.
-#[tactic(auto, using(text_lines::proofs::WrittenLemmas::goes_none))]
-fn put_left<K: Sink>(
+pub fn put_left<K: Sink>(
     page: &mut Page,
     sink: &mut K,
     network: &Network,
@@ -88,4 +45,19 @@ fn put_left<K: Sink>(
         ),
         None => Ok(()),
     }
+}
+
+// The place of the circuit of this name.
+fn circuit_of(circuits: &[CircuitPlan], name: &[u8]) -> Option<usize>
+    ensures place { result ≡ position (λ row. bytes_eq name.now row.name) circuits.now }
+    ensures within { IfSome result (λ place. place < length circuits.now) }
+{
+    circuits.iter().position(|row| has_name(row, name))
+}
+
+// Whether a circuit has this name. Apart, as each test by a closure.
+fn has_name(row: &CircuitPlan, name: &[u8]) -> bool
+    ensures { result ≡ bytes_eq name.now row.now.name }
+{
+    name == row.name.as_slice()
 }

@@ -26,7 +26,6 @@ mod stop_text;
 mod stream_fault_text;
 mod stream_stop;
 mod stream_text;
-mod tables;
 mod types;
 mod work;
 

@@ -16,7 +16,7 @@ use crate::decode::decode_file;
 use crate::finish::Finish;
 use crate::outcome::Outcome;
 use crate::request::{Request, request_of};
-use crate::run_text::write_run;
+use crate::run_text::put_run;
 use crate::scenario_file::scenario_of;
 use crate::scenario_run::run_scenario;
 use crate::work::Work;
@@ -113,7 +113,7 @@ fn work_of<F: Shelf>(alloc: Global, request: Request<'_>, shelf: &mut F) -> Resu
 }
 
 // Runs a scenario, and writes what the request asks of the run.
-#[tactic(auto, using(crate::proofs::RunLemmas::is_scenario_run, crate::proofs::RunLemmas::checked_as, crate::proofs::WritingLemmas::run_steps, crate::proofs::WritingLemmas::text_steps))]
+#[tactic(auto, using(crate::proofs::RunLemmas::is_scenario_run, crate::proofs::RunLemmas::checked_as, crate::proofs::WritingLemmas::flush_steps, crate::proofs::WritingLemmas::run_steps, crate::proofs::WritingLemmas::text_steps))]
 fn finish_work<K: Sink>(alloc: Global, request: Request<'_>, work: Work, sink: &mut K) -> Finish
     requires checked { IsChecked work.scenario.plan }
     requires planned { All (IsPlanned work.scenario.plan) work.scenario.commands }
@@ -133,7 +133,11 @@ fn finish_work<K: Sink>(alloc: Global, request: Request<'_>, work: Work, sink: &
         Ok(run) => run,
         Err(NoMemory) => return Finish::without_run(Outcome::NoMemory),
     };
-    match write_run(&mut page, sink, &mut sorting, request, &run) {
+    match put_run(&mut page, sink, &mut sorting, request, &run) {
+        Ok(()) => {}
+        Err(_) => return Finish::after_run(Outcome::WriteFault, Some(run.network)),
+    }
+    match page.flush(sink) {
         Ok(()) => Finish::after_run(outcome_of(run.stop), Some(run.network)),
         Err(_) => Finish::after_run(Outcome::WriteFault, Some(run.network)),
     }
