@@ -29,7 +29,8 @@ pub fn octets_of<F: Shelf>(
     }
 }
 
-// Why a file was not read, as an outcome: a fault as it is, and a file that is too long by its name, which takes memory.
+// Why a file was not read, as an outcome: a fault as it is, and a file that is too long by its name, which takes memory. Apart, since only
+// so does a clause keep a fault from being told as want of memory.
 fn unread(alloc: Global, stop: ReadStop, name: &str, limit: usize) -> Outcome
     ensures { Unread stop name.now limit result }
 {

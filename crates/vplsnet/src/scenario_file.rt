@@ -50,7 +50,8 @@ pub fn scenario_of<F: Shelf>(
     }
 }
 
-// The outcome of a scenario with this fault, which is told as it is; want of memory is no fault of the scenario.
+// The outcome of a scenario with this fault, which is told as it is; want of memory is no fault of the scenario. Apart, since only so does
+// a clause keep a fault from being told as want of memory.
 fn refused(fault: ScenarioFault) -> Outcome
     ensures { result ≡ outcome_of_fault fault }
 {
@@ -60,7 +61,8 @@ fn refused(fault: ScenarioFault) -> Outcome
     }
 }
 
-// The scenario with the captures that it plays, where it has the circuit that the request names, if it names one.
+// The scenario with the captures that it plays, where it has the circuit that the request names, if it names one. Apart, since the
+// lemmas of `scenario_of` rest on its clauses.
 #[tactic(auto, using(crate::proofs::ScenarioFileLemmas::lack_steps))]
 fn with_captures<F: Shelf>(
     alloc: Global,
