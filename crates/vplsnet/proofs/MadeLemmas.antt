@@ -1,5 +1,5 @@
 -- The events of commands, one command after another.
-use Rattle.std.proofs.Common.{◌≡◌, ◌<◌, ◌≤◌, ◌+◌, ◌-◌, ◌∷◌, ◌++◌, [], ◌∙◌, ℕ, zero, suc, List, Option, Some, None, refl, ap, sym, subst, arith, length}
+use Rattle.std.proofs.Common.{◌≡◌, ◌≢◌, ◌<◌, ◌≤◌, ◌+◌, ◌-◌, ◌∷◌, ◌++◌, [], ◌∙◌, ℕ, zero, suc, List, Option, Some, None, refl, ap, sym, subst, arith, length}
 use Rattle.std.specs.List.{All}
 use Rattle.std.proofs.lemmas.List.Elements.{All-head, All-nil, All-tail}
 use Rattle.net_base.specs.declared.plan.Plan.{Plan}
@@ -14,6 +14,7 @@ use Rattle.network_model.specs.Run.{state_after}
 use Rattle.network_model.specs.State.{NetworkState}
 use Rattle.network_model.specs.Step.{step}
 use Rattle.psn_net.specs.declared.net_stop.NetStop.{NetStop}
+use Rattle.psn_net.specs.declared.net_stop.NetStop.TheVariants as net_stop
 use Rattle.psn_net.specs.Applying.{Stops}
 use Rattle.psn_net.specs.Lists.{NetLists, seen}
 use Rattle.psn_net.specs.Runs.{Ended, RunHalts, ended, ran}
@@ -54,6 +55,12 @@ made_stopped plan old now last captures c all rest stop is kept before h =
     (subst (λ (p : Plan). RunHalts stop now (ran p (seen old) old.trace (made p (seen old) captures (c ∷ rest)))) kept
     (made_err old.plan now stop (seen old) old.trace captures c rest h)))
 
+-- the limit that stopped a run is that of what it comes to
+pub stopped_end : (stop : NetStop) (left : NetLists) (end : Ended) → stop ≢ net_stop.NoMemory → RunHalts stop left end → ended left (Some stop) ≡ end
+stopped_end (net_stop.Crowded count event) left end limit halts = halts
+stopped_end (net_stop.TooMuch weight event) left end limit halts = halts
+stopped_end net_stop.NoMemory left end limit halts = absurd (limit refl)
+
 pub planned_first : (plan : Plan) (c : Command) (cs : List Command) → All (IsPlanned plan) (c ∷ cs) → IsPlanned plan c
 planned_first plan c cs planned = All-head (IsPlanned plan) c cs planned
 
@@ -70,7 +77,7 @@ pub next_short : (captures : List (List (List ℕ))) → All (All IsFrame) captu
 next_short [] short = All-nil IsFrame
 next_short (frames ∷ captures) short = All-head (All IsFrame) frames captures short
 
-pub ruleset made_steps = (made_stopped, planned_first)
+pub ruleset made_steps = (made_stopped, stopped_end, planned_first)
 
 -- ---- frames of a capture
 

@@ -1,13 +1,12 @@
 //! The run of a scenario: each command makes its events, and the network does them in turn.
-ghost use Rattle.std.specs.Prelude.{◌≡◌, ◌<◌, [], All, IfOk, length};
+ghost use Rattle.std.specs.Prelude.{◌≡◌, ◌<◌, All, IfOk, length};
 ghost use Rattle.net_base.specs.plan.Accepted.{IsChecked};
 ghost use Rattle.net_base.specs.plan.Planned.{IsFrame};
-ghost use Rattle.network_model.specs.State.{empty_network};
-ghost use Rattle.psn_net.specs.Lists.{NetLists, seen};
-ghost use Rattle.psn_net.specs.Runs.{Ended, GivesNetwork, RunHalts, ended, ran};
+ghost use Rattle.psn_net.specs.Lists.{seen};
+ghost use Rattle.psn_net.specs.Runs.{GivesNetwork, ran};
 ghost use Rattle.command_text.specs.Planned.{IsPlanned};
 ghost use Rattle.vplsnet.specs.Made.{arrivals, captures_after, deliveries, entering, made_by, ticks};
-ghost use Rattle.vplsnet.specs.ScenarioRun.{HasRun, whole_run};
+ghost use Rattle.vplsnet.specs.ScenarioRun.{HasRun};
 
 use crate::left_captures::LeftCaptures;
 use crate::types::see_types;
@@ -25,6 +24,7 @@ pub struct ScenarioRun {
 }
 
 /// The run of a scenario with the captures that it plays, which are dropped as it does them. The one error is want of memory.
+#[tactic(auto, using(crate::proofs::MadeLemmas::made_steps))]
 pub fn run_scenario(alloc: Global, work: Work) -> Result<ScenarioRun, NoMemory>
     requires checked { IsChecked work.scenario.plan }
     requires planned { All (IsPlanned work.scenario.plan) work.scenario.commands }
@@ -36,43 +36,22 @@ pub fn run_scenario(alloc: Global, work: Work) -> Result<ScenarioRun, NoMemory>
         Ok(network) => network,
         Err(fault) => return Err(fault),
     };
-    match run_over(alloc, &mut network, work) {
-        Ok(stop) => Ok(ScenarioRun { network, stop }),
-        Err(fault) => Err(fault),
-    }
-}
-
-// Does the events of a scenario over the network of its plan, which is as it was opened. The answer is the limit that
-// stopped the run, where one did. The one error is want of memory.
-#[tactic(auto, using(crate::proofs::MadeLemmas::made_steps))]
-fn run_over(alloc: Global, network: &mut Network, work: Work) -> Result<Option<NetStop>, NoMemory>
-    requires plan { network.old.plan ≡ work.scenario.plan }
-    requires state { seen network.old ≡ empty_network work.scenario.plan }
-    requires trace { network.old.trace ≡ [] }
-    requires planned { All (IsPlanned work.scenario.plan) work.scenario.commands }
-    requires frames { All (All IsFrame) work.captures }
-    ensures plan { network.new.plan ≡ work.scenario.plan }
-    ensures ends { IfOk result (λ stop. ended network.new stop ≡ whole_run work.scenario work.captures) }
-{
     let Work { scenario, captures } = work;
     let mut captures = LeftCaptures::of(captures);
     for command in scenario.commands.into_items() {
-        match run_command(alloc, network, &mut captures, command) {
+        match run_command(alloc, &mut network, &mut captures, command) {
             Ok(()) => {}
-            Err(stop) => return limit_of(stop),
+            Err(NetStop::NoMemory) => return Err(NoMemory),
+            Err(stop) => return Ok(ScenarioRun {
+                network,
+                stop: Some(stop),
+            }),
         }
     }
-    Ok(None)
-}
-
-// The limit that stopped a run. Want of memory is none.
-fn limit_of(stop: NetStop) -> Result<Option<NetStop>, NoMemory>
-    ensures { (left : NetLists) (end : Ended) → RunHalts stop left end → IfOk result (λ limit. ended left limit ≡ end) }
-{
-    match stop {
-        NetStop::NoMemory => Err(NoMemory),
-        NetStop::Crowded { .. } | NetStop::TooMuch { .. } => Ok(Some(stop)),
-    }
+    Ok(ScenarioRun {
+        network,
+        stop: None,
+    })
 }
 
 // Does the events of a command. A capture that it plays is left no longer.

@@ -4,9 +4,8 @@ use Rattle.std.proofs.lemmas.List.Elements.{All-rest}
 use Rattle.net_base.specs.plan.Planned.{IsFrame}
 use Rattle.command_text.specs.Planned.{IsPlanned}
 use Rattle.vplsnet.specs.ScenarioRun.{whole_run}
-use Rattle.psn_net.specs.Runs.{RunHalts}
-use Rattle.vplsnet.proofs.MadeLemmas.{left_short, made_next, made_stopped}
-use Rattle.vplsnet.proofs.scenario_run.run_over.Goals as goal
+use Rattle.vplsnet.proofs.MadeLemmas.{left_short, made_next}
+use Rattle.vplsnet.proofs.scenario_run.run_scenario.Goals as goal
 
 pub loop-command-preserved : goal.loop-command-preserved
 loop-command-preserved c = (
@@ -21,11 +20,3 @@ loop-command-preserved c = (
     short = subst (All (All IsFrame)) (sym c.in-Ok.ensures.left) (left_short c.in-Some.command c.loop-command.captures c.loop-command.invariant.2.short);
   },
 )
-
-pub returns-in-Err : goal.returns-in-Err
-returns-in-Err c =
-    let halts : RunHalts c.in-Err.stop c.run_command.new.network (whole_run c.args.work.scenario c.args.work.captures) =
-    made_stopped c.args.work.scenario.plan c.loop-command.network c.run_command.new.network (whole_run c.args.work.scenario c.args.work.captures) c.loop-command.captures
-    c.in-Some.command c.loop-command.command-iterator.rest.items c.next.new.self.rest.items c.in-Err.stop c.in-Some.ensures.steps.0 c.loop-command.invariant.2.plan c.loop-command.invariant.2.ran
-    c.in-Err.ensures.ran in
-    record { plan = c.in-Err.ensures.plan ∙ c.loop-command.invariant.2.plan; ends = c.limit_of.ensures c.run_command.new.network (whole_run c.args.work.scenario c.args.work.captures) halts }

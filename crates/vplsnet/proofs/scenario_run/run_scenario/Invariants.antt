@@ -6,7 +6,7 @@ use Rattle.psn_net.specs.Lists.{seen}
 use Rattle.psn_net.specs.Runs.{ran}
 use Rattle.vplsnet.specs.Made.{made}
 use Rattle.vplsnet.specs.ScenarioRun.{whole_run}
-use Rattle.vplsnet.proofs.scenario_run.run_over.Given as goal
+use Rattle.vplsnet.proofs.scenario_run.run_scenario.Given as goal
 
 abbrev pub invariant-loop-command : goal.invariant-loop-command
 invariant-loop-command l =
