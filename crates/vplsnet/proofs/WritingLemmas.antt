@@ -12,7 +12,7 @@ use Rattle.vplsnet.specs.declared.outcome.Outcome.TheVariants.{WriteFault, NoMem
 use Rattle.vplsnet.specs.Answers.{run_text}
 use Rattle.vplsnet.specs.Asked.{Asked}
 use Rattle.vplsnet.specs.ScenarioRun.{IsScenarioRun, outcome_by}
-use Rattle.vplsnet.specs.Writing.{EndsRun, EndsStream, EndsText}
+use Rattle.vplsnet.specs.Writing.{EndsRun, EndsText}
 
 -- ---- a text that was put, and then what waits is written
 
@@ -62,7 +62,3 @@ pub ends_no_run : (scenario : Scenario) (captures : List (List (List ℕ))) (ask
 ends_no_run scenario captures asked old now network outcome is none taken = inr (record { outcome_is = is; no_run = none; taken = taken })
 
 pub ruleset run_steps = (ends_run, ends_no_run)
-
--- that of a stream, where memory was refused before anything was put
-pub ends_no_stream : (octets : List ℕ) (old now : Written) (network : Option NetLists) (outcome : Outcome) → outcome ≡ NoMemory → network ≡ None → now.taken ≡ old.taken → EndsStream octets old now network outcome
-ends_no_stream octets old now network outcome is none taken = inr (record { outcome_is = is; no_run = none; taken = taken })

@@ -1,11 +1,9 @@
 //! The command `decode`: the lines of a stream of LDP messages.
-ghost use Rattle.std.specs.Prelude.{◌≡◌, ◌<◌, ◌^◌, [], None, length};
-ghost use Rattle.text_lines.specs.Written.{written};
+ghost use Rattle.std.specs.Prelude.{◌≡◌};
 ghost use Rattle.vplsnet.specs.Answers.{SaysOutcome};
 ghost use Rattle.vplsnet.specs.Around.{around};
 ghost use Rattle.vplsnet.specs.Asked.{Decode};
 ghost use Rattle.vplsnet.specs.Finish.{status_of};
-ghost use Rattle.vplsnet.specs.Writing.{EndsStream};
 
 use crate::decoder::Decoder;
 use crate::finish::Finish;
@@ -20,7 +18,7 @@ const STREAM_LIMIT: usize = 67_108_864;
 /// Reads a stream whole, and writes a line for each LDP message of it (RFC 5036 section 3.1), those before a fault too. The lines go
 /// to the sink page by page.
 /// `DecodeRefused` comes exactly where the stream has a fault, and `Unfinished` where it ends within a PDU. No run begins.
-#[tactic(auto, using(crate::proofs::AnswerLemmas::stream_not_had, crate::proofs::AnswerLemmas::stream_answers))]
+#[tactic(auto, using(crate::proofs::AnswerLemmas::stream_not_had, crate::proofs::AnswerLemmas::stream_answers, crate::proofs::AnswerLemmas::refused_answers))]
 pub fn decode_file<F: Shelf, K: Sink>(
     alloc: Global,
     file: &str,
@@ -31,20 +29,12 @@ pub fn decode_file<F: Shelf, K: Sink>(
     ensures answers { SaysOutcome (around F.files F.faults K.taken K.faults shelf.old sink.old shelf.new sink.new) (Decode file.now) result.network result.outcome }
     ensures same_files { F.files shelf.new ≡ F.files shelf.old }
 {
+    let mut decoder = match Decoder::new(alloc) {
+        Ok(decoder) => decoder,
+        Err(NoMemory) => return Finish::without_run(Outcome::NoMemory),
+    };
     match octets_of(alloc, shelf, file, STREAM_LIMIT) {
-        Ok(octets) => Finish::without_run(write_stream(alloc, octets.as_slice(), sink)),
+        Ok(octets) => Finish::without_run(decoder.write(alloc, octets.as_slice(), sink)),
         Err(outcome) => Finish::without_run(outcome),
-    }
-}
-
-// Writes the lines of a stream, and answers the outcome.
-#[tactic(auto, using(crate::proofs::WritingLemmas::ends_no_stream))]
-fn write_stream<K: Sink>(alloc: Global, octets: &[u8], sink: &mut K) -> Outcome
-    requires few { length octets.now < 2 ^ 62 }
-    ensures { EndsStream octets.now (written (K.taken sink.old) (K.faults sink.old) []) (written (K.taken sink.new) (K.faults sink.new) []) None result }
-{
-    match Decoder::new(alloc) {
-        Ok(mut decoder) => decoder.write(alloc, octets, sink),
-        Err(NoMemory) => Outcome::NoMemory,
     }
 }
