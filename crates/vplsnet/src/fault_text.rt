@@ -1,11 +1,10 @@
 //! A scenario's fault in words.
-ghost use Rattle.std.specs.Prelude.{◌≡◌, ◌++◌, ◌∷◌, [], ◌<◌, codes, map, OnOk};
-ghost use Rattle.std.specs.Fmt.{decimal};
+ghost use Rattle.std.specs.Prelude.{◌≡◌, ◌++◌, ◌∷◌, map, OnOk};
 ghost use Rattle.command_text.specs.Places.{masked};
 ghost use Rattle.vplsnet.specs.FaultText.{table_name, place_words, plan_fault_name, plan_fault_place, fault_words};
 ghost use Rattle.text_pieces.specs.Pieces.{spaced};
 
-use net_base::{NoMemory, Place, PlanFault, Table, Text};
+use net_base::{NoMemory, Place, PlanFault, Table};
 use scenario_text::ScenarioFault;
 use text_pieces::{put_number_word, put_text, put_word};
 
@@ -18,60 +17,34 @@ pub fn put_fault(text: &mut Vec<u8>, fault: ScenarioFault) -> Result<(), NoMemor
         ScenarioFault::Missing(place) => put_placed(text, b"Missing", &place),
         ScenarioFault::WrongKind(place) => put_placed(text, b"WrongKind", &place),
         ScenarioFault::UnknownKey(place) => put_placed(text, b"UnknownKey", &place),
-        ScenarioFault::BadWord { event, word } => put_bad_word(text, event, word),
-        ScenarioFault::TooMany { table, limit } => put_too_many(text, table, limit),
+        ScenarioFault::BadWord { event, word } => {
+            put_word(text, b"BadWord")?;
+            put_number_word(text, u64::from(event))?;
+            put_number_word(text, u64::from(word))
+        }
+        ScenarioFault::TooMany { table, limit } => {
+            put_word(text, b"TooMany")?;
+            put_word(text, table_text(table).as_bytes())?;
+            put_number_word(text, u64::from(limit))
+        }
         ScenarioFault::Version => put_word(text, b"Version"),
-        ScenarioFault::Plan(plan) => put_plan_fault(text, &plan),
+        ScenarioFault::Plan(fault) => {
+            put_word(text, b"Plan")?;
+            put_placed(text, plan_fault_text(&fault).as_bytes(), place_of(&fault))
+        }
         ScenarioFault::NoMemory => put_word(text, b"out of memory"),
     }
 }
 
-fn put_bad_word(text: &mut Vec<u8>, event: u32, word: u32) -> Result<(), NoMemory>
-    ensures { OnOk result (text.new.items ≡ text.old.items ++ spaced (codes "BadWord" ∷ decimal event ∷ decimal word ∷ [])) }
-{
-    put_word(text, b"BadWord")?;
-    put_number_word(text, u64::from(event))?;
-    put_number_word(text, u64::from(word))
-}
-
-fn put_too_many(text: &mut Vec<u8>, table: Table, limit: u32) -> Result<(), NoMemory>
-    ensures { OnOk result (text.new.items ≡ text.old.items ++ spaced (codes "TooMany" ∷ table_name table ∷ decimal limit ∷ [])) }
-{
-    put_word(text, b"TooMany")?;
-    put_word(text, table_text(table).as_bytes())?;
-    put_number_word(text, u64::from(limit))
-}
-
-// Adds a fault's name and its place.
+// Adds a fault's name and its place: the table, the row and the key.
 fn put_placed(text: &mut Vec<u8>, name: &[u8], place: &Place) -> Result<(), NoMemory>
     ensures { OnOk result (text.new.items ≡ text.old.items ++ spaced (name.now ∷ place_words place.now)) }
 {
     put_word(text, name)?;
-    put_place(text, place)
-}
-
-fn put_plan_fault(text: &mut Vec<u8>, fault: &PlanFault) -> Result<(), NoMemory>
-    ensures { OnOk result (text.new.items ≡ text.old.items ++ spaced (codes "Plan" ∷ plan_fault_name fault.now ∷ place_words (plan_fault_place fault.now))) }
-{
-    put_word(text, b"Plan")?;
-    put_word(text, plan_fault_text(fault).as_bytes())?;
-    put_place(text, place_of(fault))
-}
-
-// Adds the table, the row and the key.
-fn put_place(text: &mut Vec<u8>, place: &Place) -> Result<(), NoMemory>
-    ensures { OnOk result (text.new.items ≡ text.old.items ++ spaced (place_words place.now)) }
-{
     put_word(text, table_text(place.table).as_bytes())?;
     put_number_word(text, u64::from(place.index))?;
-    put_key(text, &place.key)
-}
-
-fn put_key(text: &mut Vec<u8>, key: &Text<32>) -> Result<(), NoMemory>
-    ensures { OnOk result (text.new.items ≡ text.old.items ++ spaced (map masked key.now ∷ [])) }
-{
     put_text(text, b" ")?;
-    put_printed(text, key.as_slice())
+    put_printed(text, place.key.as_slice())
 }
 
 // Adds the octets, with `?` for what cannot be printed.

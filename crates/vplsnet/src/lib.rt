@@ -14,6 +14,7 @@ pub mod finish_line;
 mod left_captures;
 mod named_file;
 mod outcome;
+mod placed_text;
 mod rehearse;
 mod replay;
 mod request;

@@ -5,6 +5,7 @@ ghost use Rattle.text_pieces.specs.Pieces.{spaced};
 ghost use Rattle.message_text.specs.Words.{field_name};
 ghost use Rattle.vplsnet.specs.StreamFaultText.{decode_fault_words, stream_fault_words};
 
+use crate::placed_text::put_placed;
 use ldp_codec::DecodeFault;
 use ldp_stream::StreamFault;
 use message_text::field_text;
@@ -29,29 +30,20 @@ fn put_decode_fault(text: &mut Vec<u8>, fault: DecodeFault) -> Result<(), NoMemo
     ensures { OnOk result (text.new.items ≡ text.old.items ++ spaced (decode_fault_words fault)) }
 {
     match fault {
-        DecodeFault::Version { at } => put_placed(text, b"Version", at),
-        DecodeFault::PduLength { at } => put_placed(text, b"PduLength", at),
-        DecodeFault::MessageLength { at } => put_placed(text, b"MessageLength", at),
-        DecodeFault::TlvLength { at } => put_placed(text, b"TlvLength", at),
+        DecodeFault::Version { at } => put_placed(text, b"Version", u64::from(at)),
+        DecodeFault::PduLength { at } => put_placed(text, b"PduLength", u64::from(at)),
+        DecodeFault::MessageLength { at } => put_placed(text, b"MessageLength", u64::from(at)),
+        DecodeFault::TlvLength { at } => put_placed(text, b"TlvLength", u64::from(at)),
         DecodeFault::TlvValue { at, field } => put_of_field(text, b"TlvValue", at, field),
         DecodeFault::Repeated { at, field } => put_of_field(text, b"Repeated", at, field),
         DecodeFault::NoMemory => put_word(text, b"out of memory"),
     }
 }
 
-// Adds a fault's name and its place.
-fn put_placed(text: &mut Vec<u8>, name: &[u8], at: u16) -> Result<(), NoMemory>
-    ensures { OnOk result (text.new.items ≡ text.old.items ++ spaced (name.now ∷ decimal at ∷ [])) }
-{
-    put_word(text, name)?;
-    put_number_word(text, u64::from(at))
-}
-
 // Adds a fault's name, its place and its field.
 fn put_of_field(text: &mut Vec<u8>, name: &[u8], at: u16, field: Field) -> Result<(), NoMemory>
     ensures { OnOk result (text.new.items ≡ text.old.items ++ spaced (name.now ∷ decimal at ∷ field_name field ∷ [])) }
 {
-    put_word(text, name)?;
-    put_number_word(text, u64::from(at))?;
+    put_placed(text, name, u64::from(at))?;
     put_word(text, field_text(field).as_bytes())
 }
