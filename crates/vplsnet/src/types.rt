@@ -5,7 +5,7 @@ ghost use Rattle.net_values.specs.Octets.{AreOctets};
 ghost use Rattle.session_core.specs.Laws.{IsAddress};
 ghost use Rattle.flight_model.specs.Ends.{AreFieldOffers, HasTypes, IsFieldOffer};
 
-use net_base::{Addr, EdgePlan, Offer, Plan, Text, WirePlan};
+use net_base::{EdgePlan, Offer, Plan, Text, WirePlan};
 
 /// Each edge has an address of four octets, and the numbers and texts of each offer fit the fields that they are written in. The
 /// types say so; the laws of sessions and pseudowires ask for it in a clause.
@@ -22,15 +22,8 @@ fn see_addresses(edges: &[EdgePlan])
     ensures { All (λ row. IsAddress row.address) edges.now }
 {
     for place in 0..edges.len() {
-        see_address(edges[place].address);
+        see_octets(&edges[place].address.0);
     }
-}
-
-// An address has four octets.
-fn see_address(address: Addr)
-    ensures { IsAddress address }
-{
-    see_octets(&address.0);
 }
 
 // Octets are octets.
@@ -46,46 +39,31 @@ fn see_offers(wires: &[WirePlan])
     ensures { All AreFieldOffers wires.now }
 {
     for place in 0..wires.len() {
-        see_wire(&wires[place]);
+        let row = &wires[place];
+        see_offer(&row.near);
+        see_offer(&row.far);
     }
-}
-
-fn see_wire(row: &WirePlan)
-    ensures { AreFieldOffers row.now }
-{
-    see_offer(&row.near);
-    see_offer(&row.far);
 }
 
 // An offer fits its fields.
 fn see_offer(offer: &Offer)
     ensures { IsFieldOffer offer.now }
 {
+    let _group = offer.group;
     see_mtu(offer.mtu);
-    see_group(offer.group);
     see_text(&offer.description);
 }
 
-// A number of 16 bits.
+// A number of 16 bits, where there is one.
 fn see_mtu(mtu: Option<u16>)
     ensures { IfSome mtu (λ mtu. mtu < 2 ^ 16) }
 {
-    if let Some(mtu) = mtu {
-        see_short(mtu);
+    match mtu {
+        Some(number) => {
+            let _number = number;
+        }
+        None => {}
     }
-}
-
-fn see_short(number: u16)
-    ensures { number < 2 ^ 16 }
-{
-    let _number = number;
-}
-
-// A number of 32 bits.
-fn see_group(group: u32)
-    ensures { group < 2 ^ 32 }
-{
-    let _group = group;
 }
 
 // At most 80 octets.
