@@ -1,5 +1,5 @@
 //! The shelf of the system's files.
-ghost use Rattle.std.specs.Prelude.{◌≡◌, ◌<◌, ◌≤◌, ◌↔◌, true, length, slice_get, string_bytes, IfOk, IfSome};
+ghost use Rattle.std.specs.Prelude.{◌≡◌, ◌<◌, ◌≤◌, length, slice_get, string_bytes, IfOk, IfSome};
 ghost use Rattle.net_base.specs.outside.Outside.{HasCause, NeverFall};
 ghost use Rattle.vplsnet.specs.Files.{count_after};
 
@@ -19,13 +19,6 @@ struct Opened<F: Read + Seek + Drop> {
 }
 
 impl<F: Read + Seek + Drop> Opened<F> {
-    // Whether it was opened under this name.
-    fn has_name(&self, name: &str) -> bool
-        ensures { (result ≡ true) ↔ (string_bytes self.now.name ≡ name.now) }
-    {
-        self.name.as_str() == name
-    }
-
     // Reads once from the place on, where the file of this name is asked for. What is read in order is not sought, so a pipe
     // serves.
     fn read_from(&mut self, name: &str, from: u64, buf: &mut [u8]) -> io::Result<usize>
@@ -62,7 +55,7 @@ fn place_of<F: Read + Seek + Drop>(opened: &[Opened<F>], name: &str) -> Option<u
     ensures name { IfSome result (λ place. IfSome (slice_get opened.now place) (λ file. string_bytes file.name ≡ name.now)) }
 {
     for (place, file) in opened.iter().enumerate() {
-        if file.has_name(name) {
+        if file.name.as_str() == name {
             return Some(place);
         }
     }
@@ -118,30 +111,17 @@ impl<R: Files> FileShelf<R> {
         if let Some(place) = place_of(self.opened.as_slice(), name) {
             return self.opened[place].read_from(name, from, buf);
         }
-        match open_file(self.alloc, &self.files, name) {
-            Ok(file) => read_first(&mut self.opened, file, name, from, buf),
+        let mut file = match open_file(self.alloc, &self.files, name) {
+            Ok(file) => file,
+            Err(error) => return Err(error),
+        };
+        match file.read_from(name, from, buf) {
+            Ok(count) => {
+                self.opened.push(file)?;
+                Ok(count)
+            }
             Err(error) => Err(error),
         }
-    }
-}
-
-// Reads once from the place on, of the file of this name, which was opened just now, and keeps it open.
-fn read_first<F: Read + Seek + Drop>(
-    opened: &mut Vec<Opened<F>>,
-    mut file: Opened<F>,
-    name: &str,
-    from: u64,
-    buf: &mut [u8],
-) -> io::Result<usize>
-    requires asked { string_bytes file.name ≡ name.now }
-    ensures { IfOk result (λ count. count ≤ length buf.new) }
-{
-    match file.read_from(name, from, buf) {
-        Ok(count) => {
-            opened.push(file)?;
-            Ok(count)
-        }
-        Err(error) => Err(error),
     }
 }
 
