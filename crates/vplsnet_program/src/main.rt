@@ -48,7 +48,9 @@ fn tell(rt: &HostRuntime, outcome: &Outcome) -> io::Result<()>
 fn words_of(rt: &HostRuntime) -> Result<Vec<String>, Outcome> {
     let args = match env::args(rt) {
         Ok(args) => args,
-        Err(error) => return Err(unread_words(&error)),
+        Err(error) if error.kind() == io::ErrorKind::OutOfMemory => return Err(Outcome::NoMemory),
+        // Words that are no UTF-8 are a usage.
+        Err(_) => return Err(Outcome::Usage),
     };
     let mut words = Vec::new(rt.alloc());
     for word in args.skip(1) {
@@ -57,13 +59,4 @@ fn words_of(rt: &HostRuntime) -> Result<Vec<String>, Outcome> {
         }
     }
     Ok(words)
-}
-
-// How a call ends whose words could not be read: words that are no UTF-8 are a usage.
-fn unread_words(error: &io::Error) -> Outcome {
-    if error.kind() == io::ErrorKind::OutOfMemory {
-        Outcome::NoMemory
-    } else {
-        Outcome::Usage
-    }
 }
