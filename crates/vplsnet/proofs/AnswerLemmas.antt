@@ -1,5 +1,5 @@
 -- What a call answers by what its stages say, and that in a sound surrounding the answer is what the files call for.
-use Rattle.std.proofs.Common.{true, false, ◌≡◌, ◌⊎◌, ◌<◌, ◌≤◌, ◌++◌, ◌∙◌, ℕ, Bool, List, [], ◌∷◌, Option, Some, None, Result, Ok, Err, IfSome, length, inl, inr, refl, ap, sym, subst, arith, append_assoc}
+use Rattle.std.proofs.Common.{true, false, ◌≡◌, ◌↔◌, ◌⊎◌, ◌<◌, ◌≤◌, ◌++◌, ◌∙◌, ℕ, Bool, List, [], ◌∷◌, Option, Some, None, Result, Ok, Err, IfSome, length, inl, inr, refl, ap, sym, subst, arith, append_assoc}
 use Rattle.std.proofs.lemmas.List.{append-nil}
 use Rattle.command_text.specs.declared.scenario_fault.ScenarioFault.{ScenarioFault}
 use Rattle.pcap_file.specs.declared.capture_fault.CaptureFault.{CaptureFault}
@@ -14,7 +14,7 @@ use Rattle.scenario_text.specs.Document.{document}
 use Rattle.text_lines.specs.Written.{Written, written}
 use Rattle.vplsnet.specs.declared.outcome.Outcome.{Outcome}
 use Rattle.vplsnet.specs.declared.outcome.Outcome.TheVariants.{Done, Usage, ReadFault, WriteFault, TooLong, ScenarioRefused, NoCircuit, CaptureRefused, Stopped, DecodeRefused, Unfinished, NoMemory}
-use Rattle.vplsnet.specs.Answers.{CallsFor, Completes, IsCutShort, IsEndOf, IsMade, IsRefused, IsSound, IsSoundOutcome, IsTooLong, IsWhole, Makes, MakesRun, SaysOutcome, run_text}
+use Rattle.vplsnet.specs.Answers.{CallsFor, Completes, Finishes, IsCutShort, IsEndOf, IsMade, IsRefused, IsSound, IsSoundOutcome, IsTooLong, IsWhole, Makes, MakesRun, SaysOutcome, run_text}
 use Rattle.vplsnet.specs.Around.{Files, Around, HasWriteFault, IsUntouched, Has, TellsFile}
 use Rattle.vplsnet.specs.Asked.{Asked, Replay, Tables, Capture, Decode, Rehearse}
 use Rattle.vplsnet.specs.Capture.{lacks_circuit}
@@ -356,7 +356,7 @@ made_called around asked text network outcome called made sound = elim (met arou
 whole_called : (around : Around) (asked : Asked) (network : Option NetLists) (outcome called : Outcome) → IsWhole around asked network outcome → IsSoundOutcome around asked called → outcome ≡ called
 whole_called around asked network outcome called whole sound = (made_called around asked whole.text network outcome called whole.made sound).0
 
-pub completes : (around : Around) (asked : Asked) (network : Option NetLists) (outcome : Outcome) → SaysOutcome around asked network outcome → Completes around asked outcome
+completes : (around : Around) (asked : Asked) (network : Option NetLists) (outcome : Outcome) → SaysOutcome around asked network outcome → Completes around asked outcome
 completes around asked network Done answers called sound = inl (whole_called around asked network Done called answers sound)
 completes around asked network Usage answers called sound = absurd answers
 completes around asked network ReadFault answers called sound = absurd (unread_never around asked called answers.0 sound)
@@ -369,3 +369,20 @@ completes around asked network (Stopped stop) answers called sound = inl (whole_
 completes around asked network (DecodeRefused fault) answers called sound = inl (whole_called around asked network (DecodeRefused fault) called answers sound)
 completes around asked network (Unfinished at) answers called sound = inl (whole_called around asked network (Unfinished at) called answers sound)
 completes around asked network NoMemory answers called sound = inr refl
+
+-- ---- what is said of what was asked for is said of the words that ask for it
+
+pub usage_by : (around : Around) (asked : Asked) (words : Option Asked) (network : Option NetLists) (outcome : Outcome) → Some asked ≡ words → SaysOutcome around asked network outcome → (outcome ≡ Usage) ↔ (words ≡ None)
+usage_by around asked words network outcome is says = (
+  λ usage. absurd (subst (λ (o : Outcome). SaysOutcome around asked network o) usage says),
+  λ none. absurd (cc (is, none)),
+)
+
+pub finishes_by : (around : Around) (asked : Asked) (words : Option Asked) (network : Option NetLists) (outcome : Outcome) → Some asked ≡ words → SaysOutcome around asked network outcome → Finishes around words network outcome
+finishes_by around asked words network outcome is says = subst (λ (o : Option Asked). Finishes around o network outcome) is says
+
+pub completes_by : (around : Around) (asked : Asked) (words : Option Asked) (network : Option NetLists) (outcome : Outcome) → Some asked ≡ words → SaysOutcome around asked network outcome
+    → IfSome words (λ asked. Completes around asked outcome)
+completes_by around asked words network outcome is says = subst (λ (o : Option Asked). IfSome o (λ it. Completes around it outcome)) is (completes around asked network outcome says)
+
+pub ruleset word_steps = (usage_by, finishes_by, completes_by)

@@ -4,7 +4,7 @@ ghost use Rattle.net_base.specs.plan.Accepted.{IsChecked};
 ghost use Rattle.net_base.specs.plan.Planned.{IsFrame};
 ghost use Rattle.command_text.specs.Planned.{IsPlanned};
 ghost use Rattle.text_lines.specs.Written.{written};
-ghost use Rattle.vplsnet.specs.Answers.{Completes, Finishes, IsRefused, SaysOutcome};
+ghost use Rattle.vplsnet.specs.Answers.{Completes, Finishes, IsRefused};
 ghost use Rattle.vplsnet.specs.Around.{Has, around};
 ghost use Rattle.vplsnet.specs.Asked.{asked, asked_by};
 ghost use Rattle.vplsnet.specs.Finish.{status_of};
@@ -42,6 +42,7 @@ use text_lines::Page;
 ///
 /// `ReadFault` comes only where the shelf's count for the name rose, and `WriteFault` only where the sink's count rose; a front of the
 /// text was then taken. `NoMemory` may come at any time before the writing, and of `decode` also within it.
+#[tactic(auto, using(crate::proofs::AnswerLemmas::refused_answers, crate::proofs::AnswerLemmas::run_answers, crate::proofs::AnswerLemmas::word_steps))]
 pub fn run<F: Shelf, K: Sink>(
     alloc: Global,
     words: &[String],
@@ -59,24 +60,10 @@ pub fn run<F: Shelf, K: Sink>(
     // The shelf's files are as they were.
     ensures same_files { F.files shelf.new ≡ F.files shelf.old }
 {
-    match request_of(words) {
-        Some(request) => finish_of(alloc, request, shelf, sink),
-        None => Finish::without_run(Outcome::Usage),
-    }
-}
-
-// Does what a request asks: reads a stream, or runs a scenario and writes what is asked of the run.
-#[tactic(auto, using(crate::proofs::AnswerLemmas::refused_answers))]
-fn finish_of<F: Shelf, K: Sink>(
-    alloc: Global,
-    request: Request<'_>,
-    shelf: &mut F,
-    sink: &mut K,
-) -> Finish
-    ensures status { result.status ≡ status_of result.outcome }
-    ensures answers { SaysOutcome (around F.files F.faults K.taken K.faults shelf.old sink.old shelf.new sink.new) (asked_by request.entry) result.network result.outcome }
-    ensures same_files { F.files shelf.new ≡ F.files shelf.old }
-{
+    let request = match request_of(words) {
+        Some(request) => request,
+        None => return Finish::without_run(Outcome::Usage),
+    };
     if let Request::Decode { file } = request {
         return decode_file(alloc, file, shelf, sink);
     }
