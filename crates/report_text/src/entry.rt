@@ -2,9 +2,9 @@
 ghost use Rattle.std.specs.Prelude.{◌≡◌, ◌∷◌, [], map};
 ghost use Rattle.std.specs.Fmt.{decimal};
 ghost use Rattle.report_text.specs.Report.{entry_line};
-ghost use Rattle.report_text.specs.Words.{arrival_name, cause_name, circuit_name, edge_name, state_name, wire_end_name, wire_name};
+ghost use Rattle.report_text.specs.Words.{cause_name, circuit_name, edge_name, state_name, wire_end_name, wire_name};
 ghost use Rattle.text_lines.specs.Lines.{word_octets};
-ghost use Rattle.text_lines.specs.Written.{written, Puts};
+ghost use Rattle.text_lines.specs.Written.{PutsOn};
 ghost use Rattle.text_pieces.specs.Pieces.{hex};
 
 use crate::event::put_event;
@@ -115,7 +115,7 @@ pub fn put_entry<'a, K: Sink>(
     plan: &'a Plan,
     entry: &'a Entry,
 ) -> Result<(), Failed>
-    ensures { Puts result (written (K.taken sink.old) (K.faults sink.old) page.old) (written (K.taken sink.new) (K.faults sink.new) page.new) (entry_line plan.now entry.now) }
+    ensures { PutsOn K.taken K.faults page.old page.new sink.old sink.new result (entry_line plan.now entry.now) }
 {
     match *entry {
         Entry::Did { ref event } => put_event(page, sink, plan, event),
@@ -150,7 +150,7 @@ fn put_any_entry<'a, K: Sink>(
     plan: &'a Plan,
     entry: &'a Entry,
 ) -> Result<(), Failed>
-    ensures { Puts result (written (K.taken sink.old) (K.faults sink.old) page.old) (written (K.taken sink.new) (K.faults sink.new) page.new) (entry_line plan.now entry.now) }
+    ensures { PutsOn K.taken K.faults page.old page.new sink.old sink.new result (entry_line plan.now entry.now) }
 {
     match *entry {
         Entry::Did { ref event } => put_event(page, sink, plan, event),

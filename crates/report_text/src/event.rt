@@ -3,8 +3,7 @@ ghost use Rattle.std.specs.Prelude.{◌≡◌, ◌∷◌, [], codes, map};
 ghost use Rattle.std.specs.Fmt.{decimal};
 ghost use Rattle.report_text.specs.Words.{circuit_name, edge_name, event_words, switch_name, wire_name};
 ghost use Rattle.text_lines.specs.Lines.{line_of, word_octets};
-ghost use Rattle.text_lines.specs.Written.{written, Puts};
-ghost use Rattle.text_pieces.specs.Pieces.{hex};
+ghost use Rattle.text_lines.specs.Written.{PutsOn};
 
 use crate::names::{circuit_word, edge_word, switch_text, wire_word};
 use net_base::{CircuitId, EdgeId, Event, Failed, Plan, Sink, WireId};
@@ -69,7 +68,7 @@ pub fn put_event<K: Sink>(
     plan: &Plan,
     event: &Event,
 ) -> Result<(), Failed>
-    ensures { Puts result (written (K.taken sink.old) (K.faults sink.old) page.old) (written (K.taken sink.new) (K.faults sink.new) page.new) (line_of (codes ">" ∷ event_words plan.now event.now)) }
+    ensures { PutsOn K.taken K.faults page.old page.new sink.old sink.new result (line_of (codes ">" ∷ event_words plan.now event.now)) }
 {
     match *event {
         Event::Frame { circuit, ref bytes } => {
@@ -88,7 +87,7 @@ fn put_any_event<K: Sink>(
     plan: &Plan,
     event: &Event,
 ) -> Result<(), Failed>
-    ensures { Puts result (written (K.taken sink.old) (K.faults sink.old) page.old) (written (K.taken sink.new) (K.faults sink.new) page.new) (line_of (codes ">" ∷ event_words plan.now event.now)) }
+    ensures { PutsOn K.taken K.faults page.old page.new sink.old sink.new result (line_of (codes ">" ∷ event_words plan.now event.now)) }
 {
     match *event {
         Event::Connect { from, to } => {

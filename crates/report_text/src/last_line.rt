@@ -3,7 +3,7 @@ ghost use Rattle.std.specs.Prelude.{◌≡◌, ◌<◌, ◌^◌, ◌++◌, ◌�
 ghost use Rattle.std.specs.Fmt.{decimal};
 ghost use Rattle.report_text.specs.Report.{is_counted, counted_more, last_words};
 ghost use Rattle.text_lines.specs.Lines.{line_of, word_octets};
-ghost use Rattle.text_lines.specs.Written.{written, Puts};
+ghost use Rattle.text_lines.specs.Written.{PutsOn};
 
 use crate::ending::Ending;
 use net_base::{Entry, Failed, Sink};
@@ -109,7 +109,7 @@ pub fn put_last_line<K: Sink>(
     trace: &[Entry],
     ending: Ending,
 ) -> Result<(), Failed>
-    ensures { Puts result (written (K.taken sink.old) (K.faults sink.old) page.old) (written (K.taken sink.new) (K.faults sink.new) page.new) (line_of (last_words trace.now ending)) }
+    ensures { PutsOn K.taken K.faults page.old page.new sink.old sink.new result (line_of (last_words trace.now ending)) }
 {
     match ending {
         Ending::End => page.put_line(sink, b"end", &told(counts_of(trace))),

@@ -6,55 +6,34 @@ ghost use Rattle.report_text.specs.Words.{edge_name, circuit_name, wire_name, ar
 use net_base::{Arrival, CircuitId, Down, DropCause, EdgeId, Plan, Reason, StateName, WireId};
 use text_lines::Word;
 
-// The name of an edge; empty outside the plan.
-fn edge_octets(plan: &Plan, edge: EdgeId) -> &[u8]
-    ensures { result.now ≡ edge_name plan.now edge }
-{
-    match plan.edges.get(edge.0 as usize) {
-        Some(row) => row.name.as_slice(),
-        None => &[],
-    }
-}
-
-// The name of a circuit; empty outside the plan.
-fn circuit_octets(plan: &Plan, circuit: CircuitId) -> &[u8]
-    ensures { result.now ≡ circuit_name plan.now circuit }
-{
-    match plan.circuits.get(circuit.0 as usize) {
-        Some(row) => row.name.as_slice(),
-        None => &[],
-    }
-}
-
-// The name of a wire; empty outside the plan.
-fn wire_octets(plan: &Plan, wire: WireId) -> &[u8]
-    ensures { result.now ≡ wire_name plan.now wire }
-{
-    match plan.wires.get(wire.0 as usize) {
-        Some(row) => row.name.as_slice(),
-        None => &[],
-    }
-}
-
 /// The name of an edge; empty outside the plan.
 pub fn edge_word(plan: &Plan, edge: EdgeId) -> Word<'_>
     ensures { word_octets result ≡ edge_name plan.now edge }
 {
-    Word::Text(edge_octets(plan, edge))
+    match plan.edges.get(edge.0 as usize) {
+        Some(row) => Word::Text(row.name.as_slice()),
+        None => Word::Text(&[]),
+    }
 }
 
 /// The name of a circuit; empty outside the plan.
 pub fn circuit_word(plan: &Plan, circuit: CircuitId) -> Word<'_>
     ensures { word_octets result ≡ circuit_name plan.now circuit }
 {
-    Word::Text(circuit_octets(plan, circuit))
+    match plan.circuits.get(circuit.0 as usize) {
+        Some(row) => Word::Text(row.name.as_slice()),
+        None => Word::Text(&[]),
+    }
 }
 
 /// The name of a wire; empty outside the plan.
 pub fn wire_word(plan: &Plan, wire: WireId) -> Word<'_>
     ensures { word_octets result ≡ wire_name plan.now wire }
 {
-    Word::Text(wire_octets(plan, wire))
+    match plan.wires.get(wire.0 as usize) {
+        Some(row) => Word::Text(row.name.as_slice()),
+        None => Word::Text(&[]),
+    }
 }
 
 /// By what a frame came: a circuit, a wire, or a dash for none.
