@@ -1,7 +1,7 @@
 //! What happens in a rehearsal.
-ghost use Rattle.std.specs.Prelude.{◌≡◌, ◌<◌, ◌+◌, ◌++◌, ◌∷◌, [], length, IfOk, OnOk};
+ghost use Rattle.std.specs.Prelude.{◌≡◌, ◌<◌, ◌+◌, ◌++◌, IfOk, OnOk};
 ghost use Rattle.rehearsal.specs.Commands.{commands, connect, connects, destination, frame, frames_from, payload, station};
-ghost use Rattle.rehearsal.specs.Draws.{next_number, drawn};
+ghost use Rattle.rehearsal.specs.Draws.{next_number};
 
 use crate::draws::Draws;
 use net_base::{CircuitId, EdgeId, Event, List, NoMemory, Octets, WirePlan};

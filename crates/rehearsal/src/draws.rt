@@ -18,16 +18,8 @@ impl Draws {
         ensures within { result < count }
         ensures next { self.new.number ≡ next_number self.old.number }
     {
-        self.number = next_of(self.number);
+        let whole = self.number as u128 * 6_364_136_223_846_793_005 + 1_442_695_040_888_963_407;
+        self.number = (whole % 18_446_744_073_709_551_616) as u64;
         (self.number / 8_589_934_592) % count
     }
-}
-
-// The number that a draw leaves behind this one.
-#[tactic(auto, unfolding(crate::specs::Draws::next_number))]
-fn next_of(number: u64) -> u64
-    ensures { result ≡ next_number number }
-{
-    let whole = number as u128 * 6_364_136_223_846_793_005 + 1_442_695_040_888_963_407;
-    (whole % 18_446_744_073_709_551_616) as u64
 }

@@ -1,10 +1,12 @@
 //! The wires of a rehearsal.
-ghost use Rattle.std.specs.Prelude.{◌≡◌, ◌<◌, ◌≤◌, ◌+◌, ◌-◌, ◌*◌, ◌++◌, ◌∷◌, [], IfOk, OnOk};
-ghost use Rattle.rehearsal.specs.Rows.{offer, wire_row, mesh_wire, mesh_beside, mesh_among, first_spoke, second_spoke, spokes_from, wires};
+ghost use Rattle.std.specs.Prelude.{◌≡◌, ◌<◌, ◌≤◌, ◌+◌, ◌-◌, ◌*◌, ◌++◌, ◌∷◌, [], length, IfOk, OnOk};
+ghost use Rattle.std.specs.Fmt.{decimal};
+ghost use Rattle.net_values.specs.Name.{IsName};
+ghost use Rattle.rehearsal.specs.Rows.{offer, wire_row, mesh_wire, mesh_beside, mesh_among, first_spoke, second_spoke, wires};
 
 use crate::link::Link;
 use crate::numbered::numbered;
-use net_base::{Class, EdgeId, List, Name, NoMemory, Offer, ServiceId, Text, WirePlan};
+use net_base::{Class, EdgeId, List, NoMemory, Offer, ServiceId, Text, WirePlan};
 use std::alloc::Global;
 
 // What every wire offers at both ends.
@@ -35,11 +37,15 @@ fn path(alloc: Global, from: u16, to: u16) -> Result<List<EdgeId>, NoMemory>
     Ok(path)
 }
 
-fn wire(alloc: Global, name: Name, link: Link) -> Result<WirePlan, NoMemory>
+// The wire whose name is this letter and number.
+fn wire(alloc: Global, letter: &str, number: u16, link: Link) -> Result<WirePlan, NoMemory>
+    requires name { IsName letter.now }
+    requires one { length letter.now ≡ 1 }
     requires from { 1 ≤ link.from }
     requires to { 1 ≤ link.to }
-    ensures { IfOk result (λ row. row ≡ wire_row name link) }
+    ensures { IfOk result (λ row. row ≡ wire_row (letter.now ++ decimal number) link) }
 {
+    let name = numbered(alloc, letter, number)?;
     let path = path(alloc, link.from, link.to)?;
     Ok(WirePlan {
         name,
@@ -59,7 +65,6 @@ fn mesh(alloc: Global, from: u16, to: u16, number: u16) -> Result<WirePlan, NoMe
     requires to { 1 ≤ to }
     ensures { IfOk result (λ row. row ≡ mesh_wire from to number) }
 {
-    let name = numbered(alloc, "m", number)?;
     let link = Link {
         class: Class::Mesh,
         from,
@@ -67,7 +72,7 @@ fn mesh(alloc: Global, from: u16, to: u16, number: u16) -> Result<WirePlan, NoMe
         pw_id: 100 + number as u32,
         priority: 100,
     };
-    wire(alloc, name, link)
+    wire(alloc, "m", number, link)
 }
 
 // Adds the mesh wires from a core edge to those behind it, of which the first has this number.
@@ -104,7 +109,6 @@ fn spoke_to_first(alloc: Global, place: u16) -> Result<WirePlan, NoMemory>
     requires { place < 8 }
     ensures { IfOk result (λ row. row ≡ first_spoke place) }
 {
-    let name = numbered(alloc, "p", place + 9)?;
     let link = Link {
         class: Class::Spoke,
         from: place + 9,
@@ -112,14 +116,13 @@ fn spoke_to_first(alloc: Global, place: u16) -> Result<WirePlan, NoMemory>
         pw_id: 201 + 2 * place as u32,
         priority: 10,
     };
-    wire(alloc, name, link)
+    wire(alloc, "p", place + 9, link)
 }
 
 fn spoke_to_second(alloc: Global, place: u16) -> Result<WirePlan, NoMemory>
     requires { place < 8 }
     ensures { IfOk result (λ row. row ≡ second_spoke place) }
 {
-    let name = numbered(alloc, "q", place + 9)?;
     let link = Link {
         class: Class::Spoke,
         from: place + 9,
@@ -127,7 +130,7 @@ fn spoke_to_second(alloc: Global, place: u16) -> Result<WirePlan, NoMemory>
         pw_id: 202 + 2 * place as u32,
         priority: 20,
     };
-    wire(alloc, name, link)
+    wire(alloc, "q", place + 9, link)
 }
 
 // Adds the two spokes of a spoke edge.
