@@ -1,5 +1,5 @@
 -- A packet comes from a neighbour, exit by exit.
-use Rattle.std.proofs.Common.{◌&&◌, ◌≡◌, ◌<◌, ◌≤◌, ◌++◌, ◌∷◌, ◌∙◌, ◌==◌, [], ℕ, zero, suc, Bool, true, false, cond, not, nat_lt, is_some, List, Option, Some, None, Result, Ok, Err, length, option_map, position, slice_get, refl, ap, sym, subst, arith}
+use Rattle.std.proofs.Common.{Bor, option_copied, ◌&&◌, ◌≡◌, ◌<◌, ◌≤◌, ◌++◌, ◌∷◌, ◌∙◌, ◌==◌, [], ℕ, zero, suc, Bool, true, false, cond, not, nat_lt, is_some, List, Option, Some, None, Result, Ok, Err, length, option_map, position, slice_get, refl, ap, sym, subst, arith}
 use Rattle.std.specs.List.{find}
 use Rattle.std.proofs.lemmas.Bool.Decides.{nat_tests}
 use Rattle.net_base.specs.declared.outside.link_call.LinkCall.{LinkCall}
@@ -38,11 +38,11 @@ use Rattle.provider_edge.specs.Pings.{channel_by, verified_by}
 use Rattle.vccv_channel.specs.declared.cc.Cc.{Cc}
 use Rattle.vccv_channel.specs.declared.cc.Cc.TheVariants.{Alert, Expiry, Header}
 
-not_false : (b : Bool) → not b ≡ false → b ≡ true
+pub not_false : (b : Bool) → not b ≡ false → b ≡ true
 not_false true is = refl
 not_false false is = absurd (cc (is))
 
-not_true : (b : Bool) → not b ≡ true → b ≡ false
+pub not_true : (b : Bool) → not b ≡ true → b ≡ false
 not_true false is = refl
 not_true true is = absurd (cc (is))
 
@@ -201,6 +201,11 @@ none_of (Some x) is = absurd (cc (is))
 pub me_of : (c : EdgeLists) (calls : List LinkCall) (out : List Effect) → (at_edge (seen c) calls out).edge.me ≡ c.me
 unfolding seen at_edge
 me_of c calls out = refl
+
+-- whether an end that was read holds a binding
+pub bound_read : (read : Option (Bor Binding)) (none : Bool) (remote : Option Binding) → is_some read ≡ not none → option_copied read ≡ remote → not none ≡ is_some remote
+bound_read None none remote is same = sym is ∙ ap is_some same
+bound_read (Some binding) none remote is same = sym is ∙ ap is_some same
 
 pub unbound_end : (plan : Plan) (told : Answers) (place : EndPlace) (ttl : ℕ) (row : Option WirePlan) (remote : Option Binding) (bound : Bool) (payload : List ℕ) (edge : EdgeState) (calls : List LinkCall) (out given : List Effect) → bound ≡ is_some remote → bound ≡ false
     → given ≡ out ++ Dropped cause.Down ∷ []

@@ -21,7 +21,7 @@ use Rattle.edge_model.specs.declared.effect.Effect.{Effect}
 use Rattle.edge_model.specs.declared.effect.Effect.TheVariants.{Dropped, Sent}
 use Rattle.edge_model.specs.declared.end_place.EndPlace.{EndPlace}
 use Rattle.edge_model.specs.Packet.{switched, switched_by, switched_to, switched_under, towards}
-use Rattle.edge_model.specs.Send.{drops, had_posted}
+use Rattle.edge_model.specs.Send.{drops, had_posted, sends}
 use Rattle.edge_model.specs.State.{EdgeState}
 use Rattle.edge_model.specs.Work.{Answers, Work, gives, next_answer, posts}
 use Rattle.pw_ends.specs.Ends.{end_in, place_of, seen_ends}
@@ -103,3 +103,12 @@ pub not_onward : (told : Answers) (octets : List ℕ) (entry : StackEntry) (plac
 not_onward told octets entry place to label why for edge calls out given is dropped gave =
     dropped_at for edge calls out given gave
     ∙ (ap (λ (d : DropCause). drops d (at_edge edge calls out)) dropped ∙ ap (λ (r : Result ℕ SwapDrop). switched_under told octets entry place to r (at_edge edge calls out)) (sym is))
+
+-- it goes on under the label that is bound there
+pub sent_onward : (told : Answers) (octets : List ℕ) (entry : StackEntry) (at place : EndPlace) (label : ℕ) (bound : Result ℕ SwapDrop) (packet : List ℕ) (work x : Work)
+    → at ≡ place → bound ≡ Ok label → packet ≡ relabelled label (entry.ttl - 1) octets → x ≡ sends told place (arrival.Wire at.wire) packet work
+    → x ≡ switched_under told octets entry place place.peer bound work
+sent_onward told octets entry at place label bound packet work x is ok made sent =
+    sent
+    ∙ (ap (λ (p : EndPlace). sends told place (arrival.Wire p.wire) packet work) is
+    ∙ (ap (λ (l : List ℕ). sends told place (arrival.Wire place.wire) l work) made ∙ ap (λ (r : Result ℕ SwapDrop). switched_under told octets entry place place.peer r work) (sym ok)))

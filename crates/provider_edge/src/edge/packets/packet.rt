@@ -10,7 +10,7 @@ ghost use Rattle.hvpls_spokes.specs.Port.{is_wire_port, ports_of};
 ghost use Rattle.vccv_channel.specs.declared.cc.Cc.TheVariants.{Expiry};
 ghost use Rattle.edge_model.specs.Echo.{is_picked};
 ghost use Rattle.edge_model.specs.Ends.{is_up};
-ghost use Rattle.edge_model.specs.Packet.{advertiser, alerted, alerts_end, by_control_word, enters, is_alert, is_channel, labelled, packet_input, terminated, unpacked_at};
+ghost use Rattle.edge_model.specs.Packet.{advertiser, alerted, by_control_word, enters, is_alert, is_channel, labelled, packet_input, terminated, unpacked_at};
 ghost use Rattle.edge_model.specs.Role.{down_at};
 ghost use Rattle.edge_model.specs.Synced.{InSync};
 ghost use Rattle.edge_model.specs.Work.{Agrees, Answers};
@@ -63,55 +63,26 @@ impl Edge {
         self.labelled(octets, &entry, work)
     }
 
-    // 1. Behind a router alert a second entry is read.
+    // 1. Behind a router alert a second entry is read. There a terminal end takes connectivity verification.
     fn alerted<L: Link>(&self, octets: &[u8], work: &mut AtWork<'_, L>) -> Result<(), NoMemory>
         ensures goes { WorkGoes L.calls work.old work.new }
         ensures step { OnOk result ((told : Answers) → Agrees told (L.calls work.new.link.now)
             → at_work L.calls self.now work.new ≡ alerted self.now.plan told octets.now (entry_of octets.now) (at_work L.calls self.now work.old)) }
     {
-        match read_entry(octets) {
-            Ok(entry) => self.alerted_by(octets, &entry, work),
-            Err(fault) => drop_for(fault.cause(), &mut work.effects.list),
-        }
-    }
-
-    // What stands behind a router alert has this entry.
-    fn alerted_by<L: Link>(
-        &self,
-        octets: &[u8],
-        entry: &StackEntry,
-        work: &mut AtWork<'_, L>,
-    ) -> Result<(), NoMemory>
-        requires long { 4 ≤ length octets.now }
-        ensures goes { WorkGoes L.calls work.old work.new }
-        ensures step { OnOk result ((told : Answers) → Agrees told (L.calls work.new.link.now)
-            → at_work L.calls self.now work.new ≡ alerted self.now.plan told octets.now (Ok entry.now) (at_work L.calls self.now work.old)) }
-    {
+        let entry = match read_entry(octets) {
+            Ok(entry) => entry,
+            Err(fault) => return drop_for(fault.cause(), &mut work.effects.list),
+        };
         if !entry.bottom {
             return drop_for(DropCause::NotBottom, &mut work.effects.list);
         }
         let Some(slot) = self.advertiser(entry.label) else {
             return drop_for(DropCause::NoLabel, &mut work.effects.list);
         };
-        self.alert_end(slot, without_entry(octets), work)
-    }
-
-    // A terminal end takes connectivity verification behind a router alert.
-    fn alert_end<L: Link>(
-        &self,
-        slot: usize,
-        payload: &[u8],
-        work: &mut AtWork<'_, L>,
-    ) -> Result<(), NoMemory>
-        requires { slot < length self.now.ends.places }
-        ensures goes { WorkGoes L.calls work.old work.new }
-        ensures step { OnOk result ((told : Answers) → Agrees told (L.calls work.new.link.now)
-            → at_work L.calls self.now work.new ≡ alerts_end self.now.plan told payload.now (Some (place_of self.now.ends slot)) (at_work L.calls self.now work.old)) }
-    {
         if !self.place_at(slot).terminal {
             return drop_for(DropCause::NoLabel, &mut work.effects.list);
         }
-        self.verify_in(slot, Cc::Alert, payload, work)
+        self.verify_in(slot, Cc::Alert, without_entry(octets), work)
     }
 
     // The end that advertises a label.
@@ -173,7 +144,7 @@ impl Edge {
             → at_work L.calls self.new work.new
             ≡ terminated self.old.plan told (place_of self.old.ends slot) ttl (wire_row self.old.plan (place_of self.old.ends slot).wire) (end_in self.old.ends slot).remote payload.now (at_work L.calls self.old work.old)) }
     {
-        if !self.is_bound(slot) {
+        if self.end_in(slot).remote().is_none() {
             return drop_for(DropCause::Down, &mut work.effects.list);
         }
         if self.offer_at(slot).cword {
@@ -208,14 +179,6 @@ impl Edge {
             return self.verify_in(slot, Cc::Header, payload, work);
         }
         self.enter(slot, payload, work)
-    }
-
-    // Whether the end of a slot holds a binding.
-    fn is_bound(&self, slot: usize) -> bool
-        requires { slot < length self.now.ends.places }
-        ensures { result ≡ is_some (end_in self.now.ends slot).remote }
-    {
-        self.end_in(slot).remote().is_some()
     }
 
     // What the edge offers at the end of a slot.
@@ -300,7 +263,7 @@ impl Edge {
         read_payload(&offer, mtu, payload)
     }
 
-    // The MTU of a service.
+    // The MTU of a service. A function of its own, since its clause is what a frame is read by.
     fn mtu_of(&self, service: ServiceId) -> u16
         requires { service.0 < length self.now.plan.services }
         ensures { mtu_of self.now.plan service ≡ Some result }

@@ -5,11 +5,10 @@ ghost use Rattle.net_base.specs.plan.Places.{wire_row};
 ghost use Rattle.pw_ends.specs.Ends.{place_of};
 ghost use Rattle.edge_model.specs.Echo.{ping_number};
 ghost use Rattle.edge_model.specs.Ping.{far_address, far_terminal, following_ping, ping_input, pinging};
-ghost use Rattle.edge_model.specs.State.{with_next_ping};
 ghost use Rattle.edge_model.specs.Work.{Agrees, Answers, beginning};
-ghost use Rattle.provider_edge.specs.AtWork.{Takes, Works, at_work, worked_at};
+ghost use Rattle.provider_edge.specs.AtWork.{Takes, worked_at};
 ghost use Rattle.provider_edge.specs.Lists.{Keeps, seen};
-ghost use Rattle.provider_edge.specs.Pings.{asks_with, ping_from, ping_of, request_of};
+ghost use Rattle.provider_edge.specs.Pings.{ping_of, request_of};
 
 use crate::Edge;
 use crate::echo::request_under;
@@ -41,22 +40,6 @@ impl Edge {
             work.effects.idle = true;
             return Ok(());
         };
-        self.ask(slot, packet, work)
-    }
-
-    // The packet of a ping is sent by the end of a slot; the next ping has the next sequence number.
-    fn ask<L: Link>(
-        &mut self,
-        slot: usize,
-        packet: Octets,
-        work: &mut AtWork<'_, L>,
-    ) -> Result<(), NoMemory>
-        requires working { self.old.stopped ≡ true }
-        requires slot { slot < length self.old.ends.places }
-        ensures goes { Works L.calls self.old work.old self.new work.new }
-        ensures step { OnOk result ((told : Answers) → Agrees told (L.calls work.new.link.now)
-            → at_work L.calls self.new work.new ≡ asks_with told (place_of self.old.ends slot) packet (at_work L.calls self.old work.old)) }
-    {
         self.count_ping(self.place_at(slot).wire);
         self.send(slot, Arrival::Own, packet, work)
     }
@@ -85,41 +68,33 @@ impl Edge {
         Ok(Some(packet))
     }
 
-    // The next ping of the wire of an end.
+    // The next ping of the wire of an end, where both addresses are known.
     fn ping_at(&self, slot: usize) -> Option<Ping>
         requires { slot < length self.now.ends.places }
         ensures { (row : WirePlan) → wire_row self.now.plan (place_of self.now.ends slot).wire ≡ Some row → result ≡ ping_of self.now.plan (seen self.now) (place_of self.now.ends slot).wire row }
     {
         let wire = self.place_at(slot).wire;
-        ping_from(
-            self.ping_number(slot),
-            self.next_ping(wire),
-            self.address_of(self.me),
-            self.far_address(wire),
-        )
+        let from = self.address_of(self.me)?;
+        let to = self.far_address(wire)?;
+        Some(Ping {
+            from,
+            to,
+            number: self.ping_number(slot),
+            sequence: self.next_ping(wire),
+        })
     }
 
     // The address of the terminal edge at the other end of a wire.
+    #[tactic(auto, using(edge_forwarding::proofs::ForwardingLemmas::row_read))]
     fn far_address(&self, wire: WireId) -> Option<Addr>
         requires { wire.0 < length self.now.plan.wires }
         ensures { (row : WirePlan) → wire_row self.now.plan wire ≡ Some row → result ≡ far_address self.now.plan self.now.me row }
     {
-        match self.far_of(wire) {
+        let path = self.plan.wires.as_slice()[wire.0 as usize].path.as_slice();
+        match far_terminal(self.me, path) {
             Some(far) => self.address_of(far),
             None => None,
         }
-    }
-
-    // The terminal edge at the other end of a wire.
-    #[tactic(auto, using(edge_forwarding::proofs::ForwardingLemmas::row_read))]
-    fn far_of(&self, wire: WireId) -> Option<EdgeId>
-        requires { wire.0 < length self.now.plan.wires }
-        ensures { (row : WirePlan) → wire_row self.now.plan wire ≡ Some row → result ≡ far_terminal self.now.me row.path }
-    {
-        far_terminal(
-            self.me,
-            self.plan.wires.as_slice()[wire.0 as usize].path.as_slice(),
-        )
     }
 
     // The next ping of a wire has the next sequence number.
@@ -129,7 +104,7 @@ impl Edge {
         ensures keeps { Keeps self.old self.new }
         ensures step { seen self.new ≡ pinging wire (seen self.old) }
     {
-        self.set_ping(wire, following_ping(self.next_ping(wire)));
+        self.pings[wire.0 as usize] = following_ping(self.next_ping(wire));
     }
 
     // The sequence number of the next ping of a wire.
@@ -139,31 +114,6 @@ impl Edge {
         ensures { result ≡ (seen self.now).next_ping wire.0 }
     {
         self.pings[wire.0 as usize]
-    }
-
-    // The next ping of a wire has this sequence number.
-    fn set_ping(&mut self, wire: WireId, sequence: u16)
-        requires working { self.old.stopped ≡ true }
-        requires within { wire.0 < length self.old.plan.wires }
-        ensures keeps { Keeps self.old self.new }
-        ensures step { seen self.new ≡ with_next_ping wire sequence (seen self.old) }
-    {
-        self.pings[wire.0 as usize] = sequence;
-    }
-}
-
-// A ping with this identifier and sequence number, where both addresses are known.
-fn ping_from(number: u16, sequence: u16, from: Option<Addr>, to: Option<Addr>) -> Option<Ping>
-    ensures { (row : WirePlan) → number ≡ ping_number row → result ≡ ping_from row sequence from to }
-{
-    match (from, to) {
-        (Some(from), Some(to)) => Some(Ping {
-            from,
-            to,
-            number,
-            sequence,
-        }),
-        _ => None,
     }
 }
 

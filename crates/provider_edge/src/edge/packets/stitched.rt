@@ -1,7 +1,7 @@
 //! Whether an edge passes the packets of a wire on, both ways (RFC 6073 section 4).
 ghost use Rattle.std.specs.Prelude.{◌≡◌, ◌<◌, length};
 ghost use Rattle.pw_signalling.specs.AnyEnd.{end_of};
-ghost use Rattle.pw_stitch.specs.Stitch.{has_told, is_joined_end};
+ghost use Rattle.pw_stitch.specs.Stitch.{has_told};
 ghost use Rattle.pw_ends.specs.Ends.{place_of};
 ghost use Rattle.edge_model.specs.Ends.{is_joined_place, is_stitched};
 ghost use Rattle.provider_edge.specs.Lists.{seen};
@@ -31,15 +31,9 @@ impl Edge {
         requires { slot < length self.now.ends.places }
         ensures { result ≡ is_joined_place (seen self.now) wire (place_of self.now.ends slot) }
     {
-        self.place_at(slot).wire != wire || is_joined_end(self.end_in(slot))
+        let end = self.end_in(slot);
+        self.place_at(slot).wire != wire || (has_told(end) && end.remote().is_some())
     }
-}
-
-// The end advertises its label, and is bound.
-fn is_joined_end(end: &PwEnd) -> bool
-    ensures { result ≡ is_joined_end (end_of end.now) }
-{
-    has_told(end) && end.remote().is_some()
 }
 
 // The end advertises its label.

@@ -2,7 +2,7 @@
 ghost use Rattle.std.specs.Prelude.{◌≡◌, ◌≤◌, ◌<◌, ◌-◌, length, IfOk, OnOk};
 ghost use Rattle.pw_stitch.specs.Relabelling.{relabelled};
 ghost use Rattle.pw_stitch.specs.Swap.{label_onward};
-ghost use Rattle.edge_model.specs.Packet.{switched, switched_under};
+ghost use Rattle.edge_model.specs.Packet.{switched};
 ghost use Rattle.edge_model.specs.Work.{Agrees, Answers};
 ghost use Rattle.pw_ends.specs.Ends.{end_in, place_of};
 ghost use Rattle.peer_dialogue.specs.AtWork.{WorkGoes};
@@ -20,7 +20,8 @@ use std::alloc::Global;
 const ENTRY: usize = 4;
 
 impl Edge {
-    // 3. A packet came under the label of the end of a slot, which is not terminal: it goes on by the other end of the wire.
+    // 3. A packet came under the label of the end of a slot, which is not terminal: it goes on by the other end of the wire, under
+    // the label that is bound there.
     pub(crate) fn switch<L: Link>(
         &self,
         slot: usize,
@@ -42,32 +43,13 @@ impl Edge {
         let Some(onward) = self.ends.beside(wire, mate) else {
             return drop_for(DropCause::NoBinding, &mut work.effects.list);
         };
-        self.send_on(onward, octets, entry, work)
-    }
-
-    // A packet goes on by the end of a slot, under the label that is bound there.
-    fn send_on<L: Link>(
-        &self,
-        slot: usize,
-        octets: &[u8],
-        entry: &StackEntry,
-        work: &mut AtWork<'_, L>,
-    ) -> Result<(), NoMemory>
-        requires slot { slot < length self.now.ends.places }
-        requires long { 4 ≤ length octets.now }
-        requires living { 1 ≤ entry.now.ttl }
-        ensures goes { WorkGoes L.calls work.old work.new }
-        ensures step { OnOk result ((told : Answers) → Agrees told (L.calls work.new.link.now)
-            → at_work L.calls self.now work.new
-            ≡ switched_under told octets.now entry.now (place_of self.now.ends slot) (place_of self.now.ends slot).peer (label_onward (end_in self.now.ends slot).remote entry.now.ttl) (at_work L.calls self.now work.old)) }
-    {
-        let label = match label_onward(self.end_in(slot).remote(), entry.ttl) {
+        let label = match label_onward(self.end_in(onward).remote(), entry.ttl) {
             Ok(label) => label,
             Err(why) => return drop_for(why.cause(), &mut work.effects.list),
         };
         let packet = under_label(work.alloc, label, entry.ttl - 1, octets)?;
-        let came = Arrival::Wire(self.place_at(slot).wire);
-        self.send(slot, came, packet, work)
+        let came = Arrival::Wire(self.place_at(onward).wire);
+        self.send(onward, came, packet, work)
     }
 }
 

@@ -1,16 +1,14 @@
 //! An echo packet came in a control channel of an end (RFC 5085 sections 3 and 5).
-ghost use Rattle.std.specs.Prelude.{◌≡◌, ◌<◌, ◌≤◌, ◌++◌, ◌∷◌, [], true, Some, length, take, OnOk};
+ghost use Rattle.std.specs.Prelude.{◌≡◌, ◌<◌, ◌≤◌, true, Some, length, take, OnOk};
 ghost use Rattle.net_base.specs.declared.plan.wire_plan.WirePlan.{WirePlan};
 ghost use Rattle.net_base.specs.plan.Places.{wire_row};
 ghost use Rattle.net_base.specs.declared.trace.arrival.Arrival.TheVariants.{Own};
 ghost use Rattle.pw_ends.specs.Ends.{end_in, place_of};
 ghost use Rattle.pw_signalling.specs.declared.binding.Binding.{Binding as Bound};
 ghost use Rattle.vccv_channel.specs.Channel.{has_header};
-ghost use Rattle.vccv_channel.specs.Echo.{answer_packet};
 ghost use Rattle.vccv_channel.specs.Pick.{picked};
-ghost use Rattle.vccv_channel.specs.Reading.{behind_header, IsRequest};
-ghost use Rattle.edge_model.specs.Echo.{channel_octets, is_picked, ping_number, verifies};
-ghost use Rattle.edge_model.specs.Send.{sends};
+ghost use Rattle.vccv_channel.specs.Reading.{behind_header};
+ghost use Rattle.edge_model.specs.Echo.{is_picked, ping_number, verifies};
 ghost use Rattle.edge_model.specs.declared.effect.Effect.TheVariants.{Pong};
 ghost use Rattle.edge_model.specs.Work.{Agrees, Answers};
 ghost use Rattle.peer_dialogue.specs.AtWork.{WorkGoes};
@@ -21,9 +19,8 @@ use crate::Edge;
 use crate::echo::answer_under;
 use crate::quiet::drop_for;
 use edge_model::Effect;
-use net_base::{Arrival, DropCause, Link, List, NoMemory, Offer};
+use net_base::{Arrival, DropCause, Link, NoMemory};
 use peer_dialogue::AtWork;
-use pw_signalling::Binding;
 use vccv_channel::{Cc, Echo, pick, read_echo};
 
 impl Edge {
@@ -54,12 +51,18 @@ impl Edge {
     {
         let offer = self.offer_at(slot);
         match self.end_in(slot).remote() {
-            Some(binding) => channel_under(&offer, binding),
+            Some(binding) => pick(
+                offer.vccv,
+                binding.told.vccv,
+                offer.cword,
+                binding.told.points.len(),
+            ),
             None => None,
         }
     }
 
-    // What came in the control channel of the end of a slot, which is bound: a request is answered, and an answer is told.
+    // What came in the control channel of the end of a slot, which is bound: a request is answered in the same control channel, and
+    // an answer is told.
     pub(crate) fn verify<L: Link>(
         &self,
         slot: usize,
@@ -78,44 +81,19 @@ impl Edge {
             Ok(echo) => echo,
             Err(fault) => return drop_for(fault.cause(), &mut work.effects.list),
         };
-        match echo {
-            Echo::Request { length, .. } => {
-                self.reply(slot, kind, ip_packet(payload, header, length), work)
+        let length = match echo {
+            Echo::Request { length, .. } => length,
+            Echo::Answer { sequence } => {
+                let wire = self.place_at(slot).wire;
+                return work.effects.list.push(Effect::Pong { wire, sequence });
             }
-            Echo::Answer { sequence } => self.tell_pong(slot, sequence, &mut work.effects.list),
-        }
-    }
-
-    // The answer to a request goes back in the same control channel of the end of a slot, which is bound.
-    fn reply<L: Link>(
-        &self,
-        slot: usize,
-        kind: Cc,
-        ip: &[u8],
-        work: &mut AtWork<'_, L>,
-    ) -> Result<(), NoMemory>
-        requires slot { slot < length self.now.ends.places }
-        requires request { IsRequest ip.now }
-        ensures goes { WorkGoes L.calls work.old work.new }
-        ensures step { OnOk result ((told : Answers) (binding : Bound) → Agrees told (L.calls work.new.link.now) → (end_in self.now.ends slot).remote ≡ Some binding
-            → at_work L.calls self.now work.new ≡ sends told (place_of self.now.ends slot) Own (channel_octets kind binding (answer_packet ip.now)) (at_work L.calls self.now work.old)) }
-    {
+        };
         let Some(binding) = self.end_in(slot).remote() else {
             return Ok(());
         };
+        let ip = ip_packet(payload, header, length);
         let packet = answer_under(work.alloc, kind, binding, ip)?;
         self.send(slot, Arrival::Own, packet, work)
-    }
-
-    // The answer to a ping came back by the end of a slot.
-    fn tell_pong(&self, slot: usize, sequence: u16, out: &mut List<Effect>) -> Result<(), NoMemory>
-        requires { slot < length self.now.ends.places }
-        ensures { OnOk result (out.new ≡ out.old ++ Pong (place_of self.now.ends slot).wire sequence ∷ []) }
-    {
-        out.push(Effect::Pong {
-            wire: self.place_at(slot).wire,
-            sequence,
-        })
     }
 
     // The identifier of the pings of the wire of an end: its PW ID modulo 65,536.
@@ -128,18 +106,6 @@ impl Edge {
         let wire = self.place_at(slot).wire;
         (self.plan.wires.as_slice()[wire.0 as usize].pw_id % 0x1_0000) as u16
     }
-}
-
-// The type of control channel that a terminal edge picks by its offer under a binding.
-fn channel_under(offer: &Offer, binding: &Binding) -> Option<Cc>
-    ensures { result ≡ picked offer.now.vccv binding.now.told.vccv offer.now.cword (length binding.now.told.points) }
-{
-    pick(
-        offer.vccv,
-        binding.told.vccv,
-        offer.cword,
-        binding.told.points.len(),
-    )
 }
 
 // Whether this type was picked.

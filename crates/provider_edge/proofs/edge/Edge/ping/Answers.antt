@@ -8,7 +8,7 @@ use Rattle.peer_dialogue.proofs.SpeakerLemmas.{goes_nowhere}
 use Rattle.peer_dialogue.proofs.SettleLemmas.{map_on}
 use Rattle.pw_ends.specs.Ends.{place_of}
 use Rattle.provider_edge.proofs.AtWorkLemmas.{takes_by}
-use Rattle.provider_edge.proofs.EchoLemmas.{asked, unasked, unended}
+use Rattle.provider_edge.proofs.EchoLemmas.{asked, asks_counted, counted_at, placed_same, unasked, unended}
 use Rattle.provider_edge.proofs.EdgeLemmas.{begun, given_out}
 use Rattle.provider_edge.proofs.ListLemmas.{keeps_same}
 use Rattle.provider_edge.proofs.SlotLemmas.{none_found, slot_found}
@@ -36,17 +36,19 @@ pub returns-in_default-clause-goes : goal.returns-in_default-clause-goes
 returns-in_default-clause-goes g c = record { keeps = keeps_same c.args.self.now; link = refl; effects = refl; calls = goes_nowhere (g.L.Link.calls c.args.work.now.link.now) }
 
 pub returns-clause-step : goal.returns-clause-step
-returns-clause-step g c = map_on _ _ c.ask.result
+returns-clause-step g c = map_on _ _ c.send.result
     (λ step. λ told agrees.
     let is : IsEdge c.args.self.now = subst IsEdge c.self.view_is c.self.invariant in
     asked c.args.self.now told c.args.wire (g.L.Link.calls c.args.work.now.link.now) (place_of c.args.self.now.ends c.in-Some.slot) c.in-Some-2.packet _
     (slot_found c.args.self.now (is_end_of_wire c.args.wire) c.terminal.result c.in-Some.slot is (c.terminal.ensures.slot ∙ ap (λ (n : EdgeLists). position (is_end_of_wire c.args.wire) n.ends.places) c.self.view_is) c.in-Some.is)
     (sym c.in-Some-2.is ∙ c.in_ok-packet.ensures)
-    (given_out c.ask.new.self (g.L.Link.calls c.ask.new.work.link.now) c.ask.new.work.effects.now (c.ask.ensures.goes.on.idle ∙ ap (λ (e : Effects). e.idle) c.requires.fresh)
-    ∙ (step told agrees
+    (given_out c.count_ping.new.self (g.L.Link.calls c.send.new.work.link.now) c.send.new.work.effects.now (c.send.ensures.goes.idle ∙ ap (λ (e : Effects). e.idle) c.requires.fresh)
+    ∙ (asks_counted c.args.self.now c.count_ping.new.self told (place_of c.args.self.now.ends c.in-Some.slot) (place_of c.count_ping.new.self.ends c.in-Some.slot) c.in-Some-2.packet (g.L.Link.calls c.args.work.now.link.now) c.args.work.now.effects.now.list _
+    (counted_at c.args.self.now c.count_ping.new.self (place_of c.args.self.now.ends c.in-Some.slot) c.place_at.result c.place_at.ensures.place c.count_ping.ensures.step)
+    (placed_same c.args.self.now c.count_ping.new.self c.in-Some.slot c.count_ping.ensures.keeps) (step told agrees)
     ∙ ap (asks_with told (place_of c.args.self.now.ends c.in-Some.slot) c.in-Some-2.packet)
     (ap (λ (e : Effects). at_edge (seen c.args.self.now) (g.L.Link.calls c.args.work.now.link.now) e.list) c.requires.fresh ∙ begun (seen c.args.self.now) (g.L.Link.calls c.args.work.now.link.now)))))
-    c.ask.ensures.step
+    c.send.ensures.step
 
 pub returns-clause-goes : goal.returns-clause-goes
-returns-clause-goes g c = takes_by g.L.Link.calls _ _ _ _ c.ask.ensures.goes.keeps c.ask.ensures.goes.on
+returns-clause-goes g c = takes_by g.L.Link.calls _ _ _ _ c.count_ping.ensures.keeps c.send.ensures.goes
