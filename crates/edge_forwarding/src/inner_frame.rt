@@ -1,13 +1,11 @@
 //! The inner frame of what comes by a circuit.
-ghost use Rattle.std.specs.Prelude.{◌≡◌, ◌<◌, ◌≤◌, ◌+◌, ◌++◌, ℕ, List, Some, Ok, Err, length, All, IfOk, MatchResult};
+ghost use Rattle.std.specs.Prelude.{◌≡◌, ◌<◌, ◌≤◌, ◌+◌, ◌++◌, Ok, Err, length, All, IfOk, MatchResult};
 ghost use Rattle.net_base.specs.plan.Accepted.{IsCircuitOf};
-ghost use Rattle.net_base.specs.plan.Places.{circuit_row};
 ghost use Rattle.net_base.specs.trace.Isolated.{inner_at};
-ghost use Rattle.net_base.specs.trace.Frame.{inner as inner_of};
 ghost use Rattle.eth_encap.specs.Fault.{cause_of};
 
 use eth_encap::{FrameFault, inner_parts};
-use net_base::{CircuitId, CircuitPlan, Plan};
+use net_base::{CircuitId, Plan};
 
 /// The inner frame of what comes by a circuit of the plan, or its first fault. Answers two parts of the octets that join to it, so
 /// that nothing is copied; at a circuit without a tag the first is all of it, and the second nothing.
@@ -22,15 +20,6 @@ pub fn read_inner<'a>(
     ensures header { IfOk result (λ parts. 14 ≤ length parts.0.now + length parts.1.now) }
 {
     let row = &plan.circuits.as_slice()[circuit.0 as usize];
-    inner_parts(row.tag, mtu_at(plan, circuit, row), octets)
-}
-
-// The MTU of the service of a circuit, which has this row.
-fn mtu_at(plan: &Plan, circuit: CircuitId, row: &CircuitPlan) -> u16
-    requires planned { All (IsCircuitOf plan.now) plan.now.circuits }
-    requires row { circuit_row plan.now circuit ≡ Some row.now }
-    ensures { (octets : List ℕ) → inner_at plan.now circuit octets ≡ inner_of row.now.tag result octets }
-{
-    let _ = circuit;
-    plan.services.as_slice()[row.service.0 as usize].mtu
+    let mtu = plan.services.as_slice()[row.service.0 as usize].mtu;
+    inner_parts(row.tag, mtu, octets)
 }
