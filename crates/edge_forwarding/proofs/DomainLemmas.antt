@@ -1,5 +1,5 @@
 -- The domains of an edge, one more at a time.
-use Rattle.std.proofs.Common.{◌≡◌, ◌<◌, ◌≤◌, ◌+◌, ◌++◌, ◌∙◌, ◌⊎◌, ◌&&◌, ℕ, zero, suc, Bool, true, false, not, nat_eq, nat_lt, List, [], ◌∷◌, Option, Some, None, length, slice_get, slice_index_or, slice_set, position, get_or, cond, length-set, ap, sym, subst, inl, inr, arith, refl}
+use Rattle.std.proofs.Common.{◌≡◌, ◌<◌, ◌+◌, ◌++◌, ◌∙◌, ◌⊎◌, ◌&&◌, ℕ, zero, suc, Bool, true, false, not, nat_eq, nat_lt, List, [], ◌∷◌, Option, Some, None, length, slice_get, slice_index_or, position, get_or, ap, sym, subst, inl, inr, arith, refl}
 use Rattle.std.proofs.lemmas.Bool.{cases_order, eqb-true}
 use Rattle.std.proofs.lemmas.Bool.Decides.{nat_tests}
 use Rattle.std.proofs.lemmas.Option.{slice_get_read}
@@ -10,10 +10,9 @@ use Rattle.edge_forwarding.specs.declared.domain.Domain.{Domain}
 use Rattle.hvpls_spokes.specs.declared.port.Port.{Port}
 use Rattle.mac_table.specs.declared.mac_entry.MacEntry.{MacEntry}
 use Rattle.edge_model.specs.State.{without_port}
-use Rattle.edge_forwarding.specs.Domain.{AreClosed, AreNew, IsKeptClosed, IsNew, forgot_domain}
+use Rattle.edge_forwarding.specs.Domain.{AreNew, IsNew, forgot_domain}
 use Rattle.hvpls_spokes.specs.Port.{is_wire}
 use Rattle.edge_forwarding.proofs.EachLemmas.{before_push, long_push, past_push}
-use Rattle.edge_forwarding.proofs.Views.{past_end, same_read, view_at}
 
 next_new : (plan : Plan) (me : EdgeId) (place : ℕ) (domains : List (Option Domain)) (kept : Option Domain) (service : ServicePlan)
     → AreNew plan me place domains → slice_get plan.services place ≡ Some service → IsNew plan me (record { 0 = place }) service.age kept
@@ -95,54 +94,6 @@ pub closed_end : (ports : List Port) (old now : ℕ → Bool) (k : ℕ) → k �
     → (p : ℕ) → now p ≡ (old p && not (is_wire (slice_get ports p)))
 closed_end ports old now k all so_far p =
     so_far p ∙ (ap (λ (n : ℕ). old p && not (nat_lt p n && is_wire (slice_get ports p))) all ∙ ap (λ (b : Bool). old p && not b) (wire_within ports p))
-
--- ---- domain after domain is closed
-
--- the domains before a place are closed, and the others are as they were
-pub record AreClosedTo (old now : List (Option Domain)) (place : ℕ) : Type 0 where
-  pub len : length now ≡ length old
-  pub before : (k : ℕ) → k < place → IsKeptClosed (slice_index_or old k None) (slice_index_or now k None)
-  pub after : (k : ℕ) → place ≤ k → slice_index_or now k None ≡ slice_index_or old k None
-
-pub closed_first : (old : List (Option Domain)) → AreClosedTo old old 0
-closed_first old = record { len = refl; before = λ k below. absurd (omega arith); after = λ k above. refl }
-
-pub closed_more : (old now : List (Option Domain)) (place : ℕ) (x y : Option Domain) → AreClosedTo old now place → place < length now → x ≡ get_or now place x → IsKeptClosed x y → AreClosedTo old (slice_set now place y) (place + 1)
-closed_more old now place x y are within read one = record {
-  len = length-set now place y ∙ are.len;
-  before = λ k below. subst (IsKeptClosed (slice_index_or old k None)) (sym (view_at None now place y k within)) (of k (nat_eq k place) refl below);
-  after = λ k above. view_at None now place y k within ∙ (ap (λ (b : Bool). cond b y (slice_index_or now k None)) (apart k above) ∙ are.after k (omega (arith, above)));
-}
-  where
-    apart : (k : ℕ) → place + 1 ≤ k → nat_eq k place ≡ false
-    apart k above = grind (arith, nat_tests, above)
-
-    less : (k : ℕ) → nat_eq k place ≡ false → k < place + 1 → k < place
-    less k other below = grind (arith, nat_tests, other, below)
-
-    was : x ≡ slice_index_or old place None
-    was = read ∙ (same_read now place x None within ∙ are.after place (omega arith))
-
-    of : (k : ℕ) (b : Bool) → nat_eq k place ≡ b → k < place + 1 → IsKeptClosed (slice_index_or old k None) (cond b y (slice_index_or now k None))
-    of k false other below = are.before k (less k other below)
-    of k true same below = subst (λ (n : ℕ). IsKeptClosed (slice_index_or old n None) y) (sym (eqb-true k place same)) (subst (λ (d : Option Domain). IsKeptClosed d y) was one)
-
-pub closed_all : (old now : List (Option Domain)) (place : ℕ) → AreClosedTo old now place → length now ≤ place → AreClosed old now
-closed_all old now place are past = record {
-  len = are.len;
-  each = λ k. elim (cases_order k place) [
-    | inl same ↦ beyond k (omega (arith, are.len, past, same))
-    | inr rest ↦ elim rest [
-      | inl less ↦ are.before k less
-      | inr more ↦ beyond k (omega (arith, are.len, past, more))
-    ]
-  ];
-}
-  where
-    beyond : (k : ℕ) → length old ≤ k → IsKeptClosed (slice_index_or old k None) (slice_index_or now k None)
-    beyond k above =
-        subst (λ (d : Option Domain). IsKeptClosed d (slice_index_or now k None)) (sym (past_end None old k above))
-        (subst (IsKeptClosed None) (sym (past_end None now k (omega (arith, are.len, above)))) tt)
 
 -- ---- a bridge that has learned nothing has nothing to forget
 

@@ -1,7 +1,6 @@
 -- A list whose items are changed one by one.
-use Rattle.std.proofs.Common.{◌≡◌, ◌<◌, ◌≤◌, ◌+◌, ◌++◌, ◌∙◌, ◌==◌, ℕ, zero, suc, Bool, true, false, cond, filter, not, List, [], ◌∷◌, Some, None, length, slice_get, slice_index_or, set, get_or, take, drop, map, replicate, refl, ap, sym, subst, arith}
+use Rattle.std.proofs.Common.{◌≡◌, ◌<◌, ◌≤◌, ◌+◌, ◌++◌, ◌∙◌, ◌==◌, ℕ, zero, suc, Bool, true, false, cond, filter, not, List, [], ◌∷◌, Some, None, length, slice_get, slice_index_or, set, get_or, take, drop, map, replicate, refl, ap, subst, arith}
 use Rattle.std.proofs.lemmas.Bool.{eq-eqb}
-use Rattle.std.specs.Prelude.{All}
 use Rattle.mac_table.specs.declared.mac_entry.MacEntry.{MacEntry}
 
 aged_from : {X : Type 0} (f : X → X) (xs : List X) (i : ℕ) (d : X) → i < length xs
@@ -27,18 +26,6 @@ each_next {X = X} f xs now i x y so_far within read after =
     ∙ (ap (λ (l : List X). set l i (f (get_or l i x))) so_far
     ∙ (aged_from f xs i x below
     ∙ ap (λ (n : ℕ). map f (take n xs) ++ drop n xs) next))
-
-at_front : {X : Type 0} (f : X → X) (xs : List X) (i : ℕ) (d : X) → i < length xs → get_or (map f (take i xs) ++ drop i xs) i d ≡ get_or xs i d
-at_front f [] i d within = absurd (omega arith)
-at_front f (x ∷ xs) zero d within = refl
-at_front f (x ∷ xs) (suc i) d within = at_front f xs i d (omega arith)
-
--- what holds of every item holds of the next one, which is as it was
-pub each_at : {X : Type 0} (P : X → Type 0) (f : X → X) (xs now : List X) (i : ℕ) (x : X) → All P xs → now ≡ map f (take i xs) ++ drop i xs → i < length now → x ≡ get_or now i x → P x
-each_at {X = X} P f xs now i x all so_far within read =
-    let parts : length (map f (take i xs) ++ drop i xs) ≡ length xs = joined f xs i in
-    let below : i < length xs = omega (arith, ap length so_far) in
-    subst P (sym (read ∙ (ap (λ (l : List X). get_or l i x) so_far ∙ at_front f xs i x below))) (all i x below)
 
 -- one new domain more
 pub past_push : {X : Type 0} (xs : List X) (x d : X) → slice_index_or (xs ++ x ∷ []) (length xs) d ≡ x

@@ -33,7 +33,9 @@ use Rattle.edge_model.specs.Mend.{forgetting_wire}
 use Rattle.edge_model.specs.State.{EdgeState, addresses_of, put_at, with_addresses, with_circuit, with_learned, with_ticks, with_told_down, without_port}
 use Rattle.edge_model.specs.Tick.{aged, forgetting}
 use Rattle.edge_forwarding.specs.declared.domain.Domain.{Domain}
-use Rattle.edge_forwarding.specs.Domain.{AreClosed, AreNew, IsDomain, IsDomainKept, IsKeptClosed, IsKeptTurned, IsNew, KeptNotAfter, age_of, aged_kept, all_on, cleared_kept, forgot_kept, is_found, nothing_told, port_opens, withdrawn_kept}
+use Rattle.edge_forwarding.specs.Change.{AreChanged}
+use Rattle.edge_forwarding.specs.declared.domain_change.DomainChange.TheVariants as change
+use Rattle.edge_forwarding.specs.Domain.{AreNew, IsDomain, IsDomainKept, IsKeptClosed, IsKeptTurned, IsNew, KeptNotAfter, age_of, aged_kept, all_on, cleared_kept, forgot_kept, is_found, nothing_told, port_opens, withdrawn_kept}
 use Rattle.edge_forwarding.specs.Forwarding.{ForwardingLists, IsForwarding, IsNewForwarding, circuits_in, domain_of, entries_of, forgotten, open_ports, opened_forwarding, own_service, told_in, with_forwarding, without_told}
 use Rattle.edge_forwarding.specs.Views.{view}
 use Rattle.edge_forwarding.proofs.OpenLemmas.{closed_port, opens_within, same_tests, told_elsewhere, told_ports, turned_elsewhere, turned_ports}
@@ -432,7 +434,7 @@ closed_entries None (Some after) closed = absurd closed
 closed_entries (Some domain) None closed = absurd closed
 closed_entries (Some domain) (Some after) closed = ap (λ (b : BridgeState). b.entries) closed.bridge
 
-pub closed_is : (f : ForwardingLists) (domains : List (Option Domain)) (told : List (Option Down)) → IsForwarding f → AreClosed f.domains domains → told ≡ map forgotten f.told_down → IsForwarding (record f { domains = domains; told_down = told })
+pub closed_is : (f : ForwardingLists) (domains : List (Option Domain)) (told : List (Option Down)) → IsForwarding f → AreChanged change.Close f.domains domains → told ≡ map forgotten f.told_down → IsForwarding (record f { domains = domains; told_down = told })
 closed_is f domains told is closed forgot = record {
   checked = is.checked;
   circuits = is.circuits;
@@ -443,7 +445,7 @@ closed_is f domains told is closed forgot = record {
       (kept_closed f.plan f.me (circuits_in f) (told_in f) f.ticks (record { 0 = k }) (view None f.domains k) (view None domains k) (is.domains k below) (closed.each k));
 }
 
-pub closed_seen : (f : ForwardingLists) (domains : List (Option Domain)) (told : List (Option Down)) (edge : EdgeState) → AreClosed f.domains domains → told ≡ map forgotten f.told_down
+pub closed_seen : (f : ForwardingLists) (domains : List (Option Domain)) (told : List (Option Down)) (edge : EdgeState) → AreChanged change.Close f.domains domains → told ≡ map forgotten f.told_down
     → with_forwarding (record f { domains = domains; told_down = told }) edge ≡ without_told (with_forwarding f edge)
 unfolding with_forwarding without_told
 closed_seen f domains told edge closed forgot = λ i. record (with_forwarding f edge) {

@@ -3,5 +3,6 @@ pub mod ForwardingLemmas
 pub mod EachLemmas
 pub mod OpenLemmas
 pub mod Views
+pub mod ChangeLemmas
 pub mod CopyLemmas
 pub mod FewLemmas

@@ -120,10 +120,6 @@ IsKeptClosed None (Some new) = ⊥
 IsKeptClosed (Some old) None = ⊥
 IsKeptClosed (Some old) (Some new) = IsClosed old new
 
-pub record AreClosed (old new : List (Option Domain)) : Type 0 where
-  pub len : length new ≡ length old
-  pub each : (place : ℕ) → IsKeptClosed (slice_index_or old place None) (slice_index_or new place None)
-
 -- ---- new domains
 
 -- the domain of a service with every circuit on, nothing told of a wire, and nothing learned; none where the service has no port

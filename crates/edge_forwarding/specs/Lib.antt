@@ -1,3 +1,4 @@
+pub mod Change
 pub mod Domain
 pub mod Forwarding
 pub mod Views

@@ -3,7 +3,7 @@ ghost use Rattle.std.specs.Prelude.{◌≡◌, ◌≤◌, ◌<◌, ◌↔◌, �
 ghost use Rattle.net_base.specs.declared.trace.down.Down.TheVariants.{NoLocal};
 ghost use Rattle.net_base.specs.plan.Accepted.{IsChecked};
 ghost use Rattle.net_base.specs.plan.Places.{circuit_row, service_row, wire_row};
-ghost use Rattle.hvpls_spokes.specs.Port.{is_circuit_port, is_wire_port, ports_of};
+ghost use Rattle.hvpls_spokes.specs.Port.{is_circuit_port, is_named_port, ports_of};
 ghost use Rattle.hvpls_spokes.specs.PortSet.{has};
 ghost use Rattle.vsi_bridge.specs.BridgeState.{most_addresses};
 ghost use Rattle.vsi_bridge.specs.Targets.{is_target, known_port};
@@ -15,11 +15,9 @@ ghost use Rattle.edge_model.specs.Tick.{forgetting};
 ghost use Rattle.edge_forwarding.specs.Domain.{age_of};
 ghost use Rattle.edge_forwarding.specs.Forwarding.{IsNewForwarding, IsServiceOf, KeepsForwarding, circuits_in, domain_of, entries_of, forgotten, open_ports, own_service, told_in, with_forwarding, without_told};
 
-use crate::domain::{
-    Domain, age_all, clear_all, close_all, forget_kept_circuit, forget_kept_wire, open_domains,
-    turn_kept, turn_kept_wire, withdraw_kept,
-};
-use hvpls_spokes::{PortSet, Ports};
+use crate::domain::{Domain, change_all, change_kept, open_domains};
+use crate::domain_change::DomainChange;
+use hvpls_spokes::{PortName, PortSet, Ports};
 use net_base::{CircuitId, Down, EdgeId, List, Mac, NoMemory, Plan, ServiceId, WireId};
 use std::alloc::Global;
 use std::marker::Model;
@@ -70,8 +68,6 @@ impl Forwarding {
         })
     }
 
-    // ---- circuits
-
     /// Whether a circuit of the plan is on.
     pub fn is_on(&self, circuit: CircuitId) -> bool
         requires { circuit.0 < length self.now.plan.circuits }
@@ -87,7 +83,9 @@ impl Forwarding {
         ensures keeps { KeepsForwarding self.old self.new }
         ensures step { (edge : EdgeState) → with_forwarding self.new edge ≡ with_circuit circuit on (with_forwarding self.old edge) }
     {
-        turn_kept(&mut self.domains[service.0 as usize], circuit, on);
+        let port = PortName::Circuit(circuit);
+        let change = DomainChange::Turn { port, on };
+        change_kept(&mut self.domains[service.0 as usize], change);
         self.circuits_on[circuit.0 as usize] = on;
     }
 
@@ -99,10 +97,10 @@ impl Forwarding {
         ensures step { (edge : EdgeState) → with_forwarding self.new edge
             ≡ with_addresses service (without_port (position (is_circuit_port circuit) (ports_of self.old.plan service self.old.me)) (addresses_of (with_forwarding self.old edge) service)) (with_forwarding self.old edge) }
     {
-        forget_kept_circuit(&mut self.domains[service.0 as usize], circuit);
+        let port = PortName::Circuit(circuit);
+        let change = DomainChange::Forget { port };
+        change_kept(&mut self.domains[service.0 as usize], change);
     }
-
-    // ---- wires
 
     /// What was told last of the end of a wire.
     pub fn told_last(&self, wire: WireId) -> Option<Down>
@@ -119,7 +117,10 @@ impl Forwarding {
         ensures step { (edge : EdgeState) → with_forwarding self.new edge ≡ with_told_down wire down (with_forwarding self.old edge) }
     {
         let service = self.service_of(wire);
-        turn_kept_wire(&mut self.domains[service.0 as usize], wire, down.is_none());
+        let port = PortName::Wire(wire);
+        let on = down.is_none();
+        let change = DomainChange::Turn { port, on };
+        change_kept(&mut self.domains[service.0 as usize], change);
         self.told_down[wire.0 as usize] = down;
     }
 
@@ -130,7 +131,9 @@ impl Forwarding {
         ensures step { (edge : EdgeState) → with_forwarding self.new edge ≡ forgetting_wire self.old.plan wire (wire_row self.old.plan wire) (with_forwarding self.old edge) }
     {
         let service = self.service_of(wire);
-        forget_kept_wire(&mut self.domains[service.0 as usize], wire);
+        let port = PortName::Wire(wire);
+        let change = DomainChange::Forget { port };
+        change_kept(&mut self.domains[service.0 as usize], change);
     }
 
     // The service of a wire.
@@ -147,11 +150,9 @@ impl Forwarding {
         ensures keeps { KeepsForwarding self.old self.new }
         ensures step { (edge : EdgeState) → with_forwarding self.new edge ≡ without_told (with_forwarding self.old edge) }
     {
-        close_all(&mut self.domains);
+        change_all(&mut self.domains, DomainChange::Close);
         forget_told(&mut self.told_down);
     }
-
-    // ---- bridges
 
     /// The bridge of a service, with its ports at the edge and its age limit; `None` where the service has no port at the edge.
     #[tactic(auto, using(crate::proofs::ForwardingLemmas::lent_some, crate::proofs::ForwardingLemmas::lent_none, crate::proofs::ForwardingLemmas::lent_past, crate::proofs::ForwardingLemmas::lent_learned, crate::proofs::ForwardingLemmas::lent_ports, crate::proofs::ForwardingLemmas::lent_age))]
@@ -188,24 +189,13 @@ impl Forwarding {
         }
     }
 
-    /// The port of a circuit of a service at the edge.
-    pub fn port_of(&self, circuit: CircuitId, service: ServiceId) -> Option<u16>
+    /// The port of this name of a service, where it stands at the edge.
+    pub fn port_of(&self, port: PortName, service: ServiceId) -> Option<u16>
         requires { service.0 < length self.now.plan.services }
-        ensures { result ≡ position (is_circuit_port circuit) (ports_of self.now.plan service self.now.me) }
+        ensures { result ≡ position (is_named_port port) (ports_of self.now.plan service self.now.me) }
     {
         match &self.domains[service.0 as usize] {
-            Some(domain) => domain.port_of(circuit),
-            None => None,
-        }
-    }
-
-    /// The port of a wire of a service of which the edge is a terminal edge.
-    pub fn port_of_wire(&self, wire: WireId, service: ServiceId) -> Option<u16>
-        requires { service.0 < length self.now.plan.services }
-        ensures { result ≡ position (is_wire_port wire) (ports_of self.now.plan service self.now.me) }
-    {
-        match &self.domains[service.0 as usize] {
-            Some(domain) => domain.port_of_wire(wire),
+            Some(domain) => domain.bridge.ports().find(port),
             None => None,
         }
     }
@@ -216,7 +206,8 @@ impl Forwarding {
         ensures keeps { KeepsForwarding self.old self.new }
         ensures step { (edge : EdgeState) → with_forwarding self.new edge ≡ withdrawing_at service addresses.now from (with_forwarding self.old edge) }
     {
-        withdraw_kept(&mut self.domains[service.0 as usize], from, addresses);
+        let change = DomainChange::Withdraw { from, addresses };
+        change_kept(&mut self.domains[service.0 as usize], change);
     }
 
     /// The bridge of a service hears an inner frame by a port that forwards, and decides on the targets.
@@ -239,10 +230,8 @@ impl Forwarding {
         ensures keeps { KeepsForwarding self.old self.new }
         ensures step { (edge : EdgeState) → with_forwarding self.new edge ≡ with_learned (λ service. []) (with_forwarding self.old edge) }
     {
-        clear_all(&mut self.domains);
+        change_all(&mut self.domains, DomainChange::Clear);
     }
-
-    // ---- ticks
 
     /// How many ticks have passed; the count stays at 2^64 - 1 once it is there.
     pub fn ticks(&self) -> u64
@@ -265,7 +254,8 @@ impl Forwarding {
         ensures keeps { KeepsForwarding self.old self.new }
         ensures step { (edge : EdgeState) → with_forwarding self.new edge ≡ forgetting self.old.plan (with_forwarding self.old edge) }
     {
-        age_all(&mut self.domains, self.ticks);
+        let now = self.ticks;
+        change_all(&mut self.domains, DomainChange::Age { now });
     }
 }
 
@@ -277,7 +267,7 @@ fn next_tick(ticks: u64) -> u64
     if ticks < u64::MAX { ticks + 1 } else { ticks }
 }
 
-// Nothing was told of the end of any of so many wires.
+// Nothing was told of the end of any of so many wires. A function of its own, since `vec!` copies an `Option` by its parts.
 fn nothing_told(alloc: Global, count: usize) -> Result<Vec<Option<Down>>, NoMemory>
     ensures { IfOk result (λ told. told.items ≡ replicate count (Some NoLocal)) }
 {

@@ -3,6 +3,7 @@
 #![tactic(auto)]
 
 mod domain;
+mod domain_change;
 mod forwarding;
 mod inner_frame;
 mod octets;

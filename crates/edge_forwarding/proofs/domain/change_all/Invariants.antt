@@ -1,5 +1,5 @@
-use Rattle.edge_forwarding.proofs.DomainLemmas.{AreClosedTo}
-use Rattle.edge_forwarding.proofs.domain.close_all.Given as goal
+use Rattle.edge_forwarding.proofs.ChangeLemmas.{AreChangedTo}
+use Rattle.edge_forwarding.proofs.domain.change_all.Given as goal
 
 abbrev pub invariant-loop-kept : goal.invariant-loop-kept
-invariant-loop-kept l = AreClosedTo l.fn.domains.items l.kept-items l.kept-index
+invariant-loop-kept l = AreChangedTo l.change l.fn.domains.items l.kept-items l.kept-index

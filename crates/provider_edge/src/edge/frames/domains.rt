@@ -8,6 +8,7 @@ ghost use Rattle.edge_forwarding.specs.Forwarding.{open_ports, own_service};
 ghost use Rattle.provider_edge.specs.Lists.{Keeps, seen};
 
 use crate::Edge;
+use hvpls_spokes::PortName;
 use net_base::{CircuitId, ServiceId};
 
 impl Edge {
@@ -40,7 +41,7 @@ impl Edge {
         ensures port { result ≡ position (is_circuit_port circuit) (ports_of self.now.plan service self.now.me) }
         ensures on { is_on (seen self.now) circuit ≡ true → IfSome result (λ p. open_ports self.now.forwarding service p ≡ true) }
     {
-        self.forwarding.port_of(circuit, service)
+        self.forwarding.port_of(PortName::Circuit(circuit), service)
     }
 
     // Each bridge forgets all that it has learned.

@@ -27,6 +27,7 @@ use crate::ingress::Ingress;
 use crate::quiet::drop_for;
 use edge_forwarding::{read_payload, without_entry};
 use eth_encap::{FrameFault, StackEntry, read_entry};
+use hvpls_spokes::PortName;
 use net_base::{Arrival, DropCause, Link, NoMemory, Offer, ServiceId};
 use peer_dialogue::AtWork;
 use vccv_channel::Cc;
@@ -244,7 +245,7 @@ impl Edge {
         ensures on { IfSome result (λ p. open_ports self.now.forwarding service p ≡ true) }
     {
         let place = self.ends.place(slot);
-        self.forwarding.port_of_wire(place.wire, service)
+        self.forwarding.port_of(PortName::Wire(place.wire), service)
     }
 
     // The parts that join to the inner frame of what came by the end of a slot, by the edge's own offer.

@@ -13,7 +13,7 @@ ghost use Rattle.provider_edge.specs.AtWork.{Works, at_work};
 ghost use Rattle.provider_edge.specs.Lists.{Keeps, seen};
 
 use crate::Edge;
-use hvpls_spokes::{Port, role};
+use hvpls_spokes::{Port, PortName, role};
 use mac_withdraw::pass_to;
 use net_base::{EdgeId, Link, List, Mac, NoMemory, ServiceId, WireId};
 use peer_dialogue::AtWork;
@@ -96,7 +96,7 @@ impl Edge {
         requires { service.0 < length self.now.plan.services }
         ensures { result ≡ position (is_wire_port wire) (ports_of self.now.plan service self.now.me) }
     {
-        self.forwarding.port_of_wire(wire, service)
+        self.forwarding.port_of(PortName::Wire(wire), service)
     }
 
     // The bridge of a service forgets what a MAC withdraw by a port names.

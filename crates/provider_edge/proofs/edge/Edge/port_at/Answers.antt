@@ -14,25 +14,25 @@ use Rattle.provider_edge.proofs.SyncLemmas.{if_found, wire_port_opens}
 use Rattle.provider_edge.specs.Lists.{EdgeLists, seen}
 use Rattle.provider_edge.proofs.edge.Edge.port_at.Goals as goal
 
-pub port_of_wire-requires : goal.port_of_wire-requires
-port_of_wire-requires c = subst (λ (p : Plan). c.args.service.0 < length p.services) (sym c.self.invariant.plan) (subst (λ (n : EdgeLists). c.args.service.0 < length n.plan.services) (sym c.self.view_is) c.requires.service)
+pub port_of-requires : goal.port_of-requires
+port_of-requires c = subst (λ (p : Plan). c.args.service.0 < length p.services) (sym c.self.invariant.plan) (subst (λ (n : EdgeLists). c.args.service.0 < length n.plan.services) (sym c.self.view_is) c.requires.service)
 
 pub returns-clause-port : goal.returns-clause-port
 returns-clause-port c =
     let v : EdgeLists = the_view c.self.inside in
-    subst (λ (n : EdgeLists). c.port_of_wire.result ≡ position (is_wire_port (place_of n.ends c.args.slot).wire) (ports_of n.plan c.args.service n.me)) c.self.view_is
-    (c.port_of_wire.ensures
+    subst (λ (n : EdgeLists). c.port_of.result ≡ position (is_wire_port (place_of n.ends c.args.slot).wire) (ports_of n.plan c.args.service n.me)) c.self.view_is
+    (c.port_of.ensures
     ∙ (ap (λ (place : EndPlace). position (is_wire_port place.wire) (ports_of v.forwarding.plan c.args.service v.forwarding.me)) c.place-place.ensures.place
     ∙ ap (λ l. position (is_wire_port (place_of v.ends c.args.slot).wire) l) (ports_in v c.args.service c.self.invariant)))
 
 pub returns-clause-on : goal.returns-clause-on
 returns-clause-on c =
     let v : EdgeLists = the_view c.self.inside in
-    subst (λ (n : EdgeLists). IfSome c.port_of_wire.result (λ p. open_ports n.forwarding c.args.service p ≡ true)) c.self.view_is
-    (if_found (λ p. open_ports v.forwarding c.args.service p ≡ true) c.port_of_wire.result (λ p found.
+    subst (λ (n : EdgeLists). IfSome c.port_of.result (λ p. open_ports n.forwarding c.args.service p ≡ true)) c.self.view_is
+    (if_found (λ p. open_ports v.forwarding c.args.service p ≡ true) c.port_of.result (λ p found.
     wire_port_opens v c.args.slot c.args.service p c.self.invariant (subst (λ (n : EdgeLists). InSync n.plan (seen n)) (sym c.self.view_is) (c.requires.synced))
     (subst (λ (n : EdgeLists). c.args.slot < length n.ends.places) (sym c.self.view_is) c.requires.slot)
     (subst (λ (n : EdgeLists). (place_of n.ends c.args.slot).terminal ≡ true) (sym c.self.view_is) c.requires.terminal)
     (subst (λ (n : EdgeLists). is_up (down_at n.plan (seen n) (place_of n.ends c.args.slot)) ≡ true) (sym c.self.view_is) (c.requires.up))
     (ap (λ l. position (is_wire_port (place_of v.ends c.args.slot).wire) l) (sym (ports_in v c.args.service c.self.invariant))
-    ∙ (ap (λ (place : EndPlace). position (is_wire_port place.wire) (ports_of v.forwarding.plan c.args.service v.forwarding.me)) (sym c.place-place.ensures.place) ∙ (sym c.port_of_wire.ensures ∙ found)))))
+    ∙ (ap (λ (place : EndPlace). position (is_wire_port place.wire) (ports_of v.forwarding.plan c.args.service v.forwarding.me)) (sym c.place-place.ensures.place) ∙ (sym c.port_of.ensures ∙ found)))))
