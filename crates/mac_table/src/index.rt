@@ -1,44 +1,12 @@
 //! The map beside the entries of a table.
 ghost use Rattle.std.specs.Prelude.{◌≡◌, ◌≤◌, ◌+◌, ◌++◌, [], ◌∷◌, false, length};
 ghost use Rattle.indexmap.specs.IndexMap.{index_map_len, set_value_at, spare};
-ghost use Rattle.mac_table.specs.Addresses.{AreDistinctAddresses, has_address, entry_place, port_of};
+ghost use Rattle.mac_table.specs.Addresses.{AreDistinctAddresses, has_address};
 ghost use Rattle.mac_table.specs.Index.{IsAddressIndex, address_pairs};
 
 use crate::MacEntry;
 use indexmap::IndexMap;
 use net_values::Mac;
-
-// The place of the address, or the number of entries where it is not held.
-#[tactic(auto, using(crate::proofs::IndexLemmas::place_some, crate::proofs::IndexLemmas::place_none))]
-pub(crate) fn place_by(
-    index: &IndexMap<Mac, (u16, u64)>,
-    entries: &[MacEntry],
-    address: Mac,
-) -> usize
-    requires { index.now.entries ≡ address_pairs entries.now }
-    ensures place { result ≡ entry_place entries.now address }
-{
-    match index.get_index_of(&address) {
-        Some(place) => place,
-        None => entries.len(),
-    }
-}
-
-// The port of the address.
-#[tactic(auto, using(crate::proofs::IndexLemmas::port_some, crate::proofs::IndexLemmas::port_none))]
-pub(crate) fn port_by(
-    index: &IndexMap<Mac, (u16, u64)>,
-    entries: &[MacEntry],
-    address: Mac,
-) -> Option<u16>
-    requires { index.now.entries ≡ address_pairs entries.now }
-    ensures port { result ≡ port_of entries.now address }
-{
-    match index.get(&address).copied() {
-        Some(value) => Some(value.0),
-        None => None,
-    }
-}
 
 // Puts the port and the tick of an entry at its place, where the map is not empty.
 #[tactic(auto, using(crate::proofs::IndexLemmas::set_past))]

@@ -1,6 +1,5 @@
 //! What takes addresses out of a table.
 ghost use Rattle.std.specs.Prelude.{◌≡◌};
-ghost use Rattle.mac_table.specs.Addresses.{entry_stays};
 ghost use Rattle.mac_table.specs.Removal.{keeps_entry};
 
 use crate::MacEntry;
@@ -26,17 +25,10 @@ impl Removal<'_> {
         match self {
             Removal::Age { now, limit } => now.saturating_sub(entry.tick) < limit as u64,
             Removal::Port { port } => entry.port != port,
-            Removal::Withdraw { from, addresses } => stays_withdrawn(from, addresses, entry),
+            Removal::Withdraw { from, addresses } if addresses.is_empty() => entry.port == from,
+            Removal::Withdraw { from, addresses } => {
+                !(entry.port == from && is_in(addresses, entry))
+            }
         }
     }
-}
-
-// Whether the entry stays after a withdrawal by the port.
-fn stays_withdrawn(from: u16, addresses: &[Mac], entry: &MacEntry) -> bool
-    ensures { result ≡ entry_stays from addresses.now entry.now }
-{
-    if addresses.is_empty() {
-        return entry.port == from;
-    }
-    !(entry.port == from && is_in(addresses, entry))
 }

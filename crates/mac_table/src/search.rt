@@ -4,7 +4,6 @@ ghost use Rattle.mac_table.specs.Addresses.{is_of, entry_place, port_of, is_list
 ghost use Rattle.mac_table.specs.Index.{IsAddressIndex};
 
 use crate::MacEntry;
-use crate::index::{place_by, port_by};
 use indexmap::IndexMap;
 use net_values::Mac;
 
@@ -50,7 +49,10 @@ pub(crate) fn find_port(
     ensures { result ≡ port_of entries.now address }
 {
     if index.len() == entries.len() {
-        return port_by(index, entries, address);
+        return match index.get(&address).copied() {
+            Some(value) => Some(value.0),
+            None => None,
+        };
     }
     walk_to_port(entries, address)
 }
@@ -66,7 +68,10 @@ pub(crate) fn place_of(
     ensures { result ≡ entry_place entries.now address }
 {
     if index.len() == entries.len() {
-        return place_by(index, entries, address);
+        return match index.get_index_of(&address) {
+            Some(place) => place,
+            None => entries.len(),
+        };
     }
     walk_to_place(entries, address)
 }
