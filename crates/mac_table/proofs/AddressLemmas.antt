@@ -243,13 +243,6 @@ entry_of-filter p (x ∷ xs) address distinct = elim (cases_Bool (is_of address 
 pub port_of-filter : (p : MacEntry → Bool) (xs : List MacEntry) (address : Mac) → AreDistinctAddresses xs → port_of (filter p xs) address ≡ option_map (λ e. e.port) (option_filter p (mac_entry_of xs address))
 port_of-filter p xs address distinct = ap (λ (o : Option MacEntry). option_map (λ e. e.port) o) (entry_of-filter p xs address distinct)
 
--- where the address is not held nothing is replaced
-pub replaced_absent : (entry : MacEntry) (xs : List MacEntry) → has_address xs entry.address ≡ false → replaced entry xs ≡ xs
-replaced_absent entry [] absent = refl
-replaced_absent entry (x ∷ xs) absent =
-    let both = neither (is_of entry.address x) (has_address xs entry.address) absent in
-    rw (both.0) (ap (λ (l : List MacEntry). x ∷ l) (replaced_absent entry xs both.1))
-
 -- what one look at the place of an address says
 pub held_at : (xs : List MacEntry) (address : Mac) (place : ℕ) → place ≡ entry_place xs address → place < length xs → has_address xs address ≡ true
 held_at xs address place at within =
@@ -290,6 +283,13 @@ held_learned capacity room now xs ys entry held same more = rw same (record {
   within = length-learned (record { entries = xs; capacity = capacity }) entry held.within;
   distinct = distinct-learned (record { entries = xs; capacity = capacity }) entry held.distinct;
 })
+
+-- and where an entry took the place of the one of its address
+pub held_written : (capacity room now : ℕ) (xs ys : List MacEntry) (entry : MacEntry) (place : ℕ) → IsHeld capacity room xs → place ≡ entry_place xs entry.address → place < length xs → ys ≡ set xs place entry → room ≤ now → IsHeld capacity now ys
+held_written capacity room now xs ys entry place held is within same more =
+    let table : AddressTable = record { entries = xs; capacity = capacity } in
+    let kept : learned table entry ≡ replaced entry xs = rw (held_at xs entry.address place is within) refl in
+    held_learned capacity room now xs ys entry held (same ∙ (written_at entry xs place is within ∙ sym kept)) more
 
 -- the invariant holds of what is left
 pub held_filtered : (p : MacEntry → Bool) (capacity room now : ℕ) (xs ys : List MacEntry) → IsHeld capacity room xs → ys ≡ filter p xs → now ≡ room → IsHeld capacity now ys

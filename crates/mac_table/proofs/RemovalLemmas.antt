@@ -5,7 +5,7 @@ use Rattle.std.specs.List.{remove}
 use Rattle.std.proofs.lemmas.List.Elements.{All-push}
 use Rattle.net_values.specs.declared.mac.Mac.{Mac}
 use Rattle.mac_table.specs.declared.mac_entry.MacEntry.{MacEntry}
-use Rattle.mac_table.specs.Addresses.{AreDistinctAddresses, has_address, is_of}
+use Rattle.mac_table.specs.Addresses.{AreDistinctAddresses, IsHeld, has_address, is_of}
 use Rattle.mac_table.proofs.AddressLemmas.{neither}
 use Rattle.mac_table.proofs.IndexLemmas.{take_next}
 use Rattle.mac_table.proofs.TickLemmas.{filter_all}
@@ -58,3 +58,11 @@ take_all (x ∷ xs) (suc i) past = ap (λ (l : List MacEntry). x ∷ l) (take_al
 -- where all stay, nothing is left to go
 pub all_stay : (p : MacEntry → Bool) (xs : List MacEntry) (i : ℕ) → length xs ≤ i → All (λ e. p e ≡ true) (take i xs) → filter p xs ≡ xs
 all_stay p xs i past all = filter_all p xs (subst (All (λ (e : MacEntry). p e ≡ true)) (take_all xs i past) all)
+
+-- the table holds what is left
+pub held_removed : (capacity room now : ℕ) (xs ys : List MacEntry) (i : ℕ) → IsHeld capacity room xs → i < length xs → ys ≡ remove xs i → now ≡ room → IsHeld capacity now ys
+held_removed capacity room now xs ys i held within same equal = rw (same, equal) (record {
+  reserved = held.reserved;
+  within = omega (arith, held.within, length_removed xs i within);
+  distinct = distinct_removed xs i held.distinct;
+})

@@ -4,9 +4,9 @@ ghost use Rattle.net_values.specs.Mac.{is_group_address};
 ghost use Rattle.mac_table.specs.Addresses.{AreDistinctAddresses, NoneAfter, entry_stays, has_address, is_young, learned, learning_of, port_of};
 ghost use Rattle.mac_table.specs.Index.{address_pairs};
 
-use crate::edits::{learn_in, take_old, take_out};
 use crate::removal::Removal;
 use crate::search::find_port;
+use crate::ticks::are_young;
 use crate::{Learned, MacEntry};
 use indexmap::IndexMap;
 use net_values::{List, Mac, NoMemory};
@@ -17,10 +17,10 @@ use std::marker::Model;
 /// see the list of the entries and the capacity.
 #[derive(Drop)]
 pub struct MacTable {
-    entries: Vec<MacEntry>,
-    index: IndexMap<Mac, (u16, u64)>,
-    ticks: IndexMap<u64, usize>,
-    capacity: u32,
+    pub(crate) entries: Vec<MacEntry>,
+    pub(crate) index: IndexMap<Mac, (u16, u64)>,
+    pub(crate) ticks: IndexMap<u64, usize>,
+    pub(crate) capacity: u32,
 }
 
 impl Model for MacTable {
@@ -65,18 +65,11 @@ impl MacTable {
         ensures ticks { NoneAfter now self.new.entries }
         ensures distinct { AreDistinctAddresses self.new.entries }
     {
-        let entry = MacEntry {
+        self.put(MacEntry {
             address,
             port,
             tick: now,
-        };
-        learn_in(
-            &mut self.entries,
-            &mut self.index,
-            &mut self.ticks,
-            self.capacity,
-            entry,
-        )
+        })
     }
 
     /// The port of the address; `None` exactly where it is not in the table.
@@ -95,13 +88,10 @@ impl MacTable {
         ensures ticks { NoneAfter now self.new.entries }
         ensures distinct { AreDistinctAddresses self.new.entries }
     {
-        take_old(
-            &mut self.entries,
-            &mut self.index,
-            &mut self.ticks,
-            now,
-            limit,
-        );
+        // Where the first tick is young nothing is looked at.
+        if !are_young(&self.ticks, self.entries.as_slice(), now, limit) {
+            self.take_out(Removal::Age { now, limit });
+        }
     }
 
     /// Removes the addresses that are at the port. The others stay in order.
@@ -110,12 +100,7 @@ impl MacTable {
         ensures ticks { (now : ℕ) → NoneAfter now self.old.entries → NoneAfter now self.new.entries }
         ensures distinct { AreDistinctAddresses self.new.entries }
     {
-        take_out(
-            &mut self.entries,
-            &mut self.index,
-            &mut self.ticks,
-            Removal::Port { port },
-        );
+        self.take_out(Removal::Port { port });
     }
 
     /// Removes what a MAC withdraw that came by the port `from` names (RFC 4762 section 6.2): of a list that
@@ -126,15 +111,10 @@ impl MacTable {
         ensures ticks { (now : ℕ) → NoneAfter now self.old.entries → NoneAfter now self.new.entries }
         ensures distinct { AreDistinctAddresses self.new.entries }
     {
-        take_out(
-            &mut self.entries,
-            &mut self.index,
-            &mut self.ticks,
-            Removal::Withdraw {
-                from,
-                addresses: list.as_slice(),
-            },
-        );
+        self.take_out(Removal::Withdraw {
+            from,
+            addresses: list.as_slice(),
+        });
     }
 
     /// The number of addresses.
