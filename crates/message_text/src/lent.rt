@@ -1,7 +1,5 @@
 //! The lines of messages that are lent.
 ghost use Rattle.std.specs.Prelude.{OnOk};
-ghost use Rattle.ldp_grammar.specs.declared.message.Message.TheVariants as message;
-ghost use Rattle.ldp_grammar.specs.Spells.{StandsFor};
 ghost use Rattle.message_text.specs.Lent.{AddsLine, AddsLines};
 
 use crate::line::put_message;
@@ -10,37 +8,8 @@ use ldp_grammar::Message;
 use net_values::NoMemory;
 use std::alloc::Global;
 
-// Adds the line of a KeepAlive that is lent, which tells no more than its Message ID and is not read.
-#[tactic(auto, using(crate::proofs::LentLemmas::keep_alive_line))]
-fn put_keep_alive(text: &mut Vec<u8>, base: u64, view: &MessageView<'_>) -> Result<(), NoMemory>
-    requires { StandsFor view.now (message.KeepAlive view.now.id) }
-    ensures { OnOk result (AddsLine base view.now text.old.items text.new.items) }
-{
-    let id = view.number();
-    match put_message(text, base, &Message::KeepAlive { id }) {
-        Ok(()) => Ok(()),
-        Err(NoMemory) => Err(NoMemory),
-    }
-}
-
-// Adds the line of a message that is lent, and read for it.
-#[tactic(auto, using(crate::proofs::LentLemmas::read_line))]
-fn put_read(
-    alloc: Global,
-    text: &mut Vec<u8>,
-    base: u64,
-    view: &MessageView<'_>,
-) -> Result<(), NoMemory>
-    ensures { OnOk result (AddsLine base view.now text.old.items text.new.items) }
-{
-    let message = view.read(alloc)?;
-    match put_message(text, base, &message) {
-        Ok(()) => Ok(()),
-        Err(NoMemory) => Err(NoMemory),
-    }
-}
-
-// Adds the line of a message that is lent.
+// Adds the line of a message that is lent, and read for it. A KeepAlive tells no more than its Message ID and is not read.
+#[tactic(auto, using(crate::proofs::LentLemmas::keep_alive_line, crate::proofs::LentLemmas::read_line))]
 fn put_view(
     alloc: Global,
     text: &mut Vec<u8>,
@@ -50,10 +19,11 @@ fn put_view(
     ensures { OnOk result (AddsLine base view.now text.old.items text.new.items) }
 {
     if view.is_keep_alive() {
-        put_keep_alive(text, base, view)
-    } else {
-        put_read(alloc, text, base, view)
+        let id = view.number();
+        return put_message(text, base, &Message::KeepAlive { id });
     }
+    let message = view.read(alloc)?;
+    put_message(text, base, &message)
 }
 
 /// Adds the lines of the messages of a PDU that is lent, and begins at this place of its stream.

@@ -56,22 +56,15 @@ pub fn put_told_numbers(
     put_marked(text, b"/", rest)
 }
 
-// Adds an address as a dotted quad.
-#[tactic(auto, unfolding(crate::specs::Words::dotted))]
-fn put_dotted(text: &mut Vec<u8>, address: Addr) -> Result<(), NoMemory>
-    ensures { OnOk result (text.new.items ≡ text.old.items ++ dotted address) }
-{
-    let [a, b, c, d] = address.0;
-    put_number(text, u64::from(a))?;
-    put_marked(text, b".", &[u64::from(b), u64::from(c), u64::from(d)])
-}
-
 /// Adds a label and an address as a dotted quad.
+#[tactic(auto, unfolding(crate::specs::Words::dotted))]
 pub fn put_address(text: &mut Vec<u8>, label: &[u8], address: Addr) -> Result<(), NoMemory>
     ensures { OnOk result (text.new.items ≡ text.old.items ++ (label.now ++ dotted address)) }
 {
+    let [a, b, c, d] = address.0;
     put_text(text, label)?;
-    put_dotted(text, address)
+    put_number(text, u64::from(a))?;
+    put_marked(text, b".", &[u64::from(b), u64::from(c), u64::from(d)])
 }
 
 /// Adds a slash and an LDP Identifier: the router ID as a dotted quad, a colon and the label space.

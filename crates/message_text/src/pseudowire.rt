@@ -1,22 +1,12 @@
 //! The parts of a message that are about pseudowires, each with a blank before it.
-ghost use Rattle.std.specs.Prelude.{◌≡◌, ◌++◌, codes, Some, OnOk};
+ghost use Rattle.std.specs.Prelude.{◌≡◌, ◌++◌, codes, OnOk};
 ghost use Rattle.text_pieces.specs.Pieces.{spaced};
-ghost use Rattle.message_text.specs.Words.{description_words, element_word, end_word, fec_words, label_words, mac_digits, macs_words, mtu_words, params_words, point_word, point_words, pw_id_word, pw_status_words, segment_word, told_fec_words, vccv_words, vlan_words};
+ghost use Rattle.message_text.specs.Words.{description_words, element_word, end_word, fec_words, label_words, macs_words, mtu_words, point_word, point_words, pw_status_words, segment_word, told_fec_words, vccv_words, vlan_words};
 
 use crate::pieces::{bit, put_address, put_marked_number, put_told, put_told_numbers};
 use net_values::{Addr, Label, List, Mac, NoMemory, Text};
-use pw_tlvs::{IfParams, Point, Points, PwFec, PwStatus};
+use pw_tlvs::{Point, Points, PwFec, PwStatus};
 use text_pieces::{put_digits, put_text};
-
-// Adds a slash and the PW ID of a FEC element.
-fn put_pw_id(text: &mut Vec<u8>, pw_id: Option<u32>) -> Result<(), NoMemory>
-    ensures { OnOk result (text.new.items ≡ text.old.items ++ (codes "/" ++ pw_id_word pw_id)) }
-{
-    match pw_id {
-        Some(pw_id) => put_marked_number(text, b"/", u64::from(pw_id)),
-        None => put_text(text, b"/*"),
-    }
-}
 
 // Adds a FEC element.
 fn put_element(text: &mut Vec<u8>, fec: &PwFec) -> Result<(), NoMemory>
@@ -28,7 +18,10 @@ fn put_element(text: &mut Vec<u8>, fec: &PwFec) -> Result<(), NoMemory>
         bit(fec.c),
         &[u64::from(fec.kind), u64::from(fec.group)],
     )?;
-    put_pw_id(text, fec.pw_id)
+    match fec.pw_id {
+        Some(pw_id) => put_marked_number(text, b"/", u64::from(pw_id)),
+        None => put_text(text, b"/*"),
+    }
 }
 
 // Adds the MTU, where it is told.
@@ -77,22 +70,15 @@ fn put_vccv(text: &mut Vec<u8>, vccv: Option<(u8, u8)>) -> Result<(), NoMemory>
     }
 }
 
-// Adds the interface parameters that are there.
-fn put_params(text: &mut Vec<u8>, params: &IfParams) -> Result<(), NoMemory>
-    ensures { OnOk result (text.new.items ≡ text.old.items ++ spaced (params_words params.now)) }
-{
-    put_mtu(text, params.mtu)?;
-    put_description(text, &params.description)?;
-    put_vlan(text, params.vlan)?;
-    put_vccv(text, params.vccv)
-}
-
 /// Adds a FEC element and its interface parameters.
 pub fn put_fec(text: &mut Vec<u8>, fec: &PwFec) -> Result<(), NoMemory>
     ensures { OnOk result (text.new.items ≡ text.old.items ++ spaced (fec_words fec.now)) }
 {
     put_element(text, fec)?;
-    put_params(text, &fec.params)
+    put_mtu(text, fec.params.mtu)?;
+    put_description(text, &fec.params.description)?;
+    put_vlan(text, fec.params.vlan)?;
+    put_vccv(text, fec.params.vccv)
 }
 
 /// Adds a FEC element and its interface parameters, where there is one.
@@ -125,33 +111,20 @@ pub fn put_pw_status(text: &mut Vec<u8>, status: Option<PwStatus>) -> Result<(),
     }
 }
 
-// Adds the digits of MAC addresses.
-fn put_mac_digits(text: &mut Vec<u8>, macs: &[Mac]) -> Result<(), NoMemory>
-    ensures { OnOk result (text.new.items ≡ text.old.items ++ mac_digits macs.now) }
-{
-    for mac in macs {
-        put_digits(text, &mac.0)?;
-    }
-    Ok(())
-}
-
-// Adds a list of MAC addresses.
-fn put_mac_list(text: &mut Vec<u8>, macs: &List<Mac>) -> Result<(), NoMemory>
-    ensures { OnOk result (text.new.items ≡ text.old.items ++ spaced (macs_words (Some macs.now))) }
-{
-    put_told(text, b"macs=", macs.len() as u64)?;
-    put_text(text, b"/")?;
-    put_mac_digits(text, macs.as_slice())
-}
-
-/// Adds a list of MAC addresses, where there is one.
+/// Adds how many MAC addresses a list has and their digits, where there is one.
 pub fn put_macs(text: &mut Vec<u8>, macs: &Option<List<Mac>>) -> Result<(), NoMemory>
     ensures { OnOk result (text.new.items ≡ text.old.items ++ spaced (macs_words macs.now)) }
 {
-    match macs {
-        Some(macs) => put_mac_list(text, macs),
-        None => Ok(()),
+    let Some(list) = macs else {
+        return Ok(());
+    };
+    let listed = list.as_slice();
+    put_told(text, b"macs=", listed.len() as u64)?;
+    put_text(text, b"/")?;
+    for mac in listed {
+        put_digits(text, &mac.0)?;
     }
+    Ok(())
 }
 
 // Begins a switching point by its PW ID, or a dash.
