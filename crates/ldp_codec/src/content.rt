@@ -1,12 +1,11 @@
 //! What the values of TLVs hold, and the first fault of it.
 ghost use Rattle.std.specs.Prelude.{◌≡◌, ◌≤◌, ◌<◌, ◌+◌, ◌^◌, None, true, false, length, Ok, Err, IfSome};
 ghost use Rattle.pw_tlvs.specs.Faults.{IsFirstIn, IsInside, fault_place};
-ghost use Rattle.pw_tlvs.specs.Point.{IsPointFault};
 ghost use Rattle.ldp_grammar.specs.FirstFault.{ContentFault, fault_in};
 ghost use Rattle.ldp_grammar.specs.Layouts.{fits, listed};
 ghost use Rattle.ldp_grammar.specs.Rows.{row_of};
-ghost use Rattle.ldp_grammar.specs.Tlvs.{HasContent, IsSwitchingPoint};
-ghost use Rattle.ldp_codec.specs.Walk.{HasContents, HasLength, IsFirstContent, IsForeignValue, ReadsForeign};
+ghost use Rattle.ldp_grammar.specs.Tlvs.{HasContent};
+ghost use Rattle.ldp_codec.specs.Walk.{HasContents, HasLength, IsFirstContent, ReadsForeign};
 
 use crate::numbers::four;
 use crate::tlv_search::find_value;
@@ -14,41 +13,19 @@ use ldp_grammar::{Cause, FEC, Fault, MessageKind, TLV_HEADER};
 use net_values::{Field, Label};
 use pw_tlvs::{FecValue, FieldFault, fec_fault, read_fec, read_point};
 
-// Whether the value of a FEC TLV is no single PWid element.
-fn is_foreign(value: &[u8]) -> bool
-    requires { length value.now ≤ 65535 }
-    ensures yes { result ≡ true → IsForeignValue value.now }
-    ensures no { result ≡ false → IsForeignValue value.now → ⊥ }
-{
-    match read_fec(value) {
-        Ok(FecValue::Foreign(_)) => true,
-        Ok(FecValue::Pw(_)) => false,
-        Err(_) => false,
-    }
-}
-
 // Whether the first FEC in a message's octets is no single PWid element.
 #[cold]
 #[inline(never)]
 fn has_foreign(body: &[u8]) -> bool
     ensures { ReadsForeign body.now result }
 {
-    match find_value(FEC, body) {
-        Some(value) => is_foreign(value),
-        None => false,
-    }
-}
-
-// The first fault of the value of a Switching Point PE TLV.
-fn point_fault(value: &[u8]) -> Option<FieldFault>
-    requires { length value.now ≤ 65535 }
-    ensures fault { IfSome result (IsFirstIn (IsPointFault value.now)) }
-    ensures none { result ≡ None → IsSwitchingPoint value.now }
-    ensures near { IfSome result (IsInside value.now) }
-{
-    match read_point(value) {
-        Ok(_) => None,
-        Err(fault) => Some(fault),
+    let Some(value) = find_value(FEC, body) else {
+        return false;
+    };
+    match read_fec(value) {
+        Ok(FecValue::Foreign(_)) => true,
+        Ok(FecValue::Pw(_)) => false,
+        Err(_) => false,
     }
 }
 
@@ -84,7 +61,10 @@ fn content_fault(body: &[u8], field: Field, value: &[u8]) -> Option<FieldFault>
     match field {
         Field::Fec => fec_fault(value),
         Field::Label => label_fault(body, value),
-        Field::Point => point_fault(value),
+        Field::Point => match read_point(value) {
+            Ok(_) => None,
+            Err(fault) => Some(fault),
+        },
         _ => None,
     }
 }

@@ -46,18 +46,6 @@ pub fn read_pdu(alloc: Global, bytes: &[u8], max: u16) -> Result<Pdu, Stop>
     Ok(view.read(alloc)?)
 }
 
-// The PDU, or the first fault.
-fn decode(alloc: Global, bytes: &[u8], max: u16) -> Result<Pdu, DecodeFault>
-    requires { max ≤ 4096 }
-    ensures spelled { IfOk result (Spells bytes.now max) }
-    ensures fault { IfErr result (TellsFault (FirstFault bytes.now max)) }
-{
-    match read_pdu(alloc, bytes, max) {
-        Ok(pdu) => Ok(pdu),
-        Err(stop) => Err(DecodeFault::from(stop)),
-    }
-}
-
 /// The PDU that the octets spell, all of them, where its PDU Length is at most `max` (RFC 5036 sections 3.1 and 3.3 to
 /// 3.5, RFC 8077, RFC 4762 section 6.2, RFC 6073 section 7.4). `max` is the session's Max PDU Length, in octets. TLVs
 /// may stand in any order, and messages of other types are not looked into. Where no PDU is spelled, the answer is the
@@ -71,5 +59,8 @@ pub fn decode_pdu(alloc: Global, bytes: &[u8], max: u16) -> Result<Pdu, DecodeFa
     ensures accepts { (pdu : Pdu) → Spells bytes.now max pdu → IsUnlessNoMemory result (Ok pdu) }
     ensures refuses { (fault : Fault) → FirstFault bytes.now max fault → IsUnlessNoMemory result (Err (refusal_of fault)) }
 {
-    decode(alloc, bytes, max)
+    match read_pdu(alloc, bytes, max) {
+        Ok(pdu) => Ok(pdu),
+        Err(stop) => Err(DecodeFault::from(stop)),
+    }
 }

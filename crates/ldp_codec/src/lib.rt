@@ -14,7 +14,6 @@ mod message_body;
 mod message_head;
 mod message_pass;
 mod message_view;
-mod message_walk;
 mod messages;
 mod numbers;
 mod part;

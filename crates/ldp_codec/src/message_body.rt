@@ -1,12 +1,11 @@
 //! The message that its octets behind the Message ID tell.
 ghost use Rattle.std.specs.Prelude.{◌≡◌, ◌≤◌, ◌<◌, [], ℕ, true, false, Some, None, List, length, option_copied, IfOk, IfErr, IfSome};
-ghost use Rattle.pw_tlvs.specs.declared.fec_value.FecValue.{FecValue as FecValueOf};
 ghost use Rattle.pw_tlvs.specs.Fec.{IsFecValue};
 ghost use Rattle.ldp_grammar.specs.declared.message_kind.MessageKind.{MessageKind};
 ghost use Rattle.ldp_grammar.specs.Rows.{row_of, type_of, is_in, fec, label, address_list};
 ghost use Rattle.ldp_grammar.specs.Layouts.{listed};
-ghost use Rattle.ldp_grammar.specs.Tlvs.{Tlv, IsFaultless, IsJoined, IsReason, HasValue, OfBoth, all_there, fec_reason, fec_value, first_absent, first_unknown, missing as missing_in, needs_pw_id, value_of};
-ghost use Rattle.ldp_grammar.specs.Spells.{IsRead, Means, OfValue};
+ghost use Rattle.ldp_grammar.specs.Tlvs.{Tlv, IsFaultless, IsJoined, IsReason, HasValue, OfBoth, all_there, fec_reason, fec_value, first_unknown, missing as missing_in, value_of};
+ghost use Rattle.ldp_grammar.specs.Spells.{IsRead, Means};
 ghost use Rattle.ldp_grammar.specs.declared.message.Message.TheVariants as message;
 ghost use Rattle.ldp_grammar.specs.Values.{IsAddressList, IsNumber};
 ghost use Rattle.ldp_codec.specs.Walk.{HasElement, IsComplete, IsWalked, element_in};
@@ -23,18 +22,6 @@ use ldp_grammar::{
 use net_values::{Field, Label, NoMemory};
 use pw_tlvs::{FecValue, PwFec, read_fec};
 use std::alloc::Global;
-
-// The first of the TLVs that is absent.
-fn first_missing(needed: &[u16], body: &[u8]) -> Option<Field>
-    ensures absent { (ts : List Tlv) → IsJoined body.now ts → result ≡ first_absent needed.now ts }
-{
-    'looking: for tlv in needed {
-        if count_tlvs(*tlv, body) == 0 {
-            return field_of_type(*tlv);
-        }
-    }
-    None
-}
 
 // Whether there are TLVs of all these types.
 fn has_all(kinds: &[u16], body: &[u8]) -> bool
@@ -57,18 +44,12 @@ fn missing(kind: MessageKind, body: &[u8]) -> Option<Field>
     if !instead.is_empty() && has_all(instead, body) {
         return None;
     }
-    first_missing(kind.needed(), body)
-}
-
-// The value of a FEC TLV without fault.
-fn fec_in(value: &[u8]) -> Option<FecValue>
-    requires { length value.now ≤ 65535 }
-    ensures told { (told : FecValueOf) → IsFecValue value.now told → result ≡ Some told }
-{
-    match read_fec(value) {
-        Ok(fec) => Some(fec),
-        Err(_) => None,
+    'looking: for tlv in kind.needed() {
+        if count_tlvs(*tlv, body) == 0 {
+            return field_of_type(*tlv);
+        }
     }
+    None
 }
 
 // The FEC of a message without fault that lists one.
@@ -79,19 +60,10 @@ fn fec_of(kind: MessageKind, body: &[u8]) -> Option<FecValue>
     if kind.listed(FEC).is_none() {
         return None;
     }
-    match find_value(FEC, body) {
-        Some(value) => fec_in(value),
-        None => None,
-    }
-}
-
-// Why a message of an element with this PW ID is not processed.
-fn pw_id_reason(kind: MessageKind, pw_id: Option<u32>) -> Option<Why>
-    ensures { result ≡ needs_pw_id kind pw_id }
-{
-    match (kind, pw_id) {
-        (MessageKind::LabelMapping, None) => Some(Why::Missing(Field::Fec)),
-        _ => None,
+    let value = find_value(FEC, body)?;
+    match read_fec(value) {
+        Ok(fec) => Some(fec),
+        Err(_) => None,
     }
 }
 
@@ -100,7 +72,10 @@ fn reason_of_fec(kind: MessageKind, fec: &Option<FecValue>) -> Option<Why>
     ensures { result ≡ fec_reason kind fec.now }
 {
     match *fec {
-        Some(FecValue::Pw(ref fec)) => pw_id_reason(kind, fec.pw_id),
+        Some(FecValue::Pw(ref fec)) => match (kind, fec.pw_id) {
+            (MessageKind::LabelMapping, None) => Some(Why::Missing(Field::Fec)),
+            _ => None,
+        },
         Some(FecValue::Foreign(first)) => Some(Why::UnknownFec(first)),
         None => None,
     }
@@ -191,20 +166,6 @@ fn label_of(kind: MessageKind, body: &[u8]) -> Option<Label>
     }
 }
 
-// The processed Notification.
-fn notification(id: u32, body: &[u8], element: Option<PwFec>) -> Message
-    requires complete { IsComplete MessageKind.Notification body.now }
-    requires element { HasElement MessageKind.Notification body.now element }
-    ensures means { (ts : List Tlv) → IsJoined body.now ts → Means MessageKind.Notification id ts result }
-{
-    Message::Notification {
-        id,
-        status: needed(MessageKind::Notification, body),
-        pw_status: further(MessageKind::Notification, body),
-        fec: element,
-    }
-}
-
 // The processed Hello.
 fn hello(id: u32, body: &[u8]) -> Message
     requires { IsComplete MessageKind.Hello body.now }
@@ -217,17 +178,6 @@ fn hello(id: u32, body: &[u8]) -> Message
         targeted: params.targeted,
         request: params.request,
         transport: further(MessageKind::Hello, body),
-    }
-}
-
-// The processed Initialization.
-fn initialization(id: u32, body: &[u8]) -> Message
-    requires { IsComplete MessageKind.Initialization body.now }
-    ensures means { (ts : List Tlv) → IsJoined body.now ts → Means MessageKind.Initialization id ts result }
-{
-    Message::Initialization {
-        id,
-        params: needed(MessageKind::Initialization, body),
     }
 }
 
@@ -273,15 +223,6 @@ fn address_withdraw(
     })
 }
 
-// The label of a Label Mapping.
-#[tactic(auto, using(crate::proofs::ReasonLemmas::of_value))]
-fn mapped_label(body: &[u8]) -> Label
-    requires { IsComplete MessageKind.LabelMapping body.now }
-    ensures label { (ts : List Tlv) → IsJoined body.now ts → OfValue (value_of label ts) (λ v. IsNumber v result) }
-{
-    label_of(MessageKind::LabelMapping, body).unwrap()
-}
-
 // The processed Label Mapping.
 #[tactic(auto, using(crate::proofs::ReasonLemmas::of_value))]
 fn label_mapping(id: u32, body: &[u8], element: Option<PwFec>) -> Message
@@ -292,7 +233,7 @@ fn label_mapping(id: u32, body: &[u8], element: Option<PwFec>) -> Message
     Message::LabelMapping {
         id,
         fec: element.unwrap(),
-        label: mapped_label(body),
+        label: label_of(MessageKind::LabelMapping, body).unwrap(),
         pw_status: further(MessageKind::LabelMapping, body),
         points: points(body),
     }
@@ -341,20 +282,8 @@ fn label_abort(id: u32, body: &[u8], element: Option<PwFec>) -> Message
     }
 }
 
-// The processed Label Request.
-#[tactic(auto, using(crate::proofs::ReasonLemmas::of_value))]
-fn label_request(id: u32, body: &[u8], element: Option<PwFec>) -> Message
-    requires complete { IsComplete MessageKind.LabelRequest body.now }
-    requires element { HasElement MessageKind.LabelRequest body.now element }
-    ensures means { (ts : List Tlv) → IsJoined body.now ts → Means MessageKind.LabelRequest id ts result }
-{
-    Message::LabelRequest {
-        id,
-        fec: element.unwrap(),
-    }
-}
-
 /// The processed message, with the PWid element that `processable` answered.
+#[tactic(auto, using(crate::proofs::ReasonLemmas::of_value))]
 pub fn processed(
     alloc: Global,
     kind: MessageKind,
@@ -367,14 +296,25 @@ pub fn processed(
     ensures means { IfOk result (λ m. (ts : List Tlv) → IsJoined body.now ts → Means kind id ts m) }
 {
     match kind {
-        MessageKind::Notification => Ok(notification(id, body, element)),
+        MessageKind::Notification => Ok(Message::Notification {
+            id,
+            status: needed(MessageKind::Notification, body),
+            pw_status: further(MessageKind::Notification, body),
+            fec: element,
+        }),
         MessageKind::Hello => Ok(hello(id, body)),
-        MessageKind::Initialization => Ok(initialization(id, body)),
+        MessageKind::Initialization => Ok(Message::Initialization {
+            id,
+            params: needed(MessageKind::Initialization, body),
+        }),
         MessageKind::KeepAlive => Ok(Message::KeepAlive { id }),
         MessageKind::Address => address(alloc, id, body),
         MessageKind::AddressWithdraw => address_withdraw(alloc, id, body, element),
         MessageKind::LabelMapping => Ok(label_mapping(id, body, element)),
-        MessageKind::LabelRequest => Ok(label_request(id, body, element)),
+        MessageKind::LabelRequest => Ok(Message::LabelRequest {
+            id,
+            fec: element.unwrap(),
+        }),
         MessageKind::LabelWithdraw => Ok(label_withdraw(id, body, element)),
         MessageKind::LabelRelease => Ok(label_release(id, body, element)),
         MessageKind::LabelAbort => Ok(label_abort(id, body, element)),

@@ -7,12 +7,11 @@ ghost use Rattle.ldp_codec.specs.Views.{AreCounted, IsMessagePassed};
 
 use crate::Part;
 use crate::message_head::split_message;
-use crate::message_walk::walk_body;
 use crate::part::ROOM;
+use crate::tlv_walk::walk_tlvs;
 use ldp_grammar::{Fault, MESSAGE_HEADER, MessageKind, U_BIT};
 
 // The size of the message in front, where it is without fault.
-#[tactic(auto, using(crate::proofs::ViewLemmas::passed_here))]
 #[inline(always)]
 fn pass_message(rest: &[u8]) -> Result<usize, Fault>
     requires some { 0 < length rest.now }
@@ -22,9 +21,12 @@ fn pass_message(rest: &[u8]) -> Result<usize, Fault>
     ensures near { IfErr result (λ fault. fault.place < length rest.now) }
 {
     let raw = split_message(rest)?;
-    let kind = MessageKind::of(raw.word % U_BIT);
-    match walk_body(kind, raw.body) {
-        Ok(_) => Ok(MESSAGE_HEADER + raw.body.len()),
+    let size = MESSAGE_HEADER + raw.body.len();
+    let Some(kind) = MessageKind::of(raw.word % U_BIT) else {
+        return Ok(size);
+    };
+    match walk_tlvs(kind, raw.body) {
+        Ok(_) => Ok(size),
         Err(fault) => Err(fault.behind(MESSAGE_HEADER as u16)),
     }
 }

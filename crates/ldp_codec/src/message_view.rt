@@ -5,14 +5,12 @@ ghost use Rattle.ldp_grammar.specs.Rows.{kind_of, type_of};
 ghost use Rattle.ldp_grammar.specs.Spells.{Spelling, IsSpelling, StandsFor};
 ghost use Rattle.ldp_grammar.specs.Tlvs.{Tlv, IsJoined, value_of};
 ghost use Rattle.ldp_codec.specs.Part.{joined};
-ghost use Rattle.ldp_codec.specs.Views.{IsSoundSpelling, IsSoundAs};
-ghost use Rattle.ldp_codec.specs.Walk.{IsWalkedAs};
+ghost use Rattle.ldp_codec.specs.Views.{IsSoundSpelling};
 
 use crate::Part;
-use crate::message_walk::read_message;
+use crate::message_body::{processable, processed};
 use crate::part::ROOM;
 use crate::part_search::find_part;
-use crate::raw_message::RawMessage;
 use crate::tlv_search::unknown_tlv;
 use ldp_grammar::{Message, MessageKind, U_BIT};
 use net_values::NoMemory;
@@ -101,31 +99,27 @@ impl<'a> MessageView<'a> {
     }
 }
 
-// The first TLV that is unknown and not to be ignored, of octets without fault.
+// The message that octets without fault stand for: of a known kind it is processed, or not for the first reason that holds.
 #[tactic(auto, using(crate::proofs::UnknownLemmas::walked_sound))]
-fn unknown_of(kind: Option<MessageKind>, body: &[u8]) -> Option<u16>
-    requires { IsSoundAs kind body.now }
-    ensures { IsWalkedAs kind body.now result }
-{
-    match kind {
-        Some(kind) => unknown_tlv(kind, body),
-        None => None,
-    }
-}
-
-// The message that octets without fault stand for.
 fn read_flat(alloc: Global, word: u16, number: u32, body: &[u8]) -> Result<Message, NoMemory>
     requires sound { IsSoundSpelling (record { word = word; id = number; body = body.now }) }
     ensures { IfOk result (StandsFor (record { word = word; id = number; body = body.now })) }
 {
-    let kind = MessageKind::of(word % U_BIT);
-    let unknown = unknown_of(kind, body);
-    let raw = RawMessage {
-        word,
-        id: number,
-        body,
+    let Some(kind) = MessageKind::of(word % U_BIT) else {
+        return Ok(Message::Other {
+            id: number,
+            u: word >= U_BIT,
+            kind: word % U_BIT,
+        });
     };
-    read_message(alloc, kind, unknown, raw)
+    match processable(unknown_tlv(kind, body), kind, body) {
+        Ok(element) => processed(alloc, kind, number, body, element),
+        Err(why) => Ok(Message::Unprocessed {
+            id: number,
+            kind: kind.number(),
+            why,
+        }),
+    }
 }
 
 // The same of octets in two pieces, which are joined first.

@@ -141,7 +141,7 @@ impl<'a> Part<'a> {
     }
 }
 
-// Each of the octets is one that an octet holds.
+// Each of the octets is one that an octet holds. It stands alone, since the prover knows so of what is given.
 fn both_octets(front: &[u8], back: &[u8])
     ensures { AreOctets (front.now ++ back.now) }
 {}

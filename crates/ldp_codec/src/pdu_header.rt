@@ -1,6 +1,6 @@
 //! The header of a PDU.
-ghost use Rattle.std.specs.Prelude.{◌≡◌, ◌≢◌, ◌≤◌, ◌++◌, true, false, length, drop, take, IfOk, IfErr};
-ghost use Rattle.ldp_grammar.specs.Octets.{two as two_of, two_at};
+ghost use Rattle.std.specs.Prelude.{◌≡◌, ◌≤◌, ◌++◌, true, false, length, drop, take, IfOk, IfErr};
+ghost use Rattle.ldp_grammar.specs.Octets.{two as two_of};
 ghost use Rattle.ldp_grammar.specs.Spells.{IsFramed};
 ghost use Rattle.ldp_grammar.specs.FirstFault.{FirstFault, IsMiscounted};
 ghost use Rattle.ldp_codec.specs.Part.{joined};
@@ -22,15 +22,6 @@ fn sender(bytes: Part<'_>) -> LdpId
         router: Addr([id.byte(0), id.byte(1), id.byte(2), id.byte(3)]),
         space: id.two(4),
     }
-}
-
-// Whether a version is there that is not 1.
-#[inline(always)]
-fn has_other_version(bytes: Part<'_>) -> bool
-    ensures other { result ≡ true → (2 ≤ length (joined bytes.entry)) × (two_at 0 (joined bytes.entry) ≢ 1) }
-    ensures right { result ≡ false → 2 ≤ length (joined bytes.entry) → two_at 0 (joined bytes.entry) ≡ 1 }
-{
-    2 <= bytes.len() && bytes.two(0) != VERSION
 }
 
 // Whether the PDU Length is in range and counts the octets behind it.
@@ -55,7 +46,7 @@ pub fn read_header(bytes: Part<'_>, max: u16) -> Result<LdpId, Fault>
     ensures fault { IfErr result (FirstFault (joined bytes.entry) max) }
 {
     bytes.are_octets();
-    if has_other_version(bytes) {
+    if 2 <= bytes.len() && bytes.two(0) != VERSION {
         return Err(Fault {
             place: 0,
             cause: Cause::Version,

@@ -1,6 +1,5 @@
 //! The Common Hello Parameters TLV.
-ghost use Rattle.std.specs.Prelude.{◌≡◌, length};
-ghost use Rattle.ldp_grammar.specs.Values.{IsHello};
+ghost use Rattle.std.specs.Prelude.{◌≡◌};
 ghost use Rattle.ldp_grammar.specs.Written.{hello_octets};
 
 use crate::numbers::two;
@@ -56,20 +55,12 @@ impl TlvValue for HelloParams {
 
 impl PlainTlv for HelloParams {
     fn read(value: &[u8]) -> HelloParams {
-        hello_params(value)
-    }
-}
-
-// What a value of 4 octets stands for.
-fn hello_params(value: &[u8]) -> HelloParams
-    requires { length value.now ≡ 4 }
-    ensures { IsHello value.now result.hold result.targeted result.request }
-{
-    let flags = two(value, 2) as u32;
-    HelloParams {
-        hold: two(value, 0),
-        targeted: bit_of(15, flags),
-        request: bit_of(14, flags),
+        let flags = two(value, 2) as u32;
+        HelloParams {
+            hold: two(value, 0),
+            targeted: bit_of(15, flags),
+            request: bit_of(14, flags),
+        }
     }
 }
 

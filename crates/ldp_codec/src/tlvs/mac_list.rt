@@ -1,6 +1,4 @@
 //! The MAC List TLV.
-ghost use Rattle.std.specs.Prelude.{◌≡◌, ◌≤◌, ◌%◌, length, IfOk};
-ghost use Rattle.pw_tlvs.specs.Macs.{AreMacs};
 
 use crate::tlv_value::{KeptTlv, TlvValue};
 use ldp_grammar::{MAC_LIST, U_BIT};
@@ -49,20 +47,11 @@ impl TlvValue for List<Mac> {
 
 impl KeptTlv for List<Mac> {
     fn read(alloc: Global, value: &[u8]) -> Result<List<Mac>, NoMemory> {
-        macs_in(alloc, value)
-    }
-}
-
-// The MAC addresses of a multiple of six octets.
-fn macs_in(alloc: Global, value: &[u8]) -> Result<List<Mac>, NoMemory>
-    requires few { length value.now ≤ 65535 }
-    requires sixes { length value.now % 6 ≡ 0 }
-    ensures macs { IfOk result (AreMacs value.now) }
-{
-    match read_macs(alloc, value) {
-        Ok(list) => Ok(list),
-        Err(MacsFault::NoMemory) => Err(NoMemory),
-        // Whole addresses have no fault.
-        Err(MacsFault::Field(_)) => unreachable!(),
+        match read_macs(alloc, value) {
+            Ok(list) => Ok(list),
+            Err(MacsFault::NoMemory) => Err(NoMemory),
+            // Whole addresses have no fault.
+            Err(MacsFault::Field(_)) => unreachable!(),
+        }
     }
 }

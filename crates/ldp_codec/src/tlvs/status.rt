@@ -1,6 +1,5 @@
 //! The Status TLV.
-ghost use Rattle.std.specs.Prelude.{◌≡◌, ◌<◌, ◌^◌, length};
-ghost use Rattle.ldp_grammar.specs.Values.{IsStatus};
+ghost use Rattle.std.specs.Prelude.{◌≡◌, ◌<◌, ◌^◌};
 ghost use Rattle.ldp_grammar.specs.Written.{status_octets};
 
 use crate::numbers::{four, two};
@@ -50,22 +49,14 @@ impl TlvValue for StatusCode {
 
 impl PlainTlv for StatusCode {
     fn read(value: &[u8]) -> StatusCode {
-        status_code(value)
-    }
-}
-
-// The status that a value of 10 octets stands for.
-fn status_code(value: &[u8]) -> StatusCode
-    requires { length value.now ≡ 10 }
-    ensures { IsStatus value.now result }
-{
-    let word = four(value, 0);
-    StatusCode {
-        fatal: bit_of(31, word),
-        forward: bit_of(30, word),
-        code: word % 0x4000_0000,
-        message: four(value, 4),
-        kind: two(value, 8),
+        let word = four(value, 0);
+        StatusCode {
+            fatal: bit_of(31, word),
+            forward: bit_of(30, word),
+            code: word % 0x4000_0000,
+            message: four(value, 4),
+            kind: two(value, 8),
+        }
     }
 }
 

@@ -1,4 +1,4 @@
--- What is at fault in a FEC and in a label.
+-- What is at fault in a FEC, in a label and in a switching point.
 use Rattle.std.proofs.Common.{sym, subst}
 use Rattle.std.specs.Prelude.{IfSome}
 use Rattle.net_values.specs.declared.field.Field.{Field}
@@ -16,3 +16,6 @@ returns-in-Fec-clause-none c = λ none. subst (λ (f : Field). HasContent c.args
 
 pub returns-in-Label-clause-fault : goal.returns-in-Label-clause-fault
 returns-in-Label-clause-fault c = subst (λ (f : Field). IfSome c.label_fault.result (IsFirstIn (ContentFault c.args.body.now f c.args.value.now))) (sym c.in-Label.is) c.label_fault.ensures.fault
+
+pub returns-in-Err-clause-fault : goal.returns-in-Err-clause-fault
+returns-in-Err-clause-fault c = subst (λ (f : Field). IsFirstIn (ContentFault c.args.body.now f c.args.value.now) c.in-Err.fault) (sym c.in-Point.is) ((c.read_point.ensures.fault c.in-Err.fault).0 c.in-Err.is)
