@@ -1,7 +1,7 @@
 //! What stands in front of the octets held.
 ghost use Rattle.std.specs.Prelude.{◌≡◌, ◌≤◌, ◌+◌, Ok, None, IfErr, IfOk, IfSome, length};
 ghost use Rattle.ldp_codec.specs.Part.{joined};
-ghost use Rattle.ldp_stream.specs.Front.{HasPduHeader, HasPdu, IsFrontFault, IsPending, size_of};
+ghost use Rattle.ldp_stream.specs.Front.{HasPduHeader, IsFrontFault, IsPending, size_of};
 ghost use Rattle.ldp_stream.specs.Halt.{Halts, IsSpelledBy};
 ghost use Rattle.ldp_stream.specs.Seen.{IsSeenIn};
 
@@ -48,24 +48,8 @@ pub fn size_in(held: Part<'_>) -> usize
     LENGTH_HEADER + held.two(2) as usize
 }
 
-// The PDU that the first octets spell, lent from them.
-#[tactic(auto, using(crate::proofs::StreamLemmas::faulty_whole))]
-#[inline(always)]
-fn view_first(held: Part<'_>, size: usize, max: u16) -> Result<PduView<'_>, Fault>
-    requires most { max ≤ 4096 }
-    requires whole { HasPdu max (joined held) }
-    requires size { size ≡ size_of (joined held) }
-    ensures viewed { IfOk result (IsSeenIn max (joined held.entry)) }
-    ensures fault { IfErr result (IsFrontFault max (joined held.entry)) }
-{
-    let (piece, _) = held.split_at(size);
-    match view_part(piece, max) {
-        Ok(view) => Ok(view),
-        Err(fault) => Err(fault),
-    }
-}
-
 /// The PDU in front, lent, or nothing where the octets are a proper prefix of a PDU.
+#[tactic(auto, using(crate::proofs::StreamLemmas::faulty_whole))]
 #[inline(always)]
 pub fn view_front(held: Part<'_>, max: u16) -> Result<Option<PduView<'_>>, Fault>
     requires most { max ≤ 4096 }
@@ -81,7 +65,8 @@ pub fn view_front(held: Part<'_>, max: u16) -> Result<Option<PduView<'_>>, Fault
     if held.len() < size {
         return Ok(None);
     }
-    match view_first(held, size, max) {
+    let (piece, _) = held.split_at(size);
+    match view_part(piece, max) {
         Ok(view) => Ok(Some(view)),
         Err(fault) => Err(fault),
     }
