@@ -46,7 +46,7 @@ impl Read for Interrupted {
 
 impl Write for Interrupted {
     fn write(&mut self, _piece: &[u8]) -> io::Result<usize> {
-        unsupported()
+        Err(io::Error::from(ErrorKind::Unsupported))
     }
 
     fn flush(&mut self) -> io::Result<()> {
