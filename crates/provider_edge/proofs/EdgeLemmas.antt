@@ -91,11 +91,10 @@ octets_done e told peer octets held mid calls work taken is = by ((seen e).peeri
   by None none is = absurd (cc (none.0))
   by (Some kept) some is = is
 
-pub restart_done : (e mid now : EdgeLists) (calls : List LinkCall) → seen mid ≡ without_ends (without_peerings (seen e)) → seen now ≡ with_learned (λ service. []) (seen mid)
+pub restart_done : (e now : EdgeLists) (calls : List LinkCall) → seen now ≡ with_learned (λ service. []) (without_ends (without_peerings (seen e)))
     → worked now calls (record { idle = false; list = [] }) ≡ restart_input (beginning (seen e) calls)
 unfolding worked changes with_learned without_ends without_peerings
-restart_done e mid now calls dropped cleared =
-    ap (λ (s : EdgeState). record { edge = s; calls = calls; effects = []; idle = false }) (cleared ∙ ap (with_learned (λ service. [])) dropped)
+restart_done e now calls is = ap (λ (s : EdgeState). record { edge = s; calls = calls; effects = []; idle = false }) is
 
 -- ---- ticks
 

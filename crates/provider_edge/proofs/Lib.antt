@@ -21,6 +21,7 @@ pub mod NeighbourLemmas
 pub mod PacketLemmas
 pub mod PingLemmas
 pub mod ProperLemmas
+pub mod RestartLemmas
 pub mod RowLemmas
 pub mod SettledLemmas
 pub mod SlotLemmas

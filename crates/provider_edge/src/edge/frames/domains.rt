@@ -1,8 +1,8 @@
 //! What an edge forwards by: its circuits, and the bridge of each service.
-ghost use Rattle.std.specs.Prelude.{◌≡◌, ◌<◌, [], true, Some, length, position, IfSome};
+ghost use Rattle.std.specs.Prelude.{◌≡◌, ◌<◌, true, Some, length, position, IfSome};
 ghost use Rattle.net_base.specs.plan.Places.{circuit_row};
 ghost use Rattle.hvpls_spokes.specs.Port.{is_circuit_port, ports_of};
-ghost use Rattle.edge_model.specs.State.{addresses_of, is_on, later, with_addresses, with_circuit, with_learned, with_ticks, without_port};
+ghost use Rattle.edge_model.specs.State.{addresses_of, is_on, later, with_addresses, with_circuit, with_ticks, without_port};
 ghost use Rattle.edge_model.specs.Tick.{forgetting};
 ghost use Rattle.edge_forwarding.specs.Forwarding.{open_ports, own_service};
 ghost use Rattle.provider_edge.specs.Lists.{Keeps, seen};
@@ -42,17 +42,6 @@ impl Edge {
         ensures on { is_on (seen self.now) circuit ≡ true → IfSome result (λ p. open_ports self.now.forwarding service p ≡ true) }
     {
         self.forwarding.port_of(PortName::Circuit(circuit), service)
-    }
-
-    // Each bridge forgets all that it has learned.
-    #[tactic(auto, using(crate::proofs::ForwardLemmas::holds_forwarding, crate::proofs::ForwardLemmas::keeps_forwarding))]
-    pub(crate) fn clear_bridges(&mut self)
-        requires working { self.old.stopped ≡ true }
-        ensures keeps { Keeps self.old self.new }
-        ensures step { seen self.new ≡ with_learned (λ service. []) (seen self.old) }
-    {
-        self.marks = None;
-        self.forwarding.clear();
     }
 
     // One tick more.

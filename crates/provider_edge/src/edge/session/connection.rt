@@ -1,13 +1,12 @@
 //! Connections of the edge: one stands, one is lost, and the edge restarts.
-ghost use Rattle.std.specs.Prelude.{◌≡◌, ◌<◌, [], true, false, List, length, slice_get, OnOk};
+ghost use Rattle.std.specs.Prelude.{◌≡◌, ◌<◌, [], true, false, List, length, map, slice_get, OnOk};
 ghost use Rattle.std.specs.List.{list_any};
 ghost use Rattle.net_base.specs.plan.Paths.{are_joined};
 ghost use Rattle.session_core.specs.State.{IsProper};
 ghost use Rattle.edge_model.specs.Connection.{connected_input, connects, lost_input, restart_input};
-ghost use Rattle.edge_model.specs.State.{without_ends};
 ghost use Rattle.edge_model.specs.Work.{Agrees, Answers, beginning};
 ghost use Rattle.net_base.specs.declared.outside.link_call.LinkCall.{LinkCall};
-ghost use Rattle.peer_dialogue.specs.Peering.{connection_with, peers_between};
+ghost use Rattle.peer_dialogue.specs.Peering.{connection_with, gone, peers_between};
 ghost use Rattle.provider_edge.specs.AtWork.{Takes, Works, at_work, worked_at};
 ghost use Rattle.provider_edge.specs.EndOf.{is_beside};
 ghost use Rattle.provider_edge.specs.Lists.{Keeps, seen, worked};
@@ -123,26 +122,27 @@ impl Edge {
         ensures keeps { Keeps self.old self.new }
         ensures step { (calls : List LinkCall) → worked self.new calls (record { idle = false; list = [] }) ≡ restart_input (beginning (seen self.old) calls) }
     {
-        self.drop_peerings();
-        self.forget_ends();
-        self.clear_bridges();
-    }
-
-    // Each end is as it was opened, what was told of it and how often it was pinged is forgotten, and no spoke is chosen.
-    fn forget_ends(&mut self)
-        requires working { self.old.stopped ≡ true }
-        ensures keeps { Keeps self.old self.new }
-        ensures step { seen self.new ≡ without_ends (seen self.old) }
-    {
         self.marks = None;
+        drop_all(&mut self.peerings);
         self.ends.restarted();
         forget_pings(&mut self.pings);
         self.spokes.clear();
         self.forwarding.close_wires();
+        self.forwarding.clear();
     }
 }
 
-// Whether one of these ends is beside a peer.
+// No session stands any more.
+#[tactic(auto, using(edge_forwarding::proofs::EachLemmas::each_next))]
+fn drop_all(peerings: &mut Vec<Option<Peering>>)
+    ensures { peerings.new.items ≡ map gone peerings.old.items }
+{
+    for kept in peerings.iter_mut() {
+        *kept = None;
+    }
+}
+
+// Whether one of these ends is beside a peer. A test by a closure is proved where it stands alone.
 fn is_beside(places: &[EndPlace], peer: EdgeId) -> bool
     ensures { result ≡ list_any (is_beside peer.0) places.now }
 {

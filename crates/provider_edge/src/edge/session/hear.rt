@@ -246,7 +246,7 @@ impl Edge {
         }
     }
 
-    // What is told of a message that is not processed.
+    // What is told of a message that is not processed. An advisory that the link did not take ends the session, and its ends are lost.
     fn tell_advice<L: Link>(
         &mut self,
         peer: EdgeId,
@@ -259,9 +259,15 @@ impl Edge {
         ensures step { OnOk result ((told : Answers) → Agrees told (L.calls work.new.link.now)
             → at_work L.calls self.new work.new ≡ advises told peer (advice_of message.now) (at_work L.calls self.old work.old)) }
     {
-        match advice_of(message) {
-            Some(reply) => self.advise(peer, reply, work),
-            None => Ok(()),
-        }
+        let Some(reply) = advice_of(message) else {
+            return Ok(());
+        };
+        let Some(peering) = self.take_peering(peer) else {
+            return Ok(());
+        };
+        let left = peering.put(peer, reply, work)?;
+        self.put_peering(peer, left);
+        self.clear_ends(peer);
+        Ok(())
     }
 }

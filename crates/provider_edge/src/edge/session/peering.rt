@@ -1,18 +1,16 @@
 //! What an edge keeps of its neighbours: what an event makes of a session, and what is put apart from the events.
-ghost use Rattle.std.specs.Prelude.{◌≡◌, ◌<◌, ◌↔◌, not, List, Some, None, length, map, option_copied, IfOk, IfSome, OnOk, true, false};
+ghost use Rattle.std.specs.Prelude.{◌≡◌, ◌<◌, ◌↔◌, not, List, Some, None, length, option_copied, IfOk, IfSome, OnOk, true, false};
 ghost use Rattle.std.specs.List.{list_all};
 ghost use Rattle.net_base.specs.declared.outside.link_call.LinkCall.{LinkCall};
 ghost use Rattle.ldp_codec.specs.declared.decode_fault.DecodeFault.{DecodeFault};
-ghost use Rattle.pw_signalling.specs.Rows.{lost};
-ghost use Rattle.session_core.specs.Messages.{HasData};
 ghost use Rattle.session_core.specs.Table.{Refused};
 ghost use Rattle.edge_model.specs.declared.effect.Effect.{Effect};
-ghost use Rattle.edge_model.specs.Hear.{advises, was_up};
+ghost use Rattle.edge_model.specs.Hear.{was_up};
 ghost use Rattle.edge_model.specs.Session.{clears_ends, happens, happens_with_ends, says};
-ghost use Rattle.edge_model.specs.State.{has_end, is_there, with_ends_beside, with_peering, without_peerings};
+ghost use Rattle.edge_model.specs.State.{has_end, is_there, with_peering};
 ghost use Rattle.edge_model.specs.Work.{Agrees, Answers};
 ghost use Rattle.peer_dialogue.specs.Event.{MayHappen, event_of};
-ghost use Rattle.peer_dialogue.specs.Peering.{at_edge, gone, held_octets};
+ghost use Rattle.peer_dialogue.specs.Peering.{at_edge, held_octets};
 ghost use Rattle.peer_dialogue.specs.PwMessage.{CanBeSaid, numbered};
 ghost use Rattle.provider_edge.specs.AtWork.{Works, at_work};
 ghost use Rattle.provider_edge.specs.Bounds.{HoldsFew};
@@ -22,7 +20,6 @@ ghost use Rattle.provider_edge.specs.Tidy.{stands_as};
 use crate::Edge;
 use net_base::{EdgeId, Link, NoMemory};
 use peer_dialogue::{AtWork, Event, Peering, PwMessage};
-use session_core::Reply;
 
 impl Edge {
     // What is kept of a neighbour, where the edge's end of the connection stands.
@@ -80,39 +77,20 @@ impl Edge {
         self.peerings[peer.0 as usize] = kept;
     }
 
-    // Where no session with a neighbour stands, each end beside it is lost (RFC 5036 section 3.5.1.1).
+    // Where no session with a neighbour stands, each end beside it is lost (RFC 5036 section 3.5.1.1), if something was told of one.
     pub(crate) fn clear_ends(&mut self, peer: EdgeId)
         requires working { self.old.stopped ≡ true }
         ensures keeps { Keeps self.old self.new }
         ensures step { (calls : List LinkCall) (out : List Effect) → at_edge (seen self.new) calls out ≡ clears_ends peer (at_edge (seen self.old) calls out) }
     {
-        if !self.has_end(peer) {
-            self.lose_ends(peer);
+        if self.has_end(peer) {
+            return;
         }
-    }
-
-    // Each end beside an absent peer is lost, where something was told of one.
-    fn lose_ends(&mut self, peer: EdgeId)
-        requires working { self.old.stopped ≡ true }
-        requires absent { has_end (seen self.old) peer ≡ false }
-        ensures keeps { Keeps self.old self.new }
-        ensures step { seen self.new ≡ with_ends_beside peer lost (seen self.old) }
-    {
         if self.ends.is_untold(peer) {
             return;
         }
         self.marks = None;
         self.ends.lose(peer);
-    }
-
-    // No session stands any more.
-    pub(crate) fn drop_peerings(&mut self)
-        requires working { self.old.stopped ≡ true }
-        ensures keeps { Keeps self.old self.new }
-        ensures step { seen self.new ≡ without_peerings (seen self.old) }
-    {
-        self.marks = None;
-        drop_all(&mut self.peerings);
     }
 
     // Something happens to the session with a peer, where it stands; its ends are lost where it ends.
@@ -178,33 +156,9 @@ impl Edge {
         self.keep_marks(marks);
         Ok(failed)
     }
-
-    // Puts an advisory to a peer with which a session stands. One that the link did not take ends the session, and its ends
-    // are lost.
-    pub(crate) fn advise<L: Link>(
-        &mut self,
-        peer: EdgeId,
-        reply: Reply,
-        work: &mut AtWork<'_, L>,
-    ) -> Result<(), NoMemory>
-        requires working { self.old.stopped ≡ true }
-        requires data { HasData reply }
-        requires stands { has_end (seen self.old) peer ≡ true }
-        ensures goes { Works L.calls self.old work.old self.new work.new }
-        ensures step { OnOk result ((told : Answers) → Agrees told (L.calls work.new.link.now)
-            → at_work L.calls self.new work.new ≡ advises told peer (Some reply) (at_work L.calls self.old work.old)) }
-    {
-        let Some(peering) = self.take_peering(peer) else {
-            return Ok(());
-        };
-        let left = peering.put(peer, reply, work)?;
-        self.put_peering(peer, left);
-        self.clear_ends(peer);
-        Ok(())
-    }
 }
 
-// How many octets are held of what is kept of a neighbour.
+// How many octets are held of what is kept of a neighbour. It says so for the proof that these are few.
 fn held_in(kept: &Option<Peering>) -> usize
     ensures count { result ≡ length (held_octets kept.now) }
     ensures few { HoldsFew kept.now }
@@ -215,7 +169,7 @@ fn held_in(kept: &Option<Peering>) -> usize
     }
 }
 
-// Whether nothing is kept of any neighbour.
+// Whether nothing is kept of any neighbour. A test by a closure is proved where it stands alone.
 fn is_none_kept(peerings: &[Option<Peering>]) -> bool
     ensures { result ≡ list_all (λ kept. not (is_there kept)) peerings.now }
 {
@@ -235,15 +189,5 @@ fn stands_as(was_up: bool, left: &Option<Peering>) -> bool
             }
         }
         None => false,
-    }
-}
-
-// No session stands any more.
-#[tactic(auto, using(edge_forwarding::proofs::EachLemmas::each_next))]
-fn drop_all(peerings: &mut Vec<Option<Peering>>)
-    ensures { peerings.new.items ≡ map gone peerings.old.items }
-{
-    for kept in peerings.iter_mut() {
-        *kept = None;
     }
 }

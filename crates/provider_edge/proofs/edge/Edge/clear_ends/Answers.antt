@@ -1,12 +1,29 @@
-use Rattle.std.proofs.Common.{◌∙◌, sym}
-use Rattle.provider_edge.proofs.ListLemmas.{cleared, cleared_not}
-use Rattle.provider_edge.specs.Lists.{seen}
+-- The ends beside the peer are lost where no session stands.
+use Rattle.std.proofs.Common.{◌≡◌, ◌∙◌, ap, refl, subst, sym, None}
+use Rattle.pw_signalling.specs.Rows.{lost}
+use Rattle.edge_model.specs.State.{with_ends_beside}
+use Rattle.provider_edge.specs.contracts.edge.Edge.{the_view}
+use Rattle.provider_edge.proofs.ListLemmas.{cleared, cleared_not, ends_beside, holds_ends}
+use Rattle.provider_edge.specs.Lists.{EdgeLists, seen}
 use Rattle.provider_edge.proofs.edge.Edge.clear_ends.Goals as goal
 
-pub returns-then-not-has_end-clause-step : goal.returns-then-not-has_end-clause-step
-returns-then-not-has_end-clause-step c = λ calls out.
-    cleared c.args.peer (seen c.args.self.now) (seen c.lose_ends.new.self) calls out (sym (c.has_end.ensures) ∙ c.if-not-has_end.true) c.lose_ends.ensures.step
+pub returns-then-has_end-clause-step : goal.returns-then-has_end-clause-step
+returns-then-has_end-clause-step c = λ calls out.
+    cleared_not c.args.peer (seen c.args.self.now) calls out (sym c.has_end.ensures ∙ c.if-has_end.true)
 
-pub returns-else-not-has_end-clause-step : goal.returns-else-not-has_end-clause-step
-returns-else-not-has_end-clause-step c = λ calls out.
-    cleared_not c.args.peer (seen c.args.self.now) calls out (sym (c.has_end.ensures) ∙ c.if-not-has_end.false)
+pub returns-then-is_untold-clause-step : goal.returns-then-is_untold-clause-step
+unfolding seen
+returns-then-is_untold-clause-step c = λ calls out.
+    cleared c.args.peer (seen c.args.self.now) (seen c.args.self.now) calls out (sym c.has_end.ensures ∙ c.if-has_end.false)
+    (subst (λ (n : EdgeLists). seen n ≡ with_ends_beside c.args.peer lost (seen n)) c.self.view_is
+    (ends_beside (the_view c.self.inside) c.self.inside.ends c.args.peer lost (sym (c.if-is_untold.ensures.untold refl)) refl))
+
+pub invariant_of-self : goal.invariant_of-self
+invariant_of-self c =
+    holds_ends (the_view c.self.inside) c.lose.new.self c.lose.ensures.places (ap (λ (e : EdgeLists). e.stopped) c.self.view_is ∙ c.requires.working) c.self.invariant
+
+pub returns-clause-step : goal.returns-clause-step
+returns-clause-step c = λ calls out.
+    cleared c.args.peer (seen c.args.self.now) (seen (record (the_view c.self.inside) { ends = c.lose.new.self; marks = None })) calls out (sym c.has_end.ensures ∙ c.if-has_end.false)
+    (subst (λ (n : EdgeLists). seen (record (the_view c.self.inside) { ends = c.lose.new.self; marks = None }) ≡ with_ends_beside c.args.peer lost (seen n)) c.self.view_is
+    (ends_beside (the_view c.self.inside) c.lose.new.self c.args.peer lost c.lose.ensures.seen c.lose.ensures.next))

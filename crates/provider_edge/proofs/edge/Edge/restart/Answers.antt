@@ -1,8 +1,45 @@
-use Rattle.std.proofs.Common.{◌∙◌, ap}
-use Rattle.edge_model.specs.State.{without_ends}
+-- Each part of the edge is forgotten.
+use Rattle.std.proofs.Common.{◌≡◌, ◌∙◌, [], None, true, ap, subst}
+use Rattle.edge_model.specs.State.{with_learned, without_ends, without_peerings}
+use Rattle.provider_edge.specs.contracts.edge.Edge.{the_view}
 use Rattle.provider_edge.proofs.EdgeLemmas.{restart_done}
+use Rattle.provider_edge.proofs.RestartLemmas.{restart_holds, restart_seen}
+use Rattle.provider_edge.specs.Lists.{EdgeLists, seen}
 use Rattle.provider_edge.proofs.edge.Edge.restart.Goals as goal
+
+pub invariant_of-self : goal.invariant_of-self
+invariant_of-self c =
+    let v : EdgeLists = the_view c.self.inside in
+    let working : v.stopped ≡ true = ap (λ (e : EdgeLists). e.stopped) c.self.view_is ∙ c.requires.working in
+    restart_holds v c.drop_all.new.peerings.items c.restarted.new.self c.forget_pings.new.pings.items c.clear.new.self c.close_wires.new.self c.clear-2.new.self working c.self.invariant (record {
+      peerings = c.drop_all.ensures;
+      places = c.restarted.ensures.places;
+      ends = c.restarted.ensures.seen;
+      next = c.restarted.ensures.next;
+      pings = c.forget_pings.ensures;
+      spokes = c.clear.ensures;
+      closes = c.close_wires.ensures.keeps;
+      untold = c.close_wires.ensures.step;
+      clears = c.clear-2.ensures.keeps;
+      unlearned = c.clear-2.ensures.step;
+    })
 
 pub returns-clause-step : goal.returns-clause-step
 returns-clause-step c = λ calls.
-    restart_done c.args.self.now c.forget_ends.new.self c.clear_bridges.new.self calls (c.forget_ends.ensures.step ∙ ap without_ends c.drop_peerings.ensures.step) c.clear_bridges.ensures.step
+    let v : EdgeLists = the_view c.self.inside in
+    let working : v.stopped ≡ true = ap (λ (e : EdgeLists). e.stopped) c.self.view_is ∙ c.requires.working in
+    let now : EdgeLists = record v { peerings = c.drop_all.new.peerings.items; ends = c.restarted.new.self; pings = c.forget_pings.new.pings.items; spokes = c.clear.new.self; forwarding = c.clear-2.new.self; marks = None } in
+    restart_done c.args.self.now now calls
+    (subst (λ (n : EdgeLists). seen now ≡ with_learned (λ service. []) (without_ends (without_peerings (seen n)))) c.self.view_is
+    (restart_seen v c.drop_all.new.peerings.items c.restarted.new.self c.forget_pings.new.pings.items c.clear.new.self c.close_wires.new.self c.clear-2.new.self working c.self.invariant (record {
+      peerings = c.drop_all.ensures;
+      places = c.restarted.ensures.places;
+      ends = c.restarted.ensures.seen;
+      next = c.restarted.ensures.next;
+      pings = c.forget_pings.ensures;
+      spokes = c.clear.ensures;
+      closes = c.close_wires.ensures.keeps;
+      untold = c.close_wires.ensures.step;
+      clears = c.clear-2.ensures.keeps;
+      unlearned = c.clear-2.ensures.step;
+    })))
