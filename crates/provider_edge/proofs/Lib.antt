@@ -15,6 +15,7 @@ pub mod KeptLemmas
 pub mod LiftLemmas
 pub mod MarkLemmas
 pub mod MarkedLemmas
+pub mod MarkingLemmas
 pub mod MendLemmas
 pub mod MessageLemmas
 pub mod NeighbourLemmas

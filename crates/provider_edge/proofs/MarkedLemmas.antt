@@ -14,10 +14,9 @@ use Rattle.edge_model.specs.EndPlaces.{end_places}
 use Rattle.edge_model.specs.Mend.{advertising, each_end, forgets_downs, mends_end, mends_status, tells_downs}
 use Rattle.edge_model.specs.Put.{Spoken}
 use Rattle.edge_model.specs.Session.{clears_ends}
-use Rattle.edge_model.specs.Signal.{with_end_changed}
 use Rattle.edge_model.specs.Hear.{was_up}
 use Rattle.edge_model.specs.Spokes.{choice}
-use Rattle.edge_model.specs.State.{EdgeState, Peering, put_at, with_chosen, with_end, with_ends_beside, with_peering}
+use Rattle.edge_model.specs.State.{EdgeState, Peering, put_at, with_chosen, with_ends_beside, with_peering}
 use Rattle.edge_model.specs.Work.{Answers, Work}
 use Rattle.peer_dialogue.specs.Peering.{at_edge}
 use Rattle.provider_edge.specs.declared.end_marks.EndMarks.{EndMarks}
@@ -29,7 +28,7 @@ use Rattle.provider_edge.specs.Tidy.{IsSettledAt, IsTidy, IsTidyApart, IsTidyBes
 use Rattle.provider_edge.proofs.TidyLemmas.{tidy_happened}
 use Rattle.provider_edge.proofs.ListLemmas.{keeps_same}
 use Rattle.provider_edge.proofs.MendLemmas.{settled_downs, settles_downs}
-use Rattle.provider_edge.proofs.SettledLemmas.{AreFreshElse, IsBeside, IsBesides, beside_cleared, beside_ends, beside_happened, beside_peering, beside_then, besides_advertising, besides_changed, besides_end, ends_back, ends_front, fresh_else, fresh_peering, settles_back, settles_front, statuses_back, statuses_front, tidy_beside, tidy_besides, tidy_chosen, tidy_wider}
+use Rattle.provider_edge.proofs.SettledLemmas.{AreFreshElse, IsBeside, IsBesides, beside_cleared, beside_ends, beside_happened, beside_peering, beside_then, besides_advertising, ends_back, ends_front, fresh_else, fresh_peering, settles_back, settles_front, statuses_back, statuses_front, tidy_beside, tidy_besides, tidy_chosen, tidy_wider}
 
 -- ---- the edge is tidy but for the ends that have marks besides
 
@@ -72,19 +71,6 @@ besides_kept c new wire None keeps marked besides = tt
 besides_kept c new wire (Some marks) keeps marked besides =
     subst (λ (p : Plan). IsTidy p (seen new) marks) (sym keeps.plan)
     (tidy_besides c.plan wire (seen c) (seen new) (Some marks) (Some marks) marked.tidy ((λ slot free. free), marked.marked) besides)
-
--- the place of the end was read
-pub changed_kept : (c new : EdgeLists) (change : EndState → EndState) (place read : EndPlace) (after : Option EndMarks) → read ≡ place → Keeps c new → IfSome after (IsTidyBesides c.plan (seen c) read.wire.0)
-    → seen new ≡ with_end_changed change (Some place) (seen c) → IfSome after (IsTidy new.plan (seen new))
-changed_kept c new change place read after is keeps marked step =
-    besides_kept c new place.wire.0 after keeps (subst (λ (p : EndPlace). IfSome after (IsTidyBesides c.plan (seen c) p.wire.0)) is marked)
-    (subst (IsBesides place.wire.0 (seen c)) (sym step) (besides_changed change place (seen c)))
-
-pub ended_kept : (c new : EdgeLists) (end : EndState) (place read : EndPlace) (after : Option EndMarks) → read ≡ place → Keeps c new → IfSome after (IsTidyBesides c.plan (seen c) read.wire.0)
-    → seen new ≡ with_end place end (seen c) → IfSome after (IsTidy new.plan (seen new))
-ended_kept c new end place read after is keeps marked step =
-    besides_kept c new place.wire.0 after keeps (subst (λ (p : EndPlace). IfSome after (IsTidyBesides c.plan (seen c) p.wire.0)) is marked)
-    (subst (IsBesides place.wire.0 (seen c)) (sym step) (besides_end place end (seen c)))
 
 -- a label was taken, or none was left
 pub labelled_kept : (c new : EdgeLists) (told : Told) (place read : EndPlace) (taken : Option ℕ) (after : Option EndMarks) → read ≡ place → Keeps c new → IfSome after (IsTidyBesides c.plan (seen c) read.wire.0)

@@ -10,9 +10,11 @@ use Rattle.pw_signalling.specs.End.{EndState, fresh}
 use Rattle.pw_signalling.specs.Rows.{lost, renewed}
 use Rattle.edge_model.specs.declared.end_place.EndPlace.{EndPlace}
 use Rattle.edge_model.specs.State.{put_at}
+use Rattle.pw_ends.specs.declared.end_change.EndChange.{EndChange}
+use Rattle.pw_ends.specs.declared.end_change.EndChange.TheVariants as change
 use Rattle.pw_ends.specs.declared.which_ends.WhichEnds.{WhichEnds}
 use Rattle.pw_ends.specs.declared.which_ends.WhichEnds.TheVariants as which
-use Rattle.pw_ends.specs.Changes.{changed_each, changed_in, is_meant}
+use Rattle.pw_ends.specs.Changes.{changed, changed_each, changed_in, is_meant}
 use Rattle.pw_ends.specs.Ends.{EndLists, changed_at, changed_beside, end_in, look, no_place, place_of, renewed_of, seen_ends}
 use Rattle.edge_model.specs.EndPlaces.{is_at}
 use Rattle.pw_ends.specs.Kept.{AreApart}
@@ -192,3 +194,15 @@ count_changed change ends slot = length-set ends slot (change (get_or ends slot 
 pub ruleset each_steps = (each_changed, each_left, each_end, count_changed)
 
 pub ruleset seen_steps = (seen_changed, seen_beside, seen_renewed, seen_lost)
+
+-- of an end of which nothing was told there is nothing to change
+pub fresh_stays : (c : EndChange) → changed c fresh ≡ fresh
+fresh_stays change.Withdrawn = refl
+fresh_stays (change.Telling status) = refl
+fresh_stays change.Renewed = refl
+fresh_stays (change.Unbound label) = refl
+fresh_stays (change.Released label) = refl
+fresh_stays (change.Stated status) = refl
+fresh_stays (change.GroupUnbound group) = refl
+fresh_stays (change.GroupStated group status) = refl
+fresh_stays change.Lost = refl

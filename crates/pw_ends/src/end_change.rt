@@ -11,23 +11,28 @@ use pw_tlvs::PwStatus;
 /// A change of an end: what it does itself, but for an advertisement, and what comes from its peer, but for a binding.
 #[derive(Clone, Copy)]
 pub enum EndChange {
-    /// A Label Withdraw is put, where it advertises.
+    /// A Label Withdraw is put, where it advertises (RFC 5036 section 3.5.10). The label stays the end's own until the peer
+    /// releases it or the session is lost.
     Withdrawn,
-    /// A Notification with this status is put, where it advertises.
+    /// A Notification with this status is put, where it advertises (RFC 8077 section 6.3.2).
     Telling(PwStatus),
     /// It is declined no longer.
     Renewed,
-    /// A Label Withdraw of this label, or of any, came.
+    /// A Label Withdraw came (RFC 5036 section 3.5.10), with this label or without one: the binding goes, where the label is
+    /// absent or its own.
     Unbound(Option<Label>),
-    /// A Label Release of this label, or of any, came.
+    /// A Label Release came (RFC 5036 section 3.5.11), with this label or without one: where the label is absent or the end's
+    /// own, what was withdrawn is released and what is advertised is declined; the end is idle, and its label is free. A release
+    /// of another label changes nothing.
     Released(Option<Label>),
-    /// A Notification with this status came.
+    /// A Notification with this status came (RFC 8077 section 6.3.2): it is that of the binding, where one is held.
     Stated(PwStatus),
-    /// A Label Withdraw of this group came.
+    /// A Label Withdraw of this whole group came (RFC 8077 section 6.5): a binding of the group goes.
     GroupUnbound(u32),
-    /// A Notification of this group with this status came.
+    /// A Notification of this whole group with this status came (RFC 8077 section 6.5): it is that of a binding of the group.
     GroupStated(u32, PwStatus),
-    /// The session with its peer is lost.
+    /// The session with its peer is lost: the end is idle, not declined, and holds no binding, and its label is free (RFC 5036
+    /// section 3.5.1.1).
     Lost,
 }
 

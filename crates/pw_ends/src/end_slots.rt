@@ -23,24 +23,17 @@ pub(crate) fn idle_ends(alloc: Global, count: usize) -> Result<Vec<PwEnd>, NoMem
     Ok(ends)
 }
 
-/// The label that an end owns: from its advertisement until it is idle.
-pub(crate) fn own_label_of(end: &PwEnd) -> Option<Label>
-    ensures { result ≡ own_label (end_of end.now).local }
-{
-    match end {
-        PwEnd::Idle(_) => None,
-        PwEnd::Advertised(end) => Some(end.label()),
-        PwEnd::Withdrawing(end) => Some(end.label()),
-    }
-}
-
-/// The label that the end of a slot owns.
+/// The label that the end of a slot owns: from its advertisement until it is idle.
 #[tactic(auto, using(pw_signalling::proofs::EndsLemmas::moves, crate::proofs::SlotLemmas::look_at))]
 pub(crate) fn own_label_at(ends: &[PwEnd], slot: usize) -> Option<Label>
     requires { slot < length ends.now }
     ensures { result ≡ own_label (slice_index_or (map end_of ends.now) slot fresh).local }
 {
-    own_label_of(&ends[slot])
+    match &ends[slot] {
+        PwEnd::Idle(_) => None,
+        PwEnd::Advertised(end) => Some(end.label()),
+        PwEnd::Withdrawing(end) => Some(end.label()),
+    }
 }
 
 /// The end of a slot advertises a label, where it is idle.

@@ -16,5 +16,6 @@ mod role;
 mod segment;
 mod which_ends;
 
+pub use end_change::EndChange;
 pub use pw_ends::PwEnds;
 pub use role::role_of;

@@ -2,7 +2,7 @@
 ghost use Rattle.std.specs.Prelude.{◌≡◌, ◌<◌, [], not, filter, length, slice_get, vec_capacity, IfOk};
 ghost use Rattle.std.specs.List.{find};
 ghost use Rattle.hvpls_spokes.specs.Search.{kept_if};
-ghost use Rattle.pw_ends.specs.Owned.{AreEarlier, AreRising, has_label, is_earlier, slot_of, with_owner, without};
+ghost use Rattle.pw_ends.specs.Owned.{AreEarlier, AreRising, has_label, slot_of, with_owner, without};
 
 use net_base::{Label, NoMemory};
 use std::alloc::Global;
@@ -67,11 +67,15 @@ impl OwnedLabels {
     pub(crate) fn slot(&self, number: u32) -> Option<usize>
         ensures { result ≡ slot_of number self.now.labels }
     {
-        slot_among(self.labels.as_slice(), number)
+        let labels = self.labels.as_slice();
+        match labels.get(count_before(labels, number)) {
+            Some(owned) if is_same(owned, number) => Some(owned.slot),
+            _ => None,
+        }
     }
 }
 
-// Takes a label out.
+// Takes a label out. A test by a closure is proved where it stands alone.
 fn forget(labels: &mut Vec<OwnedLabel>, label: Label)
     ensures items { labels.new.items ≡ filter (λ o. not (has_label label o)) labels.old.items }
     ensures room { vec_capacity labels.new ≡ vec_capacity labels.old }
@@ -86,29 +90,10 @@ fn is_same(owned: &OwnedLabel, number: u32) -> bool
     owned.label.number() == number
 }
 
-// The slot beside a label among labels that rise.
-fn slot_among(labels: &[OwnedLabel], number: u32) -> Option<usize>
-    requires { AreRising labels.now }
-    ensures { result ≡ slot_of number labels.now }
-{
-    let place = count_before(labels, number);
-    match labels.get(place) {
-        Some(owned) if is_same(owned, number) => Some(owned.slot),
-        _ => None,
-    }
-}
-
-// How many labels are smaller than a number.
+// How many labels are smaller than a number. A search by a closure is proved where it stands alone.
 fn count_before(labels: &[OwnedLabel], number: u32) -> usize
     requires { AreRising labels.now }
     ensures { find (has_label number) labels.now ≡ kept_if (has_label number) (slice_get labels.now result) }
 {
-    labels.partition_point(|owned| is_earlier(owned, number))
-}
-
-// Whether the label is smaller than a number.
-fn is_earlier(owned: &OwnedLabel, number: u32) -> bool
-    ensures { result ≡ is_earlier number owned.now }
-{
-    owned.label.number() < number
+    labels.partition_point(|owned| owned.label.number() < number)
 }

@@ -1,12 +1,12 @@
 //! Where an edge has ends.
-ghost use Rattle.std.specs.Prelude.{◌≡◌, ◌≤◌, ◌<◌, ◌+◌, ◌↔◌, ℕ, IfOk, IfSome, Some, None, drop, length, option_and_then, option_map, position, slice_get, slice_index_or};
-ghost use Rattle.std.specs.List.{find, list_any};
+ghost use Rattle.std.specs.Prelude.{◌≡◌, ◌≤◌, ◌<◌, ◌+◌, ◌↔◌, ℕ, IfOk, IfSome, drop, length, option_map, position, slice_get, slice_index_or};
+ghost use Rattle.std.specs.List.{list_any};
 ghost use Rattle.net_base.specs.plan.Accepted.{IsChecked};
 ghost use Rattle.hvpls_spokes.specs.Search.{place_if};
 ghost use Rattle.edge_model.specs.EndPlaces.{end_places, is_at, is_end_of_wire, is_named, is_of_wire};
 ghost use Rattle.pw_ends.specs.Kept.{AreApart};
 ghost use Rattle.pw_ends.specs.Names.{FindsSlots, end_name_of};
-ghost use Rattle.pw_ends.specs.Order.{AreEndsInOrder, end_follows_wire, end_precedes_wire};
+ghost use Rattle.pw_ends.specs.Order.{AreEndsInOrder};
 ghost use Rattle.pw_ends.specs.Ends.{no_place};
 
 use crate::plan_places::end_places;
@@ -75,18 +75,7 @@ impl PlaceList {
     }
 
     /// The first slot of a place that is beside a peer and of a wire with this PW ID.
-    #[tactic(auto, using(crate::proofs::IndexLemmas::found_steps))]
     pub(crate) fn find(&self, peer: EdgeId, pw_id: u32) -> Option<usize>
-        ensures place { option_and_then (slice_get self.now) result ≡ find (is_named peer pw_id) self.now }
-        ensures slot { IfSome result (λ slot. slot < length self.now) }
-        ensures named { IfSome result (λ slot. find (is_named peer pw_id) self.now ≡ Some (slice_index_or self.now slot no_place)) }
-        ensures none { result ≡ None → find (is_named peer pw_id) self.now ≡ None }
-    {
-        self.first_slot(peer, pw_id)
-    }
-
-    // The slot that the index gives.
-    fn first_slot(&self, peer: EdgeId, pw_id: u32) -> Option<usize>
         ensures { result ≡ position (is_named peer pw_id) self.now }
     {
         self.index.get(&(peer.0, pw_id)).copied()
@@ -100,18 +89,29 @@ impl PlaceList {
         first_of_wire(self.list.as_slice(), wire).is_some()
     }
 
-    /// The first slot of a terminal end of a wire.
+    /// The first slot of a terminal end of a wire. All its ends are terminal alike.
     pub(crate) fn terminal(&self, wire: WireId) -> Option<usize>
         ensures { result ≡ position (is_end_of_wire wire) self.now }
     {
-        first_terminal(self.list.as_slice(), wire)
+        let places = self.list.as_slice();
+        let slot = count_before(places, wire);
+        match places.get(slot) {
+            Some(place) if place.wire == wire && place.terminal => Some(slot),
+            _ => None,
+        }
     }
 
-    /// The slot of the end of a wire beside a peer.
+    /// The slot of the end of a wire beside a peer. The ends of a wire stand beside each other.
     pub(crate) fn beside(&self, wire: WireId, peer: EdgeId) -> Option<usize>
         ensures { result ≡ position (is_at wire.0 peer.0) self.now }
     {
-        first_beside(self.list.as_slice(), wire, peer)
+        let places = self.list.as_slice();
+        let first = count_before(places, wire);
+        let (_, ends) = places.split_at(first);
+        match place_beside(ends, wire, peer) {
+            Some(place) => Some(first + place),
+            None => None,
+        }
     }
 
     /// The slots of the ends of a wire: the first one, and the one behind the last. Where the wire does not pass the edge, no slot is
@@ -132,7 +132,7 @@ impl PlaceList {
     }
 }
 
-// The first slot of an end of a wire.
+// The first slot of an end of a wire. The proof of `passes` takes its clause.
 fn first_of_wire(places: &[EndPlace], wire: WireId) -> Option<usize>
     requires { AreEndsInOrder places.now }
     ensures { result ≡ position (is_of_wire wire) places.now }
@@ -144,32 +144,7 @@ fn first_of_wire(places: &[EndPlace], wire: WireId) -> Option<usize>
     }
 }
 
-// The first slot of a terminal end of a wire. All its ends are terminal alike.
-fn first_terminal(places: &[EndPlace], wire: WireId) -> Option<usize>
-    requires { AreEndsInOrder places.now }
-    ensures { result ≡ position (is_end_of_wire wire) places.now }
-{
-    let slot = count_before(places, wire);
-    match places.get(slot) {
-        Some(place) if place.wire == wire && place.terminal => Some(slot),
-        _ => None,
-    }
-}
-
-// The first slot of an end of a wire beside a peer. The ends of a wire stand beside each other.
-fn first_beside(places: &[EndPlace], wire: WireId, peer: EdgeId) -> Option<usize>
-    requires { AreEndsInOrder places.now }
-    ensures { result ≡ position (is_at wire.0 peer.0) places.now }
-{
-    let first = count_before(places, wire);
-    let (_, ends) = places.split_at(first);
-    match place_beside(ends, wire, peer) {
-        Some(place) => Some(first + place),
-        None => None,
-    }
-}
-
-// The first of these ends that is one of a wire beside a peer.
+// The first of these ends that is one of a wire beside a peer. A search by a closure is proved where it stands alone.
 fn place_beside(ends: &[EndPlace], wire: WireId, peer: EdgeId) -> Option<usize>
     ensures place { result ≡ position (is_at wire.0 peer.0) ends.now }
     ensures within { IfSome result (λ place. place < length ends.now) }
@@ -178,7 +153,7 @@ fn place_beside(ends: &[EndPlace], wire: WireId, peer: EdgeId) -> Option<usize>
         .position(|end| wire == end.wire && peer == end.peer)
 }
 
-// How many ends are of earlier wires.
+// How many ends are of earlier wires. A search by a closure is proved where it stands alone.
 fn count_before(places: &[EndPlace], wire: WireId) -> usize
     requires { AreEndsInOrder places.now }
     ensures wire { position (is_of_wire wire) places.now ≡ place_if (is_of_wire wire) result (slice_get places.now result) }
@@ -187,30 +162,16 @@ fn count_before(places: &[EndPlace], wire: WireId) -> usize
     ensures before { (slot : ℕ) → slot < length places.now → (slot < result) ↔ ((slice_index_or places.now slot no_place).wire.0 < wire.0) }
     ensures bound { result ≤ length places.now }
 {
-    places.partition_point(|place| precedes(place, wire))
+    places.partition_point(|place| place.wire.0 < wire.0)
 }
 
-// How many ends are of earlier wires or of this one.
+// How many ends are of earlier wires or of this one. A search by a closure is proved where it stands alone.
 fn count_through(places: &[EndPlace], wire: WireId) -> usize
     requires { AreEndsInOrder places.now }
     ensures through { (slot : ℕ) → slot < length places.now → (slot < result) ↔ ((slice_index_or places.now slot no_place).wire.0 ≤ wire.0) }
     ensures bound { result ≤ length places.now }
 {
-    places.partition_point(|place| !follows(place, wire))
-}
-
-// Whether the end is one of a later wire.
-fn follows(place: &EndPlace, wire: WireId) -> bool
-    ensures { result ≡ end_follows_wire wire place.now }
-{
-    wire.0 < place.wire.0
-}
-
-// Whether the end is one of an earlier wire.
-fn precedes(place: &EndPlace, wire: WireId) -> bool
-    ensures { result ≡ end_precedes_wire wire place.now }
-{
-    place.wire.0 < wire.0
+    places.partition_point(|place| place.wire.0 <= wire.0)
 }
 
 // The first slot of each name. A later slot is put in first, and gives way.

@@ -6,7 +6,7 @@ ghost use Rattle.label_space.specs.Labels.{numbers_end, opened_space, owner_of};
 ghost use Rattle.pw_signalling.specs.AnyEnd.{end_of};
 ghost use Rattle.pw_signalling.specs.End.{fresh};
 ghost use Rattle.pw_signalling.specs.Laws.{own_label};
-ghost use Rattle.pw_signalling.specs.Rows.{advertised, bound, group_stated, group_unbound, lost, released, stated, telling, unbound, withdrawn};
+ghost use Rattle.pw_signalling.specs.Rows.{advertised, bound, group_unbound, lost, withdrawn};
 ghost use Rattle.edge_model.specs.EndPlaces.{end_places, is_at, is_end_of_wire, is_named, is_of_wire};
 ghost use Rattle.edge_model.specs.Packet.{advertises_label};
 ghost use Rattle.edge_model.specs.State.{first_label};
@@ -25,7 +25,6 @@ use edge_model::EndPlace;
 use label_space::LabelSpace;
 use net_base::{EdgeId, Label, NoMemory, Plan, SegKey, WireId};
 use pw_signalling::{Binding, PwEnd, Told};
-use pw_tlvs::PwStatus;
 use std::alloc::Global;
 use std::marker::Model;
 
@@ -65,6 +64,7 @@ impl PwEnds {
         ensures seen { IfOk result (λ ends. seen_ends ends ≡ (λ wire peer. fresh)) }
         ensures next { IfOk result (λ ends. ends.labels.next ≡ first_label plan.now me) }
     {
+        // What is made first is dropped on every later way, so the places go by value to what makes the rest.
         match PlaceList::open(alloc, plan, me) {
             Ok(places) => PwEnds::over(alloc, places, first_label(plan, me)),
             Err(fault) => Err(fault),
@@ -125,6 +125,7 @@ impl PwEnds {
 
     /// The slot of the end beside a peer with this PW ID (RFC 8077 section 6.1), without a walk over the ends; `None` exactly
     /// where there is no such end.
+    #[tactic(auto, using(crate::proofs::IndexLemmas::found_steps))]
     pub fn find(&self, peer: EdgeId, pw_id: u32) -> Option<usize>
         ensures place { option_and_then (slice_get self.now.places) result ≡ find (is_named peer pw_id) self.now.places }
         ensures slot { IfSome result (λ slot. slot < length self.now.places) }
@@ -236,10 +237,7 @@ impl PwEnds {
         requires { slot < length self.now.places }
         ensures { result ≡ advertises_label number (end_in self.now slot).local }
     {
-        match self.end(slot) {
-            PwEnd::Advertised(end) => end.label().number() == number,
-            PwEnd::Idle(_) | PwEnd::Withdrawing(_) => false,
-        }
+        matches!(self.end(slot), PwEnd::Advertised(end) if end.label().number() == number)
     }
 
     // The slot of the end that owns the label with this number.
@@ -249,8 +247,6 @@ impl PwEnds {
     {
         self.owned.slot(number)
     }
-
-    // ---- what an end does
 
     /// A Label Mapping with the next label and this content is put for an idle end, which then owns the label (RFC 5036
     /// section 3.5.7): the label space has it as the label of the end's segment and side. `None` exactly where no label is
@@ -293,16 +289,6 @@ impl PwEnds {
         self.change(slot, &EndChange::Withdrawn);
     }
 
-    /// A Notification with this status is put where the end advertises (RFC 8077 section 6.3.2).
-    pub fn tell(&mut self, slot: usize, status: PwStatus)
-        requires slot { slot < length self.old.places }
-        ensures places { self.new.places ≡ self.old.places }
-        ensures next { self.new.labels.next ≡ self.old.labels.next }
-        ensures seen { seen_ends self.new ≡ changed_at (place_of self.old slot) (telling status) (seen_ends self.old) }
-    {
-        self.change(slot, &EndChange::Telling(status));
-    }
-
     /// The ends of a wire are declined no longer.
     #[tactic(auto, using(crate::proofs::SlotLemmas::seen_steps))]
     pub fn renew(&mut self, wire: WireId)
@@ -312,8 +298,6 @@ impl PwEnds {
     {
         self.change_each(WhichEnds::OfWire(wire), &EndChange::Renewed);
     }
-
-    // ---- what comes from a peer
 
     /// A Label Mapping came (RFC 5036 section 3.5.7): its binding replaces the one that was held. What it tells can be told on: its
     /// PW type has 15 bits, its VLAN ID 12, and at a switching point it has passed fewer than three others.
@@ -330,61 +314,23 @@ impl PwEnds {
         self.marks = self.marks.with(peer);
     }
 
-    /// A Label Withdraw came (RFC 5036 section 3.5.10), with a label or without one: the binding goes, where the label is
-    /// absent or its own.
-    pub fn on_withdraw(&mut self, slot: usize, label: Option<Label>)
-        requires slot { slot < length self.old.places }
-        ensures places { self.new.places ≡ self.old.places }
-        ensures next { self.new.labels.next ≡ self.old.labels.next }
-        ensures seen { seen_ends self.new ≡ changed_at (place_of self.old slot) (unbound label) (seen_ends self.old) }
-    {
-        self.change(slot, &EndChange::Unbound(label));
-    }
-
-    /// A Label Release came (RFC 5036 section 3.5.11), with a label or without one: where the label is absent or the end's
-    /// own, what was withdrawn is released and what is advertised is declined; the end is idle, and its label is free. A
-    /// release of another label changes nothing.
-    pub fn on_release(&mut self, slot: usize, label: Option<Label>)
-        requires slot { slot < length self.old.places }
-        ensures places { self.new.places ≡ self.old.places }
-        ensures next { self.new.labels.next ≡ self.old.labels.next }
-        ensures seen { seen_ends self.new ≡ changed_at (place_of self.old slot) (released label) (seen_ends self.old) }
-    {
-        self.change(slot, &EndChange::Released(label));
-    }
-
-    /// A Notification with a status came (RFC 8077 section 6.3.2): it is the status of the binding, where one is held.
-    pub fn on_status(&mut self, slot: usize, status: PwStatus)
-        requires slot { slot < length self.old.places }
-        ensures places { self.new.places ≡ self.old.places }
-        ensures next { self.new.labels.next ≡ self.old.labels.next }
-        ensures seen { seen_ends self.new ≡ changed_at (place_of self.old slot) (stated status) (seen_ends self.old) }
-    {
-        self.change(slot, &EndChange::Stated(status));
-    }
-
     /// A Label Withdraw of a whole group came from a peer (RFC 8077 section 6.5): each binding of the group goes.
-    #[tactic(auto, using(crate::proofs::SlotLemmas::seen_steps))]
     pub fn on_group_withdraw(&mut self, peer: EdgeId, group: u32)
         ensures places { self.new.places ≡ self.old.places }
         ensures next { self.new.labels.next ≡ self.old.labels.next }
         ensures seen { seen_ends self.new ≡ changed_beside peer (group_unbound group) (seen_ends self.old) }
     {
-        self.change_each(WhichEnds::Beside(peer), &EndChange::GroupUnbound(group));
+        self.change_beside(peer, &EndChange::GroupUnbound(group));
     }
 
-    /// A Notification with a status of a whole group came from a peer (RFC 8077 section 6.3.2): it is the status of each
-    /// binding of the group.
-    #[tactic(auto, using(crate::proofs::SlotLemmas::seen_steps))]
-    pub fn on_group_status(&mut self, peer: EdgeId, group: u32, status: PwStatus)
+    /// Each end beside a peer is changed: by what it tells of a whole group, for one. The next label stays.
+    #[tactic(auto, using(crate::proofs::SlotLemmas::seen_steps, crate::proofs::SlotLemmas::fresh_stays))]
+    pub fn change_beside(&mut self, peer: EdgeId, change: &EndChange)
         ensures places { self.new.places ≡ self.old.places }
         ensures next { self.new.labels.next ≡ self.old.labels.next }
-        ensures seen { seen_ends self.new ≡ changed_beside peer (group_stated group status) (seen_ends self.old) }
+        ensures seen { seen_ends self.new ≡ changed_beside peer (changed change.now) (seen_ends self.old) }
     {
-        self.change_each(
-            WhichEnds::Beside(peer),
-            &EndChange::GroupStated(group, status),
-        );
+        self.change_each(WhichEnds::Beside(peer), change);
     }
 
     /// The session with a peer is lost: each end beside it is idle, not declined, and holds no binding, and its label is free
@@ -398,16 +344,6 @@ impl PwEnds {
         if self.is_untold(peer) {
             return;
         }
-        self.lose_told(peer);
-    }
-
-    // Each end beside a peer is lost, and the peer has no mark any more.
-    #[tactic(auto, using(crate::proofs::SlotLemmas::seen_steps))]
-    fn lose_told(&mut self, peer: EdgeId)
-        ensures places { self.new.places ≡ self.old.places }
-        ensures next { self.new.labels.next ≡ self.old.labels.next }
-        ensures seen { seen_ends self.new ≡ changed_beside peer lost (seen_ends self.old) }
-    {
         self.change_each(WhichEnds::Beside(peer), &EndChange::Lost);
         self.marks = self.marks.without(peer);
     }
@@ -461,13 +397,14 @@ impl PwEnds {
         }
     }
 
-    // The end of a slot is changed; a label that it owns no longer is free.
+    /// The end of a slot is changed: by what it tells itself, or by what its peer tells. A label that it owns no longer is free, and
+    /// the next label stays.
     #[tactic(auto, using(crate::proofs::KeptLemmas::freed_next, crate::proofs::KeptLemmas::slot_within))]
-    fn change(&mut self, slot: usize, change: &EndChange)
+    pub fn change(&mut self, slot: usize, change: &EndChange)
         requires slot { slot < length self.old.places }
-        ensures seen { seen_ends self.new ≡ changed_at (place_of self.old slot) (changed change.now) (seen_ends self.old) }
         ensures places { self.new.places ≡ self.old.places }
         ensures next { self.new.labels.next ≡ self.old.labels.next }
+        ensures seen { seen_ends self.new ≡ changed_at (place_of self.old slot) (changed change.now) (seen_ends self.old) }
         ensures ends { self.new.ends ≡ changed_in (changed change.now) slot self.old.ends }
     {
         let peer = self.places.place(slot).peer;
@@ -479,7 +416,7 @@ impl PwEnds {
     }
 }
 
-// Frees a label that was owned and is not any more.
+// Frees a label that was owned and is not any more. Its two ways would meet again in `change`.
 fn free_left(
     labels: &mut LabelSpace,
     owned: &mut OwnedLabels,

@@ -1,7 +1,5 @@
 //! What an end is to its service.
-ghost use Rattle.std.specs.Prelude.{◌≡◌, if◌then◌else◌};
-ghost use Rattle.net_base.specs.plan.Paths.{is_last};
-ghost use Rattle.pw_signalling.specs.declared.end_role.EndRole.TheVariants as role;
+ghost use Rattle.std.specs.Prelude.{◌≡◌};
 ghost use Rattle.edge_model.specs.Role.{end_role_of};
 
 use hvpls_spokes::is_last;
@@ -15,19 +13,8 @@ pub fn role_of(row: &WirePlan, me: EdgeId, chosen: bool) -> EndRole
 {
     match row.class {
         Class::Mesh => EndRole::Mesh,
-        Class::Spoke => spoke_role(row.path.as_slice(), me, chosen),
-    }
-}
-
-// What the edge is to a spoke.
-fn spoke_role(path: &[EdgeId], me: EdgeId, chosen: bool) -> EndRole
-    ensures { result ≡ (if is_last me.0 path.now then role.Core else if chosen then role.Chosen else role.NotChosen) }
-{
-    if is_last(path, me) {
-        EndRole::Core
-    } else if chosen {
-        EndRole::Chosen
-    } else {
-        EndRole::NotChosen
+        Class::Spoke if is_last(row.path.as_slice(), me) => EndRole::Core,
+        Class::Spoke if chosen => EndRole::Chosen,
+        Class::Spoke => EndRole::NotChosen,
     }
 }

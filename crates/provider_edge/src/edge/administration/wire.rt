@@ -1,7 +1,7 @@
 //! A wire is put on or off, and the failure bits of the edge's end of it and the priority of a spoke are set.
 ghost use Rattle.edge_model.specs.EndPlaces.{ends_here, passes};
 ghost use Rattle.std.specs.Prelude.{◌≡◌, ◌<◌, ◌≤◌, [], true, false, length, OnOk};
-ghost use Rattle.edge_model.specs.State.{with_bits, with_renewed, with_wire};
+ghost use Rattle.edge_model.specs.State.{with_bits};
 ghost use Rattle.edge_model.specs.Wire.{priority_input, status_input, turned_wire, wire_input};
 ghost use Rattle.edge_model.specs.Work.{Agrees, Answers, beginning};
 ghost use Rattle.provider_edge.specs.AtWork.{Takes, worked_at};
@@ -109,32 +109,11 @@ impl Edge {
         ensures step { seen self.new ≡ turned_wire wire on (seen self.old) }
     {
         let marks = self.marks_at(wire);
-        self.set_wire(wire, on);
-        if on {
-            self.renew(wire);
-        }
-        self.keep_marks(marks);
-    }
-
-    // A wire is on or off.
-    fn set_wire(&mut self, wire: WireId, on: bool)
-        requires working { self.old.stopped ≡ true }
-        requires within { wire.0 < length self.old.plan.wires }
-        ensures keeps { Keeps self.old self.new }
-        ensures step { seen self.new ≡ with_wire wire on (seen self.old) }
-    {
-        self.marks = None;
         self.wires_on[wire.0 as usize] = on;
-    }
-
-    // The ends of a wire are declined no longer.
-    fn renew(&mut self, wire: WireId)
-        requires working { self.old.stopped ≡ true }
-        ensures keeps { Keeps self.old self.new }
-        ensures step { seen self.new ≡ with_renewed wire (seen self.old) }
-    {
-        self.marks = None;
-        self.ends.renew(wire);
+        self.marks = marks;
+        if on {
+            self.ends.renew(wire);
+        }
     }
 
     // Sets the failure bits of the end of a wire, at most 31, and marks it.
@@ -146,19 +125,7 @@ impl Edge {
         ensures step { seen self.new ≡ with_bits wire bits (seen self.old) }
     {
         let marks = self.marks_at(wire);
-        self.put_bits(wire, bits);
-        self.keep_marks(marks);
-    }
-
-    // Sets the failure bits of the end of a wire, at most 31.
-    fn put_bits(&mut self, wire: WireId, bits: u8)
-        requires working { self.old.stopped ≡ true }
-        requires within { wire.0 < length self.old.plan.wires }
-        requires small { bits ≤ 31 }
-        ensures keeps { Keeps self.old self.new }
-        ensures step { seen self.new ≡ with_bits wire bits (seen self.old) }
-    {
-        self.marks = None;
         self.bits[wire.0 as usize] = bits;
+        self.marks = marks;
     }
 }

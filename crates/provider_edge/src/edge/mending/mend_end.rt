@@ -20,7 +20,7 @@ use crate::edge::packets::stitched::has_told;
 use edge_model::{Effect, EndPlace};
 use net_base::{Class, Down, Link, List, NoMemory, ServiceId, WireId};
 use peer_dialogue::{AtWork, PwMessage};
-use pw_ends::role_of;
+use pw_ends::{EndChange, role_of};
 use pw_signalling::{EndRole, PwEnd, Told};
 use pw_stitch::is_same_but_status;
 
@@ -52,7 +52,7 @@ impl Edge {
                 let label = end.label();
                 let content = *end.told();
                 let place = self.place_at(slot);
-                self.withdraw(slot);
+                self.change(slot, &EndChange::Withdrawn);
                 let message = PwMessage::Withdrawal {
                     pw_id: place.pw_id,
                     label,
@@ -134,7 +134,7 @@ impl Edge {
                 }
                 let content = *end.told();
                 let place = self.place_at(slot);
-                self.tell(slot, status);
+                self.change(slot, &EndChange::Telling(status));
                 let message = PwMessage::Status {
                     pw_id: place.pw_id,
                     status,

@@ -1,16 +1,21 @@
 //! The ends of an edge: how one is found, and what becomes of it where the edge tells of it, one call a change.
-ghost use Rattle.std.specs.Prelude.{◌≡◌, ◌<◌, ◌≤◌, length, Some, None, option_map, IfSome, true};
+ghost use Rattle.std.specs.Prelude.{◌≡◌, ◌<◌, ◌≤◌, length, Some, None, option_map, IfSome, true, false};
 ghost use Rattle.label_space.specs.Labels.{numbers_end};
+ghost use Rattle.pw_signalling.specs.Rows.{bound};
+ghost use Rattle.pw_ends.specs.Changes.{changed};
 ghost use Rattle.pw_ends.specs.Ends.{IsIdle, end_in, place_of};
 ghost use Rattle.edge_model.specs.EndPlaces.{end_named};
-ghost use Rattle.edge_model.specs.Mend.{advertising, telling_status, withdrawing};
-ghost use Rattle.edge_model.specs.Signal.{end_of_fec};
+ghost use Rattle.edge_model.specs.Mend.{advertising};
+ghost use Rattle.edge_model.specs.Signal.{end_of_fec, with_end_changed, with_named};
+ghost use Rattle.edge_model.specs.State.{with_ends_beside};
+ghost use Rattle.peer_dialogue.specs.Heard.{CanBeTold};
 ghost use Rattle.provider_edge.specs.Lists.{Keeps, seen};
 
 use crate::Edge;
 use net_base::{EdgeId, Label};
-use pw_signalling::Told;
-use pw_tlvs::{PwFec, PwStatus};
+use pw_ends::EndChange;
+use pw_signalling::{Binding, Told};
+use pw_tlvs::PwFec;
 
 impl Edge {
     // The slot of the end beside a peer with this PW ID.
@@ -45,70 +50,67 @@ impl Edge {
             × (seen self.new ≡ advertising (place_of self.old.ends slot) label told.now (seen self.old))) }
     {
         let marks = self.marks_at(self.place_at(slot).wire);
-        let label = self.take_label(slot, told);
-        self.keep_marks(marks);
+        let label = self.ends.advertise(slot, told);
+        self.marks = marks;
         label
     }
 
-    // An idle end takes the next label with its content; `None` exactly where no label is left.
-    fn take_label(&mut self, slot: usize, told: &Told) -> Option<Label>
+    // The end of a slot is bound, which it takes; the ends of its wire are marked.
+    pub(crate) fn bind(&mut self, slot: usize, binding: &Binding)
         requires working { self.old.stopped ≡ true }
         requires slot { slot < length self.old.ends.places }
-        requires idle { IsIdle (end_in self.old.ends slot).local }
-        requires kind { told.now.kind ≤ 0x7FFF }
+        requires told { CanBeTold binding.now.told }
+        requires room { (place_of self.old.ends slot).terminal ≡ false → length binding.now.told.points < 3 }
         ensures keeps { Keeps self.old self.new }
-        ensures none { result ≡ None → ((seen self.old).next_label ≡ numbers_end) × (seen self.new ≡ seen self.old) }
-        ensures step { IfSome result (λ label. ((seen self.old).next_label ≡ numbers_end → ⊥)
-            × (label ≡ (seen self.old).next_label)
-            × (seen self.new ≡ advertising (place_of self.old.ends slot) label told.now (seen self.old))) }
-    {
-        self.marks = None;
-        self.ends.advertise(slot, told)
-    }
-
-    // An end withdraws its label; the ends of its wire are marked.
-    pub(crate) fn withdraw(&mut self, slot: usize)
-        requires working { self.old.stopped ≡ true }
-        requires slot { slot < length self.old.ends.places }
-        ensures keeps { Keeps self.old self.new }
-        ensures step { seen self.new ≡ withdrawing (place_of self.old.ends slot) (seen self.old) }
+        ensures step { seen self.new ≡ with_end_changed (bound binding.now) (Some (place_of self.old.ends slot)) (seen self.old) }
     {
         let marks = self.marks_at(self.place_at(slot).wire);
-        self.leave_label(slot);
-        self.keep_marks(marks);
+        self.ends.on_mapping(slot, binding);
+        self.marks = marks;
     }
 
-    // An end withdraws its label.
-    fn leave_label(&mut self, slot: usize)
+    // The end of a slot is changed, by what the edge tells or by what its peer does; the ends of its wire are marked.
+    pub(crate) fn change(&mut self, slot: usize, change: &EndChange)
         requires working { self.old.stopped ≡ true }
         requires slot { slot < length self.old.ends.places }
         ensures keeps { Keeps self.old self.new }
-        ensures step { seen self.new ≡ withdrawing (place_of self.old.ends slot) (seen self.old) }
-    {
-        self.marks = None;
-        self.ends.withdraw(slot);
-    }
-
-    // An end tells a new status; the ends of its wire are marked.
-    pub(crate) fn tell(&mut self, slot: usize, status: PwStatus)
-        requires working { self.old.stopped ≡ true }
-        requires slot { slot < length self.old.ends.places }
-        ensures keeps { Keeps self.old self.new }
-        ensures step { seen self.new ≡ telling_status (place_of self.old.ends slot) status (seen self.old) }
+        ensures step { seen self.new ≡ with_end_changed (changed change.now) (Some (place_of self.old.ends slot)) (seen self.old) }
     {
         let marks = self.marks_at(self.place_at(slot).wire);
-        self.put_tells(slot, status);
-        self.keep_marks(marks);
+        self.ends.change(slot, change);
+        self.marks = marks;
     }
 
-    // An end tells a new status.
-    fn put_tells(&mut self, slot: usize, status: PwStatus)
+    // The end that a FEC names is changed, or each one beside the peer where it names a group; the ends of their wires are marked.
+    pub(crate) fn change_named(
+        &mut self,
+        peer: EdgeId,
+        fec: &PwFec,
+        one: &EndChange,
+        all: &EndChange,
+    )
         requires working { self.old.stopped ≡ true }
-        requires slot { slot < length self.old.ends.places }
         ensures keeps { Keeps self.old self.new }
-        ensures step { seen self.new ≡ telling_status (place_of self.old.ends slot) status (seen self.old) }
+        ensures step { seen self.new ≡ with_named self.old.plan peer fec.now (changed one.now) (changed all.now) fec.now.pw_id (seen self.old) }
     {
-        self.marks = None;
-        self.ends.tell(slot, status);
+        match fec.pw_id {
+            Some(pw_id) => {
+                if let Some(slot) = self.slot_named(peer, pw_id) {
+                    self.change(slot, one);
+                }
+            }
+            None => self.change_beside(peer, all),
+        }
+    }
+
+    // Each end beside a peer is changed; the ends of the wires beside the peer are marked.
+    fn change_beside(&mut self, peer: EdgeId, change: &EndChange)
+        requires working { self.old.stopped ≡ true }
+        ensures keeps { Keeps self.old self.new }
+        ensures step { seen self.new ≡ with_ends_beside peer (changed change.now) (seen self.old) }
+    {
+        let marks = self.marks_beside(self.marks, peer);
+        self.ends.change_beside(peer, change);
+        self.marks = marks;
     }
 }

@@ -14,7 +14,7 @@ returns-then-takes_content-clause-step g c = λ told agrees.
 pub returns-clause-step : goal.returns-clause-step
 returns-clause-step g c = map_on _ _ c.release-2.result
     (λ put. λ told agrees.
-    bound_not c.args.self.now told c.args.peer c.args.fec.now c.args.binding.now (end_of_fec c.args.self.now.plan (seen c.args.self.now) c.args.peer c.args.fec.now) (place_of c.args.self.now.ends c.in-Some.slot) c.takes_content.result (seen c.unbind.new.self) (g.L.Link.calls c.args.work.now.link.now) c.args.work.now.effects.now.list _
+    bound_not c.args.self.now told c.args.peer c.args.fec.now c.args.binding.now (end_of_fec c.args.self.now.plan (seen c.args.self.now) c.args.peer c.args.fec.now) (place_of c.args.self.now.ends c.in-Some.slot) c.takes_content.result (seen c.change.new.self) (g.L.Link.calls c.args.work.now.link.now) c.args.work.now.effects.now.list _
     (named_some c.slot_of.result c.in-Some.slot c.args.self.now.ends _ (c.slot_of.ensures.named) c.in-Some.is)
-    c.takes_content.ensures.takes c.if-takes_content.false c.unbind.ensures.step (put told agrees))
+    c.takes_content.ensures.takes c.if-takes_content.false c.change.ensures.step (put told agrees))
     c.release-2.ensures.step

@@ -51,9 +51,9 @@ returns-else-still_stands-clause-step g c =
     ∙ (ap (λ (n : ℕ). Advertised n c.in-Advertised.end.told) (sym c.label-label.ensures.label) ∙ ap (λ (t : Told). Advertised c.label-label.result t) (sym c.told-content.ensures.told)))
     (unless_stands_not told (place_of c.args.self.now.ends c.args.slot) (place_of c.args.self.now.ends c.args.slot) c.label-label.result c.told-content.result.now wished wished c.still_stands.result (at_work g.L.Link.calls c.args.self.now c.args.work.now) put
     refl refl (c.still_stands.ensures ∙ ap (λ (t : Told). stands (place_of c.args.self.now.ends c.args.slot) t wished) (c.told.ensures.told ∙ sym c.told-content.ensures.told)) c.if-still_stands.false
-    (withdraws_at told (place_of c.args.self.now.ends c.args.slot) c.label-label.result c.told-content.result.now (seen c.args.self.now) (seen c.withdraw.new.self) (g.L.Link.calls c.args.work.now.link.now) c.args.work.now.effects.now.list put
-    c.withdraw.ensures.step
-    (said told agrees ∙ ap (λ (p : EndPlace). says told p.peer (withdrawal p.pw_id c.label-label.result c.told-content.result.now) (at_work g.L.Link.calls c.withdraw.new.self c.args.work.now)) c.place_at-place.ensures.place))))
+    (withdraws_at told (place_of c.args.self.now.ends c.args.slot) c.label-label.result c.told-content.result.now (seen c.args.self.now) (seen c.change.new.self) (g.L.Link.calls c.args.work.now.link.now) c.args.work.now.effects.now.list put
+    c.change.ensures.step
+    (said told agrees ∙ ap (λ (p : EndPlace). says told p.peer (withdrawal p.pw_id c.label-label.result c.told-content.result.now) (at_work g.L.Link.calls c.change.new.self c.args.work.now)) c.place_at-place.ensures.place))))
     c.say.ensures.step
 
 pub returns-in-Withdrawing-clause-step : goal.returns-in-Withdrawing-clause-step

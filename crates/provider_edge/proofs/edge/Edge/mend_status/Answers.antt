@@ -45,9 +45,9 @@ returns-else-last-status-clause-step g c =
     ∙ ap (λ (t : Told). Advertised c.in-Advertised.end.label t) (sym c.told-content.ensures.told))
     (over_new told (place_of c.args.self.now.ends c.args.slot) c.told-content.result.now c.status_to_tell-status.result (status_to_tell c.args.self.now.plan (seen c.args.self.now) (place_of c.args.self.now.ends c.args.slot)) c.told-content.result.now.status c.in-Some.last (at_work g.L.Link.calls c.args.self.now c.args.work.now) put
     c.status_to_tell-status.ensures (ap (λ (t : Told). t.status) (c.told-content.ensures.told ∙ sym c.told.ensures.told) ∙ c.in-Some.is) (ne_eqb c.in-Some.last.0 c.status_to_tell-status.result.0 c.if-last-status.false)
-    (tells_at told (place_of c.args.self.now.ends c.args.slot) c.told-content.result.now c.status_to_tell-status.result (seen c.args.self.now) (seen c.tell.new.self) (g.L.Link.calls c.args.work.now.link.now) c.args.work.now.effects.now.list put
-    c.tell.ensures.step
-    (said told agrees ∙ ap (λ (p : EndPlace). says told p.peer (status_notification p.pw_id c.status_to_tell-status.result c.told-content.result.now) (at_work g.L.Link.calls c.tell.new.self c.args.work.now)) c.place_at-place.ensures.place))))
+    (tells_at told (place_of c.args.self.now.ends c.args.slot) c.told-content.result.now c.status_to_tell-status.result (seen c.args.self.now) (seen c.change.new.self) (g.L.Link.calls c.args.work.now.link.now) c.args.work.now.effects.now.list put
+    c.change.ensures.step
+    (said told agrees ∙ ap (λ (p : EndPlace). says told p.peer (status_notification p.pw_id c.status_to_tell-status.result c.told-content.result.now) (at_work g.L.Link.calls c.change.new.self c.args.work.now)) c.place_at-place.ensures.place))))
     c.say.ensures.step
 
 pub returns-in-Idle-clause-step : goal.returns-in-Idle-clause-step

@@ -1,10 +1,11 @@
-use Rattle.std.proofs.Common.{subst, sym}
-use Rattle.provider_edge.proofs.SettledLemmas.{IsBesides, besides_bits}
-use Rattle.provider_edge.proofs.MarkedLemmas.{besides_kept}
-use Rattle.provider_edge.specs.Lists.{seen}
+-- The bits are set, and the ends of the wire have marks.
+use Rattle.std.proofs.Common.{rules}
+use Rattle.provider_edge.specs.contracts.edge.Edge.{the_view}
+use Rattle.provider_edge.proofs.MarkingLemmas.{bits_marked, bits_seen}
 use Rattle.provider_edge.proofs.edge.Edge.set_bits.Goals as goal
 
-pub keep_marks-requires-clause-tidy : goal.keep_marks-requires-clause-tidy
-keep_marks-requires-clause-tidy c =
-    besides_kept c.args.self.now c.put_bits.new.self c.args.wire.0 c.marks_at-marks.result c.put_bits.ensures.keeps c.marks_at-marks.ensures
-    (subst (IsBesides c.args.wire.0 (seen c.args.self.now)) (sym c.put_bits.ensures.step) (besides_bits c.args.wire c.args.bits (seen c.args.self.now)))
+pub invariant_of-self : goal.invariant_of-self
+invariant_of-self c = bits_marked (the_view c.self.inside) c.args.self.now c.args.wire c.args.bits c.marks_at-marks.result c.self.view_is c.self.invariant c.requires.within c.marks_at-marks.ensures (search rules)
+
+pub returns-clause-step : goal.returns-clause-step
+returns-clause-step c = bits_seen (the_view c.self.inside) c.args.self.now c.args.wire c.args.bits c.marks_at-marks.result c.self.view_is c.self.invariant c.requires.within

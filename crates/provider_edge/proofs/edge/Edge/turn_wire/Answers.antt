@@ -1,19 +1,20 @@
-use Rattle.std.proofs.Common.{subst, sym}
-use Rattle.provider_edge.proofs.ListLemmas.{keeps_both}
-use Rattle.provider_edge.proofs.MarkedLemmas.{besides_kept}
-use Rattle.provider_edge.proofs.SettledLemmas.{IsBesides, besides_renewed, besides_then, besides_wire}
-use Rattle.provider_edge.specs.Lists.{seen}
+-- The wire is put on or off, and its ends have marks.
+use Rattle.std.proofs.Common.{rules}
+use Rattle.provider_edge.specs.contracts.edge.Edge.{the_view}
+use Rattle.provider_edge.proofs.MarkingLemmas.{off_marked, off_seen, on_marked, on_seen}
 use Rattle.provider_edge.proofs.edge.Edge.turn_wire.Goals as goal
-use Rattle.provider_edge.proofs.edge.Edge.turn_wire.Goals.{then-on, else-on}
 
-pub keep_marks-requires-clause-tidy : goal.keep_marks-requires-clause-tidy
-keep_marks-requires-clause-tidy c =
-    let turned : IsBesides c.args.wire.0 (seen c.args.self.now) (seen c.set_wire.new.self) =
-    subst (IsBesides c.args.wire.0 (seen c.args.self.now)) (sym c.set_wire.ensures.step) (besides_wire c.args.wire c.args.on (seen c.args.self.now)) in
-    elim c.if-on.branch [
-      | then-on w ↦ rw w.self-is
-          (besides_kept c.args.self.now w.renew.new.self c.args.wire.0 c.marks_at-marks.result (keeps_both _ _ _ c.set_wire.ensures.keeps w.renew.ensures.keeps) c.marks_at-marks.ensures
-          (besides_then c.args.wire.0 (seen c.args.self.now) (seen c.set_wire.new.self) (seen w.renew.new.self) turned
-          (subst (IsBesides c.args.wire.0 (seen c.set_wire.new.self)) (sym w.renew.ensures.step) (besides_renewed c.args.wire (seen c.set_wire.new.self)))))
-      | else-on w ↦ rw w.self-is (besides_kept c.args.self.now c.set_wire.new.self c.args.wire.0 c.marks_at-marks.result c.set_wire.ensures.keeps c.marks_at-marks.ensures turned)
-    ]
+pub invariant_of-self : goal.invariant_of-self
+invariant_of-self c =
+    on_marked (the_view c.self.inside) c.args.self.now c.args.wire c.args.on c.renew.new.self c.marks_at-marks.result c.self.view_is c.self.invariant c.requires.working c.requires.within c.marks_at-marks.ensures (search rules)
+    c.renew.ensures.places c.renew.ensures.seen c.renew.ensures.next
+
+pub returns-then-on-clause-step : goal.returns-then-on-clause-step
+returns-then-on-clause-step c =
+    on_seen (the_view c.self.inside) c.args.self.now c.args.wire c.args.on c.renew.new.self c.marks_at-marks.result c.self.view_is c.self.invariant c.requires.within c.if-on.true c.renew.ensures.seen c.renew.ensures.next
+
+pub invariant_of-self-else-on : goal.invariant_of-self-else-on
+invariant_of-self-else-on c = off_marked (the_view c.self.inside) c.args.self.now c.args.wire c.args.on c.marks_at-marks.result c.self.view_is c.self.invariant c.requires.within c.marks_at-marks.ensures (search rules)
+
+pub returns-else-on-clause-step : goal.returns-else-on-clause-step
+returns-else-on-clause-step c = off_seen (the_view c.self.inside) c.args.self.now c.args.wire c.args.on c.marks_at-marks.result c.self.view_is c.self.invariant c.requires.within c.if-on.false

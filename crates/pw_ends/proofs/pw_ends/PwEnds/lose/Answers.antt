@@ -4,7 +4,7 @@ use Rattle.pw_ends.specs.contracts.pw_ends.PwEnds.{the_view}
 use Rattle.pw_ends.specs.Ends.{EndLists}
 use Rattle.pw_ends.specs.Marks.{has_mark}
 use Rattle.pw_ends.proofs.MarkLemmas.{untold_left}
-use Rattle.pw_ends.proofs.pw_ends.PwEnds.lose_told.Goals as goal
+use Rattle.pw_ends.proofs.pw_ends.PwEnds.lose.Goals as goal
 
 pub invariant_of-self : goal.invariant_of-self
 invariant_of-self c = record {

@@ -1,9 +1,0 @@
-use Rattle.pw_ends.specs.Ends.{place_of}
-use Rattle.pw_signalling.specs.Rows.{unbound}
-use Rattle.provider_edge.proofs.MarkedLemmas.{changed_kept}
-use Rattle.provider_edge.proofs.edge.Edge.unbind.Goals as goal
-
-pub keep_marks-requires-clause-tidy : goal.keep_marks-requires-clause-tidy
-keep_marks-requires-clause-tidy c =
-    changed_kept c.args.self.now c.drop_binding.new.self (unbound c.args.label) (place_of c.args.self.now.ends c.args.slot) c.place_at.result c.marks_at-marks.result
-    c.place_at.ensures.place c.drop_binding.ensures.keeps c.marks_at-marks.ensures c.drop_binding.ensures.step
