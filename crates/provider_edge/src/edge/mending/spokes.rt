@@ -1,8 +1,8 @@
 //! A spoke edge chooses among its spokes (RFC 6870, RFC 4762 section 10.2.1).
-ghost use Rattle.std.specs.Prelude.{◌≡◌, ◌<◌, ◌≤◌, ℕ, Some, None, true, length, option_map, slice_get, IfOk, OnOk};
+ghost use Rattle.std.specs.Prelude.{◌≡◌, ◌<◌, ◌≤◌, ℕ, Some, None, true, length, IfOk, OnOk};
 ghost use Rattle.net_base.specs.plan.Places.{wire_row};
 ghost use Rattle.edge_model.specs.EndPlaces.{end_places};
-ghost use Rattle.edge_model.specs.Spokes.{choice, choosing, is_usable, spoke_at, spoke_places, spokes_of};
+ghost use Rattle.edge_model.specs.Spokes.{choice, choosing, spoke_at, spokes_of};
 ghost use Rattle.edge_model.specs.State.{put_at, with_chosen, with_priority};
 ghost use Rattle.edge_model.specs.Wire.{is_own_spoke};
 ghost use Rattle.pw_ends.specs.Ends.{place_of};
@@ -45,7 +45,8 @@ impl Edge {
         Ok(())
     }
 
-    // How many services the plan has; none is chosen for a service past them, and the edge would choose none.
+    // How many services the plan has; none is chosen for a service past them, and the edge would choose none:
+    // by that the loop of `choose_spokes` has made the whole choice.
     fn count_services(&self) -> usize
         ensures count { result ≡ length self.now.plan.services }
         ensures past { (service : ℕ) → length self.now.plan.services ≤ service → (seen self.now).chosen service ≡ choice self.now.plan (seen self.now) (record { 0 = service }) }
@@ -65,8 +66,8 @@ impl Edge {
             return;
         }
         let marks = self.marks_of(service);
-        self.put_chosen(service, chosen);
-        self.keep_marks(marks);
+        self.spokes.choose(service, chosen);
+        self.marks = marks;
     }
 
     // Whether this spoke, or none, is the one that is chosen for a service.
@@ -78,17 +79,6 @@ impl Edge {
         self.spokes.has_choice(service, chosen)
     }
 
-    // This spoke, or none, is chosen for a service.
-    fn put_chosen(&mut self, service: usize, chosen: Option<WireId>)
-        requires working { self.old.stopped ≡ true }
-        requires within { service < length self.old.plan.services }
-        ensures keeps { Keeps self.old self.new }
-        ensures step { seen self.new ≡ with_chosen (put_at (seen self.old).chosen service chosen) (seen self.old) }
-    {
-        self.marks = None;
-        self.spokes.choose(service, chosen);
-    }
-
     // The wire of the spoke that it chooses for a service.
     fn choice(&self, alloc: Global, service: usize) -> Result<Option<WireId>, NoMemory>
         requires { service < length self.now.plan.services }
@@ -96,7 +86,10 @@ impl Edge {
     {
         let spokes = self.spokes_of(alloc, service)?;
         match choose(spokes.as_slice()) {
-            Some(place) => Ok(Some(self.spoke_wire(service, place))),
+            Some(place) => {
+                let slot = self.slots_of(service)[place];
+                Ok(Some(self.place_at(slot).wire))
+            }
             None => Ok(None),
         }
     }
@@ -124,24 +117,17 @@ impl Edge {
         self.spokes.slots(service)
     }
 
-    // The wire of one of its spokes of a service.
-    fn spoke_wire(&self, service: usize, place: usize) -> WireId
-        requires service { service < length self.now.plan.services }
-        requires place { place < length (slots_for self.now.plan self.now.me self.now.ends.places service) }
-        ensures { option_map (λ end. end.wire) (slice_get (spoke_places self.now.plan self.now.me (record { 0 = service })) place) ≡ Some result }
-    {
-        let slot = self.slots_of(service)[place];
-        self.place_at(slot).wire
-    }
-
-    // The spoke of an end as the choice sees it.
+    // The spoke of an end as the choice sees it: it can be used where the end would forward if its spoke were the chosen one.
     fn spoke_at(&self, slot: usize) -> Spoke
         requires { slot < length self.now.ends.places }
         ensures { result ≡ spoke_at (seen self.now) (place_of self.now.ends slot) }
     {
+        let place = self.place_at(slot);
+        let bits = self.bits_of(place.wire);
+        let down = self.end_in(slot).why_down(EndRole::Chosen, bits);
         Spoke {
-            priority: self.priority_of(self.place_at(slot).wire),
-            usable: self.is_usable(slot),
+            priority: self.priority_of(place.wire),
+            usable: down.is_none(),
         }
     }
 
@@ -162,19 +148,8 @@ impl Edge {
         ensures step { seen self.new ≡ with_priority wire priority (seen self.old) }
     {
         let marks = self.marks_at(wire);
-        self.put_priority(wire, priority);
-        self.keep_marks(marks);
-    }
-
-    // Sets the priority number of the spoke on a wire.
-    fn put_priority(&mut self, wire: WireId, priority: u8)
-        requires working { self.old.stopped ≡ true }
-        requires within { wire.0 < length self.old.plan.wires }
-        ensures keeps { Keeps self.old self.new }
-        ensures step { seen self.new ≡ with_priority wire priority (seen self.old) }
-    {
-        self.marks = None;
         self.priorities[wire.0 as usize] = priority;
+        self.marks = marks;
     }
 
     // Whether the wire is a spoke that starts at the edge.
@@ -202,16 +177,5 @@ impl Edge {
         ensures { result ≡ true → view None chosen.now ≡ (seen self.now).chosen }
     {
         self.spokes.are_chosen(chosen)
-    }
-
-    // Whether an end would forward if its spoke were the chosen one.
-    fn is_usable(&self, slot: usize) -> bool
-        requires { slot < length self.now.ends.places }
-        ensures { result ≡ is_usable (seen self.now) (place_of self.now.ends slot) }
-    {
-        let place = self.place_at(slot);
-        let bits = self.bits_of(place.wire);
-        let down = self.end_in(slot).why_down(EndRole::Chosen, bits);
-        down.is_none()
     }
 }

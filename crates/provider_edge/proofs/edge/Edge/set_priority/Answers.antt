@@ -1,10 +1,11 @@
-use Rattle.std.proofs.Common.{subst, sym}
-use Rattle.provider_edge.proofs.SettledLemmas.{IsBesides, besides_priority}
-use Rattle.provider_edge.proofs.MarkedLemmas.{besides_kept}
-use Rattle.provider_edge.specs.Lists.{seen}
+-- The priority is set, and the ends of the wire have marks.
+use Rattle.std.proofs.Common.{rules}
+use Rattle.provider_edge.specs.contracts.edge.Edge.{the_view}
+use Rattle.provider_edge.proofs.MarkingLemmas.{priority_marked, priority_seen}
 use Rattle.provider_edge.proofs.edge.Edge.set_priority.Goals as goal
 
-pub keep_marks-requires-clause-tidy : goal.keep_marks-requires-clause-tidy
-keep_marks-requires-clause-tidy c =
-    besides_kept c.args.self.now c.put_priority.new.self c.args.wire.0 c.marks_at-marks.result c.put_priority.ensures.keeps c.marks_at-marks.ensures
-    (subst (IsBesides c.args.wire.0 (seen c.args.self.now)) (sym c.put_priority.ensures.step) (besides_priority c.args.wire c.args.priority (seen c.args.self.now)))
+pub invariant_of-self : goal.invariant_of-self
+invariant_of-self c = priority_marked (the_view c.self.inside) c.args.self.now c.args.wire c.args.priority c.marks_at-marks.result c.self.view_is c.self.invariant c.requires.within c.marks_at-marks.ensures (search rules)
+
+pub returns-clause-step : goal.returns-clause-step
+returns-clause-step c = priority_seen (the_view c.self.inside) c.args.self.now c.args.wire c.args.priority c.marks_at-marks.result c.self.view_is c.self.invariant c.requires.within
