@@ -330,7 +330,7 @@ impl Edge {
     }
 }
 
-// The first of the places that is at a segment.
+// The first of the places that is at a segment. A search by a closure is proved where it stands alone.
 fn slot_at(places: &[EndPlace], key: SegKey) -> Option<usize>
     ensures { result ≡ position (is_of_segment key) places.now }
 {

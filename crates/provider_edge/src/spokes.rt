@@ -3,7 +3,6 @@ ghost use Rattle.std.specs.Prelude.{◌≡◌, ◌≤◌, ◌<◌, ◌++◌, ◌
 ghost use Rattle.net_base.specs.plan.Accepted.{IsChecked};
 ghost use Rattle.net_base.specs.plan.Paths.{is_first};
 ghost use Rattle.net_base.specs.plan.Places.{is_mesh_class, wire_row};
-ghost use Rattle.net_base.specs.plan.Roles.{is_spoke_from};
 ghost use Rattle.edge_model.specs.EndPlaces.{end_places};
 ghost use Rattle.edge_model.specs.Spokes.{is_spoke_row};
 ghost use Rattle.edge_model.specs.Wire.{is_own_spoke};
@@ -193,16 +192,11 @@ fn starts_spoke(plan: &Plan, me: EdgeId, service: ServiceId, wire: WireId) -> bo
     ensures { result ≡ is_spoke_row service me (wire_row plan.now wire) }
 {
     match plan.wires.get(wire.0 as usize) {
-        Some(row) => is_spoke_from(row, me, service),
+        Some(row) => {
+            row.service == service && is_spoke(row.class) && is_first(row.path.as_slice(), me)
+        }
         None => false,
     }
-}
-
-// Whether a wire is a spoke of the service that starts at the edge.
-fn is_spoke_from(row: &WirePlan, me: EdgeId, service: ServiceId) -> bool
-    ensures { result ≡ is_spoke_from service me.0 row.now }
-{
-    row.service == service && is_spoke(row.class) && is_first(row.path.as_slice(), me)
 }
 
 // Whether a wire is a spoke.

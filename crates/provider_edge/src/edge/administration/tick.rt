@@ -38,16 +38,6 @@ impl Edge {
         if self.is_idle() {
             return Ok(());
         }
-        self.tick_each(work)
-    }
-
-    // The same, one session after another.
-    fn tick_each<L: Link>(&mut self, work: &mut AtWork<'_, L>) -> Result<(), NoMemory>
-        requires working { self.old.stopped ≡ true }
-        ensures goes { Works L.calls self.old work.old self.new work.new }
-        ensures step { OnOk result ((told : Answers) → Agrees told (L.calls work.new.link.now)
-            → at_work L.calls self.new work.new ≡ ticks_sessions told 0 (length self.old.plan.edges) (at_work L.calls self.old work.old)) }
-    {
         for place in 0..self.plan.edges.len() {
             let peer = EdgeId(place as u16);
             self.tick_session(peer, work)?;

@@ -78,7 +78,7 @@ impl Edge {
         self.marks_with_wire(wire)
     }
 
-    // The marks with those of the ends of a wire.
+    // The marks with those of the ends of a wire. The proof of `marks_at` takes its clause.
     fn marks_with_wire(&self, wire: WireId) -> Option<EndMarks>
         ensures { Marked (MarksWire self.now.ends.places wire.0) self.now.marks result }
     {
@@ -128,7 +128,7 @@ impl Edge {
         self.marks_with_spokes(service)
     }
 
-    // The marks with those of the ends of the spokes of a service that start at the edge.
+    // The marks with those of the ends of the spokes of a service that start at the edge. The proof of `marks_of` takes its clause.
     fn marks_with_spokes(&self, service: usize) -> Option<EndMarks>
         requires { service < length self.now.plan.services }
         ensures { Marked (MarksEach self.now.ends.places (starts_spoke self.now.plan self.now.me (record { 0 = service }))) self.now.marks result }
@@ -144,7 +144,7 @@ impl Edge {
     }
 }
 
-// Whether none of these slots has a mark.
+// Whether none of these slots has a mark. A test by a closure is proved where it stands alone.
 fn passes_by(marks: EndMarks, slots: &[usize]) -> bool
     ensures { result ≡ list_all (is_unmarked marks) slots.now }
 {

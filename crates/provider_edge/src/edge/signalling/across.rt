@@ -5,7 +5,7 @@ ghost use Rattle.net_base.specs.plan.Paths.{edge_address, mate};
 ghost use Rattle.net_base.specs.plan.Places.{wire_row};
 ghost use Rattle.pw_tlvs.specs.Written.{has_vlan};
 ghost use Rattle.edge_model.specs.Across.{end_beyond, held_beyond, held_of};
-ghost use Rattle.edge_model.specs.Signal.{accepts_at, takes_content};
+ghost use Rattle.edge_model.specs.Signal.{takes_content};
 ghost use Rattle.pw_ends.specs.Ends.{place_of};
 ghost use Rattle.provider_edge.specs.Lists.{seen};
 
@@ -75,7 +75,10 @@ impl Edge {
         if self.place_at(slot).terminal {
             return true;
         }
-        accepts_at(self.address_of(self.me), told)
+        match self.address_of(self.me) {
+            Some(own) => accepts(own, told),
+            None => false,
+        }
     }
 
     // The address of an edge of the plan.
@@ -86,16 +89,5 @@ impl Edge {
             Some(row) => Some(row.address),
             None => None,
         }
-    }
-}
-
-// Whether a switching point with this address accepts what it is told.
-fn accepts_at(own: Option<Addr>, told: &Told) -> bool
-    ensures accepts { result ≡ accepts_at own told.now }
-    ensures room { result ≡ true → length told.now.points < 3 }
-{
-    match own {
-        Some(own) => accepts(own, told),
-        None => false,
     }
 }

@@ -4,7 +4,6 @@ ghost use Rattle.hvpls_spokes.specs.Port.{is_wire_port, ports_of};
 ghost use Rattle.hvpls_spokes.specs.Role.{role_of};
 ghost use Rattle.mac_withdraw.specs.Passing.{is_wire_at};
 ghost use Rattle.pw_ends.specs.Ends.{place_of};
-ghost use Rattle.edge_model.specs.Across.{end_beyond};
 ghost use Rattle.edge_model.specs.Clear.{clears_by, hears_mac_withdraw, passes_on, tells_at, tells_by, withdrawing_at};
 ghost use Rattle.edge_model.specs.Ends.{wire_end};
 ghost use Rattle.edge_model.specs.Work.{Agrees, Answers};
@@ -62,7 +61,10 @@ impl Edge {
     {
         let place = self.place_at(slot);
         if !place.terminal {
-            return self.tell_beyond(slot, addresses.as_slice(), work);
+            return match self.slot_beyond(slot) {
+                Some(other) => self.tell_pieces(other, addresses.as_slice(), work),
+                None => Ok(()),
+            };
         }
         let service = self.service_at(slot);
         let Some(from) = self.wire_port(place.wire, service) else {
@@ -70,25 +72,6 @@ impl Edge {
         };
         self.withdraw_at(service, from, addresses);
         self.pass_on(service, from, addresses.as_slice(), work)
-    }
-
-    // The addresses go on by the end on the other side of the end of a slot, in pieces.
-    fn tell_beyond<L: Link>(
-        &mut self,
-        slot: usize,
-        addresses: &[Mac],
-        work: &mut AtWork<'_, L>,
-    ) -> Result<(), NoMemory>
-        requires working { self.old.stopped ≡ true }
-        requires slot { slot < length self.old.ends.places }
-        ensures goes { Works L.calls self.old work.old self.new work.new }
-        ensures step { OnOk result ((told : Answers) → Agrees told (L.calls work.new.link.now)
-            → at_work L.calls self.new work.new ≡ tells_by told addresses.now (end_beyond self.old.plan self.old.me (place_of self.old.ends slot)) (at_work L.calls self.old work.old)) }
-    {
-        match self.slot_beyond(slot) {
-            Some(other) => self.tell_pieces(other, addresses, work),
-            None => Ok(()),
-        }
     }
 
     // The port of a wire of a service.
