@@ -157,6 +157,12 @@ none_added : (octets : List ℕ) (front back : Option (List ℕ)) → option_map
 none_added octets None back is = refl
 none_added octets (Some xs) back is = absurd (cc)
 
+-- what a piece adds, by what is read of it
+pub piece_added : (octets now made : List ℕ) (read : Option (List ℕ)) (all : Bool) → read ≡ (if all then Some made else None) → now ≡ octets ++ made
+    → option_map (λ xs. octets ++ xs) read ≡ (if all then Some now else None)
+piece_added octets now made read true is adds = ap (λ (o : Option (List ℕ)). option_map (λ xs. octets ++ xs) o) is ∙ ap Some (sym adds)
+piece_added octets now made read false is adds = ap (λ (o : Option (List ℕ)). option_map (λ xs. octets ++ xs) o) is
+
 -- the octets of a piece are added
 pub decoded_more : (digits rest piece octets now : List ℕ) (at count : ℕ) (all : Bool) → all ≡ true → rest ≡ drop at digits → piece ≡ take (2 * count) rest → at + 2 * count ≤ length digits
     → option_map (λ xs. octets ++ xs) (unhex piece) ≡ (if all then Some now else None) → option_map (λ xs. octets ++ xs) (unhex (drop at digits)) ≡ unhex digits

@@ -1,9 +1,9 @@
 //! The commands of a document.
-ghost use Rattle.std.specs.Prelude.{◌≡◌, ◌≤◌, ◌+◌, ◌++◌, codes, length, IfOk, IfSome};
+ghost use Rattle.std.specs.Prelude.{◌≡◌, ◌≤◌, ◌++◌, codes, length, IfOk, IfSome};
 ghost use Rattle.std.specs.List.{All};
 ghost use Rattle.toml.specs.View.{view, items_view};
 ghost use Rattle.command_text.specs.declared.plan_names.PlanNames.{PlanNames};
-ghost use Rattle.command_text.specs.Events.{most_events, repeats_in, tick_in, play_in, one, many_of, part_command, packet_command, command_of, command_in, event_in, frame_behind, frame_event_in, plays_after, commands_in};
+ghost use Rattle.command_text.specs.Events.{most_events, repeats_in, tick_in, play_in, one, many_of, part_command, packet_command, command_of, command_in, event_in, frame_behind, commands_in};
 ghost use Rattle.command_text.specs.Reading.{Gives};
 ghost use Rattle.command_text.specs.Planned.{IsCount, IsAmong, IsInPlanNames};
 
@@ -96,7 +96,7 @@ fn many_of_word(
     }
 }
 
-// The command of a first word that names a part of the plan, or of a later group.
+// The command of a first word that names a part of the plan, or stands for many events.
 #[tactic(auto, unfolding(crate::specs::Events::part_command))]
 fn part_of_word(
     alloc: Global,
@@ -131,25 +131,8 @@ fn framed(
     Ok(Command::One(frame(alloc, names, event, rest)?))
 }
 
-// The command of a frame by its whole text, whose first word is `frame`.
-#[tactic(auto, using(crate::proofs::FrameLemmas::frame_is, crate::proofs::FrameLemmas::no_frame))]
-fn frame_of_text(
-    alloc: Global,
-    names: &PlanNames<'_>,
-    event: u32,
-    text: &str,
-) -> Result<Command, ScenarioFault>
-    ensures exact { Gives result (one (frame_event_in names.now event text.now)) }
-    ensures named { IfOk result (IsInPlanNames names.now) }
-{
-    match after(text) {
-        Some(rest) => framed(alloc, names, event, rest.as_bytes()),
-        None => Err(bad_word(event, 2)),
-    }
-}
-
-// The command of a first word that speaks of a frame or a packet, or of a later group.
-#[tactic(auto, unfolding(crate::specs::Events::packet_command))]
+// The command of a first word that speaks of a frame or a packet, of a part of the plan, or of many events.
+#[tactic(auto, using(crate::proofs::FrameLemmas::frame_is, crate::proofs::FrameLemmas::no_frame), unfolding(crate::specs::Events::packet_command))]
 fn packet_of_word(
     alloc: Global,
     names: &PlanNames<'_>,
@@ -161,7 +144,10 @@ fn packet_of_word(
     ensures named { IfOk result (IsInPlanNames names.now) }
 {
     match word {
-        "frame" => frame_of_text(alloc, names, place.event, text),
+        "frame" => match after(text) {
+            Some(rest) => framed(alloc, names, place.event, rest.as_bytes()),
+            None => Err(bad_word(place.event, 2)),
+        },
         "arrive" => Ok(Command::One(Event::Arrive {
             packet: packet(place.event, text)?,
         })),
@@ -175,8 +161,8 @@ fn packet_of_word(
     }
 }
 
-// The command of a first word. The words are tried in four groups, since each that a match has passed by weighs on what is to be
-// proved of those behind it.
+// The command of a first word. The words are tried in four groups, one behind the other, since each that a match has passed by weighs
+// on what is to be proved of those behind it.
 #[tactic(auto, unfolding(crate::specs::Events::command_of))]
 fn command_of_word(
     alloc: Global,
@@ -241,18 +227,6 @@ fn item(
     }
 }
 
-// One more where the command is `play`.
-fn plays_with(plays: u32, command: &Command) -> u32
-    requires { plays ≤ most_events }
-    ensures value { result ≡ plays_after plays command.now }
-    ensures bound { result ≤ plays + 1 }
-{
-    match command {
-        Command::Play(_, _) => plays + 1,
-        _ => plays,
-    }
-}
-
 /// The commands of an array of strings, each of which is dropped as soon as its command is read. `BadWord` comes exactly
 /// where a word is missing, one too many, or not what has to stand there, and at the first word of a fifth `play`.
 pub fn read_commands(
@@ -276,7 +250,10 @@ pub fn read_commands(
             plays,
         };
         let command = item(alloc, names, place, &value)?;
-        plays = plays_with(plays, &command);
+        plays = match &command {
+            Command::Play(_, _) => plays + 1,
+            _ => plays,
+        };
         commands.push(command)?;
     }
     Ok(commands)

@@ -3,22 +3,14 @@ ghost use Rattle.std.specs.Prelude.{◌≡◌, ◌≤◌, nat_le, if◌then◌el
 ghost use Rattle.std.specs.List.{list_all};
 ghost use Rattle.command_text.specs.Words.{is_digit_of, value_from, decimal_from};
 
-// Whether this is a digit.
-fn is_digit(octet: u8) -> bool
-    ensures { result ≡ is_digit_of octet }
-{
-    octet.is_ascii_digit()
-}
-
 // Whether all are digits.
 fn are_digits(text: &[u8]) -> bool
     ensures { result ≡ list_all is_digit_of text.now }
 {
-    text.iter().all(|octet| is_digit(*octet))
+    text.iter().all(|octet| octet.is_ascii_digit())
 }
 
 // The value of digits, where it is at most the limit.
-
 fn value_of(text: &[u8], limit: u64) -> Option<u64>
     requires { list_all is_digit_of text.now ≡ true }
     ensures { result ≡ (if nat_le (value_from 0 text.now) limit then Some (value_from 0 text.now) else None) }

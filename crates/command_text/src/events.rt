@@ -7,7 +7,7 @@ ghost use Rattle.command_text.specs.Planned.{IsAmong};
 use crate::ScenarioFault;
 use crate::plan_names::PlanNames;
 use crate::said::{
-    frame_octets, goes_on, name_word, no_more, no_word, number_word, switch_word, word_place,
+    frame_octets, goes_on, name_word, no_more, no_word, number_word, place_of, switch_word,
 };
 use crate::words::cut_octets;
 use net_base::{CircuitId, EdgeId, Event, WireId};
@@ -83,7 +83,7 @@ pub fn frame(
     ensures among { IfOk result (IsAmong names.now) }
 {
     let (name, rest) = cut_octets(rest);
-    let circuit = word_place(&names.circuits, event, 2, Some(name))?;
+    let circuit = place_of(&names.circuits, event, 2, name)?;
     let bytes = frame_octets(alloc, event, 3, rest)?;
     no_more(event, 4, goes_on(rest, &bytes))?;
     Ok(Event::Frame {

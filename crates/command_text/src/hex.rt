@@ -1,6 +1,6 @@
 //! Octets as pairs of hexadecimal digits.
-ghost use Rattle.std.specs.Prelude.{◌≡◌, ◌≤◌, ◌*◌, ◌%◌, ◌++◌, nat_lt, Some, None, length, option_map, if◌then◌else◌, IfOk};
-ghost use Rattle.command_text.specs.Hex.{digit_value, first_part, pair_value, second_part, unhex};
+ghost use Rattle.std.specs.Prelude.{◌≡◌, ◌*◌, ◌%◌, nat_lt, Some, None, length, if◌then◌else◌, IfOk};
+ghost use Rattle.command_text.specs.Hex.{pair_value, unhex};
 
 use net_base::{List, NoMemory, Octets};
 use std::alloc::Global;
@@ -44,29 +44,13 @@ const SECOND: [u16; 256] = [
     256, 256, 256,
 ];
 
-// What an octet adds as a first digit.
-#[tactic(auto, using(crate::proofs::HexLemmas::first_is))]
-fn first(octet: u8) -> u16
-    ensures { result ≡ first_part (digit_value octet) }
-{
-    FIRST[octet as usize]
-}
-
-// What an octet adds as a second digit.
-#[tactic(auto, using(crate::proofs::HexLemmas::second_is))]
-fn second(octet: u8) -> u16
-    ensures { result ≡ second_part (digit_value octet) }
-{
-    SECOND[octet as usize]
-}
-
 // The octet of two digits; 256 or more where one of them is none. It has no branch, and looks each digit up in a table of its own, so that
 // the octets of a piece come one after another.
-#[tactic(auto, using(crate::proofs::HexLemmas::octet_of_two))]
+#[tactic(auto, using(crate::proofs::HexLemmas::first_is, crate::proofs::HexLemmas::second_is, crate::proofs::HexLemmas::octet_of_two))]
 fn pair(high: u8, low: u8) -> u16
     ensures { pair_value high low ≡ (if nat_lt result 256 then Some (result % 256) else None) }
 {
-    first(high) | second(low)
+    FIRST[high as usize] | SECOND[low as usize]
 }
 
 // Writes the octets of pairs of digits into room of just their size, and answers whether all are digits. It takes no memory.
@@ -83,22 +67,8 @@ fn fill(digits: &[u8], room: &mut [u8]) -> bool
     joined < 256
 }
 
-// Adds the octets of a piece of pairs of digits, and answers whether all are digits. They are made aside, so that the list grows once.
-fn put_piece(octets: &mut Octets, piece: &[u8], count: usize) -> Result<bool, NoMemory>
-    requires count { length piece.now ≡ 2 * count }
-    requires most { count ≤ 64 }
-    ensures { IfOk result (λ all. option_map (λ xs. octets.old ++ xs) (unhex piece.now) ≡ (if all then Some octets.new else None)) }
-{
-    let mut room = [0u8; PIECE];
-    let (made, _) = room.split_at_mut(count);
-    if !fill(piece, made) {
-        return Ok(false);
-    }
-    octets.extend_from_slice(made)?;
-    Ok(true)
-}
-
-/// The octets of pairs of digits; `None` exactly where these are no pairs of hexadecimal digits. They are read a piece at a time.
+/// The octets of pairs of digits; `None` exactly where these are no pairs of hexadecimal digits. They are read a piece at a time, each
+/// aside, so that the list grows once.
 pub fn decode(alloc: Global, digits: &[u8]) -> Result<Option<Octets>, NoMemory>
     ensures { IfOk result (λ octets. octets ≡ unhex digits.now) }
 {
@@ -108,9 +78,12 @@ pub fn decode(alloc: Global, digits: &[u8]) -> Result<Option<Octets>, NoMemory>
         let (_, rest) = digits.split_at(at);
         let count = (rest.len() / 2).min(PIECE);
         let (piece, _) = rest.split_at(2 * count);
-        if !put_piece(&mut octets, piece, count)? {
+        let mut room = [0u8; PIECE];
+        let (made, _) = room.split_at_mut(count);
+        if !fill(piece, made) {
             return Ok(None);
         }
+        octets.extend_from_slice(made)?;
         at += 2 * count;
     }
     if at < digits.len() {

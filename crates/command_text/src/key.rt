@@ -1,5 +1,5 @@
 //! How a place shows a key.
-ghost use Rattle.std.specs.Prelude.{◌≡◌, ◌≤◌, map, length};
+ghost use Rattle.std.specs.Prelude.{◌≡◌};
 ghost use Rattle.command_text.specs.Places.{masked, shown};
 
 use net_base::Text;
@@ -15,24 +15,16 @@ fn mask(octet: u8) -> u8
     }
 }
 
-// At most 32 octets, each masked.
-fn masked_text(front: &[u8]) -> Text<32>
-    requires { length front.now ≤ 32 }
-    ensures { result ≡ map masked front.now }
-{
-    let mut octets = [0u8; 32];
-    for (i, octet) in front.iter().enumerate() {
-        octets[i] = mask(*octet);
-    }
-    let (held, _) = octets.split_at(front.len());
-    Text::read(held).unwrap()
-}
-
 /// The first 32 octets of a key, with `?` in place of each that is not graphic.
 #[tactic(auto, unfolding(crate::specs::Places::shown))]
 pub fn key_text(key: &[u8]) -> Text<32>
     ensures { result ≡ shown key.now }
 {
     let (front, _) = key.split_at(key.len().min(32));
-    masked_text(front)
+    let mut octets = [0u8; 32];
+    for (i, octet) in front.iter().enumerate() {
+        octets[i] = mask(*octet);
+    }
+    let (held, _) = octets.split_at(front.len());
+    Text::read(held).unwrap()
 }

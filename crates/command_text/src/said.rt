@@ -1,6 +1,6 @@
 //! What the words of a command say.
 ghost use Rattle.std.specs.Prelude.{◌≡◌, ◌<◌, ◌≤◌, not, true, is_some, Some, length, option_and_then, option_map, IfOk, IfSome};
-ghost use Rattle.command_text.specs.Hex.{frame_of, of_frame_size};
+ghost use Rattle.command_text.specs.Hex.{frame_of};
 ghost use Rattle.command_text.specs.Names.{place_in};
 ghost use Rattle.command_text.specs.Reading.{Gives, MapsTo, checked, found};
 ghost use Rattle.net_base.specs.plan.Planned.{IsFrame};
@@ -25,36 +25,23 @@ pub fn bad_word(event: u32, number: u32) -> ScenarioFault
     }
 }
 
-/// The place that a word names, where there is this word.
-pub fn word_place(
+/// The place that a word names.
+pub fn place_of(
     names: &NameIndex<'_>,
     event: u32,
     number: u32,
-    word: Option<&[u8]>,
+    word: &[u8],
 ) -> Result<u16, ScenarioFault>
-    ensures exact { result ≡ found (ScenarioFault.BadWord event number) (option_and_then (place_in names.now) (option_map (λ w. w.now) word.entry)) }
+    ensures exact { result ≡ found (ScenarioFault.BadWord event number) (place_in names.now word.now) }
     ensures within { IfOk result (λ place. place < length names.now) }
 {
-    match word {
-        Some(word) => match names.place(word) {
-            Some(place) => Ok(place),
-            None => Err(bad_word(event, number)),
-        },
+    match names.place(word) {
+        Some(place) => Ok(place),
         None => Err(bad_word(event, number)),
     }
 }
 
-// The octets of a word.
-fn octets_of(word: Option<&str>) -> Option<&[u8]>
-    ensures { option_map (λ o. o.now) result ≡ option_map (λ w. w.now) word.entry }
-{
-    match word {
-        Some(word) => Some(word.as_bytes()),
-        None => None,
-    }
-}
-
-/// The place that a word names.
+/// The place that the word of this number names.
 pub fn name_word(
     names: &NameIndex<'_>,
     event: u32,
@@ -65,7 +52,10 @@ pub fn name_word(
     ensures exact { result ≡ said_word (place_in names.now) event number text.now }
     ensures within { IfOk result (λ place. place < length names.now) }
 {
-    word_place(names, event, number, octets_of(word(text, number)))
+    match word(text, number) {
+        Some(word) => place_of(names, event, number, word.as_bytes()),
+        None => Err(bad_word(event, number)),
+    }
 }
 
 /// The number from `low` to `high` that a word writes.
@@ -116,26 +106,18 @@ pub fn switch_word(event: u32, number: u32, text: &str) -> Result<bool, Scenario
     }
 }
 
-// The octets, where they are 1 to 9216.
-fn of_size(octets: Octets) -> Option<Octets>
-    ensures value { result ≡ of_frame_size octets }
-    ensures sized { IfSome result IsFrame }
-{
-    if octets.is_empty() || octets.len() > 9216 {
-        return None;
-    }
-    Some(octets)
-}
-
-// The octets of a frame.
+// The octets of a frame, where they are 1 to 9216.
 fn frame(alloc: Global, digits: &[u8]) -> Result<Option<Octets>, NoMemory>
     ensures value { IfOk result (λ octets. octets ≡ frame_of digits.now) }
     ensures sized { IfOk result (λ octets. IfSome octets IsFrame) }
 {
-    match decode(alloc, digits)? {
-        Some(octets) => Ok(of_size(octets)),
-        None => Ok(None),
+    let Some(octets) = decode(alloc, digits)? else {
+        return Ok(None);
+    };
+    if octets.is_empty() || octets.len() > 9216 {
+        return Ok(None);
     }
+    Ok(Some(octets))
 }
 
 // The octets of a frame that the first word writes. Digits have no space among them, so all octets are tried first as they are, and
@@ -187,24 +169,14 @@ pub fn goes_on(rest: Option<&[u8]>, bytes: &Octets) -> bool
     }
 }
 
-// The word, where it is not empty.
-fn nonempty(word: &str) -> Option<&str>
-    ensures { option_map (λ w. w.now) result ≡ some_word word.now }
-{
-    if word.is_empty() { None } else { Some(word) }
-}
-
 /// The name of a file, a word that is not empty.
 pub fn file_word(alloc: Global, event: u32, number: u32, text: &str) -> Result<Word, ScenarioFault>
     requires { 1 ≤ number }
     ensures { Gives result (said_word some_word event number text.now) }
 {
     match word(text, number) {
-        Some(word) => match nonempty(word) {
-            Some(name) => Ok(Word::new(alloc, name)?),
-            None => Err(bad_word(event, number)),
-        },
-        None => Err(bad_word(event, number)),
+        Some(name) if !name.is_empty() => Ok(Word::new(alloc, name)?),
+        _ => Err(bad_word(event, number)),
     }
 }
 

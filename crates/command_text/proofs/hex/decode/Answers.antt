@@ -1,17 +1,19 @@
 -- The octets of one more piece are decoded, and octets that are no pairs of digits are refused.
-use Rattle.std.proofs.Common.{◌∙◌, ◌++◌, ℕ, List, Option, option_map, sym, ap, arith}
-use Rattle.command_text.proofs.HexLemmas.{decoded_more, decoded_none, unhex_odd}
+use Rattle.std.proofs.Common.{◌∙◌, ◌++◌, ℕ, List, Option, option_map, refl, sym, ap, arith}
+use Rattle.command_text.proofs.HexLemmas.{decoded_more, decoded_none, piece_added, unhex_odd}
 use Rattle.command_text.proofs.hex.decode.Goals as goal
 
 pub decoding-preserved : goal.decoding-preserved
 decoding-preserved c = (
-  decoded_more c.args.digits.now _ _ c.decoding.octets _ c.decoding.at _ c.in_ok-put_piece.field-0 (cc) c.split_at.ensures.back c.split_at-in-decoding.ensures.front (omega arith) c.in_ok-put_piece.ensures c.decoding.invariant.0,
+  decoded_more c.args.digits.now _ _ c.decoding.octets _ c.decoding.at _ c.fill.result c.if-not-fill.false c.split_at.ensures.back c.split_at-in-decoding.ensures.front (omega arith)
+      (piece_added c.decoding.octets _ c.fill.new.room _ _ c.fill.ensures c.in_ok-extend_from_slice.ensures.ok) c.decoding.invariant.0,
   omega arith,
 )
 
-pub returns-then-not-branch : goal.returns-then-not-branch
-returns-then-not-branch c =
-    decoded_none c.args.digits.now _ _ c.decoding.octets _ c.decoding.at _ c.in_ok-put_piece.field-0 (cc) c.split_at.ensures.back c.split_at-in-decoding.ensures.front (omega arith) c.in_ok-put_piece.ensures c.decoding.invariant.0
+pub returns-then-not-fill : goal.returns-then-not-fill
+returns-then-not-fill c =
+    decoded_none c.args.digits.now _ _ c.decoding.octets _ c.decoding.at _ c.fill.result c.if-not-fill.true c.split_at.ensures.back c.split_at-in-decoding.ensures.front (omega arith)
+    (piece_added c.decoding.octets _ c.fill.new.room _ _ c.fill.ensures refl) c.decoding.invariant.0
 
 pub returns-then-at-digits : goal.returns-then-at-digits
 returns-then-at-digits c =
