@@ -1,7 +1,7 @@
 //! The top of a document: its version and its arrays.
-ghost use Rattle.std.specs.Prelude.{◌≡◌, ◌≤◌, [], true, codes, length, option_map, IfNone, IfOk, IfSome};
+ghost use Rattle.std.specs.Prelude.{◌≡◌, ◌≤◌, [], true, codes, length, IfNone, IfOk, IfSome};
 ghost use Rattle.std.specs.List.{list_all};
-ghost use Rattle.toml.specs.Data.{no_items, as_array, get_member};
+ghost use Rattle.toml.specs.Data.{no_items, as_array};
 ghost use Rattle.toml.specs.View.{view, items_view, table_view};
 ghost use Rattle.command_text.specs.Events.{most_events};
 ghost use Rattle.command_text.specs.Places.{place_at, top_row};
@@ -156,13 +156,6 @@ pub fn document_arrays(table: &Table) -> Result<Arrays<'_>, ScenarioFault>
     Ok(arrays)
 }
 
-// The value at a key, taken out of its table. The rest of the table is dropped.
-fn taken_value(mut table: Table, key: &str) -> Option<Value>
-    ensures { option_map view result ≡ get_member key.now (table_view table) }
-{
-    table.remove(key)
-}
-
 // The items of an array; nothing else has any.
 fn items_in(alloc: Global, value: Option<Value>) -> Vec<Value>
     ensures array { IfSome value (λ v. IfSome (as_array (view v)) (λ items. items_view result.items ≡ items)) }
@@ -175,9 +168,9 @@ fn items_in(alloc: Global, value: Option<Value>) -> Vec<Value>
 }
 
 /// The events of a document whose arrays were found. The rest of the document is dropped.
-pub fn take_events(alloc: Global, table: Table) -> Vec<Value>
+pub fn take_events(alloc: Global, mut table: Table) -> Vec<Value>
     ensures exact { IfOk (arrays_in (table_view table)) (λ arrays. items_view result.items ≡ arrays.events) }
     ensures few { IfOk (arrays_in (table_view table)) (λ _. length result.items ≤ most_events) }
 {
-    items_in(alloc, taken_value(table, "events"))
+    items_in(alloc, table.remove("events"))
 }

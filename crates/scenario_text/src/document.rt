@@ -6,9 +6,9 @@ ghost use Rattle.toml.specs.Parse.{parse_document};
 ghost use Rattle.toml.specs.View.{items_view, table_view};
 ghost use Rattle.command_text.specs.Events.{commands_in, most_events};
 ghost use Rattle.command_text.specs.Reading.{Gives};
-ghost use Rattle.command_text.specs.Planned.{names_of, IsInPlanNames, IsPlanned};
+ghost use Rattle.command_text.specs.Planned.{names_of, IsPlanned};
 ghost use Rattle.scenario_text.specs.Arrays.{arrays_of, HasLimits};
-ghost use Rattle.scenario_text.specs.Document.{plan_in, scenario_with, scenario_in, scenario_or, document};
+ghost use Rattle.scenario_text.specs.Document.{plan_in, scenario_in, scenario_or, document};
 
 use crate::Scenario;
 use crate::arrays::{Arrays, document_arrays, take_events};
@@ -19,34 +19,8 @@ use crate::rows::rows;
 use crate::wire_row::WireRow;
 use command_text::{Command, NameIndex, PlanNames, ScenarioFault, read_commands};
 use net_base::{EdgePlan, List, Name, NoMemory, Plan, ServicePlan, Table as TableKind};
-use std::alloc::{AllocError, Global};
+use std::alloc::Global;
 use toml::{Table, Value};
-
-// The commands over these names.
-fn named_commands(
-    alloc: Global,
-    edges: &[Name],
-    circuits: &[Name],
-    wires: &[Name],
-    events: Vec<Value>,
-) -> Result<List<Command>, ScenarioFault>
-    requires few_edges { length edges.now ≤ 1664 }
-    requires few_circuits { length circuits.now ≤ 1664 }
-    requires few_wires { length wires.now ≤ 1664 }
-    requires few { length events.items ≤ most_events }
-    ensures exact { Gives result (commands_in (record { edges = edges.now; circuits = circuits.now; wires = wires.now }) 1 0 (items_view events.items)) }
-    ensures many { IfOk result (λ commands. length commands ≡ length events.items) }
-    ensures named { IfOk result (λ commands. All (IsInPlanNames (record { edges = edges.now; circuits = circuits.now; wires = wires.now })) commands) }
-{
-    match plan_names(alloc, edges, circuits, wires) {
-        Ok(names) => {
-            let commands = read_commands(alloc, &names, events);
-            drop(names);
-            commands
-        }
-        Err(NoMemory) => Err(ScenarioFault::NoMemory),
-    }
-}
 
 // The names of a plan, each list with its index. An index is given to `drop`, since its end at a brace proves
 // slowly.
@@ -63,33 +37,20 @@ fn plan_names<'a>(
 {
     let edges = NameIndex::of(alloc, edges)?;
     match NameIndex::of(alloc, circuits) {
-        Ok(circuits) => names_with_wires(alloc, edges, circuits, wires),
+        Ok(circuits) => match NameIndex::of(alloc, wires) {
+            Ok(wires) => Ok(PlanNames {
+                edges,
+                circuits,
+                wires,
+            }),
+            Err(NoMemory) => {
+                drop(edges);
+                drop(circuits);
+                Err(NoMemory)
+            }
+        },
         Err(NoMemory) => {
             drop(edges);
-            Err(NoMemory)
-        }
-    }
-}
-
-// The names of a plan, of which the wires still lack their index.
-fn names_with_wires<'a>(
-    alloc: Global,
-    edges: NameIndex<'a>,
-    circuits: NameIndex<'a>,
-    wires: &'a [Name],
-) -> Result<PlanNames<'a>, NoMemory>
-    requires { length wires.now ≤ 1664 }
-    ensures { IfOk result (λ names. names ≡ record { edges = edges.entry; circuits = circuits.entry; wires = wires.now }) }
-{
-    match NameIndex::of(alloc, wires) {
-        Ok(wires) => Ok(PlanNames {
-            edges,
-            circuits,
-            wires,
-        }),
-        Err(NoMemory) => {
-            drop(edges);
-            drop(circuits);
             Err(NoMemory)
         }
     }
@@ -110,15 +71,19 @@ fn plan_commands(
 {
     let edges = names_of_edges(alloc, plan.edges.as_slice())?;
     let circuits = names_of_circuits(alloc, plan.circuits.as_slice())?;
-    match names_of_wires(alloc, plan.wires.as_slice()) {
-        Ok(wires) => named_commands(
-            alloc,
-            edges.as_slice(),
-            circuits.as_slice(),
-            wires.as_slice(),
-            events,
-        ),
-        Err(AllocError) => Err(ScenarioFault::NoMemory),
+    let wires = names_of_wires(alloc, plan.wires.as_slice())?;
+    match plan_names(
+        alloc,
+        edges.as_slice(),
+        circuits.as_slice(),
+        wires.as_slice(),
+    ) {
+        Ok(names) => {
+            let commands = read_commands(alloc, &names, events);
+            drop(names);
+            commands
+        }
+        Err(NoMemory) => Err(ScenarioFault::NoMemory),
     }
 }
 
@@ -150,26 +115,15 @@ fn scenario(alloc: Global, table: Table) -> Result<Scenario, ScenarioFault>
     ensures few { IfOk result (λ scenario. length scenario.commands ≤ most_events) }
     ensures planned { IfOk result (λ scenario. All (IsPlanned scenario.plan) scenario.commands) }
 {
-    match document_arrays(&table) {
-        Ok(arrays) => match arrays_plan(alloc, &arrays) {
-            Ok(plan) => scenario_at(alloc, plan, take_events(alloc, table)),
+    let arrays = match document_arrays(&table) {
+        Ok(arrays) => arrays,
+        Err(fault) => return Err(fault),
+    };
+    match arrays_plan(alloc, &arrays) {
+        Ok(plan) => match plan_commands(alloc, &plan, take_events(alloc, table)) {
+            Ok(commands) => Ok(Scenario { plan, commands }),
             Err(fault) => Err(fault),
         },
-        Err(fault) => Err(fault),
-    }
-}
-
-// The scenario of these events at a plan.
-fn scenario_at(alloc: Global, plan: Plan, events: Vec<Value>) -> Result<Scenario, ScenarioFault>
-    requires checked { IsChecked plan }
-    requires few { length events.items ≤ most_events }
-    ensures exact { Gives result (scenario_with plan (commands_in (names_of plan) 1 0 (items_view events.items))) }
-    ensures checked { IfOk result (λ scenario. IsChecked scenario.plan) }
-    ensures few { IfOk result (λ scenario. length scenario.commands ≤ most_events) }
-    ensures planned { IfOk result (λ scenario. All (IsPlanned scenario.plan) scenario.commands) }
-{
-    match plan_commands(alloc, &plan, events) {
-        Ok(commands) => Ok(Scenario { plan, commands }),
         Err(fault) => Err(fault),
     }
 }

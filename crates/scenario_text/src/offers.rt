@@ -1,7 +1,7 @@
 //! What the ends of a wire offer.
-ghost use Rattle.std.specs.Prelude.{◌≡◌, ◌≤◌, [], IfSome, IfOk};
+ghost use Rattle.std.specs.Prelude.{◌≡◌, IfOk};
 ghost use Rattle.toml.specs.View.{table_view};
-ghost use Rattle.scenario_text.specs.Rows.{near_rest_in, near_in, far_rest_in, far_in};
+ghost use Rattle.scenario_text.specs.Rows.{near_in, far_in};
 ghost use Rattle.scenario_text.specs.Offers.{HasRanges};
 
 use crate::members::{boolean_or, description_or, mode_or, number_or, optional_number};
@@ -9,45 +9,6 @@ use crate::offer_row::OfferRow;
 use crate::table_row::TableRow;
 use command_text::ScenarioFault;
 use net_base::Text;
-
-// No octets.
-fn no_description() -> Text<80>
-    ensures { result ≡ [] }
-{
-    Text::read(&[]).unwrap()
-}
-
-// What the near end of a wire offers, where its first keys say this.
-#[tactic(auto, unfolding(crate::specs::Rows::near_rest_in))]
-fn near_rest(
-    tagged: bool,
-    cword: bool,
-    mtu: Option<u16>,
-    vlan: Option<u16>,
-    row: TableRow<'_>,
-) -> Result<OfferRow, ScenarioFault>
-    requires mtu { IfSome mtu (λ n. (0 ≤ n) × (n ≤ 65535)) }
-    requires vlan { IfSome vlan (λ n. (0 ≤ n) × (n ≤ 4095)) }
-    ensures exact { result ≡ near_rest_in tagged cword mtu vlan row.entry.place (table_view row.entry.table.now) }
-    ensures ranges { IfOk result HasRanges }
-{
-    let vccv = number_or(0, row, "vccv", 0, 7)? as u8;
-    let status = boolean_or(true, row, "status")?;
-    let group = number_or(0, row, "group", 0, 4294967295)?;
-    match description_or(&no_description(), row, "description") {
-        Ok(description) => Ok(OfferRow {
-            tagged,
-            cword,
-            mtu,
-            vlan,
-            vccv,
-            status,
-            group,
-            description,
-        }),
-        Err(fault) => Err(fault),
-    }
-}
 
 /// What the near end of a wire offers.
 #[tactic(auto, unfolding(crate::specs::Rows::near_in, crate::specs::Rows::near_rest_in))]
@@ -58,29 +19,20 @@ pub fn near_offer(row: TableRow<'_>) -> Result<OfferRow, ScenarioFault>
     let tagged = mode_or(false, row, "mode")?;
     let cword = boolean_or(true, row, "control_word")?;
     let mtu = optional_number(None, row, "mtu", 0, 65535)?;
-    match optional_number(None, row, "vlan", 0, 4095) {
-        Ok(vlan) => near_rest(tagged, cword, mtu, vlan, row),
-        Err(fault) => Err(fault),
-    }
-}
-
-// What the far end of a wire offers, where its first keys say this of an offer whose other parts are the near end's.
-#[tactic(auto, unfolding(crate::specs::Rows::far_rest_in))]
-fn far_rest(offer: OfferRow, row: TableRow<'_>) -> Result<OfferRow, ScenarioFault>
-    requires { HasRanges offer }
-    ensures exact { result ≡ far_rest_in offer row.entry.place (table_view row.entry.table.now) }
-    ensures ranges { IfOk result HasRanges }
-{
-    let vccv = number_or(offer.vccv as u32, row, "far_vccv", 0, 7)? as u8;
-    let status = boolean_or(offer.status, row, "far_status")?;
-    let group = number_or(offer.group, row, "far_group", 0, 4294967295)?;
-    match description_or(&offer.description, row, "far_description") {
+    let vlan = optional_number(None, row, "vlan", 0, 4095)?;
+    let vccv = number_or(0, row, "vccv", 0, 7)? as u8;
+    let status = boolean_or(true, row, "status")?;
+    let group = number_or(0, row, "group", 0, 4294967295)?;
+    match description_or(&Text::read(&[]).unwrap(), row, "description") {
         Ok(description) => Ok(OfferRow {
+            tagged,
+            cword,
+            mtu,
+            vlan,
             vccv,
             status,
             group,
             description,
-            ..offer
         }),
         Err(fault) => Err(fault),
     }
@@ -96,17 +48,21 @@ pub fn far_offer(near: &OfferRow, row: TableRow<'_>) -> Result<OfferRow, Scenari
     let tagged = mode_or(near.tagged, row, "far_mode")?;
     let cword = boolean_or(near.cword, row, "far_control_word")?;
     let mtu = optional_number(near.mtu, row, "far_mtu", 0, 65535)?;
-    match optional_number(near.vlan, row, "far_vlan", 0, 4095) {
-        Ok(vlan) => {
-            let offer = OfferRow {
-                tagged,
-                cword,
-                mtu,
-                vlan,
-                ..*near
-            };
-            far_rest(offer, row)
-        }
+    let vlan = optional_number(near.vlan, row, "far_vlan", 0, 4095)?;
+    let vccv = number_or(near.vccv as u32, row, "far_vccv", 0, 7)? as u8;
+    let status = boolean_or(near.status, row, "far_status")?;
+    let group = number_or(near.group, row, "far_group", 0, 4294967295)?;
+    match description_or(&near.description, row, "far_description") {
+        Ok(description) => Ok(OfferRow {
+            tagged,
+            cword,
+            mtu,
+            vlan,
+            vccv,
+            status,
+            group,
+            description,
+        }),
         Err(fault) => Err(fault),
     }
 }

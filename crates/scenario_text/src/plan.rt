@@ -14,32 +14,24 @@ use crate::service_rows::ServiceRows;
 use crate::wire_row::WireRow;
 use crate::wires::wires;
 use command_text::{NameIndex, ScenarioFault};
-use net_base::{CircuitPlan, EdgePlan, List, Name, NoMemory, Plan, ServicePlan, WirePlan};
-use std::alloc::{AllocError, Global};
+use net_base::{CircuitPlan, EdgePlan, List, NoMemory, Plan, ServicePlan, WirePlan};
+use std::alloc::Global;
 
-// Whether these names differ. An index is given to `drop`, since its end at a brace proves slowly.
-fn are_distinct(alloc: Global, names: &[Name]) -> Result<bool, NoMemory>
-    requires { length names.now ≤ 1664 }
-    ensures { IfOk result (λ distinct. distinct ≡ are_distinct names.now) }
+// Whether the names of a plan differ, over all its lists. An index is given to `drop`, since its end at a brace proves slowly.
+fn have_distinct_names(alloc: Global, plan: &Plan) -> Result<bool, NoMemory>
+    requires { IsWithinLimits plan.now }
+    ensures { IfOk result (λ distinct. distinct ≡ are_distinct (plan_names plan.now)) }
 {
-    match NameIndex::of(alloc, names) {
+    let Ok(names) = names_of_plan(alloc, plan) else {
+        return Err(NoMemory);
+    };
+    match NameIndex::of(alloc, names.as_slice()) {
         Ok(index) => {
             let distinct = index.are_distinct();
             drop(index);
             Ok(distinct)
         }
         Err(NoMemory) => Err(NoMemory),
-    }
-}
-
-// Whether the names of a plan differ, over all its lists.
-fn have_distinct_names(alloc: Global, plan: &Plan) -> Result<bool, NoMemory>
-    requires { IsWithinLimits plan.now }
-    ensures { IfOk result (λ distinct. distinct ≡ are_distinct (plan_names plan.now)) }
-{
-    match names_of_plan(alloc, plan) {
-        Ok(names) => are_distinct(alloc, names.as_slice()),
-        Err(AllocError) => Err(NoMemory),
     }
 }
 
@@ -57,18 +49,6 @@ fn check(alloc: Global, plan: &Plan) -> Result<(), ScenarioFault>
     match checked {
         Ok(()) => Ok(()),
         Err(fault) => Err(ScenarioFault::Plan(fault)),
-    }
-}
-
-// The plan, where it has no fault.
-fn sound_plan(alloc: Global, plan: Plan) -> Result<Plan, ScenarioFault>
-    requires { IsWithinLimits plan }
-    ensures exact { Gives result (sound plan) }
-    ensures checked { IfOk result IsChecked }
-{
-    match check(alloc, &plan) {
-        Ok(()) => Ok(plan),
-        Err(fault) => Err(fault),
     }
 }
 
@@ -102,36 +82,6 @@ fn placed_rows(
     }
 }
 
-// The circuits and the wires of these rows over these services, where edges are found by this index.
-fn rows_over_services(
-    alloc: Global,
-    edges: &NameIndex<'_>,
-    services: &[ServicePlan],
-    circuit_rows: &[CircuitRow],
-    wire_rows: &[WireRow],
-) -> Result<PlacedRows, ScenarioFault>
-    requires few_services { length services.now ≤ most_services }
-    requires few_circuits { length circuit_rows.now ≤ most_circuits }
-    requires few_wires { length wire_rows.now ≤ most_wires }
-    ensures exact { Gives result (placed_rows edges.now services.now circuit_rows.now wire_rows.now) }
-    ensures circuits { IfOk result (λ rows. length rows.circuits ≡ length circuit_rows.now) }
-    ensures wires { IfOk result (λ rows. length rows.wires ≡ length wire_rows.now) }
-{
-    let names = names_of_services(alloc, services)?;
-    match NameIndex::of(alloc, names.as_slice()) {
-        Ok(index) => {
-            let services = ServiceRows {
-                index: &index,
-                rows: services,
-            };
-            let rows = placed_rows(alloc, edges, services, circuit_rows, wire_rows);
-            drop(index);
-            rows
-        }
-        Err(NoMemory) => Err(ScenarioFault::NoMemory),
-    }
-}
-
 // The circuits and the wires of these rows, over these edges and services.
 fn rows_over(
     alloc: Global,
@@ -148,13 +98,25 @@ fn rows_over(
     ensures circuits { IfOk result (λ rows. length rows.circuits ≡ length circuit_rows.now) }
     ensures wires { IfOk result (λ rows. length rows.wires ≡ length wire_rows.now) }
 {
-    let names = names_of_edges(alloc, edges)?;
-    match NameIndex::of(alloc, names.as_slice()) {
-        Ok(index) => {
-            let rows = rows_over_services(alloc, &index, services, circuit_rows, wire_rows);
-            drop(index);
-            rows
-        }
+    let edge_names = names_of_edges(alloc, edges)?;
+    let service_names = names_of_services(alloc, services)?;
+    match NameIndex::of(alloc, edge_names.as_slice()) {
+        Ok(edges) => match NameIndex::of(alloc, service_names.as_slice()) {
+            Ok(index) => {
+                let services = ServiceRows {
+                    index: &index,
+                    rows: services,
+                };
+                let rows = placed_rows(alloc, &edges, services, circuit_rows, wire_rows);
+                drop(index);
+                drop(edges);
+                rows
+            }
+            Err(NoMemory) => {
+                drop(edges);
+                Err(ScenarioFault::NoMemory)
+            }
+        },
         Err(NoMemory) => Err(ScenarioFault::NoMemory),
     }
 }
@@ -183,15 +145,18 @@ pub fn plan(
         wire_rows,
     );
     match rows {
-        Ok(rows) => sound_plan(
-            alloc,
-            Plan {
+        Ok(rows) => {
+            let plan = Plan {
                 edges,
                 services,
                 circuits: rows.circuits,
                 wires: rows.wires,
-            },
-        ),
+            };
+            match check(alloc, &plan) {
+                Ok(()) => Ok(plan),
+                Err(fault) => Err(fault),
+            }
+        }
         Err(fault) => Err(fault),
     }
 }

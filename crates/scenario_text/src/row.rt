@@ -1,8 +1,6 @@
 //! What a row of a table is read as.
-ghost use Rattle.std.specs.Prelude.{◌≡◌};
 ghost use Rattle.toml.specs.View.{table_view};
 ghost use Rattle.command_text.specs.Reading.{Gives};
-ghost use Rattle.scenario_text.specs.Rows.{edge_with, wire_row_with};
 
 use crate::circuit_row::CircuitRow;
 use crate::keys::only_known_keys;
@@ -13,7 +11,7 @@ use crate::offers::{far_offer, near_offer};
 use crate::table_row::TableRow;
 use crate::wire_row::WireRow;
 use command_text::ScenarioFault;
-use net_base::{Addr, Class, EdgePlan, List, Name, ServicePlan, Table as TableKind};
+use net_base::{EdgePlan, ServicePlan, Table as TableKind};
 use std::alloc::Global;
 
 /// What a row of a table is read as.
@@ -39,30 +37,20 @@ impl Row for EdgePlan {
     #[tactic(auto, unfolding(crate::specs::Rows::edge_in, crate::specs::Rows::edge_with))]
     fn read(_alloc: Global, row: TableRow<'_>) -> Result<EdgePlan, ScenarioFault> {
         let name = name_at(row, "name")?;
-        match address_at(row, "address") {
-            Ok(address) => edge_with(name, address, row),
+        let address = address_at(row, "address")?;
+        let first_label = number_or(16, row, "first_label", 16, 1048575)?;
+        let keepalive = number_or(180, row, "keepalive", 3, 65535)? as u16;
+        let max_pdu = number_or(4096, row, "max_pdu", 256, 4096)? as u16;
+        match only_known_keys(TableKind::Edge, row.place, row.table) {
+            Ok(()) => Ok(EdgePlan {
+                name,
+                address,
+                first_label,
+                keepalive,
+                max_pdu,
+            }),
             Err(fault) => Err(fault),
         }
-    }
-}
-
-// A row of `edge` whose first keys say this.
-#[tactic(auto, unfolding(crate::specs::Rows::edge_with))]
-fn edge_with(name: Name, address: Addr, row: TableRow<'_>) -> Result<EdgePlan, ScenarioFault>
-    ensures { result ≡ edge_with name address row.entry.place (table_view row.entry.table.now) }
-{
-    let first_label = number_or(16, row, "first_label", 16, 1048575)?;
-    let keepalive = number_or(180, row, "keepalive", 3, 65535)? as u16;
-    let max_pdu = number_or(4096, row, "max_pdu", 256, 4096)? as u16;
-    match only_known_keys(TableKind::Edge, row.place, row.table) {
-        Ok(()) => Ok(EdgePlan {
-            name,
-            address,
-            first_label,
-            keepalive,
-            max_pdu,
-        }),
-        Err(fault) => Err(fault),
     }
 }
 
@@ -116,39 +104,23 @@ impl Row for WireRow {
         let name = name_at(row, "name")?;
         let service = name_at(row, "service")?;
         let class = class_at(row, "class")?;
-        match path_at(alloc, row, "path") {
-            Ok(path) => wire_row_with(name, service, class, path, row),
+        let path = path_at(alloc, row, "path")?;
+        let pw_id = number_at(row, "pw_id", 1, 4294967295)?;
+        let priority = number_or(100, row, "priority", 0, 255)? as u8;
+        let near = near_offer(row)?;
+        let far = far_offer(&near, row)?;
+        match only_known_keys(TableKind::Wire, row.place, row.table) {
+            Ok(()) => Ok(WireRow {
+                name,
+                service,
+                class,
+                path,
+                pw_id,
+                priority,
+                near,
+                far,
+            }),
             Err(fault) => Err(fault),
         }
-    }
-}
-
-// A row of `wire` whose first keys say this.
-#[tactic(auto, unfolding(crate::specs::Rows::wire_row_with))]
-fn wire_row_with(
-    name: Name,
-    service: Name,
-    class: Class,
-    path: List<Name>,
-    row: TableRow<'_>,
-) -> Result<WireRow, ScenarioFault>
-    ensures { result ≡ wire_row_with name service class path row.entry.place (table_view row.entry.table.now) }
-{
-    let pw_id = number_at(row, "pw_id", 1, 4294967295)?;
-    let priority = number_or(100, row, "priority", 0, 255)? as u8;
-    let near = near_offer(row)?;
-    let far = far_offer(&near, row)?;
-    match only_known_keys(TableKind::Wire, row.place, row.table) {
-        Ok(()) => Ok(WireRow {
-            name,
-            service,
-            class,
-            path,
-            pw_id,
-            priority,
-            near,
-            far,
-        }),
-        Err(fault) => Err(fault),
     }
 }

@@ -1,8 +1,8 @@
 //! Rows of the document's tables.
 ghost use Rattle.std.specs.Prelude.{◌≡◌, ◌≤◌, length, IfOk};
-ghost use Rattle.toml.specs.View.{view, items_view, table_view};
-ghost use Rattle.command_text.specs.Reading.{Gives, MapsTo};
-ghost use Rattle.scenario_text.specs.Rows.{row_members, row_in, rows_in};
+ghost use Rattle.toml.specs.View.{view, items_view};
+ghost use Rattle.command_text.specs.Reading.{Gives};
+ghost use Rattle.scenario_text.specs.Rows.{row_in, rows_in};
 ghost use Rattle.scenario_text.specs.Top.{most_wires};
 
 use crate::row::Row;
@@ -10,25 +10,15 @@ use crate::table_row::TableRow;
 use command_text::{RowPlace, ScenarioFault};
 use net_base::{List, Table as TableKind};
 use std::alloc::Global;
-use toml::{Table, Value};
-
-// The table that a row is.
-fn row_table<'a>(row: RowPlace, value: &'a Value) -> Result<&'a Table, ScenarioFault>
-    ensures { MapsTo (λ t. table_view t.now) result (row_members row (view value.now)) }
-{
-    match value.as_table() {
-        Some(table) => Ok(table),
-        None => Err(row.wrong_kind("")),
-    }
-}
+use toml::Value;
 
 // The row that a value is.
 fn row_at<T: Row>(alloc: Global, place: RowPlace, value: &Value) -> Result<T, ScenarioFault>
     ensures { Gives result (row_in T.row_of place (view value.now)) }
 {
-    match row_table(place, value) {
-        Ok(table) => T::read(alloc, TableRow { place, table }),
-        Err(fault) => Err(fault),
+    match value.as_table() {
+        Some(table) => T::read(alloc, TableRow { place, table }),
+        None => Err(place.wrong_kind("")),
     }
 }
 

@@ -4,7 +4,7 @@ ghost use Rattle.std.specs.List.{list_all};
 ghost use Rattle.toml.specs.View.{view, items_view};
 ghost use Rattle.command_text.specs.Places.{place_at};
 ghost use Rattle.command_text.specs.Reading.{Gives, MapsTo};
-ghost use Rattle.scenario_text.specs.Values.{meant, a_text, a_name, quad_of, address_in, an_address, number_from, a_number, a_boolean, class_of, a_class, mode_of, a_mode, a_description, is_string, an_array, names_in, a_path, all_items};
+ghost use Rattle.scenario_text.specs.Values.{meant, a_text, a_name, quad_of, an_address, a_number, a_boolean, a_class, a_mode, a_description, is_string, an_array, names_in, a_path, all_items};
 
 use command_text::{RowPlace, ScenarioFault, is_same};
 use net_base::{Addr, Class, List, Name, Text};
@@ -52,47 +52,17 @@ fn quad(text: &str) -> Option<[u8; 4]>
     }
 }
 
-// The address that a text is.
-fn address_of_text(row: RowPlace, key: &str, text: &str) -> Result<Addr, ScenarioFault>
-    ensures { result ≡ address_in (place_at row key.now) text.now }
-{
-    match quad(text) {
-        Some(octets) => {
-            if octets == [0, 0, 0, 0] {
-                Err(row.out_of_range(key))
-            } else {
-                Ok(Addr(octets))
-            }
-        }
-        None => Err(row.out_of_range(key)),
-    }
-}
-
 /// A string that is a dotted quad without leading zeros, not 0.0.0.0.
 pub fn address(row: RowPlace, key: &str, value: &Value) -> Result<Addr, ScenarioFault>
     ensures { result ≡ an_address (place_at row key.now) (view value.now) }
 {
     match text(row, key, value) {
-        Ok(text) => address_of_text(row, key, text),
+        Ok(text) => match quad(text) {
+            Some(octets) if octets != [0, 0, 0, 0] => Ok(Addr(octets)),
+            _ => Err(row.out_of_range(key)),
+        },
         Err(fault) => Err(fault),
     }
-}
-
-// The number that an integer is, from low to high.
-fn number_of_integer(
-    row: RowPlace,
-    key: &str,
-    integer: i64,
-    low: u32,
-    high: u32,
-) -> Result<u32, ScenarioFault>
-    ensures exact { result ≡ number_from low high (place_at row key.now) integer }
-    ensures within { IfOk result (λ n. (low ≤ n) × (n ≤ high)) }
-{
-    if integer < low as i64 || integer > high as i64 {
-        return Err(row.out_of_range(key));
-    }
-    Ok(integer as u32)
 }
 
 /// An integer from low to high.
@@ -107,7 +77,12 @@ pub fn number(
     ensures within { IfOk result (λ n. (low ≤ n) × (n ≤ high)) }
 {
     match value.as_integer() {
-        Some(integer) => number_of_integer(row, key, integer, low, high),
+        Some(integer) => {
+            if integer < low as i64 || integer > high as i64 {
+                return Err(row.out_of_range(key));
+            }
+            Ok(integer as u32)
+        }
         None => Err(row.wrong_kind(key)),
     }
 }
@@ -122,39 +97,15 @@ pub fn boolean(row: RowPlace, key: &str, value: &Value) -> Result<bool, Scenario
     }
 }
 
-// The class that a text names.
-fn class_of_text(text: &str) -> Option<Class>
-    ensures { result ≡ class_of text.now }
-{
-    if is_same(text, "mesh") {
-        Some(Class::Mesh)
-    } else if is_same(text, "spoke") {
-        Some(Class::Spoke)
-    } else {
-        None
-    }
-}
-
 /// The string `mesh` or `spoke`.
 pub fn class(row: RowPlace, key: &str, value: &Value) -> Result<Class, ScenarioFault>
     ensures { result ≡ a_class (place_at row key.now) (view value.now) }
 {
     match text(row, key, value) {
-        Ok(text) => meant(row, key, class_of_text(text)),
+        Ok(text) if is_same(text, "mesh") => Ok(Class::Mesh),
+        Ok(text) if is_same(text, "spoke") => Ok(Class::Spoke),
+        Ok(_) => Err(row.out_of_range(key)),
         Err(fault) => Err(fault),
-    }
-}
-
-// Whether a text names tagged mode, where it names a mode.
-fn mode_of_text(text: &str) -> Option<bool>
-    ensures { result ≡ mode_of text.now }
-{
-    if is_same(text, "raw") {
-        Some(false)
-    } else if is_same(text, "tagged") {
-        Some(true)
-    } else {
-        None
     }
 }
 
@@ -163,7 +114,9 @@ pub fn mode(row: RowPlace, key: &str, value: &Value) -> Result<bool, ScenarioFau
     ensures { result ≡ a_mode (place_at row key.now) (view value.now) }
 {
     match text(row, key, value) {
-        Ok(text) => meant(row, key, mode_of_text(text)),
+        Ok(text) if is_same(text, "raw") => Ok(false),
+        Ok(text) if is_same(text, "tagged") => Ok(true),
+        Ok(_) => Err(row.out_of_range(key)),
         Err(fault) => Err(fault),
     }
 }

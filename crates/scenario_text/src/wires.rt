@@ -3,7 +3,7 @@ ghost use Rattle.std.specs.Prelude.{◌≡◌, ◌≤◌, length, IfOk};
 ghost use Rattle.net_base.specs.plan.NameFaults.{service_names};
 ghost use Rattle.command_text.specs.Reading.{Gives};
 ghost use Rattle.scenario_text.specs.Top.{most_wires};
-ghost use Rattle.scenario_text.specs.References.{told_unless_zero, offer_from, mtu_at, path_in, wire_in, wires_in};
+ghost use Rattle.scenario_text.specs.References.{offer_from, mtu_at, path_in, wire_in, wires_in};
 
 use crate::named::named_place;
 use crate::offer_row::OfferRow;
@@ -13,30 +13,22 @@ use command_text::{NameIndex, RowPlace, ScenarioFault};
 use net_base::{EdgeId, List, Name, Offer, ServiceId, ServicePlan, Table as TableKind, WirePlan};
 use std::alloc::Global;
 
-// A number of 16 bits, where it is told.
-fn told_mtu(number: u16) -> Option<u16>
-    ensures { result ≡ told_unless_zero number }
-{
-    if number == 0 { None } else { Some(number) }
-}
-
-// The VCCV bits, where they are told.
-fn told_vccv(bits: u8) -> Option<u8>
-    ensures { result ≡ told_unless_zero bits }
-{
-    if bits == 0 { None } else { Some(bits) }
-}
-
-// The offer of an end, where the service has this MTU.
+// The offer of an end, where the service has this MTU. An MTU and VCCV bits of zero are not told.
 fn offer(mtu: u16, row: &OfferRow) -> Offer
     ensures { result ≡ offer_from mtu row.now }
 {
     Offer {
         tagged: row.tagged,
         cword: row.cword,
-        mtu: told_mtu(row.mtu.unwrap_or(mtu)),
+        mtu: match row.mtu.unwrap_or(mtu) {
+            0 => None,
+            number => Some(number),
+        },
         vlan: row.vlan,
-        vccv: told_vccv(row.vccv),
+        vccv: match row.vccv {
+            0 => None,
+            bits => Some(bits),
+        },
         status: row.status,
         group: row.group,
         description: row.description,
