@@ -1,12 +1,12 @@
 -- Records of frames.
-use Rattle.std.proofs.Common.{◌≡◌, ◌≤◌, ◌<◌, ◌+◌, ◌/◌, ◌%◌, ◌^◌, ◌++◌, ◌∙◌, ℕ, List, [], ◌∷◌, Option, Some, None, Result, length, drop, get_or, flat_map, refl, sym, ap, subst, arith}
+use Rattle.std.proofs.Common.{◌≡◌, ◌≤◌, ◌<◌, ◌+◌, ◌/◌, ◌%◌, ◌++◌, ◌∙◌, ℕ, List, [], ◌∷◌, Option, Some, None, Result, length, drop, get_or, flat_map, sym, ap, subst, arith}
 use Rattle.std.specs.Prelude.{option_map}
 use Rattle.std.proofs.lemmas.Grind.{flat_map-append}
 use Rattle.std.proofs.lemmas.List.{append-nil, at_drop_more, drop_all}
 use Rattle.byteorder.specs.Endian.{little_bytes}
 use Rattle.net_base.specs.declared.plan.places.CircuitId.{CircuitId}
 use Rattle.net_base.specs.declared.trace.entry.Entry.{Entry}
-use Rattle.pcap_file.specs.Written.{TimedFrame, written_frame, written_header, written_record}
+use Rattle.pcap_file.specs.Written.{written_frame, written_header, written_record}
 use Rattle.capture_text.specs.Capture.{frame_of, frames_left, ticks_after, timed}
 use Rattle.text_lines.specs.Written.{Written, GoesOn, IsCut, Puts}
 use Rattle.text_lines.proofs.WrittenLemmas.{cut_first, goes_none, puts_two}

@@ -2,7 +2,7 @@
 ghost use Rattle.std.specs.Prelude.{◌≡◌, ◌<◌, ◌≤◌, ◌+◌, ◌^◌, flat_map, option_map};
 ghost use Rattle.capture_text.specs.Capture.{capture_text, frame_of, frames_left, octets_left, ticks_after};
 ghost use Rattle.pcap_file.specs.Written.{written_frame, written_header};
-ghost use Rattle.text_lines.specs.Written.{written, Puts};
+ghost use Rattle.text_lines.specs.Written.{PutsOn};
 
 use crate::record::put_record;
 use net_base::{CircuitId, Entry, Event, Failed, Sink};
@@ -45,7 +45,7 @@ fn put_entry<K: Sink>(
     ticks: u64,
     entry: &Entry,
 ) -> Result<(), Failed>
-    ensures { Puts result (written (K.taken sink.old) (K.faults sink.old) page.old) (written (K.taken sink.new) (K.faults sink.new) page.new) (flat_map written_frame (frame_of circuit ticks entry.now)) }
+    ensures { PutsOn K.taken K.faults page.old page.new sink.old sink.new result (flat_map written_frame (frame_of circuit ticks entry.now)) }
 {
     match octets_left(circuit, entry) {
         Some(octets) => put_record(page, sink, ticks, octets),
@@ -60,7 +60,7 @@ fn put_frames<K: Sink>(
     trace: &[Entry],
     circuit: CircuitId,
 ) -> Result<(), Failed>
-    ensures { Puts result (written (K.taken sink.old) (K.faults sink.old) page.old) (written (K.taken sink.new) (K.faults sink.new) page.new) (flat_map written_frame (frames_left circuit 0 trace.now)) }
+    ensures { PutsOn K.taken K.faults page.old page.new sink.old sink.new result (flat_map written_frame (frames_left circuit 0 trace.now)) }
 {
     let mut ticks = 0;
     for entry in trace {
@@ -89,7 +89,7 @@ pub fn put_capture<K: Sink>(
     trace: &[Entry],
     circuit: CircuitId,
 ) -> Result<(), Failed>
-    ensures { Puts result (written (K.taken sink.old) (K.faults sink.old) page.old) (written (K.taken sink.new) (K.faults sink.new) page.new) (capture_text trace.now circuit) }
+    ensures { PutsOn K.taken K.faults page.old page.new sink.old sink.new result (capture_text trace.now circuit) }
 {
     match page.put(sink, &header()) {
         Ok(()) => put_frames(page, sink, trace, circuit),

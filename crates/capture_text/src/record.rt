@@ -1,7 +1,7 @@
 //! The record of a frame.
-ghost use Rattle.std.specs.Prelude.{◌≡◌, length};
+ghost use Rattle.std.specs.Prelude.{◌≡◌};
 ghost use Rattle.pcap_file.specs.Written.{written_frame, written_record};
-ghost use Rattle.text_lines.specs.Written.{written, Puts};
+ghost use Rattle.text_lines.specs.Written.{PutsOn};
 
 use net_base::{Failed, Sink};
 use pcap_file::write_record;
@@ -30,7 +30,7 @@ pub fn put_record<K: Sink>(
     seconds: u64,
     frame: &[u8],
 ) -> Result<(), Failed>
-    ensures { Puts result (written (K.taken sink.old) (K.faults sink.old) page.old) (written (K.taken sink.new) (K.faults sink.new) page.new) (written_frame (record { seconds = seconds; frame = frame.now })) }
+    ensures { PutsOn K.taken K.faults page.old page.new sink.old sink.new result (written_frame (record { seconds = seconds; frame = frame.now })) }
 {
     match page.put(sink, &head_of(seconds, frame.len())) {
         Ok(()) => page.put(sink, frame),
