@@ -4,10 +4,9 @@ ghost use Rattle.net_base.specs.plan.Accepted.{IsWithinLimits};
 ghost use Rattle.edge_model.specs.State.{addresses_of};
 ghost use Rattle.hvpls_spokes.specs.Port.{ports_of};
 ghost use Rattle.provider_edge.specs.Lists.{seen};
-ghost use Rattle.tables_text.specs.Addresses.{by_address};
 ghost use Rattle.tables_text.specs.Tables.{address_line, address_lines, address_words, port_name, service_lines, service_name, service_text};
 ghost use Rattle.text_lines.specs.Lines.{word_octets};
-ghost use Rattle.text_lines.specs.Written.{written, Puts};
+ghost use Rattle.text_lines.specs.Written.{PutsOn};
 
 use crate::sorting::Sorting;
 use hvpls_spokes::{Port, Ports};
@@ -56,7 +55,7 @@ fn put_entry<K: Sink>(
     service: &Service<'_>,
     entry: &MacEntry,
 ) -> Result<(), Failed>
-    ensures { Puts result (written (K.taken sink.old) (K.faults sink.old) page.old) (written (K.taken sink.new) (K.faults sink.new) page.new) (address_line service.now.plan.now service.now.name.now service.now.ports.now entry.now) }
+    ensures { PutsOn K.taken K.faults page.old page.new sink.old sink.new result (address_line service.now.plan.now service.now.name.now service.now.ports.now entry.now) }
 {
     page.put_line(sink, b"mac", &words(service, entry))
 }
@@ -68,28 +67,12 @@ fn put_entries<K: Sink>(
     service: &Service<'_>,
     entries: &[MacEntry],
 ) -> Result<(), Failed>
-    ensures { Puts result (written (K.taken sink.old) (K.faults sink.old) page.old) (written (K.taken sink.new) (K.faults sink.new) page.new) (address_lines service.now.plan.now service.now.name.now service.now.ports.now entries.now) }
+    ensures { PutsOn K.taken K.faults page.old page.new sink.old sink.new result (address_lines service.now.plan.now service.now.name.now service.now.ports.now entries.now) }
 {
     for entry in entries {
         put_entry(page, sink, service, entry)?;
     }
     Ok(())
-}
-
-// Puts the lines of the addresses of a table, in order.
-fn put_table<K: Sink>(
-    page: &mut Page,
-    sink: &mut K,
-    sorting: &mut Sorting,
-    service: &Service<'_>,
-    table: &MacTable,
-) -> Result<(), Failed>
-    requires { length table.now.entries ≤ 4096 }
-    ensures { Puts result (written (K.taken sink.old) (K.faults sink.old) page.old) (written (K.taken sink.new) (K.faults sink.new) page.new)
-        (address_lines service.now.plan.now service.now.name.now service.now.ports.now (by_address table.now.entries)) }
-{
-    sorting.fill(table);
-    put_entries(page, sink, service, sorting.as_slice())
 }
 
 // The addresses of a bridge, at most 4,096.
@@ -103,17 +86,7 @@ fn table_in(bridge: &Bridge) -> &MacTable
     table
 }
 
-// The name of the service at a place; empty outside the plan.
-fn service_octets(plan: &Plan, place: usize) -> &[u8]
-    ensures { result.now ≡ service_name plan.now place }
-{
-    match plan.services.get(place) {
-        Some(row) => row.name.as_slice(),
-        None => &[],
-    }
-}
-
-// The service at a place, over the ports of its bridge.
+// The service at a place, over the ports of its bridge. Its name is empty outside the plan.
 fn service_over<'a>(edge: &'a Edge, place: usize, bridge: &'a Bridge) -> Service<'a>
     ensures plan { result.plan.now ≡ edge.now.plan }
     ensures name { result.name.now ≡ service_name edge.now.plan place }
@@ -122,12 +95,15 @@ fn service_over<'a>(edge: &'a Edge, place: usize, bridge: &'a Bridge) -> Service
     let plan = edge.plan();
     Service {
         plan,
-        name: service_octets(plan, place),
+        name: match plan.services.get(place) {
+            Some(row) => row.name.as_slice(),
+            None => &[],
+        },
         ports: bridge.ports(),
     }
 }
 
-// Puts the lines of the addresses of a service. Where it has no port at the edge, it has no bridge there.
+// Puts the lines of the addresses of a service, in order. Where it has no port at the edge, it has no bridge there.
 fn put_service<K: Sink>(
     page: &mut Page,
     sink: &mut K,
@@ -137,23 +113,17 @@ fn put_service<K: Sink>(
 ) -> Result<(), Failed>
     requires limits { IsWithinLimits edge.now.plan }
     requires place { place < length edge.now.plan.services }
-    ensures { Puts result (written (K.taken sink.old) (K.faults sink.old) page.old) (written (K.taken sink.new) (K.faults sink.new) page.new)
+    ensures { PutsOn K.taken K.faults page.old page.new sink.old sink.new result
         (service_text edge.now.plan (service_name edge.now.plan place) (ports_of edge.now.plan (record { 0 = place }) edge.now.me) (addresses_of (seen edge.now) (record { 0 = place }))) }
 {
     match edge.bridge(ServiceId(place as u16)) {
         Some(bridge) => {
             let service = service_over(edge, place, bridge);
-            put_table(page, sink, sorting, &service, table_in(bridge))
+            sorting.fill(table_in(bridge));
+            put_entries(page, sink, &service, sorting.as_slice())
         }
         None => Ok(()),
     }
-}
-
-// How many services the plan has.
-fn service_count(edge: &Edge) -> usize
-    ensures { result ≡ length edge.now.plan.services }
-{
-    edge.plan().services.len()
 }
 
 /// Puts the lines of the addresses that an edge has learned, service by service in the plan's order, each by its octets.
@@ -164,9 +134,9 @@ pub fn put_addresses<K: Sink>(
     edge: &Edge,
 ) -> Result<(), Failed>
     requires { IsWithinLimits edge.now.plan }
-    ensures { Puts result (written (K.taken sink.old) (K.faults sink.old) page.old) (written (K.taken sink.new) (K.faults sink.new) page.new) (service_lines edge.now.plan edge.now.me (seen edge.now) 0 edge.now.plan.services) }
+    ensures { PutsOn K.taken K.faults page.old page.new sink.old sink.new result (service_lines edge.now.plan edge.now.me (seen edge.now) 0 edge.now.plan.services) }
 {
-    for place in 0..service_count(edge) {
+    for place in 0..edge.plan().services.len() {
         put_service(page, sink, sorting, edge, place)?;
     }
     Ok(())

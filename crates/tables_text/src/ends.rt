@@ -8,7 +8,7 @@ ghost use Rattle.pw_ends.specs.Ends.{place_of};
 ghost use Rattle.pw_signalling.specs.AnyEnd.{end_of};
 ghost use Rattle.tables_text.specs.Tables.{end_line, end_lines, end_text, end_words, local_text, remote_text};
 ghost use Rattle.text_lines.specs.Lines.{word_octets};
-ghost use Rattle.text_lines.specs.Written.{written, Puts};
+ghost use Rattle.text_lines.specs.Written.{PutsOn};
 
 use edge_model::EndPlace;
 use net_base::{Down, Failed, Sink};
@@ -90,20 +90,13 @@ fn words(edge: &Edge, slot: usize, place: EndPlace) -> [Word<'_>; 6]
     ]
 }
 
-// The place of a slot.
-fn place_in(edge: &Edge, slot: usize) -> EndPlace
-    requires { slot < length edge.now.ends.places }
-    ensures { result ≡ place_of edge.now.ends slot }
-{
-    edge.places()[slot]
-}
-
 // Puts the line of the end of a slot.
 fn put_end<K: Sink>(page: &mut Page, sink: &mut K, edge: &Edge, slot: usize) -> Result<(), Failed>
     requires { slot < length edge.now.ends.places }
-    ensures { Puts result (written (K.taken sink.old) (K.faults sink.old) page.old) (written (K.taken sink.new) (K.faults sink.new) page.new) (end_line edge.now.plan (seen edge.now) (place_of edge.now.ends slot)) }
+    ensures { PutsOn K.taken K.faults page.old page.new sink.old sink.new result (end_line edge.now.plan (seen edge.now) (place_of edge.now.ends slot)) }
 {
-    page.put_line(sink, b"end", &words(edge, slot, place_in(edge, slot)))
+    let place = edge.places()[slot];
+    page.put_line(sink, b"end", &words(edge, slot, place))
 }
 
 // How many ends the edge has.
@@ -116,7 +109,7 @@ fn end_count(edge: &Edge) -> usize
 
 /// Puts the lines of the ends of an edge, in the plan's order of the wires, and in that of the segments of each.
 pub fn put_ends<K: Sink>(page: &mut Page, sink: &mut K, edge: &Edge) -> Result<(), Failed>
-    ensures { Puts result (written (K.taken sink.old) (K.faults sink.old) page.old) (written (K.taken sink.new) (K.faults sink.new) page.new) (end_lines edge.now.plan (seen edge.now) (end_places edge.now.plan edge.now.me)) }
+    ensures { PutsOn K.taken K.faults page.old page.new sink.old sink.new result (end_lines edge.now.plan (seen edge.now) (end_places edge.now.plan edge.now.me)) }
 {
     for slot in 0..end_count(edge) {
         put_end(page, sink, edge, slot)?;

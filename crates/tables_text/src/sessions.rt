@@ -1,11 +1,11 @@
 //! The lines of the sessions of an edge.
-ghost use Rattle.std.specs.Prelude.{◌≡◌, [], length, map, if◌then◌else◌};
+ghost use Rattle.std.specs.Prelude.{◌≡◌, [], map, if◌then◌else◌};
 ghost use Rattle.net_base.specs.plan.Accepted.{IsWithinLimits};
 ghost use Rattle.net_base.specs.plan.Paths.{are_joined};
 ghost use Rattle.provider_edge.specs.Lists.{seen};
 ghost use Rattle.tables_text.specs.Tables.{session_line, session_lines, session_words};
 ghost use Rattle.text_lines.specs.Lines.{word_octets};
-ghost use Rattle.text_lines.specs.Written.{written, Puts};
+ghost use Rattle.text_lines.specs.Written.{PutsOn};
 
 use net_base::{EdgeId, Failed, Sink};
 use provider_edge::Edge;
@@ -30,7 +30,7 @@ fn put_session<K: Sink>(
     edge: &Edge,
     peer: EdgeId,
 ) -> Result<(), Failed>
-    ensures { Puts result (written (K.taken sink.old) (K.faults sink.old) page.old) (written (K.taken sink.new) (K.faults sink.new) page.new)
+    ensures { PutsOn K.taken K.faults page.old page.new sink.old sink.new result
         (if are_joined edge.now.plan edge.now.me.0 peer.0 then session_line edge.now.plan (seen edge.now) peer else []) }
 {
     if edge.plan().joined(edge.me(), peer) {
@@ -40,19 +40,12 @@ fn put_session<K: Sink>(
     }
 }
 
-// How many edges the plan has.
-fn edge_count(edge: &Edge) -> usize
-    ensures { result ≡ length edge.now.plan.edges }
-{
-    edge.plan().edges.len()
-}
-
 /// Puts the lines of the sessions of an edge with its neighbours, in the plan's order.
 pub fn put_sessions<K: Sink>(page: &mut Page, sink: &mut K, edge: &Edge) -> Result<(), Failed>
     requires { IsWithinLimits edge.now.plan }
-    ensures { Puts result (written (K.taken sink.old) (K.faults sink.old) page.old) (written (K.taken sink.new) (K.faults sink.new) page.new) (session_lines edge.now.plan edge.now.me (seen edge.now) 0 edge.now.plan.edges) }
+    ensures { PutsOn K.taken K.faults page.old page.new sink.old sink.new result (session_lines edge.now.plan edge.now.me (seen edge.now) 0 edge.now.plan.edges) }
 {
-    for place in 0..edge_count(edge) {
+    for place in 0..edge.plan().edges.len() {
         put_session(page, sink, edge, EdgeId(place as u16))?;
     }
     Ok(())

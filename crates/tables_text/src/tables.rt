@@ -1,10 +1,10 @@
 //! The tables of a network.
-ghost use Rattle.std.specs.Prelude.{◌≡◌, ◌<◌, length};
+ghost use Rattle.std.specs.Prelude.{◌<◌, length};
 ghost use Rattle.net_base.specs.plan.Accepted.{IsChecked};
 ghost use Rattle.network_model.specs.State.{edge_at};
 ghost use Rattle.psn_net.specs.Lists.{seen};
 ghost use Rattle.tables_text.specs.Tables.{edge_text, tables};
-ghost use Rattle.text_lines.specs.Written.{written, Puts};
+ghost use Rattle.text_lines.specs.Written.{PutsOn};
 
 use crate::edge_text::put_edge;
 use crate::sorting::Sorting;
@@ -22,7 +22,7 @@ fn put_place<K: Sink>(
 ) -> Result<(), Failed>
     requires place { place < length network.now.plan.edges }
     requires checked { IsChecked network.now.plan }
-    ensures { Puts result (written (K.taken sink.old) (K.faults sink.old) page.old) (written (K.taken sink.new) (K.faults sink.new) page.new) (edge_text network.now.plan (record { 0 = place }) (edge_at (seen network.now) (record { 0 = place }))) }
+    ensures { PutsOn K.taken K.faults page.old page.new sink.old sink.new result (edge_text network.now.plan (record { 0 = place }) (edge_at (seen network.now) (record { 0 = place }))) }
 {
     match network.edge(EdgeId(place as u16)) {
         Some(edge) => put_edge(page, sink, sorting, edge),
@@ -40,7 +40,7 @@ pub fn put_tables<K: Sink>(
     sorting: &mut Sorting,
     network: &Network,
 ) -> Result<(), Failed>
-    ensures { Puts result (written (K.taken sink.old) (K.faults sink.old) page.old) (written (K.taken sink.new) (K.faults sink.new) page.new) (tables network.now.plan (seen network.now)) }
+    ensures { PutsOn K.taken K.faults page.old page.new sink.old sink.new result (tables network.now.plan (seen network.now)) }
 {
     for place in 0..network.count() {
         put_place(page, sink, sorting, network, place)?;
