@@ -1,8 +1,7 @@
 -- The status of octets is one, or they have one fault.
-use Rattle.std.proofs.Common.{◌≡◌, ◌∙◌, ℕ, List, sym, inl}
+use Rattle.std.proofs.Common.{◌≡◌, ◌∙◌, ℕ, List, sym}
 use Rattle.pw_tlvs.specs.declared.field_fault.FieldFault.{FieldFault}
 use Rattle.pw_tlvs.specs.declared.pw_status.PwStatus.{PwStatus}
-use Rattle.pw_tlvs.specs.Faults.{IsInside}
 use Rattle.pw_tlvs.specs.Status.{IsPwStatus, IsStatusFault}
 
 pub one_status : (octets : List ℕ) (a b : PwStatus) → IsPwStatus octets a → IsPwStatus octets b → a ≡ b
@@ -10,7 +9,3 @@ one_status octets a b one other = let bits = one.bits ∙ sym other.bits in λ i
 
 pub never_status : (octets : List ℕ) (a : PwStatus) (f : FieldFault) → IsPwStatus octets a → IsStatusFault octets f → ⊥
 never_status octets a f is named = named.other is.size
-
--- the fault that can be named is a wrong size
-pub status_inside : (octets : List ℕ) (f : FieldFault) → IsStatusFault octets f → IsInside octets f
-status_inside octets f named = inl named.is

@@ -8,7 +8,6 @@ ghost use Rattle.pw_tlvs.specs.Faults.{IsFirstIn, IsInside};
 ghost use Rattle.pw_tlvs.specs.SubTlvs.{IsNamed};
 ghost use Rattle.pw_tlvs.specs.Fec.{IsFecValue, IsFecFault, IsPwFec, IsPwid, IsInformation, IsTooShort, information_length};
 
-use crate::found_params::no_text;
 use crate::parameters::read_parameters;
 use crate::{FecValue, FieldFault, IfParams, PwFec};
 use byteorder::{BigEndian, ByteOrder};
@@ -26,13 +25,7 @@ fn information_of(information: &[u8]) -> Result<(Option<u32>, IfParams), FieldFa
     ensures some { IfErr result (λ _. 4 ≤ length information.now) }
 {
     if information.is_empty() {
-        let none = IfParams {
-            mtu: None,
-            description: no_text(),
-            vlan: None,
-            vccv: None,
-        };
-        return Ok((None, none));
+        return Ok((None, IfParams::none()));
     }
     let (pw_id, octets) = information.split_at(4);
     match read_parameters(octets) {

@@ -1,5 +1,8 @@
 //! Interface parameters of a pseudowire.
+ghost use Rattle.std.specs.Prelude.{◌≡◌};
+ghost use Rattle.pw_tlvs.specs.Fec.{no_params};
 
+use crate::found_params::no_text;
 use net_values::Text;
 
 /// The interface parameters of a PWid FEC element (RFC 8077 section 6.4, types of RFC 4446 section 3.3).
@@ -14,4 +17,18 @@ pub struct IfParams {
     /// The VCCV control channel types and connectivity verification types as bits (RFC 5085 section 5.3.1),
     /// where they are told.
     pub vccv: Option<(u8, u8)>,
+}
+
+impl IfParams {
+    /// No parameter is told.
+    pub fn none() -> IfParams
+        ensures { result ≡ no_params }
+    {
+        IfParams {
+            mtu: None,
+            description: no_text(),
+            vlan: None,
+            vccv: None,
+        }
+    }
 }
