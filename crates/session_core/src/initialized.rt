@@ -11,7 +11,7 @@ ghost use Rattle.session_core.specs.State.{IsKept, Stands, in_phase, IsProper, o
 ghost use Rattle.session_core.specs.Table.{after, notified, reason_in, Received, said_replies, Start, view_after};
 
 use crate::endings::{ended, reason_in, refused_proposal, unexpected};
-use crate::parameters::refusal_of;
+use crate::parameters::{LONGEST_PDU, refusal_of};
 use crate::stage::{Case, Stage};
 use crate::standing::Standing;
 use crate::{In, OpenRec, OpenSent, Peers, Replies, Reply, Session};
@@ -50,7 +50,14 @@ impl In<Initialized> {
         requires { IsProper peers }
         ensures { in_phase phase.Initialized result ≡ opened peers }
     {
-        In::entered(Standing::opened(peers), Initialized)
+        let standing = Standing {
+            peers,
+            hold: peers.keepalive,
+            max_pdu: LONGEST_PDU,
+            wait: 0,
+            silence: 0,
+        };
+        In::entered(standing, Initialized)
     }
 
     /// Sends the Initialization of this end, which is the active one (RFC 5036 section 2.5.3).
@@ -81,18 +88,6 @@ impl In<Initialized> {
         ensures peer_fatal { HasEnded result.0 Reason.PeerFatal ↔ IsTrue (tells_error message.now) }
     {
         self.by_row(message)
-    }
-
-    // The same where this end is the active one; else the session stays as it is.
-    pub(crate) fn start_where_active(self) -> (Session, Replies)
-        ensures session { view_of result.0 ≡ after phase.Initialized self Start }
-        ensures replies { result.1 ≡ said_replies phase.Initialized self Start }
-    {
-        if !self.standing().peers.is_active() {
-            return (Session::Initialized(self), Replies::none());
-        }
-        let (started, replies) = self.start();
-        (Session::OpenSent(started), replies)
     }
 
     // The row of a message.

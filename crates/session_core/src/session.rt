@@ -45,7 +45,10 @@ impl Session {
         ensures replies { result.1 ≡ view_said (view_of self) Start }
     {
         match self {
-            Session::Initialized(state) => state.start_where_active(),
+            Session::Initialized(state) if state.standing().peers.is_active() => {
+                let (started, replies) = state.start();
+                (Session::OpenSent(started), replies)
+            }
             session => (session, Replies::none()),
         }
     }

@@ -2,11 +2,11 @@
 ghost use Rattle.std.specs.Prelude.{◌≡◌, ◌<◌, ◌+◌, ◌^◌, ◌↔◌, ◌&&◌, [], ◌∷◌, IfSome, IfNone, None, min, false, true, nat_le, if◌then◌else◌};
 ghost use Rattle.session_core.specs.Parameters.{is_platform, longest, proposal_refusal};
 ghost use Rattle.session_core.specs.Phase as phase;
-ghost use Rattle.session_core.specs.State.{IsKept, IsProper, in_phase, opened};
+ghost use Rattle.session_core.specs.State.{IsKept, IsProper};
 ghost use Rattle.session_core.specs.Table.{one_more, third};
 ghost use Rattle.session_core.specs.declared.reply.Reply.TheVariants as reply;
 
-use crate::parameters::{LONGEST_PDU, is_platform, longest};
+use crate::parameters::{is_platform, longest};
 use crate::{Peers, Replies, Reply};
 use ldp_grammar::{LdpId, SessionParams};
 
@@ -26,21 +26,6 @@ pub struct Standing {
 }
 
 impl Standing {
-    // A connection of which nothing came yet.
-    pub(crate) fn opened(peers: Peers) -> Standing
-        requires { IsProper peers }
-        ensures state { in_phase phase.Initialized result ≡ opened peers }
-        ensures kept { IsKept phase.Initialized result }
-    {
-        Standing {
-            peers,
-            hold: peers.keepalive,
-            max_pdu: LONGEST_PDU,
-            wait: 0,
-            silence: 0,
-        }
-    }
-
     // What the two proposals agree on: the smaller of both, of the KeepAlive Time and of the Max PDU Length. The proposal
     // is acceptable.
     pub(crate) fn agreed(self, params: &SessionParams) -> Standing
