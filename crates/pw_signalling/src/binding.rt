@@ -1,6 +1,6 @@
 //! What an end holds of its peer.
-ghost use Rattle.std.specs.Prelude.{◌≡◌, Some, option_copied};
-ghost use Rattle.pw_signalling.specs.Rows.{binding_with_status, is_in_group, names, unless_named};
+ghost use Rattle.std.specs.Prelude.{◌≡◌, option_copied};
+ghost use Rattle.pw_signalling.specs.Rows.{binding_with_status, is_in_group, names};
 
 use crate::Told;
 use net_base::Label;
@@ -34,17 +34,6 @@ pub(crate) fn is_named(label: Option<Label>, own: Label) -> bool
     match label {
         Some(label) => label == own,
         None => true,
-    }
-}
-
-// What is left of a binding after a withdrawal of this label, or of all labels.
-pub(crate) fn left(binding: &Binding, label: Option<Label>) -> Option<Binding>
-    ensures { result ≡ unless_named label (Some binding.now) }
-{
-    if is_named(label, binding.label) {
-        None
-    } else {
-        Some(*binding)
     }
 }
 

@@ -2,10 +2,9 @@
 ghost use Rattle.std.specs.Prelude.{◌≡◌, option_copied};
 ghost use Rattle.pw_signalling.specs.Down.{down};
 ghost use Rattle.pw_signalling.specs.AnyEnd.{end_of};
-ghost use Rattle.pw_signalling.specs.End.{advertised_end, withdrawing_end};
 ghost use Rattle.pw_signalling.specs.Rows.{bound, group_stated, group_unbound, lost, released, stated, unbound, with_remote};
 
-use crate::binding::{is_named, is_of_group, left};
+use crate::binding::{is_named, is_of_group};
 use crate::cause::cause;
 use crate::{Binding, EndRole, PwAdvertised, PwIdle, PwWithdrawing};
 use net_base::{Down, Label};
@@ -48,11 +47,8 @@ impl PwEnd {
         ensures state { end_of result ≡ unbound label (end_of self) }
     {
         match self.remote() {
-            Some(binding) => {
-                let remote = left(binding, label);
-                self.with_remote(remote)
-            }
-            None => self,
+            Some(binding) if is_named(label, binding.label) => self.with_remote(None),
+            _ => self,
         }
     }
 
@@ -63,9 +59,13 @@ impl PwEnd {
         ensures state { end_of result ≡ released label (end_of self) }
     {
         match self {
-            PwEnd::Idle(end) => PwEnd::Idle(end),
-            PwEnd::Advertised(end) => decline(end, label),
-            PwEnd::Withdrawing(end) => release(end, label),
+            PwEnd::Advertised(end) if is_named(label, end.label()) => {
+                PwEnd::Idle(PwIdle::with(true, end.remote().copied()))
+            }
+            PwEnd::Withdrawing(end) if is_named(label, end.label()) => {
+                PwEnd::Idle(PwIdle::with(false, end.remote().copied()))
+            }
+            end => end,
         }
     }
 
@@ -136,27 +136,5 @@ impl PwEnd {
             PwEnd::Advertised(end) => PwEnd::Advertised(end.with_remote(remote)),
             PwEnd::Withdrawing(end) => PwEnd::Withdrawing(end.with_remote(remote)),
         }
-    }
-}
-
-// The peer released a label, or all labels, of an end that advertises: it declines the own one.
-fn decline(end: PwAdvertised, label: Option<Label>) -> PwEnd
-    ensures { end_of result ≡ released label (advertised_end end) }
-{
-    if is_named(label, end.label()) {
-        PwEnd::Idle(PwIdle::with(true, end.remote().copied()))
-    } else {
-        PwEnd::Advertised(end)
-    }
-}
-
-// The peer released a label, or all labels, of an end that has withdrawn its own.
-fn release(end: PwWithdrawing, label: Option<Label>) -> PwEnd
-    ensures { end_of result ≡ released label (withdrawing_end end) }
-{
-    if is_named(label, end.label()) {
-        PwEnd::Idle(PwIdle::with(false, end.remote().copied()))
-    } else {
-        PwEnd::Withdrawing(end)
     }
 }

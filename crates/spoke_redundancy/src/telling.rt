@@ -12,12 +12,5 @@ use pw_tlvs::PwStatus;
 pub fn status_to_tell(role: EndRole, bits: u8) -> PwStatus
     ensures status { result ≡ combined bits (is_not_chosen role) }
 {
-    combine(bits, is_not_chosen(role))
-}
-
-// Whether the end is one of a spoke that was not chosen.
-fn is_not_chosen(role: EndRole) -> bool
-    ensures { result ≡ is_not_chosen role }
-{
-    matches!(role, EndRole::NotChosen)
+    combine(bits, matches!(role, EndRole::NotChosen))
 }
