@@ -1,7 +1,7 @@
 //! What is told of messages that are not processed.
-ghost use Rattle.std.specs.Prelude.{◌≡◌, ◌<◌, ◌^◌, IfSome};
+ghost use Rattle.std.specs.Prelude.{◌≡◌, IfSome};
 ghost use Rattle.session_core.specs.Messages.{HasData};
-ghost use Rattle.edge_model.specs.Hear.{advice_of, advisory, data_for};
+ghost use Rattle.edge_model.specs.Hear.{advice_of, advisory};
 
 use ldp_grammar::{Message, MessageKind, StatusCode, Why};
 use session_core::Reply;
@@ -31,7 +31,12 @@ pub fn advice_of(message: &Message) -> Option<Reply>
             if *kind == MessageKind::Notification.number() {
                 return None;
             }
-            Some(advisory(message, data_for(*why)))
+            let code = match *why {
+                Why::UnknownTlv(_) => UNKNOWN_TLV,
+                Why::Missing(_) => MISSING_PARAMETERS,
+                Why::UnknownFec(_) => UNKNOWN_FEC,
+            };
+            Some(advisory(message, code))
         }
         _ => None,
     }
@@ -48,16 +53,4 @@ fn advisory(message: &Message, code: u32) -> Reply
         message: message.id(),
         kind: message.message_type(),
     })
-}
-
-// The status data of a reason.
-fn data_for(why: Why) -> u32
-    ensures data { result ≡ data_for why }
-    ensures small { result < 2 ^ 30 }
-{
-    match why {
-        Why::UnknownTlv(_) => UNKNOWN_TLV,
-        Why::Missing(_) => MISSING_PARAMETERS,
-        Why::UnknownFec(_) => UNKNOWN_FEC,
-    }
 }

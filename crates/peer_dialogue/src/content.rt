@@ -1,11 +1,10 @@
 //! What is told of a pseudowire.
-ghost use Rattle.std.specs.Prelude.{◌≡◌, ◌≤◌, [], true, option_map, if◌then◌else◌};
-ghost use Rattle.edge_model.specs.Content.{bare, bare_fec_of, binding_in, content_of, ethernet_raw, ethernet_tagged, fec_of, icmp_ping, params_of};
-ghost use Rattle.pw_tlvs.specs.Fec.{no_params};
+ghost use Rattle.std.specs.Prelude.{◌≡◌, ◌≤◌, true};
+ghost use Rattle.edge_model.specs.Content.{bare, bare_fec_of, binding_in, content_of, fec_of};
 ghost use Rattle.net_base.specs.plan.Accepted.{IsOffer};
 ghost use Rattle.pw_tlvs.specs.Written.{has_vlan};
 
-use net_base::{Label, Offer, Text};
+use net_base::{Label, Offer};
 use pw_signalling::{Binding, Told};
 use pw_tlvs::{IfParams, Points, PwFec, PwStatus};
 
@@ -24,38 +23,25 @@ pub fn content_of(offer: &Offer, status: Option<PwStatus>) -> Told
     ensures kind { result.kind ≤ 0x7FFF }
     ensures vlan { IsOffer offer.now → has_vlan result.vlan ≡ true }
 {
-    Told {
-        c: offer.cword,
-        kind: kind_of(offer.tagged),
-        group: offer.group,
-        mtu: offer.mtu,
-        vlan: offer.vlan,
-        vccv: channels_of(offer.vccv),
-        description: offer.description,
-        status,
-        points: Points::empty(),
-    }
-}
-
-// The PW type of the tagged mode, or of the raw mode.
-fn kind_of(tagged: bool) -> u16
-    ensures kind { result ≡ (if tagged then ethernet_tagged else ethernet_raw) }
-    ensures most { result ≤ 0x7FFF }
-{
-    if tagged {
+    let kind = if offer.tagged {
         ETHERNET_TAGGED
     } else {
         ETHERNET_RAW
-    }
-}
-
-// The VCCV channels with a ping.
-fn channels_of(vccv: Option<u8>) -> Option<(u8, u8)>
-    ensures { result ≡ option_map (λ channels. (channels, icmp_ping)) vccv }
-{
-    match vccv {
+    };
+    let vccv = match offer.vccv {
         Some(channels) => Some((channels, ICMP_PING)),
         None => None,
+    };
+    Told {
+        c: offer.cword,
+        kind,
+        group: offer.group,
+        mtu: offer.mtu,
+        vlan: offer.vlan,
+        vccv,
+        description: offer.description,
+        status,
+        points: Points::empty(),
     }
 }
 
@@ -68,19 +54,12 @@ pub fn fec_of(pw_id: u32, told: &Told) -> PwFec
         kind: told.kind,
         group: told.group,
         pw_id: Some(pw_id),
-        params: params_of(told),
-    }
-}
-
-// The interface parameters that are told.
-fn params_of(told: &Told) -> IfParams
-    ensures { result ≡ params_of told.now }
-{
-    IfParams {
-        mtu: told.mtu,
-        description: told.description,
-        vlan: told.vlan,
-        vccv: told.vccv,
+        params: IfParams {
+            mtu: told.mtu,
+            description: told.description,
+            vlan: told.vlan,
+            vccv: told.vccv,
+        },
     }
 }
 
@@ -93,29 +72,7 @@ pub fn bare_fec_of(pw_id: u32, told: &Told) -> PwFec
         kind: told.kind,
         group: told.group,
         pw_id: Some(pw_id),
-        params: no_params(),
-    }
-}
-
-// No interface parameter.
-fn no_params() -> IfParams
-    ensures { result ≡ no_params }
-{
-    IfParams {
-        mtu: None,
-        description: no_text(),
-        vlan: None,
-        vccv: None,
-    }
-}
-
-// A text without an octet.
-fn no_text() -> Text<80>
-    ensures { result ≡ [] }
-{
-    match Text::read(&[]) {
-        Some(text) => text,
-        None => unreachable!(),
+        params: IfParams::none(),
     }
 }
 
@@ -124,7 +81,7 @@ pub fn bare(fec: &PwFec) -> PwFec
     ensures fec { result ≡ bare fec.now }
 {
     PwFec {
-        params: no_params(),
+        params: IfParams::none(),
         ..*fec
     }
 }

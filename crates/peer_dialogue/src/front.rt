@@ -1,7 +1,7 @@
 //! What stands in front of a stream.
 ghost use Rattle.std.specs.Prelude.{IfOk, IfSome};
 ghost use Rattle.ldp_codec.specs.Views.{IsPduOf};
-ghost use Rattle.peer_dialogue.specs.Hearing.{IsSeenAs, StandsIn, alive};
+ghost use Rattle.peer_dialogue.specs.Hearing.{StandsIn, alive};
 
 use crate::next::Next;
 use ldp_codec::PduView;
@@ -25,16 +25,6 @@ fn alone(pdu: &PduView<'_>) -> Option<(LdpId, u32)>
     Some((pdu.id(), message.number()))
 }
 
-// The KeepAlive that a PDU is, or the PDU as a value of its own.
-fn read(alloc: Global, pdu: &PduView<'_>) -> Result<Next, NoMemory>
-    ensures { IfOk result (IsSeenAs pdu.now) }
-{
-    match alone(pdu) {
-        Some((sender, id)) => Ok(Next::KeepAlive { sender, id }),
-        None => Ok(Next::Pdu(pdu.read(alloc)?)),
-    }
-}
-
 /// What stands in front of the octets of a stream, which does not change. The PDU of one KeepAlive takes no memory.
 #[tactic(auto, using(crate::proofs::FrontLemmas::stands_seen, crate::proofs::FrontLemmas::stands_refused))]
 pub fn front_in(alloc: Global, stream: &Stream) -> Result<Next, NoMemory>
@@ -42,7 +32,10 @@ pub fn front_in(alloc: Global, stream: &Stream) -> Result<Next, NoMemory>
 {
     match stream.peek() {
         Ok(None) => Ok(Next::More),
-        Ok(Some(pdu)) => read(alloc, &pdu),
+        Ok(Some(pdu)) => match alone(&pdu) {
+            Some((sender, id)) => Ok(Next::KeepAlive { sender, id }),
+            None => Ok(Next::Pdu(pdu.read(alloc)?)),
+        },
         Err(StreamFault::Refused { fault, .. }) => Ok(Next::Fault(fault)),
         Err(StreamFault::NoMemory) => Err(NoMemory),
     }

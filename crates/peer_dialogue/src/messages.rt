@@ -1,15 +1,14 @@
 //! The messages about a pseudowire.
-ghost use Rattle.std.specs.Prelude.{◌≡◌, ◌≤◌, ◌+◌, true, flat_map, length};
-ghost use Rattle.edge_model.specs.Content.{mac_withdrawal, mapping, pw_status_notice, release, status_notification, withdrawal};
-ghost use Rattle.ldp_grammar.specs.Written.{address_octets, mac_count, message_octets, point_tlvs, writable};
-ghost use Rattle.ldp_grammar.specs.Tlvs.{spell_tlv};
+ghost use Rattle.std.specs.Prelude.{◌≡◌, ◌≤◌, ◌+◌, true, length};
+ghost use Rattle.edge_model.specs.Content.{mac_withdrawal, mapping, release, status_notification, withdrawal};
+ghost use Rattle.ldp_grammar.specs.Written.{address_octets, mac_count, message_octets, writable};
 ghost use Rattle.pw_tlvs.specs.Written.{has_vlan};
 
 use crate::content::{bare, bare_fec_of, fec_of};
-use ldp_grammar::{Message, StatusCode, TLV_HEADER};
+use ldp_grammar::{Message, StatusCode, points_size};
 use net_base::{Label, List, Mac};
 use pw_signalling::Told;
-use pw_tlvs::{Points, PwFec, PwStatus, fec_size, macs_size, point_size};
+use pw_tlvs::{PwFec, PwStatus, fec_size, macs_size};
 
 // The status data of a Notification that tells the status of a pseudowire (RFC 8077 section 6.3.2).
 const PW_STATUS_CODE: u32 = 0x28;
@@ -78,7 +77,13 @@ pub fn status_notification(pw_id: u32, status: PwStatus, told: &Told, id: u32) -
 {
     Message::Notification {
         id,
-        status: pw_status_notice(),
+        status: StatusCode {
+            fatal: false,
+            forward: false,
+            code: PW_STATUS_CODE,
+            message: 0,
+            kind: 0,
+        },
         pw_status: Some(status),
         fec: Some(bare_fec_of(pw_id, told)),
     }
@@ -103,32 +108,4 @@ pub fn mac_withdrawal(pw_id: u32, addresses: List<Mac>, told: &Told, id: u32) ->
         fec: Some(fec),
         macs: Some(addresses),
     }
-}
-
-// The status of a Notification that tells the status of a pseudowire.
-fn pw_status_notice() -> StatusCode
-    ensures { result ≡ pw_status_notice }
-{
-    StatusCode {
-        fatal: false,
-        forward: false,
-        code: PW_STATUS_CODE,
-        message: 0,
-        kind: 0,
-    }
-}
-
-// The octets of the TLVs of switching points.
-fn points_size(points: &Points) -> usize
-    ensures size { result ≡ length (flat_map spell_tlv (point_tlvs points.now)) }
-    ensures most { result ≤ 66 }
-{
-    let mut size = 0;
-    let mut index = 0;
-    'adding: while index < points.len() {
-        let point = points.get(index).unwrap();
-        size += TLV_HEADER + point_size(&point);
-        index += 1;
-    }
-    size
 }

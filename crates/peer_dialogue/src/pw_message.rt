@@ -69,18 +69,10 @@ impl PwMessage<'_> {
                 addresses,
                 told,
             } => {
-                let addresses = list_of(alloc, addresses)?;
-                Ok(mac_withdrawal(*pw_id, addresses, told, id))
+                let mut list = List::new(alloc);
+                list.extend_from_slice(addresses)?;
+                Ok(mac_withdrawal(*pw_id, list, told, id))
             }
         }
     }
-}
-
-// A list of these addresses.
-fn list_of(alloc: Global, addresses: &[Mac]) -> Result<List<Mac>, NoMemory>
-    ensures { IfOk result (λ list. list ≡ addresses.now) }
-{
-    let mut list = List::new(alloc);
-    list.extend_from_slice(addresses)?;
-    Ok(list)
 }

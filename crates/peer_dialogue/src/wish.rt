@@ -1,5 +1,5 @@
 //! What an end should tell.
-ghost use Rattle.std.specs.Prelude.{◌≡◌, ◌≤◌, true, Some, None, option_copied, IfSome, if◌then◌else◌};
+ghost use Rattle.std.specs.Prelude.{◌≡◌, ◌≤◌, true, option_copied, IfSome};
 ghost use Rattle.net_base.specs.plan.Accepted.{IsOffer};
 ghost use Rattle.pw_tlvs.specs.Written.{has_vlan};
 ghost use Rattle.pw_status.specs.Status.{method_by};
@@ -25,33 +25,20 @@ pub fn terminal_wish(
     ensures kind { IfSome result (λ told. told.kind ≤ 0x7FFF) }
     ensures vlan { IsOffer offer.now → IfSome result (λ told. has_vlan told.vlan ≡ true) }
 {
-    if tells_status(offer, remote) || bits == 0 {
-        Some(content_of(offer, status_offered(offer, status)))
-    } else {
-        None
+    if !tells_status(offer, remote) && bits != 0 {
+        return None;
     }
+    let offered = if offer.status { Some(status) } else { None };
+    Some(content_of(offer, offered))
 }
 
 // Whether the end tells its peer of failures by a status.
 fn tells_status(offer: &Offer, remote: Option<&Binding>) -> bool
     ensures { result ≡ tells_status (method_by offer.now.status (status_held (option_copied remote.entry))) }
 {
-    matches!(method_of(offer.status, status_held(remote)), Method::Told)
-}
-
-// The status of a binding, where one is held.
-fn status_held(remote: Option<&Binding>) -> Option<Option<PwStatus>>
-    ensures { result ≡ status_held (option_copied remote.entry) }
-{
-    match remote {
+    let held = match remote {
         Some(binding) => Some(binding.told.status),
         None => None,
-    }
-}
-
-// The status, where the offer tells one.
-fn status_offered(offer: &Offer, status: PwStatus) -> Option<PwStatus>
-    ensures { result ≡ (if offer.now.status then Some status else None) }
-{
-    if offer.status { Some(status) } else { None }
+    };
+    matches!(method_of(offer.status, held), Method::Told)
 }
