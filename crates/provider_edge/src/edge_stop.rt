@@ -1,6 +1,5 @@
 //! Why an edge takes no input.
 
-use net_base::NoMemory;
 use thiserror::Error;
 
 /// Why an edge did not take an input.
@@ -12,15 +11,4 @@ pub enum EdgeStop {
     /// An earlier input was refused memory.
     #[error("stopped")]
     Stopped,
-}
-
-impl From<NoMemory> for EdgeStop {
-    ghost use Rattle.std.specs.Prelude.{◌≡◌};
-    ghost use Rattle.provider_edge.specs.declared.edge_stop.EdgeStop.TheVariants as stop;
-
-    ghost from_gives = { λ _ e. e ≡ stop.NoMemory };
-
-    fn from(_: NoMemory) -> EdgeStop {
-        EdgeStop::NoMemory
-    }
 }

@@ -1,6 +1,5 @@
 //! Why a network goes no further.
 
-use net_base::NoMemory;
 use thiserror::Error;
 
 /// Why a network did not do an event. `event` is the number of that event, counted from 1.
@@ -16,15 +15,4 @@ pub enum NetStop {
     /// Memory was refused. The network is given up, and each later event answers the same.
     #[error("NoMemory")]
     NoMemory,
-}
-
-impl From<NoMemory> for NetStop {
-    ghost use Rattle.std.specs.Prelude.{◌≡◌};
-    ghost use Rattle.psn_net.specs.declared.net_stop.NetStop.TheVariants as stop;
-
-    ghost from_gives = { λ _ e. e ≡ stop.NoMemory };
-
-    fn from(_: NoMemory) -> NetStop {
-        NetStop::NoMemory
-    }
 }

@@ -6,7 +6,6 @@ use crate::ldp::scripts::{event_of, number};
 use crate::words::is_told;
 use ldp_grammar::Pdu;
 use ldp_stream::{Stream, StreamFault};
-use net_base::NoMemory;
 use std::alloc::Global;
 use std::process::Abort;
 
@@ -290,9 +289,4 @@ fn goes_past_its_room(rt: &impl Abort, alloc: Global, stream: &mut Stream) {
 fn goes_on_past_its_room(rt: HostRuntime) {
     let mut stream = Stream::new(rt.alloc()).expect(&rt, "memory");
     goes_past_its_room(&rt, rt.alloc(), &mut stream);
-}
-
-#[test]
-fn tells_want_of_memory_by_itself(rt: HostRuntime) {
-    assert!(rt; StreamFault::from(NoMemory) == StreamFault::NoMemory);
 }
