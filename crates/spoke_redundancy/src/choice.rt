@@ -2,22 +2,31 @@
 ghost use Rattle.std.specs.Prelude.{◌≡◌, ◌||◌, ◌↔◌, ℕ, false, None, position};
 ghost use Rattle.std.specs.List.{list_any};
 ghost use Rattle.spoke_redundancy.specs.Choice.{chosen, is_usable_spoke};
-ghost use Rattle.spoke_redundancy.specs.Least.{is_least, is_less, is_usable_below};
+ghost use Rattle.spoke_redundancy.specs.Least.{IsLeast, is_least, is_less, is_usable_below};
 
 use crate::Spoke;
 
 /// The place of the spoke that is chosen: of the usable spokes the first one with the least priority number. `None` exactly where
 /// none is usable (RFC 6870, RFC 4762 section 10.2.1). It looks at each spoke at most twice, and takes no memory.
-#[tactic(auto, using(crate::proofs::ChoiceLemmas::least_more, crate::proofs::ChoiceLemmas::chosen_is, crate::proofs::ChoiceLemmas::none_is))]
+#[tactic(auto, using(crate::proofs::ChoiceLemmas::chosen_is, crate::proofs::ChoiceLemmas::none_is))]
 pub fn choose(spokes: &[Spoke]) -> Option<usize>
     ensures chosen { result ≡ chosen spokes.now }
     ensures none { result ≡ None ↔ list_any is_usable_spoke spokes.now ≡ false }
+{
+    let least = least_priority(spokes);
+    first_of(spokes, least)
+}
+
+// The least priority number of the usable spokes; `None` where none is usable.
+#[tactic(auto, using(crate::proofs::ChoiceLemmas::least_more))]
+fn least_priority(spokes: &[Spoke]) -> Option<u8>
+    ensures { IsLeast spokes.now result }
 {
     let mut least = None;
     for spoke in spokes {
         least = lesser(least, *spoke);
     }
-    first_of(spokes, least)
+    least
 }
 
 // The lesser one of a priority number and that of a spoke, if it is usable.
