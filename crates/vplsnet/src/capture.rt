@@ -4,7 +4,7 @@ ghost use Rattle.std.specs.Str.{bytes_eq};
 ghost use Rattle.net_base.specs.plan.Accepted.{IsChecked};
 ghost use Rattle.text_lines.specs.Written.{PutsOn};
 ghost use Rattle.vplsnet.specs.Asked.{asked_by};
-ghost use Rattle.vplsnet.specs.Capture.{circuit_of as place_of, lacks_circuit, left_at};
+ghost use Rattle.vplsnet.specs.Capture.{circuit_of as place_of, lacks_circuit, lacking as lacks, left_at};
 
 use crate::request::Request;
 use capture_text::put_capture;
@@ -16,9 +16,19 @@ use text_lines::Page;
 pub fn missing_circuit<'a>(request: Request<'a>, plan: &Plan) -> Option<&'a str>
     ensures { option_map (λ circuit. circuit.now) result ≡ lacks_circuit (asked_by request.entry) plan.now }
 {
-    let Request::Capture { circuit, .. } = request else {
-        return None;
-    };
+    match request {
+        Request::Capture { circuit, .. } => lacking(plan, circuit),
+        Request::Replay { .. }
+        | Request::Tables { .. }
+        | Request::Decode { .. }
+        | Request::Rehearse { .. } => None,
+    }
+}
+
+// The name of a circuit, where the plan lacks it. Apart, since its clause goes by cases of the place.
+fn lacking<'a>(plan: &Plan, circuit: &'a str) -> Option<&'a str>
+    ensures { option_map (λ circuit. circuit.now) result ≡ lacks circuit.now (place_of plan.now circuit.now) }
+{
     match circuit_of(plan.circuits.as_slice(), circuit.as_bytes()) {
         Some(_) => None,
         None => Some(circuit),

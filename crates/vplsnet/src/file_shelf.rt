@@ -1,5 +1,5 @@
 //! The shelf of the system's files.
-ghost use Rattle.std.specs.Prelude.{◌≡◌, ◌<◌, ◌≤◌, length, slice_get, string_bytes, IfOk, IfSome};
+ghost use Rattle.std.specs.Prelude.{◌≡◌, ◌<◌, ◌≤◌, ◌↔◌, true, length, slice_get, string_bytes, IfOk, IfSome};
 ghost use Rattle.net_base.specs.outside.Outside.{HasCause, NeverFall};
 ghost use Rattle.vplsnet.specs.Files.{count_after};
 
@@ -19,6 +19,13 @@ struct Opened<F: Read + Seek + Drop> {
 }
 
 impl<F: Read + Seek + Drop> Opened<F> {
+    // Whether it was opened under this name. Apart, since only so does its clause join a text and its octets.
+    fn has_name(&self, name: &str) -> bool
+        ensures { (result ≡ true) ↔ (string_bytes self.now.name ≡ name.now) }
+    {
+        self.name.as_str() == name
+    }
+
     // Reads once from the place on, where the file of this name is asked for. What is read in order is not sought, so a pipe
     // serves.
     fn read_from(&mut self, name: &str, from: u64, buf: &mut [u8]) -> io::Result<usize>
@@ -55,7 +62,7 @@ fn place_of<F: Read + Seek + Drop>(opened: &[Opened<F>], name: &str) -> Option<u
     ensures name { IfSome result (λ place. IfSome (slice_get opened.now place) (λ file. string_bytes file.name ≡ name.now)) }
 {
     for (place, file) in opened.iter().enumerate() {
-        if file.name.as_str() == name {
+        if file.has_name(name) {
             return Some(place);
         }
     }
