@@ -2,9 +2,9 @@
 ghost use Rattle.std.specs.Prelude.{◌≡◌, ◌≤◌, ◌+◌, ◌++◌, ◌∷◌, [], ℕ, List, Some, length, true, false, not, IfOk};
 ghost use Rattle.std.specs.List.{AllByRecursion};
 ghost use Rattle.ldp_grammar.specs.Written.{message_octets, writable, written};
-ghost use Rattle.session_core.specs.Messages.{HasData};
+ghost use Rattle.session_core.specs.Messages.{HasData, message_of};
 ghost use Rattle.session_core.specs.State.{SessionState};
-ghost use Rattle.edge_model.specs.Put.{platform_of, put_octets, put_replies, put_reply};
+ghost use Rattle.edge_model.specs.Put.{following, platform_of, put_octets, put_replies, put_reply};
 ghost use Rattle.edge_model.specs.State.{EdgeState};
 ghost use Rattle.edge_model.specs.Work.{Agrees, Answers, GoesOn};
 ghost use Rattle.peer_dialogue.specs.AtWork.{WorkGoes};
@@ -91,8 +91,7 @@ impl Speaker {
             → put_reply told peer reply (at_peer peer (Some (record { session = s; held = held; next_id = self.old.next_id })) edge (L.calls work.old.link.now) work.old.effects.now.list)
             ≡ record { work = at_peer peer (Some (record { session = having_put taken s; held = held; next_id = self.new.next_id })) edge (L.calls work.new.link.now) work.new.effects.now.list; failed = not taken }) }
     {
-        let message = reply.message(self.next_id, &self.peers);
-        let octets = self.encoded(work.alloc, &message)?;
+        let octets = self.octets_of(work.alloc, reply)?;
         self.put_octets(peer, octets, work)
     }
 
@@ -110,9 +109,7 @@ impl Speaker {
             → put_message told peer (numbered message.now) (at_peer peer (Some (record { session = s; held = held; next_id = self.old.next_id })) edge (L.calls work.old.link.now) work.old.effects.now.list)
             ≡ record { work = at_peer peer (Some (record { session = having_put taken s; held = held; next_id = self.new.next_id })) edge (L.calls work.new.link.now) work.new.effects.now.list; failed = not taken }) }
     {
-        let message = message.with_id(work.alloc, self.next_id)?;
-        let octets = self.encoded(work.alloc, &message)?;
-        drop(message);
+        let octets = self.message_octets_of(work.alloc, message)?;
         self.put_octets(peer, octets, work)
     }
 
@@ -136,27 +133,42 @@ impl Speaker {
             peer,
             bytes: octets,
         })?;
-        // The numbers of messages begin again behind the last one (RFC 5036 section 3.5).
-        self.next_id = if self.next_id == u32::MAX {
-            0
-        } else {
-            self.next_id + 1
-        };
+        self.next_id = following(self.next_id);
         Ok(true)
     }
 
-    // The octets of a message, in a PDU of its own.
-    #[tactic(auto, using(crate::proofs::SpeakerLemmas::front_is))]
-    fn encoded(&self, alloc: Global, message: &Message) -> Result<Octets, NoMemory>
-        requires writable { writable message.now ≡ true }
-        requires short { 6 + length (message_octets message.now) ≤ 256 }
-        ensures { IfOk result (λ octets. octets ≡ written message.now (platform_of self.now.peers.me)) }
+    // The octets of a reply, in a PDU of its own.
+    fn octets_of(&self, alloc: Global, reply: Reply) -> Result<Octets, NoMemory>
+        requires { HasData reply }
+        ensures { IfOk result (λ octets. octets ≡ written (message_of reply self.now.next_id self.now.peers) (platform_of self.now.peers.me)) }
     {
+        let message = reply.message(self.next_id, &self.peers);
         let mut out = [0u8; LONGEST];
-        let count = encode_into(message, platform_of(self.peers.me), &mut out);
-        let (octets, _) = out.split_at(count);
-        List::from_bytes(alloc, octets)
+        encoded(alloc, &message, platform_of(self.peers.me), &mut out)
     }
+
+    // The octets of a message about a pseudowire, in a PDU of its own.
+    fn message_octets_of(&self, alloc: Global, message: &PwMessage<'_>) -> Result<Octets, NoMemory>
+        requires { CanBeSaid message.now }
+        ensures { IfOk result (λ octets. octets ≡ written (numbered message.now self.now.next_id) (platform_of self.now.peers.me)) }
+    {
+        let message = message.with_id(alloc, self.next_id)?;
+        let mut out = [0u8; LONGEST];
+        encoded(alloc, &message, platform_of(self.peers.me), &mut out)
+    }
+}
+
+// The octets of a message, in a PDU of its own; `out` has room for them.
+#[tactic(auto, using(crate::proofs::SpeakerLemmas::front_is))]
+fn encoded(alloc: Global, message: &Message, id: LdpId, out: &mut [u8]) -> Result<Octets, NoMemory>
+    requires writable { writable message.now ≡ true }
+    requires short { 6 + length (message_octets message.now) ≤ 256 }
+    requires room { 260 ≤ length out.old }
+    ensures { IfOk result (λ octets. octets ≡ written message.now id) }
+{
+    let count = encode_into(message, id, out);
+    let (octets, _) = out.split_at(count);
+    List::from_bytes(alloc, octets)
 }
 
 // Puts octets, and answers whether the link took them.
@@ -176,4 +188,11 @@ fn platform_of(router: Addr) -> LdpId
     ensures { result ≡ platform_of router }
 {
     LdpId { router, space: 0 }
+}
+
+// The number behind a message's number (RFC 5036 section 3.5).
+fn following(id: u32) -> u32
+    ensures { result ≡ following id }
+{
+    if id == u32::MAX { 0 } else { id + 1 }
 }

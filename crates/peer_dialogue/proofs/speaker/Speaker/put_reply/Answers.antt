@@ -1,7 +1,3 @@
-use Rattle.std.proofs.Common.{◌∙◌, ap}
-use Rattle.ldp_grammar.specs.declared.message.Message.{Message}
-use Rattle.ldp_grammar.specs.Written.{written}
-use Rattle.edge_model.specs.Put.{platform_of}
 use Rattle.peer_dialogue.proofs.SettleLemmas.{map_ok}
 use Rattle.peer_dialogue.proofs.SpeakerLemmas.{reply_by_octets}
 use Rattle.peer_dialogue.proofs.speaker.Speaker.put_reply.Goals as goal
@@ -9,5 +5,5 @@ use Rattle.peer_dialogue.proofs.speaker.Speaker.put_reply.Goals as goal
 pub returns-clause-step : goal.returns-clause-step
 returns-clause-step g c = map_ok _ _ c.put_octets.result
     (λ taken step told s held edge agrees between. reply_by_octets told c.args.peer c.args.self.now.peers c.args.reply c.args.self.now.next_id c.in_ok-octets.octets held s edge _ c.args.work.now.effects.now.list _
-    (c.in_ok-octets.ensures ∙ ap (λ (m : Message). written m (platform_of c.args.self.now.peers.me)) c.message.ensures.message) between (step told s held edge agrees))
+    c.in_ok-octets.ensures between (step told s held edge agrees))
     c.put_octets.ensures.step
