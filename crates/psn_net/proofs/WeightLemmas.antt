@@ -1,5 +1,5 @@
 -- One more entry in a counted trace.
-use Rattle.std.proofs.Common.{◌≡◌, ◌+◌, ◌-◌, ◌^◌, ◌++◌, ◌∷◌, ◌&&◌, [], ℕ, Bool, true, false, List, Some, None, cond, min, nat_le, nat_lt, length, refl, arith}
+use Rattle.std.proofs.Common.{◌≡◌, ◌+◌, ◌-◌, ◌^◌, ◌++◌, ◌∷◌, ◌&&◌, [], ℕ, Bool, true, false, List, Some, None, cond, min, nat_le, nat_lt, length, refl, ap, arith}
 use Rattle.net_base.specs.declared.trace.entry.Entry.{Entry}
 use Rattle.net_base.specs.declared.trace.event.Event.{Event}
 use Rattle.psn_net.specs.Applying.{Stops}
@@ -16,11 +16,11 @@ events-append : (xs : List Entry) (e : Entry) → events_in (xs ++ e ∷ []) ≡
 events-append [] e = omega arith
 events-append (x ∷ xs) e = omega (arith, events-append xs e)
 
-pub counted_more : (trace : List Entry) (entry : Entry) (weight events more one : ℕ)
-    → IsCounted trace weight events → more ≡ min (entry_weight entry) (2 ^ 64 - 1) → one ≡ cond (is_event entry) 1 0
-    → IsCounted (trace ++ entry ∷ []) (min (weight + more) (2 ^ 64 - 1)) (min (events + one) (2 ^ 64 - 1))
-counted_more trace entry weight events more one counted w e = record {
-  weighs = saturates (total_weight trace) (entry_weight entry) (2 ^ 64 - 1) weight more (total_weight (trace ++ entry ∷ [])) counted.weighs w (total-append trace entry);
+pub counted_more : (trace : List Entry) (entry : Entry) (weight events octets one : ℕ)
+    → IsCounted trace weight events → octets + 64 ≡ entry_weight entry → one ≡ cond (is_event entry) 1 0
+    → IsCounted (trace ++ entry ∷ []) (min (weight + min (octets + 64) (2 ^ 64 - 1)) (2 ^ 64 - 1)) (min (events + one) (2 ^ 64 - 1))
+counted_more trace entry weight events octets one counted w e = record {
+  weighs = saturates (total_weight trace) (entry_weight entry) (2 ^ 64 - 1) weight (min (octets + 64) (2 ^ 64 - 1)) (total_weight (trace ++ entry ∷ [])) counted.weighs (ap (λ (n : ℕ). min n (2 ^ 64 - 1)) w) (total-append trace entry);
   counts = adds (events_in trace) (cond (is_event entry) 1 0) (2 ^ 64 - 1) events one (events_in (trace ++ entry ∷ [])) counted.counts e (events-append trace entry);
 } where
   saturates : (a b top x y sum : ℕ) → x ≡ min a top → y ≡ min b top → sum ≡ a + b → min (x + y) top ≡ min sum top

@@ -1,5 +1,5 @@
 //! The trace of a run as it is written.
-ghost use Rattle.std.specs.Prelude.{◌≡◌, ◌<◌, ◌+◌, ◌++◌, ◌∷◌, ◌^◌, ◌-◌, [], min, OnErr, OnOk, if◌then◌else◌};
+ghost use Rattle.std.specs.Prelude.{◌≡◌, ◌<◌, ◌+◌, ◌++◌, ◌∷◌, [], OnErr, OnOk, if◌then◌else◌};
 ghost use Rattle.psn_net.specs.Weight.{weight_of, entry_weight, is_event, next_event};
 
 use net_base::{Entry, Event, List, NoMemory, Trace};
@@ -44,7 +44,7 @@ impl Ledger {
         ensures ok { OnOk result (self.new ≡ self.old ++ entry ∷ []) }
         ensures err { OnErr result (self.new ≡ self.old) }
     {
-        let weight = weight_of_entry(&entry);
+        let weight = (octets_in(&entry) as u64).saturating_add(64);
         let events = events_of_entry(&entry);
         self.trace.push(entry)?;
         self.weight = self.weight.saturating_add(weight);
@@ -80,13 +80,6 @@ impl Ledger {
     {
         self.events.saturating_add(1)
     }
-}
-
-// What an entry weighs: 64, and the octets of the frame, packet or PDU that it holds.
-fn weight_of_entry(entry: &Entry) -> u64
-    ensures { result ≡ min (entry_weight entry.now) (2 ^ 64 - 1) }
-{
-    (octets_in(entry) as u64).saturating_add(64)
 }
 
 // An event counts as one.
