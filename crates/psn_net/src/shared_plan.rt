@@ -43,14 +43,14 @@ impl Deref for SharedPlan {
 
 impl SharedPlan {
     /// The plan, of which it is looked up from now on which edges are joined.
+    #[tactic(auto, using(crate::proofs::JoinedLemmas::joined_all))]
     pub fn over(alloc: Global, plan: Rc<Plan>) -> Result<SharedPlan, NoMemory>
         requires { IsChecked plan.value }
         ensures { IfOk result (λ shared. shared ≡ plan.value) }
     {
-        match joined_index(alloc, &plan) {
-            Ok(joined) => Ok(SharedPlan { plan, joined }),
-            Err(fault) => Err(fault),
-        }
+        let mut joined = PairIndex::open(alloc, plan.edges.len())?;
+        mark_wires(&mut joined, &plan);
+        Ok(SharedPlan { plan, joined })
     }
 
     /// Whether a segment of some wire joins the two edges, in either direction (RFC 6073). It walks over no wire.
@@ -61,17 +61,6 @@ impl SharedPlan {
     {
         self.joined.has(a.0 as usize, b.0 as usize)
     }
-}
-
-// The joined edges of a plan.
-#[tactic(auto, using(crate::proofs::JoinedLemmas::joined_all))]
-fn joined_index(alloc: Global, plan: &Plan) -> Result<PairIndex, NoMemory>
-    requires { IsChecked plan.now }
-    ensures { IfOk result (IsJoinedIndex plan.now) }
-{
-    let mut index = PairIndex::open(alloc, plan.edges.len())?;
-    mark_wires(&mut index, plan);
-    Ok(index)
 }
 
 // Marks each two edges that a segment of a wire joins.
