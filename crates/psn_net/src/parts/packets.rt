@@ -1,8 +1,7 @@
 //! Packets under way: one reaches its edge, is lost, or is repeated.
-ghost use Rattle.std.specs.Prelude.{◌≡◌, ◌<◌, Some, option_copied, IfOk, IfSome, OnOk};
+ghost use Rattle.std.specs.Prelude.{◌≡◌, ◌<◌, Some, option_copied, IfSome, OnOk};
 ghost use Rattle.net_base.specs.plan.Planned.{IsEventOf};
-ghost use Rattle.network_model.specs.Absorb.{absorb};
-ghost use Rattle.network_model.specs.Packet.{again_event, arrive_event, discard_event, next_arrival, packet_at, packet_work, repeating};
+ghost use Rattle.network_model.specs.Packet.{again_event, arrive_event, discard_event, next_arrival, packet_at};
 ghost use Rattle.network_model.specs.State.{without_packet};
 ghost use Rattle.psn_net.specs.Lists.{HasRoom, HasStepped, Keeps, seen};
 ghost use Rattle.psn_net.specs.Packets.{IsPacketOf};
@@ -16,31 +15,21 @@ use network_model::Packet;
 use std::alloc::Global;
 
 impl Parts {
-    // A packet reaches its edge.
+    // A packet reaches its edge: what that gives out has the packet's origin, and has passed as many segments.
     #[tactic(auto, using(crate::proofs::UnderWayLemmas::arrive_steps))]
     pub(crate) fn arrive(&mut self, alloc: Global, number: u64) -> Result<(), NoMemory>
         requires room { HasRoom self.old }
         ensures keeps { Keeps self.old self.new }
         ensures step { OnOk result (HasStepped self.old self.new (arrive_event self.old.plan (packet_at (seen self.old) number) (seen self.old))) }
     {
-        match self.take_packet(number) {
-            Some(packet) => self.take_in(alloc, &packet),
-            None => self.tell(Entry::Idle),
-        }
-    }
-
-    // An edge takes a packet that has reached it: what it gives out has the packet's origin, and has passed as many segments.
-    fn take_in(&mut self, alloc: Global, packet: &Packet) -> Result<(), NoMemory>
-        requires packet { IsPacketOf self.old.plan self.old.packets.last packet.now }
-        requires room { HasRoom self.old }
-        ensures keeps { Keeps self.old self.new }
-        ensures step { OnOk result (HasStepped self.old self.new (absorb packet.now.to packet.now.origin packet.now.hops (packet_work self.old.plan (seen self.old) packet.now) (seen self.old))) }
-    {
-        let bytes = packet.bytes.as_slice();
+        let Some(packet) = self.take_packet(number) else {
+            return self.tell(Entry::Idle);
+        };
         let trail = Trail {
             origin: packet.origin,
             hops: packet.hops,
         };
+        let bytes = packet.bytes.as_slice();
         self.absorb_input(alloc, packet.to, trail, Input::Packet { bytes })
     }
 
@@ -76,11 +65,22 @@ impl Parts {
         ensures keeps { Keeps self.old self.new }
         ensures step { OnOk result (HasStepped self.old self.new (again_event (packet_at (seen self.old) number) (seen self.old))) }
     {
-        let packet = match self.packet(number) {
-            Some(packet) => same_packet(alloc, packet)?,
-            None => return self.tell(Entry::Idle),
+        let Some(packet) = self.packet(number) else {
+            return self.tell(Entry::Idle);
         };
-        self.repeat(packet)
+        let of = packet.number;
+        let departure = Departure {
+            wire: packet.wire,
+            from: packet.from,
+            to: packet.to,
+            trail: Trail {
+                origin: packet.origin,
+                hops: packet.hops,
+            },
+            bytes: packet.bytes.copy(alloc)?,
+        };
+        let packet = self.add_packet(departure)?;
+        self.tell(Entry::Copied { packet, of })
     }
 
     // The packet with a number, where it is under way.
@@ -90,35 +90,6 @@ impl Parts {
         ensures planned { IfSome (option_copied result) (IsPacketOf self.now.plan self.now.packets.last) }
     {
         self.packets.get(number)
-    }
-
-    // The packet is sent once more.
-    fn repeat(&mut self, packet: Packet) -> Result<(), NoMemory>
-        requires packet { IsPacketOf self.old.plan self.old.packets.last packet }
-        requires room { HasRoom self.old }
-        ensures keeps { Keeps self.old self.new }
-        ensures step { OnOk result (HasStepped self.old self.new (repeating packet (seen self.old))) }
-    {
-        let Packet {
-            number,
-            wire,
-            from,
-            to,
-            origin,
-            hops,
-            bytes,
-        } = packet;
-        let copy = self.add_packet(Departure {
-            wire,
-            from,
-            to,
-            trail: Trail { origin, hops },
-            bytes,
-        })?;
-        self.tell(Entry::Copied {
-            packet: copy,
-            of: number,
-        })
     }
 
     /// The next arrival: the packet under way with the lowest number. `None` exactly where none is under way.
@@ -132,19 +103,4 @@ impl Parts {
             packet: packet.number,
         })
     }
-}
-
-// The same packet.
-fn same_packet(alloc: Global, packet: &Packet) -> Result<Packet, NoMemory>
-    ensures { IfOk result (λ same. same ≡ packet.now) }
-{
-    Ok(Packet {
-        number: packet.number,
-        wire: packet.wire,
-        from: packet.from,
-        to: packet.to,
-        origin: packet.origin,
-        hops: packet.hops,
-        bytes: packet.bytes.copy(alloc)?,
-    })
 }
