@@ -90,11 +90,15 @@ impl Parts {
         })
     }
 
-    /// The limit that stops an event, where there is one.
+    /// The limit that stops an event, where there is one. A frame, an arrival, a repetition and a ping may send a packet.
     pub fn refusal(&self, event: &Event) -> Option<NetStop>
         ensures { result ≡ stop_at self.now.trace (length (seen self.now).under_way) event.now }
     {
-        self.refusal_by(may_send(event))
+        match event {
+            Event::Frame { .. } | Event::Arrive { .. } | Event::Again { .. } | Event::Ping { .. } =>
+                self.refusal_by(true),
+            _ => self.refusal_by(false),
+        }
     }
 
     /// The limit that stops each event that may send a packet, or each that may not, where there is one.
@@ -128,25 +132,32 @@ impl Parts {
         self.tell(Entry::Did {
             event: event.copy(alloc)?,
         })?;
-        match event {
-            Event::Connect { from, to } => self.connect(alloc, *from, *to),
-            Event::Deliver { from, to, count } => self.deliver(alloc, *from, *to, *count),
-            Event::Lose { edge, peer } => self.lose(alloc, *edge, *peer),
-            Event::Restart { edge } => self.restart(alloc, *edge),
+        match *event {
+            Event::Connect { from, to } => self.connect(alloc, from, to),
+            Event::Deliver { from, to, count } => self.deliver(alloc, from, to, count),
+            Event::Lose { edge, peer } => self.lose(alloc, edge, peer),
+            Event::Restart { edge } => self.restart(alloc, edge),
             Event::Tick => self.tick(alloc),
-            Event::Frame { circuit, bytes } => self.lend_frame(alloc, *circuit, bytes),
-            Event::Arrive { packet } => self.arrive(alloc, *packet),
-            Event::Discard { packet } => self.discard(*packet),
-            Event::Again { packet } => self.again(alloc, *packet),
-            Event::Wire { edge, wire, on } => self.wire(alloc, *edge, *wire, *on),
-            Event::Circuit { circuit, on } => self.circuit(alloc, *circuit, *on),
-            Event::Status { edge, wire, bits } => self.status(alloc, *edge, *wire, *bits),
+            Event::Frame { circuit, ref bytes } => self.frame(alloc, circuit, bytes.copy(alloc)?),
+            Event::Arrive { packet } => self.arrive(alloc, packet),
+            Event::Discard { packet } => self.discard(packet),
+            Event::Again { packet } => self.again(alloc, packet),
+            Event::Circuit { circuit, on } => {
+                let me = self.edge_of(circuit);
+                self.answer_input(alloc, me, Input::Circuit { circuit, on })
+            }
+            Event::Wire { edge, wire, on } => {
+                self.answer_input(alloc, edge, Input::Wire { wire, on })
+            }
+            Event::Status { edge, wire, bits } => {
+                self.answer_input(alloc, edge, Input::Status { wire, bits })
+            }
             Event::Priority {
                 edge,
                 wire,
                 priority,
-            } => self.priority(alloc, *edge, *wire, *priority),
-            Event::Ping { edge, wire } => self.ping(alloc, *edge, *wire),
+            } => self.answer_input(alloc, edge, Input::Priority { wire, priority }),
+            Event::Ping { edge, wire } => self.answer_input(alloc, edge, Input::Ping { wire }),
         }
     }
 
@@ -161,30 +172,13 @@ impl Parts {
         ensures keeps { Keeps self.old self.new }
         ensures step { OnOk result (HasStepped self.old self.new (step self.old.plan (seen self.old) (Event.Frame circuit bytes))) }
     {
-        match self.tell_frame(alloc, circuit, &bytes) {
-            Ok(()) => self.frame(alloc, circuit, bytes),
-            Err(fault) => Err(fault),
-        }
-    }
-
-    // Tells the event of a frame that enters at a circuit.
-    fn tell_frame(
-        &mut self,
-        alloc: Global,
-        circuit: CircuitId,
-        bytes: &Octets,
-    ) -> Result<(), NoMemory>
-        ensures keeps { Keeps self.old self.new }
-        ensures state { seen self.new ≡ seen self.old }
-        ensures made { OnOk result (HasRoom self.new) }
-        ensures told { OnOk result (self.new.trace ≡ self.old.trace ++ Entry.Did (Event.Frame circuit bytes.now) ∷ []) }
-    {
-        match bytes.copy(alloc) {
-            Ok(bytes) => self.tell(Entry::Did {
-                event: Event::Frame { circuit, bytes },
-            }),
-            Err(fault) => Err(fault),
-        }
+        self.tell(Entry::Did {
+            event: Event::Frame {
+                circuit,
+                bytes: bytes.copy(alloc)?,
+            },
+        })?;
+        self.frame(alloc, circuit, bytes)
     }
 
     // Adds an entry to the trace.
@@ -288,14 +282,4 @@ impl Parts {
     {
         self.ledger.weight()
     }
-}
-
-// Whether an event may send a packet.
-fn may_send(event: &Event) -> bool
-    ensures { result ≡ may_send event.now }
-{
-    matches!(
-        event,
-        Event::Frame { .. } | Event::Arrive { .. } | Event::Again { .. } | Event::Ping { .. }
-    )
 }

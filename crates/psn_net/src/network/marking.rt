@@ -8,7 +8,8 @@ use crate::pair_index::PairIndex;
 use crate::parts::Parts;
 use net_base::{EdgeId, Entry, Event};
 
-// The index after an event, whose entries are those of the trace from a place on.
+// The index after an event, whose entries are those of the trace from a place on. Cut for the prover: what is left is not found where
+// the event is done beside it.
 #[tactic(auto, using(crate::proofs::IndexLemmas::event_marked))]
 pub(crate) fn mark_after(index: &mut PairIndex, parts: &Parts, event: &Event, told: usize)
     requires event { IsEventOf parts.now.plan event.now }

@@ -1,7 +1,6 @@
 //! The events of connections.
-ghost use Rattle.std.specs.Prelude.{◌≡◌, ◌==◌, ◌<◌, false, drop, length, take, IfOk, OnOk};
-ghost use Rattle.network_model.specs.Absorb.{idle};
-ghost use Rattle.network_model.specs.Connection.{connect_event, connected_work, connecting, deliver_event, delivering, hearing_work, lose_event, losing, restart_event};
+ghost use Rattle.std.specs.Prelude.{◌≡◌, ◌<◌, drop, length, take, IfOk, OnOk};
+ghost use Rattle.network_model.specs.Connection.{connect_event, deliver_event, delivering, hearing_work, lose_event, restart_event};
 ghost use Rattle.network_model.specs.State.{with_pipe, without_octets_to};
 ghost use Rattle.provider_edge.specs.Said.{AllFit};
 ghost use Rattle.psn_net.specs.Lists.{HasDriven, HasRoom, HasStepped, Keeps, seen};
@@ -14,7 +13,7 @@ use net_base::{EdgeId, Entry, NoMemory};
 use std::alloc::Global;
 
 impl Parts {
-    // Two edges connect.
+    // Two edges connect: both ends come to stand, and then what the edges gave out is on its way.
     pub(crate) fn connect(
         &mut self,
         alloc: Global,
@@ -27,21 +26,9 @@ impl Parts {
         ensures keeps { Keeps self.old self.new }
         ensures step { OnOk result (HasStepped self.old self.new (connect_event self.old.plan from to (seen self.old))) }
     {
-        if self.can_connect(from, to) {
-            return self.connect_ends(alloc, from, to);
+        if !self.can_connect(from, to) {
+            return self.tell(Entry::Idle);
         }
-        self.tell_idle()
-    }
-
-    // Both ends come to stand, and then what the edges gave out is on its way.
-    fn connect_ends(&mut self, alloc: Global, from: EdgeId, to: EdgeId) -> Result<(), NoMemory>
-        requires from { from.0 < length self.old.plan.edges }
-        requires to { to.0 < length self.old.plan.edges }
-        requires apart { (to.0 == from.0) ≡ false }
-        requires room { HasRoom self.old }
-        ensures keeps { Keeps self.old self.new }
-        ensures step { OnOk result (HasStepped self.old self.new (connecting from (connected_work self.old.plan (seen self.old) from to) to (connected_work self.old.plan (seen self.old) to from) (seen self.old))) }
-    {
         let first = self.drive(alloc, from, Input::Connected { peer: to })?;
         let second = self.drive(alloc, to, Input::Connected { peer: from })?;
         self.absorb(alloc, from, NO_TRAIL, first.list.into_items())?;
@@ -64,10 +51,10 @@ impl Parts {
         ensures step { OnOk result (HasStepped self.old self.new (deliver_event self.old.plan from to count (seen self.old))) }
     {
         if !self.is_deliverable(from, to) {
-            return self.tell_idle();
+            return self.tell(Entry::Idle);
         }
         if self.is_drained(from, to) {
-            return self.lose_end(alloc, to, from);
+            return self.absorb_input(alloc, to, NO_TRAIL, Input::Lost { peer: from });
         }
         self.deliver_octets(alloc, from, to, count)
     }
@@ -121,7 +108,7 @@ impl Parts {
         Ok(effects)
     }
 
-    // The pipe gives up the octets.
+    // The pipe gives up the octets. Cut for the prover: the step is not found where the pipes are opened beside it.
     #[tactic(auto, unfolding(crate::specs::Lists::seen, network_model::specs::State::with_pipe))]
     fn give_up(&mut self, from: EdgeId, to: EdgeId, count: u16)
         requires from { from.0 < length self.old.plan.edges }
@@ -141,19 +128,9 @@ impl Parts {
         ensures keeps { Keeps self.old self.new }
         ensures step { OnOk result (HasStepped self.old self.new (lose_event self.old.plan me peer (seen self.old))) }
     {
-        if self.stands(me, peer) {
-            return self.lose_end(alloc, me, peer);
+        if !self.stands(me, peer) {
+            return self.tell(Entry::Idle);
         }
-        self.tell_idle()
-    }
-
-    // The edge's end is lost.
-    fn lose_end(&mut self, alloc: Global, me: EdgeId, peer: EdgeId) -> Result<(), NoMemory>
-        requires me { me.0 < length self.old.plan.edges }
-        requires room { HasRoom self.old }
-        ensures keeps { Keeps self.old self.new }
-        ensures step { OnOk result (HasStepped self.old self.new (losing self.old.plan me peer (seen self.old))) }
-    {
         self.absorb_input(alloc, me, NO_TRAIL, Input::Lost { peer })
     }
 
@@ -170,7 +147,7 @@ impl Parts {
         self.absorb(alloc, me, NO_TRAIL, effects.list.into_items())
     }
 
-    // Nothing is on the way to an edge any more.
+    // Nothing is on the way to an edge any more. Cut for the prover, as above.
     #[tactic(auto, unfolding(crate::specs::Lists::seen, network_model::specs::State::without_octets_to))]
     fn empty_pipes_to(&mut self, me: EdgeId)
         requires me { me.0 < length self.old.plan.edges }
@@ -180,13 +157,5 @@ impl Parts {
         ensures state { seen self.new ≡ without_octets_to me (seen self.old) }
     {
         self.pipes.clear_to(me);
-    }
-
-    // The event does not apply.
-    fn tell_idle(&mut self) -> Result<(), NoMemory>
-        ensures keeps { Keeps self.old self.new }
-        ensures step { OnOk result (HasStepped self.old self.new (idle (seen self.old))) }
-    {
-        self.tell(Entry::Idle)
     }
 }

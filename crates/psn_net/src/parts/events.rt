@@ -3,20 +3,16 @@ ghost use Rattle.std.specs.Prelude.{◌≡◌, ◌<◌, ◌≤◌, ◌+◌, Some
 ghost use Rattle.net_base.specs.plan.Places.{circuit_row};
 ghost use Rattle.edge_model.specs.Step.{edge_step};
 ghost use Rattle.network_model.specs.Absorb.{absorb, begin_at, taken_all};
-ghost use Rattle.network_model.specs.Circuit.{circuit_event};
 ghost use Rattle.network_model.specs.Frame.{frame_event};
-ghost use Rattle.network_model.specs.Ping.{ping_event};
 ghost use Rattle.network_model.specs.State.{with_frame};
-ghost use Rattle.network_model.specs.Tick.{tick_at, tick_event};
-ghost use Rattle.network_model.specs.Wire.{priority_event, status_event, wire_event};
-ghost use Rattle.provider_edge.specs.Said.{AllFit};
+ghost use Rattle.network_model.specs.Tick.{tick_event};
 ghost use Rattle.provider_edge.specs.Taking.{IsInRange};
-ghost use Rattle.psn_net.specs.Lists.{HasAnswered, HasEntered, HasRoom, HasStepped, Keeps, answered, edge_of, seen};
+ghost use Rattle.psn_net.specs.Lists.{HasAnswered, HasEntered, HasRoom, HasStepped, Keeps, edge_of, seen};
 
 use crate::parts::Parts;
 use crate::trail::{NO_TRAIL, Trail};
-use edge_model::{Effects, Input};
-use net_base::{CircuitId, EdgeId, Entry, NoMemory, Octets, WireId};
+use edge_model::Input;
+use net_base::{CircuitId, EdgeId, Entry, NoMemory, Octets};
 use std::alloc::Global;
 
 impl Parts {
@@ -29,20 +25,9 @@ impl Parts {
     {
         let count = self.plan.edges.len();
         for place in 0..count {
-            self.tick_at(alloc, EdgeId(place as u16))?;
+            self.absorb_input(alloc, EdgeId(place as u16), NO_TRAIL, Input::Tick)?;
         }
         Ok(())
-    }
-
-    // A tick passes at an edge.
-    fn tick_at(&mut self, alloc: Global, me: EdgeId) -> Result<(), NoMemory>
-        requires me { me.0 < length self.old.plan.edges }
-        requires room { HasRoom self.old }
-        ensures keeps { Keeps self.old self.new }
-        ensures room { OnOk result (HasRoom self.new) }
-        ensures step { OnOk result (HasStepped self.old self.new (tick_at self.old.plan me (seen self.old))) }
-    {
-        self.absorb_input(alloc, me, NO_TRAIL, Input::Tick)
     }
 
     // An edge takes an input that has this trail, and its work goes into the network.
@@ -69,129 +54,23 @@ impl Parts {
     }
 
     // An edge takes an input. Where it does not apply that is told, and else the edge's work goes into the network.
-    fn answer_input(&mut self, alloc: Global, me: EdgeId, input: Input<'_>) -> Result<(), NoMemory>
+    pub(crate) fn answer_input(
+        &mut self,
+        alloc: Global,
+        me: EdgeId,
+        input: Input<'_>,
+    ) -> Result<(), NoMemory>
         requires me { me.0 < length self.old.plan.edges }
         requires range { IsInRange input }
         requires room { HasRoom self.old }
         ensures keeps { Keeps self.old self.new }
         ensures step { OnOk result (HasAnswered me self.old self.new (edge_step self.old.plan taken_all input.entry (begin_at (seen self.old) me))) }
     {
-        match self.drive(alloc, me, input) {
-            Ok(effects) => self.answer(alloc, me, effects),
-            Err(fault) => Err(fault),
-        }
-    }
-
-    // What an edge gave out goes into the network. Where its input did not apply, that is told.
-    fn answer(&mut self, alloc: Global, me: EdgeId, effects: Effects) -> Result<(), NoMemory>
-        requires me { me.0 < length self.old.plan.edges }
-        requires fit { AllFit self.old.plan effects.list }
-        requires room { HasRoom self.old }
-        ensures keeps { Keeps self.old self.new }
-        ensures step { OnOk result (HasStepped self.old self.new (answered me effects (seen self.old))) }
-    {
+        let effects = self.drive(alloc, me, input)?;
         if effects.idle {
             return self.tell(Entry::Idle);
         }
         self.absorb(alloc, me, NO_TRAIL, effects.list.into_items())
-    }
-
-    // A circuit is turned on or off.
-    #[tactic(auto, using(crate::proofs::AnswerLemmas::circuit_stepped))]
-    pub(crate) fn circuit(
-        &mut self,
-        alloc: Global,
-        circuit: CircuitId,
-        on: bool,
-    ) -> Result<(), NoMemory>
-        requires circuit { circuit.0 < length self.old.plan.circuits }
-        requires room { HasRoom self.old }
-        ensures keeps { Keeps self.old self.new }
-        ensures step { OnOk result (HasStepped self.old self.new (circuit_event self.old.plan circuit on (circuit_row self.old.plan circuit) (seen self.old))) }
-    {
-        let me = self.edge_of(circuit);
-        self.answer_input(alloc, me, Input::Circuit { circuit, on })
-    }
-
-    // A wire is put on or off at an edge.
-    #[tactic(auto, using(crate::proofs::AnswerLemmas::wire_stepped))]
-    pub(crate) fn wire(
-        &mut self,
-        alloc: Global,
-        me: EdgeId,
-        wire: WireId,
-        on: bool,
-    ) -> Result<(), NoMemory>
-        requires me { me.0 < length self.old.plan.edges }
-        requires room { HasRoom self.old }
-        ensures keeps { Keeps self.old self.new }
-        ensures step { OnOk result (HasStepped self.old self.new (wire_event self.old.plan me wire on (seen self.old))) }
-    {
-        self.answer_input(alloc, me, Input::Wire { wire, on })
-    }
-
-    // The failure bits of an edge's end of a wire are set.
-    #[tactic(auto, using(crate::proofs::AnswerLemmas::status_stepped))]
-    pub(crate) fn status(
-        &mut self,
-        alloc: Global,
-        me: EdgeId,
-        wire: WireId,
-        bits: u8,
-    ) -> Result<(), NoMemory>
-        requires me { me.0 < length self.old.plan.edges }
-        requires bits { bits ≤ 31 }
-        requires room { HasRoom self.old }
-        ensures keeps { Keeps self.old self.new }
-        ensures step { OnOk result (HasStepped self.old self.new (status_event self.old.plan me wire bits (seen self.old))) }
-    {
-        self.answer_input(alloc, me, Input::Status { wire, bits })
-    }
-
-    // The priority of a spoke is set at its spoke edge.
-    #[tactic(auto, using(crate::proofs::AnswerLemmas::priority_stepped))]
-    pub(crate) fn priority(
-        &mut self,
-        alloc: Global,
-        me: EdgeId,
-        wire: WireId,
-        priority: u8,
-    ) -> Result<(), NoMemory>
-        requires me { me.0 < length self.old.plan.edges }
-        requires room { HasRoom self.old }
-        ensures keeps { Keeps self.old self.new }
-        ensures step { OnOk result (HasStepped self.old self.new (priority_event self.old.plan me wire priority (seen self.old))) }
-    {
-        self.answer_input(alloc, me, Input::Priority { wire, priority })
-    }
-
-    // An edge pings the far end of a wire.
-    #[tactic(auto, using(crate::proofs::AnswerLemmas::ping_stepped))]
-    pub(crate) fn ping(&mut self, alloc: Global, me: EdgeId, wire: WireId) -> Result<(), NoMemory>
-        requires me { me.0 < length self.old.plan.edges }
-        requires room { HasRoom self.old }
-        ensures keeps { Keeps self.old self.new }
-        ensures step { OnOk result (HasStepped self.old self.new (ping_event self.old.plan me wire (seen self.old))) }
-    {
-        self.answer_input(alloc, me, Input::Ping { wire })
-    }
-
-    // A customer's frame, which is lent, enters at a circuit.
-    pub(crate) fn lend_frame(
-        &mut self,
-        alloc: Global,
-        circuit: CircuitId,
-        bytes: &Octets,
-    ) -> Result<(), NoMemory>
-        requires circuit { circuit.0 < length self.old.plan.circuits }
-        requires room { HasRoom self.old }
-        ensures keeps { Keeps self.old self.new }
-        ensures step { OnOk result (HasStepped self.old self.new (frame_event self.old.plan circuit bytes.now (circuit_row self.old.plan circuit) (seen self.old))) }
-    {
-        match bytes.copy(alloc) {
-            Ok(bytes) => self.frame(alloc, circuit, bytes),
-            Err(fault) => Err(fault),
-        }
     }
 
     // A customer's frame enters at a circuit.

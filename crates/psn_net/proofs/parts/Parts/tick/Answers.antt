@@ -4,13 +4,13 @@ use Rattle.psn_net.proofs.parts.Parts.tick.Goals as goal
 
 pub loop-place-preserved : goal.loop-place-preserved
 loop-place-preserved c =
-    let done = tick_done _ _ _ _ _ c.loop-place.invariant.keeps.plan c.loop-place-test.true c.in_ok-tick_at.ensures.step in
+    let done = tick_done _ _ _ _ _ c.loop-place.invariant.keeps.plan c.loop-place-test.true c.in_ok-absorb_input.ensures.step in
     record {
       keeps = record {
-        plan = c.in_ok-tick_at.ensures.keeps.plan ∙ c.loop-place.invariant.keeps.plan;
-        failed = c.in_ok-tick_at.ensures.keeps.failed ∙ c.loop-place.invariant.keeps.failed;
+        plan = c.in_ok-absorb_input.ensures.keeps.plan ∙ c.loop-place.invariant.keeps.plan;
+        failed = c.in_ok-absorb_input.ensures.keeps.failed ∙ c.loop-place.invariant.keeps.failed;
       };
-      room = c.in_ok-tick_at.ensures.room;
+      room = c.in_ok-absorb_input.ensures.room;
       state = done.0 ∙ c.loop-place.invariant.state;
       told = done.1 ∙ c.loop-place.invariant.told;
     }
