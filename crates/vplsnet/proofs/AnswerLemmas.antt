@@ -160,7 +160,7 @@ told_answers around file text made network outcome own is (inr gives) =
     (subst (λ (n : Option NetLists). SaysOutcome around (Decode file) n NoMemory) (sym gives.no_run)
     (inr (record { text = text; outcome = made; made = is; taken = gives.taken })))
 
-pub stream_answers : (around : Around) (file octets : List ℕ) (network : Option NetLists) (outcome : Outcome) → Has around.files file octets → length octets ≤ stream_limit
+stream_answers : (around : Around) (file octets : List ℕ) (network : Option NetLists) (outcome : Outcome) → Has around.files file octets → length octets ≤ stream_limit
     → EndsStream octets (written around.taken_before around.sink_before []) (written around.taken_after around.sink_after []) network outcome → SaysOutcome around (Decode file) network outcome
 stream_answers around file octets network outcome has fits (inl told) =
     told_answers around file told.text told.made network outcome (ap is_own told.is_decoding.ends ∙ stream_own told.is_decoding.ending)
@@ -170,6 +170,14 @@ stream_answers around file octets network outcome has fits (inl told) =
       makes = told.is_decoding;
     }) told.ends
 stream_answers around file octets network outcome has fits (inr none) = none_answers around (Decode file) network outcome none
+
+-- the same of octets that were lent
+pub stream_ended : (around : Around) (file octets lent : List ℕ) (network : Option NetLists) (made outcome : Outcome) → lent ≡ octets → network ≡ None → outcome ≡ made → Has around.files file octets → length octets ≤ stream_limit
+    → EndsStream lent (written around.taken_before around.sink_before []) (written around.taken_after around.sink_after []) None made → SaysOutcome around (Decode file) network outcome
+stream_ended around file octets lent network made outcome same none is has fits ends =
+    subst (λ (n : Option NetLists). SaysOutcome around (Decode file) n outcome) (sym none)
+    (subst (λ (o : Outcome). SaysOutcome around (Decode file) None o) (sym is)
+    (stream_answers around file octets None made has fits (subst (λ (l : List ℕ). EndsStream l (old_of around) (now_of around) None made) same ends)))
 
 -- ---- one thing comes next
 

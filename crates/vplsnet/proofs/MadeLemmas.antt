@@ -77,8 +77,6 @@ pub next_short : (captures : List (List (List ℕ))) → All (All IsFrame) captu
 next_short [] short = All-nil IsFrame
 next_short (frames ∷ captures) short = All-head (All IsFrame) frames captures short
 
-pub ruleset made_steps = (made_stopped, stopped_end, planned_first)
-
 -- ---- frames of a capture
 
 pub entering_next : (plan : Plan) (old now : NetLists) (last : Ended) (circuit : CircuitId) (frame : List ℕ) (all rest : List (List ℕ)) → all ≡ frame ∷ rest → old.plan ≡ plan

@@ -25,16 +25,6 @@ pub fn missing_circuit<'a>(request: Request<'a>, plan: &Plan) -> Option<&'a str>
     }
 }
 
-// The name of a circuit, where the plan lacks it. Apart, since its clause goes by cases of the place.
-fn lacking<'a>(plan: &Plan, circuit: &'a str) -> Option<&'a str>
-    ensures { option_map (λ circuit. circuit.now) result ≡ lacks circuit.now (place_of plan.now circuit.now) }
-{
-    match circuit_of(plan.circuits.as_slice(), circuit.as_bytes()) {
-        Some(_) => None,
-        None => Some(circuit),
-    }
-}
-
 /// Puts a capture of the frames that left the circuit of this name, and nothing where there is none.
 #[tactic(auto, using(text_lines::proofs::WrittenLemmas::goes_none))]
 pub fn put_left<K: Sink>(
@@ -54,6 +44,16 @@ pub fn put_left<K: Sink>(
             CircuitId(place as u16),
         ),
         None => Ok(()),
+    }
+}
+
+// The name of a circuit, where the plan lacks it.
+fn lacking<'a>(plan: &Plan, circuit: &'a str) -> Option<&'a str>
+    ensures { option_map (λ circuit. circuit.now) result ≡ lacks circuit.now (place_of plan.now circuit.now) }
+{
+    match circuit_of(plan.circuits.as_slice(), circuit.as_bytes()) {
+        Some(_) => None,
+        None => Some(circuit),
     }
 }
 

@@ -18,7 +18,7 @@ const STREAM_LIMIT: usize = 67_108_864;
 /// Reads a stream whole, and writes a line for each LDP message of it (RFC 5036 section 3.1), those before a fault too. The lines go
 /// to the sink page by page.
 /// `DecodeRefused` comes exactly where the stream has a fault, and `Unfinished` where it ends within a PDU. No run begins.
-#[tactic(auto, using(crate::proofs::AnswerLemmas::stream_not_had, crate::proofs::AnswerLemmas::stream_answers, crate::proofs::AnswerLemmas::refused_answers))]
+#[tactic(auto, using(crate::proofs::AnswerLemmas::stream_not_had, crate::proofs::AnswerLemmas::refused_answers))]
 pub fn decode_file<F: Shelf, K: Sink>(
     alloc: Global,
     file: &str,

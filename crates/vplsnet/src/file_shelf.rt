@@ -19,7 +19,7 @@ struct Opened<F: Read + Seek + Drop> {
 }
 
 impl<F: Read + Seek + Drop> Opened<F> {
-    // Whether it was opened under this name. Apart, since only so does its clause join a text and its octets.
+    // Whether it was opened under this name.
     fn has_name(&self, name: &str) -> bool
         ensures { (result ≡ true) ↔ (string_bytes self.now.name ≡ name.now) }
     {

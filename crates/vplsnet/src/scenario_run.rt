@@ -24,7 +24,7 @@ pub struct ScenarioRun {
 }
 
 /// The run of a scenario with the captures that it plays, which are dropped as it does them. The one error is want of memory.
-#[tactic(auto, using(crate::proofs::MadeLemmas::made_steps))]
+#[tactic(auto, using(crate::proofs::MadeLemmas::planned_first))]
 pub fn run_scenario(alloc: Global, work: Work) -> Result<ScenarioRun, NoMemory>
     requires checked { IsChecked work.scenario.plan }
     requires planned { All (IsPlanned work.scenario.plan) work.scenario.commands }

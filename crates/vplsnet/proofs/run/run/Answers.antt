@@ -1,0 +1,41 @@
+-- What was asked for is what the words ask for, and what was come to, and how its run ended, is an answer.
+use Rattle.std.proofs.Common.{◌∙◌, map, string_bytes, rules, refl, ap, subst, sym}
+use Rattle.vplsnet.specs.declared.outcome.Outcome.{Outcome}
+use Rattle.vplsnet.specs.Answers.{SaysOutcome}
+use Rattle.vplsnet.specs.Around.{Around, around}
+use Rattle.vplsnet.specs.Asked.{Decode, asked, asked_by}
+use Rattle.vplsnet.specs.Finish.{status_of}
+use Rattle.vplsnet.proofs.AnswerLemmas.{completes_by, finishes_by, refused_answers, run_answers, usage_by}
+use Rattle.vplsnet.proofs.run.run.Goals as goal
+
+pub returns-in-Decode-clause-complete : goal.returns-in-Decode-clause-complete
+returns-in-Decode-clause-complete g c =
+    let here : Around = around g.F.Shelf.files g.F.Shelf.faults g.K.Sink.taken g.K.Sink.faults c.args.shelf.now c.args.sink.now c.decode_file.new.shelf c.decode_file.new.sink in
+    completes_by here (Decode c.in-Decode.file.now) (asked (map string_bytes c.args.words.now)) c.decode_file.result.network c.decode_file.result.outcome (search rules) c.decode_file.ensures.answers
+
+pub returns-in-Ok : goal.returns-in-Ok
+returns-in-Ok g c =
+    let here : Around = around g.F.Shelf.files g.F.Shelf.faults g.K.Sink.taken g.K.Sink.faults c.args.shelf.now c.args.sink.now c.work_of.new.shelf c.finish_work.new.sink in
+    let says : SaysOutcome here (asked_by c.in-Some.request) c.finish_work.result.network c.finish_work.result.outcome =
+    run_answers here (asked_by c.in-Some.request) c.in-Ok.work.scenario c.in-Ok.work.captures c.finish_work.result.network c.finish_work.result.outcome c.in-Ok.ensures.come c.finish_work.ensures.ends in
+    record {
+      status = c.finish_work.ensures.status;
+      usage = usage_by here _ _ c.finish_work.result.network _ c.in-Some.ensures says;
+      answers = finishes_by here _ _ _ _ c.in-Some.ensures says;
+      complete = completes_by here _ _ c.finish_work.result.network _ c.in-Some.ensures says;
+      same_files = c.work_of.ensures.same_files;
+    }
+
+pub returns-in-Err : goal.returns-in-Err
+returns-in-Err g c =
+    let here : Around = around g.F.Shelf.files g.F.Shelf.faults g.K.Sink.taken g.K.Sink.faults c.args.shelf.now c.args.sink.now c.work_of.new.shelf c.args.sink.now in
+    let says : SaysOutcome here (asked_by c.in-Some.request) c.without_run-in-Err.result.network c.without_run-in-Err.result.outcome =
+    subst (λ (o : Outcome). SaysOutcome here (asked_by c.in-Some.request) c.without_run-in-Err.result.network o) (sym c.without_run-in-Err.ensures.outcome)
+    (refused_answers here (asked_by c.in-Some.request) c.without_run-in-Err.result.network c.in-Err.outcome c.in-Err.ensures.refused (record { taken = refl; no_run = c.without_run-in-Err.ensures.network })) in
+    record {
+      status = c.without_run-in-Err.ensures.status ∙ ap status_of (sym c.without_run-in-Err.ensures.outcome);
+      usage = usage_by here _ _ c.without_run-in-Err.result.network _ c.in-Some.ensures says;
+      answers = finishes_by here _ _ _ _ c.in-Some.ensures says;
+      complete = completes_by here _ _ c.without_run-in-Err.result.network _ c.in-Some.ensures says;
+      same_files = c.work_of.ensures.same_files;
+    }
