@@ -28,7 +28,7 @@ use Rattle.network_model.specs.Calm.{is_calm}
 use Rattle.network_model.specs.Frame.{entering, frame_event, frame_work, next_origin}
 use Rattle.network_model.specs.Packet.{again_event, arrive_event, discard_event, packet_at, packet_work, repeating}
 use Rattle.network_model.specs.Run.{entries_along, state_after}
-use Rattle.network_model.specs.State.{NetworkState, with_edge, with_frame, with_packet, without_packet}
+use Rattle.network_model.specs.State.{NetworkState, with_edge, with_frame, with_copy, without_packet}
 use Rattle.network_model.specs.Step.{step}
 use Rattle.network_model.proofs.AbsorbLemmas.{all_keep}
 use Rattle.network_model.proofs.EdgeLemmas.{HoldsOfEach}
@@ -159,7 +159,7 @@ module _ (plan : Plan) (calm : NetworkState) (service : ServiceId) (site : Sites
   discard_right network (Some packet) right = without_right packet.number network right
 
   repeated_edges : (packet : Packet) (network : NetworkState) → Right network → HoldsOfEach (IsRightEdge plan calm service site) (repeating packet network).state
-  unfolding with_packet
+  unfolding with_copy
   repeated_edges packet network right = right.edges
 
   again_right : (network : NetworkState) (number : ℕ) (found : Option Packet) → packet_at network number ≡ found → Right network

@@ -261,7 +261,7 @@ module _ (plan : Plan) (calm network : NetworkState) (service : ServiceId) (site
         (arrives_sized plan network trace packet checked ruled rule) (λ same. packet_behind ended taken.forwards taken.port taken.found same))
 
     on_side : (on : PassedOn plan network trace packet checked ruled rule) (number hops : ℕ)
-        → KnowsSide plan calm service told (record { number = number; wire = packet.wire; from = packet.to; to = on.to; origin = packet.origin; hops = hops; bytes = relabelled on.binding.label (rule.packed.ttl - 1) packet.bytes })
+        → KnowsSide plan calm service told (record { number = number; wire = packet.wire; from = packet.to; to = on.to; origin = packet.origin; hops = hops; age = 0; bytes = relabelled on.binding.label (rule.packed.ttl - 1) packet.bytes })
     on_side on number hops numbered row is ours =
         let side : HasSide plan calm service told packet row = knows numbered row is ours in
         let same : rule.row ≡ row = same_row rule.row row (sym rule.is ∙ is) in

@@ -13,7 +13,6 @@ use Rattle.net_base.specs.plan.Accepted.{IsWireOf}
 use Rattle.net_base.specs.plan.Paths.{joins}
 use Rattle.net_base.specs.plan.Places.{wire_row}
 use Rattle.net_base.specs.plan.RowFaults.{is_edge_of}
-use Rattle.label_space.specs.Labels.{numbers_end}
 use Rattle.ldp_grammar.specs.declared.message.Message.{Message}
 use Rattle.pw_tlvs.specs.declared.pw_status.PwStatus.{PwStatus}
 use Rattle.pw_signalling.specs.declared.told.Told.{Told}
@@ -22,13 +21,13 @@ use Rattle.edge_model.specs.Content.{mac_withdrawal, mapping, status_notificatio
 use Rattle.edge_model.specs.declared.effect.Effect.TheVariants.{Wire}
 use Rattle.edge_model.specs.declared.end_place.EndPlace.{EndPlace}
 use Rattle.edge_model.specs.EndPlaces.{end_places}
-use Rattle.edge_model.specs.Mend.{advertises_wish, advertising, and_says, each_end, forgets_downs, is_new_choice, mends, mends_choice, mends_end, mends_few, mends_local, mends_once, mends_status, mends_status_of, tells_down, tells_downs, tells_over, telling_status, then_changes, wish, withdrawing, withdraws_unless, stands, withdraws}
+use Rattle.edge_model.specs.Mend.{advertises_under, advertises_wish, advertising, and_says, each_end, forgets_downs, is_new_choice, mends, mends_choice, mends_end, mends_few, mends_local, mends_once, mends_status, mends_status_of, tells_down, tells_downs, tells_over, telling_status, then_changes, wish, withdrawing, withdraws_unless, stands, withdraws}
 use Rattle.edge_model.specs.Mended.{HasFitPaths, MendsAtOnce}
 use Rattle.edge_model.specs.Put.{Spoken, having_spoken, message_octets_of, put_octets, stays, with_spoken}
 use Rattle.edge_model.specs.Role.{down_at, status_to_tell}
 use Rattle.edge_model.specs.Session.{clears_ends, ends, had_said, says, says_to}
 use Rattle.edge_model.specs.Spokes.{choosing}
-use Rattle.edge_model.specs.State.{EdgeState, Peering, end_at, is_there, with_chosen, with_end, with_next_label, with_peering, with_told_down}
+use Rattle.edge_model.specs.State.{EdgeState, Peering, end_at, is_there, with_chosen, with_end, with_next_label, with_peering, with_told_down, with_kept}
 use Rattle.edge_model.specs.Withdraw.{tells_piece, tells_piece_by}
 use Rattle.edge_model.specs.Work.{Work, Answers, changes, gives, next_answer, puts}
 use Rattle.edge_model.proofs.BridgeLemmas.{forgets_downs_only}
@@ -37,6 +36,7 @@ use Rattle.edge_model.proofs.MendLemmas.{says_nothing, says_taken}
 use Rattle.edge_model.proofs.MendedLemmas.{HasOneEnd, IsMended, mends_not, round_mends}
 use Rattle.edge_model.proofs.OneEndLemmas.{one_neighbour, row_holds}
 use Rattle.edge_model.proofs.PlaceLemmas.{IsEndOf, all-map, places_are}
+use Rattle.edge_model.specs.Labels.{label_to_give}
 
 -- ---- how many are so
 
@@ -174,21 +174,21 @@ says_loses n told peer message work within = by (work.edge.peering peer.0) refl 
 
 module _ (plan : Plan) (told : Answers) (n : ℕ) where
   mends_end_loses : (place : EndPlace) (work : Work) → place.peer.0 < n → Loses n work (mends_end plan told place work)
-  unfolding changes with_end with_next_label
+  unfolding changes with_end with_next_label with_kept
   mends_end_loses place work within = of (end_at work.edge place).local where
-    begun : Told → Work
-    begun content = changes (advertising place work.edge.next_label content) work
+    begun : ℕ → Told → Work
+    begun label content = changes (advertising place label content) work
 
-    left : (content : Told) (b : Bool) → Loses n work (cond b (stays work) (says told place.peer (mapping place.pw_id work.edge.next_label content) (begun content)))
-    left content true = stays_loses n work
-    left content false =
-        let said : Loses n (begun content) (says told place.peer (mapping place.pw_id work.edge.next_label content) (begun content)) =
-        says_loses n told place.peer (mapping place.pw_id work.edge.next_label content) (begun content) within in
+    left : (content : Told) (r : Option ℕ) → Loses n work (advertises_under told place content r work)
+    left content None = stays_loses n work
+    left content (Some label) =
+        let said : Loses n (begun label content) (says told place.peer (mapping place.pw_id label content) (begun label content)) =
+        says_loses n told place.peer (mapping place.pw_id label content) (begun label content) within in
         record { few = said.few; less = said.less }
 
     idle : (wished : Option Told) → Loses n work (advertises_wish told place wished work)
     idle None = stays_loses n work
-    idle (Some content) = left content (nat_eq work.edge.next_label numbers_end)
+    idle (Some content) = left content (label_to_give work.edge)
 
     told_it : (label : ℕ) (content : Told) (wished : Option Told) → Loses n work (withdraws_unless told place label content wished work)
     told_it label content wished = by (stands place content wished) where
@@ -206,7 +206,7 @@ module _ (plan : Plan) (told : Answers) (n : ℕ) where
     of (Withdrawing label) = stays_loses n work
 
   mends_status_loses : (place : EndPlace) (work : Work) → place.peer.0 < n → Loses n work (mends_status plan told place work)
-  unfolding changes with_end
+  unfolding changes with_end with_kept
   mends_status_loses place work within = of (end_at work.edge place).local where
     status : PwStatus
     status = status_to_tell plan work.edge place

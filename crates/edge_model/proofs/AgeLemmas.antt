@@ -17,7 +17,6 @@ use Rattle.hvpls_spokes.specs.declared.port.Port.{Port}
 use Rattle.hvpls_spokes.specs.declared.port.Port.TheVariants as port
 use Rattle.hvpls_spokes.specs.Port.{is_wire_port, ports_of}
 use Rattle.hvpls_spokes.proofs.WirePortLemmas.{LeadsToWire, found_wire_port, leads_by_mesh, leads_by_spoke, same_wire_port}
-use Rattle.label_space.specs.Labels.{numbers_end}
 use Rattle.ldp_grammar.specs.declared.message.Message.{Message}
 use Rattle.mac_table.specs.declared.mac_entry.MacEntry.{MacEntry}
 use Rattle.mac_table.specs.Addresses.{AreDistinctAddresses, is_young, mac_entry_of}
@@ -31,13 +30,13 @@ use Rattle.edge_model.specs.Content.{mac_withdrawal, mapping, status_notificatio
 use Rattle.edge_model.specs.declared.end_place.EndPlace.{EndPlace}
 use Rattle.edge_model.specs.EndPlaces.{end_places, is_end_of_wire}
 use Rattle.edge_model.specs.Ends.{wire_end}
-use Rattle.edge_model.specs.Mend.{advertises_wish, advertising, and_says, each_end, forgets_down, forgets_downs, forgetting_wire, is_new_choice, mends, mends_choice, mends_end, mends_local, mends_status, mends_status_of, tells_downs, tells_over, telling_status, then_changes, wish, withdrawing, withdraws_unless, stands, withdraws}
+use Rattle.edge_model.specs.Mend.{advertises_under, advertises_wish, advertising, and_says, each_end, forgets_down, forgets_downs, forgetting_wire, is_new_choice, mends, mends_choice, mends_end, mends_local, mends_status, mends_status_of, tells_downs, tells_over, telling_status, then_changes, wish, withdrawing, withdraws_unless, stands, withdraws}
 use Rattle.edge_model.specs.Mended.{HasFitPaths}
 use Rattle.edge_model.specs.Put.{Spoken, stays}
 use Rattle.edge_model.specs.Role.{down_at, status_to_tell}
 use Rattle.edge_model.specs.Session.{says}
 use Rattle.edge_model.specs.Spokes.{choosing}
-use Rattle.edge_model.specs.State.{EdgeState, addresses_of, end_at, later, with_addresses, with_chosen, with_end, with_learned, with_next_label, with_ticks, without_port}
+use Rattle.edge_model.specs.State.{EdgeState, addresses_of, end_at, later, with_addresses, with_chosen, with_end, with_learned, with_next_label, with_ticks, without_port, with_kept}
 use Rattle.edge_model.specs.Tick.{counted, forgetting, tick_input, ticks_sessions}
 use Rattle.edge_model.specs.Withdraw.{tells_piece, tells_piece_by}
 use Rattle.edge_model.specs.Work.{Work, Answers, beginning, changes}
@@ -49,6 +48,7 @@ use Rattle.edge_model.proofs.MendLemmas.{mends_takes}
 use Rattle.edge_model.proofs.MendedLemmas.{HaveTold, all_told, down_like}
 use Rattle.edge_model.proofs.PlaceLemmas.{IsEndOf, places_are}
 use Rattle.edge_model.proofs.SessionLemmas.{any, says_works, ticks_work}
+use Rattle.edge_model.specs.Labels.{label_to_give}
 
 -- ---- an edge that mends learns nothing before it forgets
 
@@ -57,15 +57,15 @@ said_learned told peer message work = (says_works told any peer message work ref
 
 module _ (plan : Plan) (told : Answers) where
   mends_end_learned : (place : EndPlace) (work : Work) → (mends_end plan told place work).work.edge.learned ≡ work.edge.learned
-  unfolding changes with_end with_next_label
+  unfolding changes with_end with_next_label with_kept
   mends_end_learned place work = of (end_at work.edge place).local where
-    left : (content : Told) (b : Bool) → (cond b (stays work) (says told place.peer (mapping place.pw_id work.edge.next_label content) (changes (advertising place work.edge.next_label content) work))).work.edge.learned ≡ work.edge.learned
-    left content true = refl
-    left content false = said_learned told place.peer (mapping place.pw_id work.edge.next_label content) (changes (advertising place work.edge.next_label content) work)
+    left : (content : Told) (r : Option ℕ) → (advertises_under told place content r work).work.edge.learned ≡ work.edge.learned
+    left content None = refl
+    left content (Some label) = said_learned told place.peer (mapping place.pw_id label content) (changes (advertising place label content) work)
 
     idle : (wished : Option Told) → (advertises_wish told place wished work).work.edge.learned ≡ work.edge.learned
     idle None = refl
-    idle (Some content) = left content (nat_eq work.edge.next_label numbers_end)
+    idle (Some content) = left content (label_to_give work.edge)
 
     told_it : (label : ℕ) (content : Told) (wished : Option Told) → (withdraws_unless told place label content wished work).work.edge.learned ≡ work.edge.learned
     told_it label content wished = by (stands place content wished) where
@@ -80,7 +80,7 @@ module _ (plan : Plan) (told : Answers) where
     of (Withdrawing label) = refl
 
   mends_status_learned : (place : EndPlace) (work : Work) → (mends_status plan told place work).work.edge.learned ≡ work.edge.learned
-  unfolding changes with_end
+  unfolding changes with_end with_kept
   mends_status_learned place work = of (end_at work.edge place).local where
     status : PwStatus
     status = status_to_tell plan work.edge place
@@ -133,7 +133,7 @@ module _ (plan : Plan) (told : Answers) where
       ∙ each_end_learned (mends_end plan told) mends_end_learned places (stays work))
 
 forgot_me : (plan : Plan) (told : Answers) (work : Work) → (changes (forgetting plan) (ticks_sessions told 0 (length plan.edges) (changes counted work))).edge.me ≡ work.edge.me
-unfolding changes with_learned with_ticks
+unfolding changes with_learned with_ticks with_kept
 forgot_me plan told work = (ticks_work told 0 (length plan.edges) (changes counted work)).edge.me
 
 -- ---- what was learned on a wire that forwards stands

@@ -27,7 +27,7 @@ use Rattle.edge_model.specs.Mend.{advertising, forgetting_wire, mends, port_of_w
 use Rattle.edge_model.specs.Role.{down_at, status_to_tell}
 use Rattle.edge_model.specs.Session.{says}
 use Rattle.edge_model.specs.Spokes.{choosing}
-use Rattle.edge_model.specs.State.{EdgeState, addresses_of, later, with_addresses, with_chosen, with_end, with_learned, with_next_label, with_ticks, with_told_down, without_port}
+use Rattle.edge_model.specs.State.{EdgeState, addresses_of, later, with_addresses, with_chosen, with_end, with_learned, with_next_label, with_ticks, with_told_down, without_port, with_kept}
 use Rattle.edge_model.specs.Tick.{aged, counted, forgetting, tick_input, ticks_sessions}
 use Rattle.edge_model.specs.Work.{Work, Answers, beginning, changes, gives}
 use Rattle.edge_model.proofs.SessionLemmas.{IsSessionWork, any, says_works, ticks_work}
@@ -151,13 +151,13 @@ module _ (plan : Plan) (service : ServiceId) (address : Mac) where
       (session_keeps (changes change work) (says told peer message (changes change work)).work (says_works told any peer message (changes change work) refl))
 
   mend_keeps : (told : Answers) → MendSteps plan told (λ a b. KeepsAddress plan service address a.edge b.edge)
-  unfolding changes gives with_chosen with_end with_next_label with_told_down
+  unfolding changes gives with_chosen with_end with_next_label with_told_down with_kept
   mend_keeps told = record {
     same = λ work. keeps_same work.edge work.edge refl refl refl;
     joined = λ a b c first next. keeps_then a.edge b.edge c.edge first next;
-    advertises = λ place content work here idle wished left.
-        change_says_keeps told place.peer (mapping place.pw_id work.edge.next_label content) (advertising place work.edge.next_label content) work
-        (keeps_same work.edge (advertising place work.edge.next_label content work.edge) refl refl refl);
+    advertises = λ place label content work here idle wished given.
+        change_says_keeps told place.peer (mapping place.pw_id label content) (advertising place label content) work
+        (keeps_same work.edge (advertising place label content work.edge) refl refl refl);
     withdraws = λ place label content work here is wished.
         change_says_keeps told place.peer (withdrawal place.pw_id label content) (withdrawing place) work (keeps_same work.edge (withdrawing place work.edge) refl refl refl);
     chooses = λ work. keeps_same work.edge (choosing plan work.edge) refl refl refl;
@@ -190,7 +190,7 @@ module _ (plan : Plan) (service : ServiceId) (address : Mac) where
   -- what each bridge forgets at a tick
   pub at_forgot_is : (told : Answers) (row : ServicePlan) → slice_get plan.services service.0 ≡ Some row → (work : Work)
       → addresses_of (changes (forgetting plan) (ticks_sessions told 0 (length plan.edges) (changes counted work))).edge service ≡ filter (is_young (later work.edge.ticks) row.age) (addresses_of work.edge service)
-  unfolding changes with_learned with_ticks
+  unfolding changes with_learned with_ticks with_kept
   at_forgot_is told row is work =
       let ticked : Work = ticks_sessions told 0 (length plan.edges) (changes counted work) in
       let sessions : IsSessionWork any (changes counted work) ticked = ticks_work told 0 (length plan.edges) (changes counted work) in
@@ -199,7 +199,7 @@ module _ (plan : Plan) (service : ServiceId) (address : Mac) where
       ∙ ap (λ (map : ℕ → List MacEntry). filter (is_young (later work.edge.ticks) row.age) (map service.0)) sessions.edge.learned)
 
   pub one_tick : (told : Answers) (row : ServicePlan) → slice_get plan.services service.0 ≡ Some row → (work : Work) → TicksOnce row work.edge (tick_input plan told work).edge
-  unfolding changes with_learned with_ticks
+  unfolding changes with_learned with_ticks with_kept
   one_tick told row is work = record {
     me = last.me ∙ sessions.edge.me;
     ticks = last.ticks ∙ sessions.edge.ticks;

@@ -67,10 +67,12 @@ pub record LearnsOnly (old new : EdgeState) : Type 0 where
   pub priorities : new.priority ≡ old.priority
   pub chosen : new.chosen ≡ old.chosen
   pub labels : new.next_label ≡ old.next_label
+  pub kept : new.kept ≡ old.kept
+  pub places : new.places ≡ old.places
   pub pings : new.next_ping ≡ old.next_ping
 
 pub learns_not : (edge : EdgeState) → LearnsOnly edge edge
-learns_not edge = record { me = refl; circuits = refl; ticks = refl; peering = refl; wires = refl; bits = refl; ends = refl; downs = refl; priorities = refl; chosen = refl; labels = refl; pings = refl }
+learns_not edge = record { me = refl; circuits = refl; ticks = refl; peering = refl; wires = refl; bits = refl; ends = refl; downs = refl; priorities = refl; chosen = refl; labels = refl; kept = refl; places = refl; pings = refl }
 
 pub learns_then : (a b c : EdgeState) → LearnsOnly a b → LearnsOnly b c → LearnsOnly a c
 learns_then a b c first next = record {
@@ -85,6 +87,8 @@ learns_then a b c first next = record {
   priorities = next.priorities ∙ first.priorities;
   chosen = next.chosen ∙ first.chosen;
   labels = next.labels ∙ first.labels;
+  kept = next.kept ∙ first.kept;
+  places = next.places ∙ first.places;
   pings = next.pings ∙ first.pings;
 }
 
@@ -92,6 +96,7 @@ learns_then a b c first next = record {
 pub learns_is : (old new : EdgeState) → LearnsOnly old new → new ≡ record old { learned = new.learned }
 learns_is old new only = λ i. record {
   me = only.me i;
+  places = only.places i;
   circuit_on = only.circuits i;
   learned = new.learned;
   ticks = only.ticks i;
@@ -103,12 +108,13 @@ learns_is old new only = λ i. record {
   priority = only.priorities i;
   chosen = only.chosen i;
   next_label = only.labels i;
+  kept = only.kept i;
   next_ping = only.pings i;
 }
 
 addresses_learn : (service : ServiceId) (entries : List MacEntry) (edge : EdgeState) → LearnsOnly edge (with_addresses service entries edge)
 unfolding with_addresses
-addresses_learn service entries edge = record { me = refl; circuits = refl; ticks = refl; peering = refl; wires = refl; bits = refl; ends = refl; downs = refl; priorities = refl; chosen = refl; labels = refl; pings = refl }
+addresses_learn service entries edge = record { me = refl; circuits = refl; ticks = refl; peering = refl; wires = refl; bits = refl; ends = refl; downs = refl; priorities = refl; chosen = refl; labels = refl; kept = refl; places = refl; pings = refl }
 
 -- ---- the edge forgets
 

@@ -24,7 +24,7 @@ use Rattle.edge_model.specs.declared.effect.Effect.TheVariants.{Dropped, Left, P
 use Rattle.edge_model.specs.declared.end_place.EndPlace.{EndPlace}
 use Rattle.edge_model.specs.Packet.{packet_input}
 use Rattle.edge_model.specs.Ping.{ping_input}
-use Rattle.edge_model.specs.State.{EdgeState, empty_edge, with_addresses, with_end, with_next_ping, without_ends}
+use Rattle.edge_model.specs.State.{EdgeState, empty_edge, with_addresses, with_end, with_next_ping, without_ends, with_kept}
 use Rattle.edge_model.specs.Work.{Answers, Work, beginning, changes, gives, idles, posts}
 
 abbrev an_edge : ℕ → EdgePlan
@@ -123,41 +123,41 @@ abbrev one : Offer
 one = offering true (Some 1)
 
 asks_by_header : (pings one one taken).effects ≡ Sent b w arrival.Own (channel_header ++ request) ∷ []
-unfolding changes down gives idles ones_plus posts reading with_addresses with_end with_next_ping without_ends
+unfolding changes down gives idles ones_plus posts reading with_addresses with_end with_next_ping without_ends with_kept
 asks_by_header = refl
 
 answers_by_header : (on_packet_at_b one one (channel_header ++ request)).effects ≡ Sent a w arrival.Own (channel_header ++ answer) ∷ []
-unfolding changes down gives idles ones_plus posts reading with_addresses with_end with_next_ping without_ends
+unfolding changes down gives idles ones_plus posts reading with_addresses with_end with_next_ping without_ends with_kept
 answers_by_header = refl
 
 hears_by_header : (on_packet_at_a one one (channel_header ++ answer)).effects ≡ Pong w 1 ∷ []
-unfolding changes down gives idles ones_plus posts reading with_addresses with_end with_next_ping without_ends
+unfolding changes down gives idles ones_plus posts reading with_addresses with_end with_next_ping without_ends with_kept
 hears_by_header = refl
 
 applies : (pings one one taken).idle ≡ false
-unfolding changes down gives idles ones_plus posts reading with_addresses with_end with_next_ping without_ends
+unfolding changes down gives idles ones_plus posts reading with_addresses with_end with_next_ping without_ends with_kept
 applies = refl
 
 -- the next ping has the next sequence number, also where the link did not take the packet
 counts : (pings one one taken).edge.next_ping 0 ≡ 2
-unfolding changes down gives idles ones_plus posts reading with_addresses with_end with_next_ping without_ends
+unfolding changes down gives idles ones_plus posts reading with_addresses with_end with_next_ping without_ends with_kept
 counts = refl
 
 counts_refused : (pings one one refused).edge.next_ping 0 ≡ 2
-unfolding changes down gives idles ones_plus posts reading with_addresses with_end with_next_ping without_ends
+unfolding changes down gives idles ones_plus posts reading with_addresses with_end with_next_ping without_ends with_kept
 counts_refused = refl
 
 drops_refused : (pings one one refused).effects ≡ Dropped cause.LinkFault ∷ []
-unfolding changes down gives idles ones_plus posts reading with_addresses with_end with_next_ping without_ends
+unfolding changes down gives idles ones_plus posts reading with_addresses with_end with_next_ping without_ends with_kept
 drops_refused = refl
 
 -- a restart forgets the sequence numbers, and the last of them is followed by 0
 begins_again : (restart_input (beginning (with_next_ping w 7 (edge_a one one)) [])).edge.next_ping 0 ≡ 1
-unfolding changes down gives idles ones_plus posts reading with_addresses with_end with_next_ping without_ends
+unfolding changes down gives idles ones_plus posts reading with_addresses with_end with_next_ping without_ends with_kept
 begins_again = refl
 
 wraps : (ping_input (plan one one) taken w (beginning (with_next_ping w 65535 (edge_a one one)) [])).edge.next_ping 0 ≡ 0
-unfolding changes down gives idles ones_plus posts reading with_addresses with_end with_next_ping without_ends
+unfolding changes down gives idles ones_plus posts reading with_addresses with_end with_next_ping without_ends with_kept
 wraps = refl
 
 -- ---- type 2, without the control word
@@ -166,15 +166,15 @@ abbrev two : Offer
 two = offering false (Some 2)
 
 asks_by_alert : (pings two two taken).effects ≡ Sent b w arrival.Own (router_alert ++ request) ∷ []
-unfolding changes down gives idles ones_plus posts reading with_addresses with_end with_next_ping without_ends
+unfolding changes down gives idles ones_plus posts reading with_addresses with_end with_next_ping without_ends with_kept
 asks_by_alert = refl
 
 answers_by_alert : (on_packet_at_b two two (router_alert ++ request)).effects ≡ Sent a w arrival.Own (router_alert ++ answer) ∷ []
-unfolding changes down gives idles ones_plus posts reading with_addresses with_end with_next_ping without_ends
+unfolding changes down gives idles ones_plus posts reading with_addresses with_end with_next_ping without_ends with_kept
 answers_by_alert = refl
 
 hears_by_alert : (on_packet_at_a two two (router_alert ++ answer)).effects ≡ Pong w 1 ∷ []
-unfolding changes down gives idles ones_plus posts reading with_addresses with_end with_next_ping without_ends
+unfolding changes down gives idles ones_plus posts reading with_addresses with_end with_next_ping without_ends with_kept
 hears_by_alert = refl
 
 -- ---- type 3, without the control word
@@ -183,38 +183,38 @@ abbrev three : Offer
 three = offering false (Some 4)
 
 asks_by_expiry : (pings three three taken).effects ≡ Sent b w arrival.Own (last_hop ++ request) ∷ []
-unfolding changes down gives idles ones_plus posts reading with_addresses with_end with_next_ping without_ends
+unfolding changes down gives idles ones_plus posts reading with_addresses with_end with_next_ping without_ends with_kept
 asks_by_expiry = refl
 
 answers_by_expiry : (on_packet_at_b three three (last_hop ++ request)).effects ≡ Sent a w arrival.Own (last_hop ++ answer) ∷ []
-unfolding changes down gives idles ones_plus posts reading with_addresses with_end with_next_ping without_ends
+unfolding changes down gives idles ones_plus posts reading with_addresses with_end with_next_ping without_ends with_kept
 answers_by_expiry = refl
 
 hears_by_expiry : (on_packet_at_a three three (last_hop ++ answer)).effects ≡ Pong w 1 ∷ []
-unfolding changes down gives idles ones_plus posts reading with_addresses with_end with_next_ping without_ends
+unfolding changes down gives idles ones_plus posts reading with_addresses with_end with_next_ping without_ends with_kept
 hears_by_expiry = refl
 
 -- where both offer both, type 2 comes before type 3
 prefers_alert : (pings (offering false (Some 7)) (offering false (Some 6)) taken).effects ≡ Sent b w arrival.Own (router_alert ++ request) ∷ []
-unfolding changes down gives idles ones_plus posts reading with_addresses with_end with_next_ping without_ends
+unfolding changes down gives idles ones_plus posts reading with_addresses with_end with_next_ping without_ends with_kept
 prefers_alert = refl
 
 -- ---- where none was picked
 
 idle_where_near_tells_none : (pings (offering true None) one taken).idle ≡ true
-unfolding changes down gives idles ones_plus posts reading with_addresses with_end with_next_ping without_ends
+unfolding changes down gives idles ones_plus posts reading with_addresses with_end with_next_ping without_ends with_kept
 idle_where_near_tells_none = refl
 
 idle_where_far_tells_none : (pings one (offering true None) taken).idle ≡ true
-unfolding changes down gives idles ones_plus posts reading with_addresses with_end with_next_ping without_ends
+unfolding changes down gives idles ones_plus posts reading with_addresses with_end with_next_ping without_ends with_kept
 idle_where_far_tells_none = refl
 
 idle_where_types_differ : (pings three two taken).idle ≡ true
-unfolding changes down gives idles ones_plus posts reading with_addresses with_end with_next_ping without_ends
+unfolding changes down gives idles ones_plus posts reading with_addresses with_end with_next_ping without_ends with_kept
 idle_where_types_differ = refl
 
 idle_by_the_control_word : (pings (offering true (Some 6)) (offering true (Some 6)) taken).idle ≡ true
-unfolding changes down gives idles ones_plus posts reading with_addresses with_end with_next_ping without_ends
+unfolding changes down gives idles ones_plus posts reading with_addresses with_end with_next_ping without_ends with_kept
 idle_by_the_control_word = refl
 
 abbrev pings_from : LocalPart → Option Binding → Work
@@ -222,92 +222,92 @@ pings_from local remote = ping_input (plan one one) taken w (beginning (with_end
 
 -- the end has to advertise its label and to be bound
 idle_where_unbound : (pings_from (advertised one) None).idle ≡ true
-unfolding changes down gives idles ones_plus posts reading with_addresses with_end with_next_ping without_ends
+unfolding changes down gives idles ones_plus posts reading with_addresses with_end with_next_ping without_ends with_kept
 idle_where_unbound = refl
 
 idle_where_withdrawn : (pings_from (Withdrawing 16) (bound_to (content one))).idle ≡ true
-unfolding changes down gives idles ones_plus posts reading with_addresses with_end with_next_ping without_ends
+unfolding changes down gives idles ones_plus posts reading with_addresses with_end with_next_ping without_ends with_kept
 idle_where_withdrawn = refl
 
 -- a packet in another channel is not offered, and one whose TTL ends there without type 3 is a frame
 drops_alert : (on_packet_at_b three three (router_alert ++ request)).effects ≡ Dropped cause.NotOffered ∷ []
-unfolding changes down gives idles ones_plus posts reading with_addresses with_end with_next_ping without_ends
+unfolding changes down gives idles ones_plus posts reading with_addresses with_end with_next_ping without_ends with_kept
 drops_alert = refl
 
 drops_header : (on_packet_at_b (offering true (Some 2)) one (channel_header ++ request)).effects ≡ Dropped cause.NotOffered ∷ []
-unfolding changes down gives idles ones_plus posts reading with_addresses with_end with_next_ping without_ends
+unfolding changes down gives idles ones_plus posts reading with_addresses with_end with_next_ping without_ends with_kept
 drops_header = refl
 
 abbrev broadcast : List ℕ
 broadcast = 255 ∷ 255 ∷ 255 ∷ 255 ∷ 255 ∷ 255 ∷ 2 ∷ 0 ∷ 0 ∷ 0 ∷ 0 ∷ 1 ∷ 8 ∷ 0 ∷ []
 
 leaves_last_hop : (on_packet_at_b two two (last_hop ++ broadcast)).effects ≡ Left (record { 0 = 1 }) broadcast ∷ []
-unfolding changes down gives idles ones_plus posts reading with_addresses with_end with_next_ping without_ends
+unfolding changes down gives idles ones_plus posts reading with_addresses with_end with_next_ping without_ends with_kept
 leaves_last_hop = refl
 
 -- ---- faults, each of them the first in its order
 
 -- another version than 0 in the associated channel header, or no whole header
 drops_version : (on_packet_at_b one one (0 ∷ 1 ∷ 1 ∷ 255 ∷ 17 ∷ 0 ∷ 0 ∷ 33 ∷ request)).effects ≡ Dropped cause.Version ∷ []
-unfolding changes down gives idles ones_plus posts reading with_addresses with_end with_next_ping without_ends
+unfolding changes down gives idles ones_plus posts reading with_addresses with_end with_next_ping without_ends with_kept
 drops_version = refl
 
 drops_part : (on_packet_at_b one one (0 ∷ 1 ∷ 1 ∷ 255 ∷ 16 ∷ 0 ∷ 0 ∷ [])).effects ≡ Dropped cause.Version ∷ []
-unfolding changes down gives idles ones_plus posts reading with_addresses with_end with_next_ping without_ends
+unfolding changes down gives idles ones_plus posts reading with_addresses with_end with_next_ping without_ends with_kept
 drops_part = refl
 
 -- another channel type than IPv4
 drops_type : (on_packet_at_b one one (0 ∷ 1 ∷ 1 ∷ 255 ∷ 16 ∷ 0 ∷ 0 ∷ 34 ∷ request)).effects ≡ Dropped cause.Channel ∷ []
-unfolding changes down gives idles ones_plus posts reading with_addresses with_end with_next_ping without_ends
+unfolding changes down gives idles ones_plus posts reading with_addresses with_end with_next_ping without_ends with_kept
 drops_type = refl
 
 -- a header of six words, a fragment, another protocol, or fewer octets than its total length says
 drops_options : (on_packet_at_b one one (channel_header ++ 70 ∷ 0 ∷ 0 ∷ 28 ∷ 0 ∷ 0 ∷ 0 ∷ 0 ∷ 255 ∷ 1 ∷ 166 ∷ 222 ∷ 10 ∷ 0 ∷ 0 ∷ 1 ∷ 10 ∷ 0 ∷ 0 ∷ 2 ∷ 8 ∷ 0 ∷ 247 ∷ 154 ∷ 0 ∷ 100 ∷ 0 ∷ 1 ∷ [])).effects ≡ Dropped cause.Ip ∷ []
-unfolding changes down gives idles ones_plus posts reading with_addresses with_end with_next_ping without_ends
+unfolding changes down gives idles ones_plus posts reading with_addresses with_end with_next_ping without_ends with_kept
 drops_options = refl
 
 drops_fragment : (on_packet_at_b one one (channel_header ++ 69 ∷ 0 ∷ 0 ∷ 28 ∷ 0 ∷ 0 ∷ 32 ∷ 0 ∷ 255 ∷ 1 ∷ 135 ∷ 222 ∷ 10 ∷ 0 ∷ 0 ∷ 1 ∷ 10 ∷ 0 ∷ 0 ∷ 2 ∷ 8 ∷ 0 ∷ 247 ∷ 154 ∷ 0 ∷ 100 ∷ 0 ∷ 1 ∷ [])).effects ≡ Dropped cause.Ip ∷ []
-unfolding changes down gives idles ones_plus posts reading with_addresses with_end with_next_ping without_ends
+unfolding changes down gives idles ones_plus posts reading with_addresses with_end with_next_ping without_ends with_kept
 drops_fragment = refl
 
 drops_protocol : (on_packet_at_b one one (channel_header ++ 69 ∷ 0 ∷ 0 ∷ 28 ∷ 0 ∷ 0 ∷ 0 ∷ 0 ∷ 255 ∷ 17 ∷ 167 ∷ 206 ∷ 10 ∷ 0 ∷ 0 ∷ 1 ∷ 10 ∷ 0 ∷ 0 ∷ 2 ∷ 8 ∷ 0 ∷ 247 ∷ 154 ∷ 0 ∷ 100 ∷ 0 ∷ 1 ∷ [])).effects ≡ Dropped cause.Ip ∷ []
-unfolding changes down gives idles ones_plus posts reading with_addresses with_end with_next_ping without_ends
+unfolding changes down gives idles ones_plus posts reading with_addresses with_end with_next_ping without_ends with_kept
 drops_protocol = refl
 
 drops_cut : (on_packet_at_b one one (channel_header ++ 69 ∷ 0 ∷ 0 ∷ 28 ∷ 0 ∷ 0 ∷ 0 ∷ 0 ∷ 255 ∷ 1 ∷ 167 ∷ 222 ∷ 10 ∷ 0 ∷ 0 ∷ 1 ∷ 10 ∷ 0 ∷ 0 ∷ 2 ∷ 8 ∷ 0 ∷ 247 ∷ 154 ∷ 0 ∷ 100 ∷ 0 ∷ [])).effects ≡ Dropped cause.Ip ∷ []
-unfolding changes down gives idles ones_plus posts reading with_addresses with_end with_next_ping without_ends
+unfolding changes down gives idles ones_plus posts reading with_addresses with_end with_next_ping without_ends with_kept
 drops_cut = refl
 
 -- a wrong checksum of the header, or of the message
 drops_header_sum : (on_packet_at_b one one (channel_header ++ 69 ∷ 0 ∷ 0 ∷ 28 ∷ 0 ∷ 0 ∷ 0 ∷ 0 ∷ 255 ∷ 1 ∷ 167 ∷ 223 ∷ 10 ∷ 0 ∷ 0 ∷ 1 ∷ 10 ∷ 0 ∷ 0 ∷ 2 ∷ 8 ∷ 0 ∷ 247 ∷ 154 ∷ 0 ∷ 100 ∷ 0 ∷ 1 ∷ [])).effects ≡ Dropped cause.Checksum ∷ []
-unfolding changes down gives idles ones_plus posts reading with_addresses with_end with_next_ping without_ends
+unfolding changes down gives idles ones_plus posts reading with_addresses with_end with_next_ping without_ends with_kept
 drops_header_sum = refl
 
 drops_message_sum : (on_packet_at_b one one (channel_header ++ 69 ∷ 0 ∷ 0 ∷ 28 ∷ 0 ∷ 0 ∷ 0 ∷ 0 ∷ 255 ∷ 1 ∷ 167 ∷ 222 ∷ 10 ∷ 0 ∷ 0 ∷ 1 ∷ 10 ∷ 0 ∷ 0 ∷ 2 ∷ 8 ∷ 0 ∷ 247 ∷ 154 ∷ 0 ∷ 100 ∷ 0 ∷ 2 ∷ [])).effects ≡ Dropped cause.Checksum ∷ []
-unfolding changes down gives idles ones_plus posts reading with_addresses with_end with_next_ping without_ends
+unfolding changes down gives idles ones_plus posts reading with_addresses with_end with_next_ping without_ends with_kept
 drops_message_sum = refl
 
 -- another type than echo, another code than 0, or the identifier of another wire
 drops_timestamp : (on_packet_at_b one one (channel_header ++ 69 ∷ 0 ∷ 0 ∷ 28 ∷ 0 ∷ 0 ∷ 0 ∷ 0 ∷ 255 ∷ 1 ∷ 167 ∷ 222 ∷ 10 ∷ 0 ∷ 0 ∷ 1 ∷ 10 ∷ 0 ∷ 0 ∷ 2 ∷ 13 ∷ 0 ∷ 242 ∷ 154 ∷ 0 ∷ 100 ∷ 0 ∷ 1 ∷ [])).effects ≡ Dropped cause.Icmp ∷ []
-unfolding changes down gives idles ones_plus posts reading with_addresses with_end with_next_ping without_ends
+unfolding changes down gives idles ones_plus posts reading with_addresses with_end with_next_ping without_ends with_kept
 drops_timestamp = refl
 
 drops_code : (on_packet_at_b one one (channel_header ++ 69 ∷ 0 ∷ 0 ∷ 28 ∷ 0 ∷ 0 ∷ 0 ∷ 0 ∷ 255 ∷ 1 ∷ 167 ∷ 222 ∷ 10 ∷ 0 ∷ 0 ∷ 1 ∷ 10 ∷ 0 ∷ 0 ∷ 2 ∷ 8 ∷ 1 ∷ 247 ∷ 153 ∷ 0 ∷ 100 ∷ 0 ∷ 1 ∷ [])).effects ≡ Dropped cause.Icmp ∷ []
-unfolding changes down gives idles ones_plus posts reading with_addresses with_end with_next_ping without_ends
+unfolding changes down gives idles ones_plus posts reading with_addresses with_end with_next_ping without_ends with_kept
 drops_code = refl
 
 drops_identifier : (on_packet_at_b one one (channel_header ++ 69 ∷ 0 ∷ 0 ∷ 28 ∷ 0 ∷ 0 ∷ 0 ∷ 0 ∷ 255 ∷ 1 ∷ 167 ∷ 222 ∷ 10 ∷ 0 ∷ 0 ∷ 1 ∷ 10 ∷ 0 ∷ 0 ∷ 2 ∷ 8 ∷ 0 ∷ 247 ∷ 153 ∷ 0 ∷ 101 ∷ 0 ∷ 1 ∷ [])).effects ≡ Dropped cause.Icmp ∷ []
-unfolding changes down gives idles ones_plus posts reading with_addresses with_end with_next_ping without_ends
+unfolding changes down gives idles ones_plus posts reading with_addresses with_end with_next_ping without_ends with_kept
 drops_identifier = refl
 
 -- octets behind the IPv4 packet are not looked at, and are not answered
 ignores_padding : (on_packet_at_b one one (channel_header ++ (request ++ (0 ∷ 0 ∷ [])))).effects ≡ Sent a w arrival.Own (channel_header ++ answer) ∷ []
-unfolding changes down gives idles ones_plus posts reading with_addresses with_end with_next_ping without_ends
+unfolding changes down gives idles ones_plus posts reading with_addresses with_end with_next_ping without_ends with_kept
 ignores_padding = refl
 
 -- no bridge hears an echo packet
 teaches_nothing : (on_packet_at_b one one (channel_header ++ request)).edge.learned 0 ≡ []
-unfolding changes down gives idles ones_plus posts reading with_addresses with_end with_next_ping without_ends
+unfolding changes down gives idles ones_plus posts reading with_addresses with_end with_next_ping without_ends with_kept
 teaches_nothing = refl
 
 -- ---- over a switching point: a request of type 3 passes it with the TTL that ends at the far edge
@@ -348,27 +348,27 @@ abbrev at : EdgeState → List ℕ → Work
 at edge octets = packet_input long_plan taken octets (beginning edge [])
 
 asks_past : (ping_input long_plan taken w (beginning near_edge [])).effects ≡ Sent b w arrival.Own (0 ∷ 1 ∷ 1 ∷ 2 ∷ far_request) ∷ []
-unfolding changes down gives idles ones_plus posts reading with_addresses with_end with_next_ping without_ends
+unfolding changes down gives idles ones_plus posts reading with_addresses with_end with_next_ping without_ends with_kept
 asks_past = refl
 
 passes : (at point (0 ∷ 1 ∷ 1 ∷ 2 ∷ far_request)).effects ≡ Sent c w (arrival.Wire w) (last_hop ++ far_request) ∷ []
-unfolding changes down gives idles ones_plus posts reading with_addresses with_end with_next_ping without_ends
+unfolding changes down gives idles ones_plus posts reading with_addresses with_end with_next_ping without_ends with_kept
 passes = refl
 
 answers_past : (at far_edge (last_hop ++ far_request)).effects ≡ Sent b w arrival.Own (0 ∷ 1 ∷ 17 ∷ 2 ∷ far_answer) ∷ []
-unfolding changes down gives idles ones_plus posts reading with_addresses with_end with_next_ping without_ends
+unfolding changes down gives idles ones_plus posts reading with_addresses with_end with_next_ping without_ends with_kept
 answers_past = refl
 
 -- with a TTL that ends at the switching point it gets no further, and a router alert is for no end there
 drops_expired : (at point (last_hop ++ far_request)).effects ≡ Dropped cause.Expired ∷ []
-unfolding changes down gives idles ones_plus posts reading with_addresses with_end with_next_ping without_ends
+unfolding changes down gives idles ones_plus posts reading with_addresses with_end with_next_ping without_ends with_kept
 drops_expired = refl
 
 drops_alerted : (at point (router_alert ++ far_request)).effects ≡ Dropped cause.NoLabel ∷ []
-unfolding changes down gives idles ones_plus posts reading with_addresses with_end with_next_ping without_ends
+unfolding changes down gives idles ones_plus posts reading with_addresses with_end with_next_ping without_ends with_kept
 drops_alerted = refl
 
 -- a switching point has no end of its own to ping
 no_ping_of_a_point : (ping_input long_plan taken w (beginning point [])).idle ≡ true
-unfolding changes down gives idles ones_plus posts reading with_addresses with_end with_next_ping without_ends
+unfolding changes down gives idles ones_plus posts reading with_addresses with_end with_next_ping without_ends with_kept
 no_ping_of_a_point = refl

@@ -11,7 +11,7 @@ use Rattle.net_base.specs.plan.Places.{circuit_row}
 use Rattle.edge_model.specs.declared.effect.Effect.TheVariants.{Left, Dropped}
 use Rattle.edge_model.specs.Circuit.{circuit_input}
 use Rattle.edge_model.specs.Frame.{frame_input}
-use Rattle.edge_model.specs.State.{EdgeState, empty_edge, with_addresses, with_chosen, with_circuit, with_ends_beside, with_learned, with_ticks}
+use Rattle.edge_model.specs.State.{EdgeState, empty_edge, with_addresses, with_chosen, with_circuit, with_ends_beside, with_learned, with_ticks, with_kept}
 use Rattle.edge_model.specs.Tick.{tick_input}
 use Rattle.edge_model.specs.Work.{Work, Answers, beginning, changes, gives, idles}
 
@@ -69,62 +69,62 @@ tagged_answer = 2 ∷ 0 ∷ 0 ∷ 0 ∷ 0 ∷ 1 ∷ 2 ∷ 0 ∷ 0 ∷ 0 ∷ 0 �
 
 -- a broadcast leaves at the other circuits of its service, with their tags
 floods : (on_frame 0 broadcast edge).effects ≡ Left (circuit 2) broadcast ∷ Left (circuit 3) tagged ∷ []
-unfolding changes gives idles with_addresses with_chosen with_circuit with_ends_beside with_learned with_ticks
+unfolding changes gives idles with_addresses with_chosen with_circuit with_ends_beside with_learned with_ticks with_kept
 floods = refl
 
 -- what comes with the tag of its circuit leaves without it
 takes_the_tag : (on_frame 3 tagged edge).effects ≡ Left (circuit 0) broadcast ∷ Left (circuit 2) broadcast ∷ []
-unfolding changes gives idles with_addresses with_chosen with_circuit with_ends_beside with_learned with_ticks
+unfolding changes gives idles with_addresses with_chosen with_circuit with_ends_beside with_learned with_ticks with_kept
 takes_the_tag = refl
 
 -- and what comes without it is dropped, and teaches nothing
 drops : (on_frame 3 broadcast edge).effects ≡ Dropped NoTag ∷ []
-unfolding changes gives idles with_addresses with_chosen with_circuit with_ends_beside with_learned with_ticks
+unfolding changes gives idles with_addresses with_chosen with_circuit with_ends_beside with_learned with_ticks with_kept
 drops = refl
 
 teaches_nothing : ((on_frame 3 broadcast edge).edge).learned 0 ≡ []
-unfolding changes gives idles with_addresses with_chosen with_circuit with_ends_beside with_learned with_ticks
+unfolding changes gives idles with_addresses with_chosen with_circuit with_ends_beside with_learned with_ticks with_kept
 teaches_nothing = refl
 
 -- a known station is served alone, until it is as old as the age limit
 learns : (on_frame 2 answer (on_frame 0 broadcast edge).edge).effects ≡ Left (circuit 0) answer ∷ []
-unfolding changes gives idles with_addresses with_chosen with_circuit with_ends_beside with_learned with_ticks
+unfolding changes gives idles with_addresses with_chosen with_circuit with_ends_beside with_learned with_ticks with_kept
 learns = refl
 
 remembers : (on_frame 2 answer (on_tick (on_frame 0 broadcast edge).edge).edge).effects ≡ Left (circuit 0) answer ∷ []
-unfolding changes gives idles with_addresses with_chosen with_circuit with_ends_beside with_learned with_ticks
+unfolding changes gives idles with_addresses with_chosen with_circuit with_ends_beside with_learned with_ticks with_kept
 remembers = refl
 
 forgets : (on_frame 2 answer (on_tick (on_tick (on_frame 0 broadcast edge).edge).edge).edge).effects ≡ Left (circuit 0) answer ∷ Left (circuit 3) tagged_answer ∷ []
-unfolding changes gives idles with_addresses with_chosen with_circuit with_ends_beside with_learned with_ticks
+unfolding changes gives idles with_addresses with_chosen with_circuit with_ends_beside with_learned with_ticks with_kept
 forgets = refl
 
 -- a circuit that is turned off loses its stations, and nothing leaves there
 turned_off : (on_frame 2 answer (off 0 (on_frame 0 broadcast edge).edge).edge).effects ≡ Left (circuit 3) tagged_answer ∷ []
-unfolding changes gives idles with_addresses with_chosen with_circuit with_ends_beside with_learned with_ticks
+unfolding changes gives idles with_addresses with_chosen with_circuit with_ends_beside with_learned with_ticks with_kept
 turned_off = refl
 
 -- a frame at a circuit that is off, at one of another edge, or at none, does not apply, nor does turning off twice
 off_is_idle : (on_frame 0 broadcast (off 0 edge).edge).idle ≡ true
-unfolding changes gives idles with_addresses with_chosen with_circuit with_ends_beside with_learned with_ticks
+unfolding changes gives idles with_addresses with_chosen with_circuit with_ends_beside with_learned with_ticks with_kept
 off_is_idle = refl
 
 elsewhere_is_idle : (on_frame 4 broadcast edge).idle ≡ true
-unfolding changes gives idles with_addresses with_chosen with_circuit with_ends_beside with_learned with_ticks
+unfolding changes gives idles with_addresses with_chosen with_circuit with_ends_beside with_learned with_ticks with_kept
 elsewhere_is_idle = refl
 
 nowhere_is_idle : (on_frame 5 broadcast edge).idle ≡ true
-unfolding changes gives idles with_addresses with_chosen with_circuit with_ends_beside with_learned with_ticks
+unfolding changes gives idles with_addresses with_chosen with_circuit with_ends_beside with_learned with_ticks with_kept
 nowhere_is_idle = refl
 
 applies : (on_frame 0 broadcast edge).idle ≡ false
-unfolding changes gives idles with_addresses with_chosen with_circuit with_ends_beside with_learned with_ticks
+unfolding changes gives idles with_addresses with_chosen with_circuit with_ends_beside with_learned with_ticks with_kept
 applies = refl
 
 off_twice_is_idle : (off 0 (off 0 edge).edge).idle ≡ true
-unfolding changes gives idles with_addresses with_chosen with_circuit with_ends_beside with_learned with_ticks
+unfolding changes gives idles with_addresses with_chosen with_circuit with_ends_beside with_learned with_ticks with_kept
 off_twice_is_idle = refl
 
 off_elsewhere_is_idle : (off 4 edge).idle ≡ true
-unfolding changes gives idles with_addresses with_chosen with_circuit with_ends_beside with_learned with_ticks
+unfolding changes gives idles with_addresses with_chosen with_circuit with_ends_beside with_learned with_ticks with_kept
 off_elsewhere_is_idle = refl

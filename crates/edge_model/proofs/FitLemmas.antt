@@ -43,8 +43,8 @@ use Rattle.edge_model.specs.Put.{Spoken, having_spoken, message_octets_of, octet
 use Rattle.edge_model.specs.Role.{status_to_tell}
 use Rattle.edge_model.specs.Send.{sends}
 use Rattle.edge_model.specs.Session.{clears_ends, comes_of, ends, had_said, happens, happens_to, happens_with_ends, is_same_phase, says, says_to, tells_change, went_on, with_session}
-use Rattle.edge_model.specs.Signal.{end_of_fec, with_end_changed, with_named}
-use Rattle.edge_model.specs.State.{EdgeState, Peering, with_addresses, with_bits, with_chosen, with_circuit, with_end, with_ends_beside, with_learned, with_next_label, with_next_ping, with_peering, with_priority, with_renewed, with_ticks, with_told_down, with_wire, without_ends, without_peerings}
+use Rattle.edge_model.specs.Signal.{end_of_fec, with_end_changed, with_named, with_released}
+use Rattle.edge_model.specs.State.{EdgeState, Peering, with_addresses, with_bits, with_chosen, with_circuit, with_end, with_ends_beside, with_learned, with_next_label, with_next_ping, with_peering, with_priority, with_renewed, with_ticks, with_told_down, with_wire, without_ends, without_peerings, with_kept}
 use Rattle.edge_model.specs.Step.{edge_step}
 use Rattle.edge_model.specs.Wire.{turned_wire}
 use Rattle.edge_model.specs.Work.{Work, Answers, changes, gives, idles, next_answer, puts}
@@ -209,12 +209,17 @@ unfolding changes
 changes_fit k change work same fits = same_fits k work (changes change work) same fits
 
 changed_keeps : (change : EndState → EndState) (place : Option EndPlace) (edge : EdgeState) → (with_end_changed change place edge).peering ≡ edge.peering
-unfolding with_end
+unfolding with_end with_kept
 changed_keeps change None edge = refl
 changed_keeps change (Some place) edge = refl
 
+released_keeps : (label : Option ℕ) (place : Option EndPlace) (edge : EdgeState) → (with_released label place edge).peering ≡ edge.peering
+unfolding with_end with_kept
+released_keeps label None edge = refl
+released_keeps label (Some place) edge = refl
+
 named_keeps : (plan : Plan) (peer : EdgeId) (fec : PwFec) (one all : EndState → EndState) (pw_id : Option ℕ) (edge : EdgeState) → (with_named plan peer fec one all pw_id edge).peering ≡ edge.peering
-unfolding with_ends_beside
+unfolding with_ends_beside with_kept
 named_keeps plan peer fec one all None edge = refl
 named_keeps plan peer fec one all (Some pw_id) edge = changed_keeps one (end_named plan edge.me peer pw_id) edge
 
@@ -229,12 +234,12 @@ turned_wire_keeps wire true edge = refl
 turned_wire_keeps wire false edge = refl
 
 mend_steps : (plan : Plan) (told : Answers) (k : ℕ) → MendSteps plan told (FitsOn k)
-unfolding changes gives with_chosen with_end with_next_label with_told_down
+unfolding changes gives with_chosen with_end with_next_label with_told_down with_kept
 mend_steps plan told k = record {
   same = λ work fits. fits;
   joined = λ a b c first next fits. next (first fits);
-  advertises = λ place content work is idle wished left fits.
-      says_fits told k place.peer (mapping place.pw_id work.edge.next_label content) (changes (advertising place work.edge.next_label content) work) fits;
+  advertises = λ place label content work is idle wished given fits.
+      says_fits told k place.peer (mapping place.pw_id label content) (changes (advertising place label content) work) fits;
   withdraws = λ place label content work is advertised wished fits. says_fits told k place.peer (withdrawal place.pw_id label content) (changes (withdrawing place) work) fits;
   chooses = λ work fits. fits;
   tells_status = λ place label content last work is advertised told_it other fits.
@@ -259,19 +264,20 @@ hear_steps plan told k = record {
   unbinds = λ peer fec label work there fits.
       changes_fit k (with_named plan peer fec (unbound label) (group_unbound fec.group) fec.pw_id) work (named_keeps plan peer fec (unbound label) (group_unbound fec.group) fec.pw_id work.edge) fits;
   released = λ peer fec label work there fits.
-      changes_fit k (λ edge. with_end_changed (released label) (end_of_fec plan edge peer fec) edge) work (changed_keeps (released label) (end_of_fec plan work.edge peer fec) work.edge) fits;
+      changes_fit k (λ edge. with_released label (end_of_fec plan edge peer fec) edge) work (released_keeps label (end_of_fec plan work.edge peer fec) work.edge) fits;
   states = λ peer fec status work there fits.
       changes_fit k (with_named plan peer fec (stated status) (group_stated fec.group status) fec.pw_id) work (named_keeps plan peer fec (stated status) (group_stated fec.group status) fec.pw_id work.edge) fits;
   clears = λ service addresses from work. same_fits k work (changes (withdrawing_at service addresses from) work) (withdrawing_only service addresses from work).edge.peering;
 }
 
 input_steps : (plan : Plan) (told : Answers) (k : ℕ) → InputSteps plan told (FitsOn k)
-unfolding changes gives idles with_addresses with_bits with_learned with_next_ping with_priority with_ticks without_ends without_peerings
+unfolding changes gives idles with_addresses with_bits with_learned with_next_ping with_priority with_ticks without_ends without_peerings with_kept
 input_steps plan told k = record {
   hear = hear_steps plan told k;
   idles = λ work fits. fits;
   opens = λ peer own other work none fits. set_fits k peer (Some (opened_with own other)) work (λ here. omega arith) fits;
   restarts = λ work fits. tt;
+  meets = λ peer work none fits. fits;
   counts = λ work fits. fits;
   forgets = λ work fits. fits;
   turns = λ circuit row on work fits. changes_fit k (turned plan circuit row on) work (turned_keeps plan circuit row on work.edge) fits;

@@ -13,7 +13,7 @@ use Rattle.net_base.specs.plan.Places.{wire_row}
 use Rattle.pw_tlvs.specs.declared.pw_fec.PwFec.{PwFec}
 use Rattle.pw_signalling.specs.declared.told.Told.{Told}
 use Rattle.pw_signalling.specs.End.{EndState, Idle, Advertised, fresh}
-use Rattle.pw_signalling.specs.Rows.{bound, group_stated, group_unbound, lost, released, renewed, stated, unbound, withdrawn}
+use Rattle.pw_signalling.specs.Rows.{bound, group_stated, group_unbound, lost, released, renewed, stated, unbound, withdrawn, advertised}
 use Rattle.session_core.specs.declared.reply.Reply.{Reply}
 use Rattle.session_core.specs.Table.{SessionEvent}
 use Rattle.ldp_grammar.specs.declared.message.Message.{Message}
@@ -27,9 +27,9 @@ use Rattle.edge_model.specs.Hear.{hears_message, hears_one}
 use Rattle.edge_model.specs.Mend.{passed_wish, advertising, forgetting_wire, is_up_with, mends, telling_status, terminal_wish, wish, wish_of, withdrawing}
 use Rattle.edge_model.specs.Put.{message_octets_of, put_octets, put_reply}
 use Rattle.edge_model.specs.Send.{sends}
-use Rattle.edge_model.specs.Session.{clears_ends, had_put, had_said, happens, happens_with_ends, says, says_to}
-use Rattle.edge_model.specs.Signal.{end_of_fec, with_end_changed, with_named}
-use Rattle.edge_model.specs.State.{EdgeState, Peering, empty_edge, end_at, has_end, is_there, with_addresses, with_bits, with_chosen, with_circuit, with_end, with_ends_beside, with_learned, with_next_label, with_next_ping, with_peering, with_priority, with_renewed, with_ticks, with_told_down, with_wire, without_ends, without_peerings}
+use Rattle.edge_model.specs.Session.{clears_ends, had_put, had_said, happens, happens_with_ends, says, says_to, losing_ends}
+use Rattle.edge_model.specs.Signal.{end_of_fec, with_end_changed, with_named, with_released}
+use Rattle.edge_model.specs.State.{EdgeState, Peering, empty_edge, end_at, has_end, is_there, with_addresses, with_bits, with_chosen, with_circuit, with_end, with_ends_beside, with_learned, with_next_label, with_next_ping, with_peering, with_priority, with_renewed, with_ticks, with_told_down, with_wire, without_ends, without_peerings, with_kept}
 use Rattle.edge_model.specs.Step.{edge_step}
 use Rattle.edge_model.specs.Wire.{turned_wire}
 use Rattle.edge_model.specs.Work.{Work, Answers, changes, gives, idles, next_answer}
@@ -37,6 +37,8 @@ use Rattle.edge_model.proofs.BridgeLemmas.{LearnsOnly, forgetting_only, sends_br
 use Rattle.edge_model.proofs.LocalLemmas.{and_left}
 use Rattle.edge_model.proofs.SessionLemmas.{IsSessionWork, happens_works, message_works, reply_works}
 use Rattle.edge_model.proofs.WalkLemmas.{HearSteps, InputSteps, MendSteps, hears_message_holds, hears_one_holds, mends_holds, step_holds}
+use Rattle.edge_model.specs.Labels.{giving}
+use Rattle.label_space.specs.declared.kept.Kept.{Kept}
 
 -- where no session stands, each end is as before the first input
 abbrev pub EndsFollowSessions : EdgeState → Type 0
@@ -74,9 +76,9 @@ session_follows peer a b works follows wire k apart none = works.edge.ends wire 
 
 -- the ends beside the peer are lost where its session does not stand
 clears_follows : (peer : EdgeId) (work : Work) → FollowBut peer work.edge → EndsFollowSessions (clears_ends peer work).edge
-unfolding changes with_ends_beside
+unfolding changes with_ends_beside with_kept
 clears_follows peer work follows = by (has_end work.edge peer) refl where
-  by : (b : Bool) → has_end work.edge peer ≡ b → EndsFollowSessions (cond b work (changes (with_ends_beside peer lost) work)).edge
+  by : (b : Bool) → has_end work.edge peer ≡ b → EndsFollowSessions (cond b work (changes (losing_ends peer) work)).edge
   by true stands wire k none = elim (cases_Bool (nat_eq k peer.0)) [
     | inl here ↦ absurd (something (work.edge.peering peer.0) stands (ap work.edge.peering (sym (eqb-true k peer.0 here)) ∙ none))
     | inr away ↦ follows wire k away none
@@ -109,7 +111,7 @@ advises_follows told peer reply work follows =
 
 -- an end beside a peer with which a session stands may become what it likes
 end_follows : (place : EndPlace) (end : EndState) (edge : EdgeState) → (edge.peering place.peer.0 ≡ None → ⊥) → EndsFollowSessions edge → EndsFollowSessions (with_end place end edge)
-unfolding with_end
+unfolding with_end with_kept
 end_follows place end edge stands follows wire k none = elim (cases_Bool (nat_eq k place.peer.0)) [
   | inl here ↦ absurd (stands (ap edge.peering (sym (eqb-true k place.peer.0 here)) ∙ none))
   | inr away ↦ (elim (cases_Bool (nat_eq wire place.wire.0)) [
@@ -119,7 +121,7 @@ end_follows place end edge stands follows wire k none = elim (cases_Bool (nat_eq
 ]
 
 beside_follows : (peer : EdgeId) (change : EndState → EndState) (edge : EdgeState) → (edge.peering peer.0 ≡ None → ⊥) → EndsFollowSessions edge → EndsFollowSessions (with_ends_beside peer change edge)
-unfolding with_ends_beside
+unfolding with_ends_beside with_kept
 beside_follows peer change edge stands follows wire k none = elim (cases_Bool (nat_eq k peer.0)) [
   | inl here ↦ absurd (stands (ap edge.peering (sym (eqb-true k peer.0 here)) ∙ none))
   | inr away ↦ rw away (follows wire k none)
@@ -144,6 +146,16 @@ changed_follows : (peer : EdgeId) (change : EndState → EndState) (place : Opti
 changed_follows peer change None edge beside there follows = follows
 changed_follows peer change (Some place) edge beside there follows =
     end_follows place (change (end_at edge place)) edge (λ none. something (edge.peering peer.0) there (ap edge.peering (sym (beside place refl)) ∙ none)) follows
+
+kept_follows : (kept : List Kept) (edge : EdgeState) → EndsFollowSessions edge → EndsFollowSessions (with_kept kept edge)
+unfolding with_kept
+kept_follows kept edge follows wire k none = follows wire k none
+
+released_follows : (peer : EdgeId) (label : Option ℕ) (place : Option EndPlace) (edge : EdgeState) → ((p : EndPlace) → place ≡ Some p → p.peer.0 ≡ peer.0) → has_end edge peer ≡ true
+    → EndsFollowSessions edge → EndsFollowSessions (with_released label place edge)
+released_follows peer label None edge beside there follows = follows
+released_follows peer label (Some place) edge beside there follows =
+    kept_follows _ _ (changed_follows peer (released label) (Some place) edge beside there follows)
 
 named_follows : (plan : Plan) (peer : EdgeId) (fec : PwFec) (one all : EndState → EndState) (pw_id : Option ℕ) (edge : EdgeState) → has_end edge peer ≡ true
     → EndsFollowSessions edge → EndsFollowSessions (with_named plan peer fec one all pw_id edge)
@@ -184,8 +196,12 @@ advertised_stands edge place label content follows is none =
     absurd (cc (wrong))
 
 next_label_follows : (label : ℕ) (edge : EdgeState) → EndsFollowSessions edge → EndsFollowSessions (with_next_label label edge)
-unfolding with_next_label
+unfolding with_next_label with_kept
 next_label_follows label edge follows wire k none = follows wire k none
+
+giving_follows : (label : ℕ) (edge : EdgeState) → EndsFollowSessions edge → EndsFollowSessions (giving label edge)
+unfolding with_next_label with_kept
+giving_follows label edge follows wire k none = follows wire k none
 
 change_says_follows : (told : Answers) (peer : EdgeId) (message : ℕ → Message) (change : EdgeState → EdgeState) (work : Work)
     → (EndsFollowSessions work.edge → EndsFollowSessions (change work.edge)) → FollowsOn work (says told peer message (changes change work)).work
@@ -202,9 +218,9 @@ unfolding changes gives with_chosen with_told_down
 mend_follows plan told = record {
   same = λ work follows. follows;
   joined = follows_then;
-  advertises = λ place content work here idle wished left.
-      change_says_follows told place.peer (mapping place.pw_id work.edge.next_label content) (advertising place work.edge.next_label content) work
-      (λ follows. next_label_follows _ _ (end_follows place _ work.edge (up_stands (work.edge.peering place.peer.0) (wish_up plan work.edge place content wished)) follows));
+  advertises = λ place label content work here idle wished given.
+      change_says_follows told place.peer (mapping place.pw_id label content) (advertising place label content) work
+      (λ follows. giving_follows label (with_end place (advertised label content (end_at work.edge place)) work.edge) (end_follows place (advertised label content (end_at work.edge place)) work.edge (up_stands (work.edge.peering place.peer.0) (wish_up plan work.edge place content wished)) follows));
   withdraws = λ place label content work here is wished.
       change_says_follows told place.peer (withdrawal place.pw_id label content) (withdrawing place) work
       (λ follows. end_follows place (withdrawn (end_at work.edge place)) work.edge (advertised_stands work.edge place label content follows is) follows);
@@ -245,8 +261,8 @@ hear_follows plan told = record {
   unbinds = λ peer fec label work there.
       changes_follow (with_named plan peer fec (unbound label) (group_unbound fec.group) fec.pw_id) work (named_follows plan peer fec (unbound label) (group_unbound fec.group) fec.pw_id work.edge there);
   released = λ peer fec label work there.
-      changes_follow (λ edge. with_end_changed (released label) (end_of_fec plan edge peer fec) edge) work
-      (changed_follows peer (released label) (end_of_fec plan work.edge peer fec) work.edge (λ p is. end_of_fec_beside plan work.edge peer fec p is) there);
+      changes_follow (λ edge. with_released label (end_of_fec plan edge peer fec) edge) work
+      (released_follows peer label (end_of_fec plan work.edge peer fec) work.edge (λ p is. end_of_fec_beside plan work.edge peer fec p is) there);
   states = λ peer fec status work there.
       changes_follow (with_named plan peer fec (stated status) (group_stated fec.group status) fec.pw_id) work
       (named_follows plan peer fec (stated status) (group_stated fec.group status) fec.pw_id work.edge there);
@@ -273,12 +289,13 @@ turned_wire_follows wire true edge follows = renewed_follows wire (with_wire wir
 turned_wire_follows wire false edge follows = follows
 
 pub input_follows : (plan : Plan) (told : Answers) → InputSteps plan told FollowsOn
-unfolding changes gives idles with_addresses with_bits with_learned with_next_ping with_priority with_ticks without_ends without_peerings
+unfolding changes gives idles with_addresses with_bits with_learned with_next_ping with_priority with_ticks without_ends without_peerings with_kept
 input_follows plan told = record {
   hear = hear_follows plan told;
   idles = λ work follows. follows;
   opens = λ peer first second work none follows. peering_follows peer _ work.edge follows;
   restarts = λ work follows wire k none. refl;
+  meets = λ peer work none follows. follows;
   counts = λ work follows. follows;
   forgets = λ work follows. follows;
   turns = λ circuit row on work. changes_follow (turned plan circuit row on) work (turned_follows plan circuit row on work.edge);

@@ -18,7 +18,6 @@ use Rattle.hvpls_spokes.specs.declared.port.Port.{Port}
 use Rattle.hvpls_spokes.specs.declared.port.Port.TheVariants as port
 use Rattle.hvpls_spokes.specs.Port.{ports_of}
 use Rattle.hvpls_spokes.specs.Role as roles
-use Rattle.label_space.specs.Labels.{numbers_end}
 use Rattle.ldp_codec.specs.declared.decode_fault.DecodeFault.{DecodeFault}
 use Rattle.ldp_codec.specs.Decoded.{refusal_of}
 use Rattle.ldp_grammar.specs.declared.message.Message.{Message}
@@ -48,17 +47,18 @@ use Rattle.edge_model.specs.EndPlaces.{end_named, end_places}
 use Rattle.edge_model.specs.Ends.{wire_end}
 use Rattle.edge_model.specs.Frame.{copies}
 use Rattle.edge_model.specs.Hear.{acts, acts_on, advice_of, advises, hears_few, hears_front, hears_message, hears_messages, hears_one, hears_pdu, hears_within, holds, was_up}
-use Rattle.edge_model.specs.Mend.{passed_wish, advertises_wish, advertising, and_says, cause_number, each_end, forgets_down, forgets_downs, forgetting_wire, is_new_choice, is_up_with, mends, mends_again, mends_choice, mends_end, mends_few, mends_local, mends_once, mends_status, mends_status_of, port_of_wire, telling_status, tells_down, tells_downs, tells_over, terminal_wish, then_changes, wish, wish_of, withdrawing, withdraws_unless, stands, withdraws}
+use Rattle.edge_model.specs.Mend.{passed_wish, advertises_under, advertises_wish, advertising, and_says, cause_number, each_end, forgets_down, forgets_downs, forgetting_wire, is_new_choice, is_up_with, mends, mends_again, mends_choice, mends_end, mends_few, mends_local, mends_once, mends_status, mends_status_of, port_of_wire, telling_status, tells_down, tells_downs, tells_over, terminal_wish, then_changes, wish, wish_of, withdrawing, withdraws_unless, stands, withdraws}
 use Rattle.edge_model.specs.Put.{Spoken, having_spoken, message_octets_of, octets_of, put_octets, put_replies, put_reply, put_reply_to, puts_on, with_spoken, stays}
 use Rattle.edge_model.specs.Role.{down_at, status_to_tell}
-use Rattle.edge_model.specs.Session.{clears_ends, comes_of, ends, had_put, had_said, happens, happens_to, happens_with_ends, is_same_phase, says, says_to, tells_change, went_on, with_session}
-use Rattle.edge_model.specs.Signal.{end_of_fec, hears_status, hears_withdraw, maps_to, releases_label, with_end_changed, with_named, takes_content}
+use Rattle.edge_model.specs.Session.{clears_ends, comes_of, ends, had_put, had_said, happens, happens_to, happens_with_ends, is_same_phase, says, says_to, tells_change, went_on, with_session, losing_ends}
+use Rattle.edge_model.specs.Signal.{end_of_fec, hears_status, hears_withdraw, maps_to, releases_label, with_end_changed, with_named, with_released, takes_content}
 use Rattle.edge_model.specs.Spokes.{choosing}
-use Rattle.edge_model.specs.State.{EdgeState, Peering, end_at, has_end, is_there, put_at, with_addresses, with_chosen, with_end, with_ends_beside, with_next_label, with_peering, with_told_down}
+use Rattle.edge_model.specs.State.{EdgeState, Peering, end_at, has_end, is_there, put_at, with_addresses, with_chosen, with_end, with_ends_beside, with_next_label, with_peering, with_told_down, with_kept}
 use Rattle.edge_model.specs.Withdraw.{tells_piece, tells_piece_by, tells_pieces}
 use Rattle.edge_model.specs.Work.{Work, Answers, changes, gives, next_answer, puts}
 use Rattle.edge_model.specs.Across.{end_beyond}
 use Rattle.pw_signalling.specs.declared.binding.Binding.{Binding}
+use Rattle.edge_model.specs.Labels.{label_to_give}
 
 -- ---- what is kept for a peer becomes something else
 
@@ -177,11 +177,11 @@ happens_held told other peer event work = to (work.edge.peering peer.0) where
   to (Some kept) = comes_of_held told other peer kept (outcome_of kept.session event) work
 
 clears_held : (other : Holding) (peer : EdgeId) (work : Work) → clears_ends peer (rehold other work) ≡ rehold other (clears_ends peer work)
-unfolding changes with_ends_beside
+unfolding changes with_ends_beside with_kept
 clears_held other peer work =
-    ap (λ (b : Bool). cond b (rehold other work) (changes (with_ends_beside peer lost) (rehold other work))) (there_held other peer.0 (work.edge.peering peer.0)) ∙ by (has_end work.edge peer)
+    ap (λ (b : Bool). cond b (rehold other work) (changes (losing_ends peer) (rehold other work))) (there_held other peer.0 (work.edge.peering peer.0)) ∙ by (has_end work.edge peer)
   where
-    by : (b : Bool) → cond b (rehold other work) (changes (with_ends_beside peer lost) (rehold other work)) ≡ rehold other (cond b work (changes (with_ends_beside peer lost) work))
+    by : (b : Bool) → cond b (rehold other work) (changes (losing_ends peer) (rehold other work)) ≡ rehold other (cond b work (changes (losing_ends peer) work))
     by true = refl
     by false = refl
 
@@ -228,20 +228,16 @@ abbrev MendsAlike : Holding → (Work → Spoken) → Type 0
 MendsAlike other mend = (work : Work) → mend (rehold other work) ≡ rehold_spoken other (mend work)
 
 advertises_held : (told : Answers) (other : Holding) (place : EndPlace) (wished : Option Told) (work : Work) → advertises_wish told place wished (rehold other work) ≡ rehold_spoken other (advertises_wish told place wished work)
-unfolding changes with_end with_next_label
+unfolding changes with_end with_next_label with_kept
 advertises_held told other place None work = refl
-advertises_held told other place (Some content) work = by (nat_eq work.edge.next_label numbers_end) where
-  taken : Work → Work
-  taken w = changes (advertising place w.edge.next_label content) w
-
-  by : (b : Bool) → cond b (stays (rehold other work)) (says told place.peer (mapping place.pw_id work.edge.next_label content) (changes (advertising place work.edge.next_label content) (rehold other work)))
-      ≡ rehold_spoken other (cond b (stays work) (says told place.peer (mapping place.pw_id work.edge.next_label content) (changes (advertising place work.edge.next_label content) work)))
-  by true = refl
-  by false = says_held told other place.peer (mapping place.pw_id work.edge.next_label content) (changes (advertising place work.edge.next_label content) work)
+advertises_held told other place (Some content) work = by (label_to_give work.edge) where
+  by : (r : Option ℕ) → advertises_under told place content r (rehold other work) ≡ rehold_spoken other (advertises_under told place content r work)
+  by None = refl
+  by (Some label) = says_held told other place.peer (mapping place.pw_id label content) (changes (advertising place label content) work)
 
 withdraws_held : (told : Answers) (other : Holding) (place : EndPlace) (label : ℕ) (content : Told) (wished : Option Told) (work : Work)
     → withdraws_unless told place label content wished (rehold other work) ≡ rehold_spoken other (withdraws_unless told place label content wished work)
-unfolding changes with_end
+unfolding changes with_end with_kept
 withdraws_held told other place label content wished work = by (stands place content wished) where
   by : (b : Bool) → cond b (stays (rehold other work)) (withdraws told place label content (rehold other work)) ≡ rehold_spoken other (cond b (stays work) (withdraws told place label content work))
   by true = refl
@@ -258,7 +254,7 @@ mends_end_held plan told other place work = of (end_at work.edge place).local wh
   of (Withdrawing label) = refl
 
 mends_status_held : (plan : Plan) (told : Answers) (other : Holding) (place : EndPlace) → MendsAlike other (mends_status plan told place)
-unfolding changes with_end
+unfolding changes with_end with_kept
 mends_status_held plan told other place work = of (end_at work.edge place).local where
   over_last : (content : Told) (status : PwStatus) (last : Option PwStatus) → tells_over told place content status last (rehold other work) ≡ rehold_spoken other (tells_over told place content status last work)
   over_last content status None = refl
@@ -378,7 +374,7 @@ releases_held told other peer fec label work = ap (λ (s : Spoken). s.work) (say
 
 maps_held : (plan : Plan) (told : Answers) (other : Holding) (peer : EdgeId) (fec : PwFec) (binding : Binding) (place : Option EndPlace) (work : Work)
     → maps_to plan told peer fec binding place (rehold other work) ≡ rehold other (maps_to plan told peer fec binding place work)
-unfolding changes with_end
+unfolding changes with_end with_kept
 maps_held plan told other peer fec binding None work = releases_held told other peer fec (Some binding.label) work
 maps_held plan told other peer fec binding (Some place) work = by (takes_content plan work.edge.me place binding.told) where
   takes : Work → Work
@@ -393,13 +389,18 @@ maps_held plan told other peer fec binding (Some place) work = by (takes_content
   by false = releases_held told other peer fec (Some binding.label) (drops_it work)
 
 changed_held : (other : Holding) (change : EndState → EndState) (place : Option EndPlace) (edge : EdgeState) → with_end_changed change place (reheld other edge) ≡ reheld other (with_end_changed change place edge)
-unfolding with_end
+unfolding with_end with_kept
 changed_held other change None edge = refl
 changed_held other change (Some place) edge = refl
 
+released_held : (other : Holding) (label : Option ℕ) (place : Option EndPlace) (edge : EdgeState) → with_released label place (reheld other edge) ≡ reheld other (with_released label place edge)
+unfolding with_end with_kept
+released_held other label None edge = refl
+released_held other label (Some place) edge = refl
+
 named_held : (plan : Plan) (other : Holding) (peer : EdgeId) (fec : PwFec) (one all : EndState → EndState) (pw_id : Option ℕ) (edge : EdgeState)
     → with_named plan peer fec one all pw_id (reheld other edge) ≡ reheld other (with_named plan peer fec one all pw_id edge)
-unfolding with_ends_beside
+unfolding with_ends_beside with_kept
 named_held plan other peer fec one all None edge = refl
 named_held plan other peer fec one all (Some pw_id) edge = changed_held other one (end_named plan edge.me peer pw_id) edge
 
@@ -500,7 +501,7 @@ acts_on_held : (plan : Plan) (told : Answers) (other : Holding) (peer : EdgeId) 
 acts_on_held plan told other peer (LabelMapping id fec label status points) work = maps_held plan told other peer fec (binding_in fec label status points) (end_of_fec plan work.edge peer fec) work
 acts_on_held plan told other peer (LabelWithdraw id fec label) work = withdraw_held plan told other peer fec label work
 acts_on_held plan told other peer (LabelRelease id fec label) work =
-    changes_held other (λ edge. with_end_changed (released label) (end_of_fec plan edge peer fec) edge) work (changed_held other (released label) (end_of_fec plan work.edge peer fec) work.edge)
+    changes_held other (λ edge. with_released label (end_of_fec plan edge peer fec) edge) work (released_held other label (end_of_fec plan work.edge peer fec) work.edge)
 acts_on_held plan told other peer (Notification id code status fec) work = status_held plan other peer code status fec work
 acts_on_held plan told other peer (AddressWithdraw id addresses fec macs) work = mac_withdraw_held plan told other peer fec macs work
 acts_on_held plan told other peer message work = advises_held told other peer (advice_of message) work
@@ -559,9 +560,9 @@ ended_gone peer why work = is_set peer None work
 
 -- losing ends leaves what is kept for neighbours
 pub clears_keep : (peer : EdgeId) (work : Work) → (clears_ends peer work).edge.peering ≡ work.edge.peering
-unfolding changes with_ends_beside
+unfolding changes with_ends_beside with_kept
 clears_keep peer work = by (has_end work.edge peer) where
-  by : (b : Bool) → (cond b work (changes (with_ends_beside peer lost) work)).edge.peering ≡ work.edge.peering
+  by : (b : Bool) → (cond b work (changes (losing_ends peer) work)).edge.peering ≡ work.edge.peering
   by true = refl
   by false = refl
 

@@ -1,5 +1,5 @@
 -- The label that an edge gives next never falls, whatever comes, and stays within the labels that there are (RFC 3032 section 2.1).
-use Rattle.std.proofs.Common.{◌≡◌, ◌≤◌, ◌+◌, ℕ, Bool, true, false, Option, Some, None, sym, subst, nat_eq, refl, arith}
+use Rattle.std.proofs.Common.{◌≡◌, ◌≤◌, ◌+◌, ℕ, Bool, cond, true, false, Option, Some, None, sym, subst, nat_eq, refl, arith}
 use Rattle.std.proofs.lemmas.Bool.Decides.{nat_tests}
 use Rattle.net_base.specs.declared.plan.Plan.{Plan}
 use Rattle.net_base.specs.declared.plan.circuit_plan.CircuitPlan.{CircuitPlan}
@@ -23,8 +23,8 @@ use Rattle.edge_model.specs.Mend.{advertising, forgetting_wire, mends, telling_s
 use Rattle.edge_model.specs.Put.{put_reply}
 use Rattle.edge_model.specs.Send.{sends}
 use Rattle.edge_model.specs.Session.{had_said, happens_with_ends, says}
-use Rattle.edge_model.specs.Signal.{end_of_fec, with_end_changed, with_named}
-use Rattle.edge_model.specs.State.{EdgeState, end_at, with_addresses, with_bits, with_chosen, with_circuit, with_end, with_ends_beside, with_learned, with_next_label, with_next_ping, with_peering, with_priority, with_renewed, with_ticks, with_told_down, with_wire, without_ends, without_peerings}
+use Rattle.edge_model.specs.Signal.{end_of_fec, with_end_changed, with_named, with_released}
+use Rattle.edge_model.specs.State.{EdgeState, end_at, with_addresses, with_bits, with_chosen, with_circuit, with_end, with_ends_beside, with_learned, with_next_label, with_next_ping, with_peering, with_priority, with_renewed, with_ticks, with_told_down, with_wire, without_ends, without_peerings, with_kept}
 use Rattle.edge_model.specs.Step.{edge_step}
 use Rattle.edge_model.specs.Wire.{turned_wire}
 use Rattle.edge_model.specs.Work.{Work, Answers, changes, gives, idles}
@@ -47,10 +47,14 @@ WorkRises a b = LabelsFit a.edge.next_label b.edge.next_label
 same_label : (limit a b : ℕ) → b ≡ a → LabelsRise limit a b
 same_label limit a b same = subst (λ (n : ℕ). LabelsRise limit a n) (sym same) (record { rise = omega arith; within = λ fits. fits })
 
-one_more : (limit a b : ℕ) → nat_eq a limit ≡ false → b ≡ a + 1 → LabelsRise limit a b
-one_more limit a b left next = subst (λ (n : ℕ). LabelsRise limit a n) (sym next) (record { rise = omega arith; within = λ fits. under fits }) where
-  under : a ≤ limit → a + 1 ≤ limit
-  under fits = grind (arith, nat_tests)
+one_more : (limit a b : ℕ) → b ≡ cond (nat_eq a limit) a (a + 1) → LabelsRise limit a b
+one_more limit a b next = subst (λ (n : ℕ). LabelsRise limit a n) (sym next) (by (nat_eq a limit) refl) where
+  under : nat_eq a limit ≡ false → a ≤ limit → a + 1 ≤ limit
+  under other fits = grind (arith, nat_tests)
+
+  by : (last : Bool) → nat_eq a limit ≡ last → LabelsRise limit a (cond last a (a + 1))
+  by true last = record { rise = omega arith; within = λ fits. fits }
+  by false other = record { rise = omega arith; within = under other }
 
 rises_then : (limit a b c : ℕ) → LabelsRise limit a b → LabelsRise limit b c → LabelsRise limit a c
 rises_then limit a b c first next = record { rise = joined first.rise next.rise; within = λ fits. next.within (first.within fits) } where
@@ -85,26 +89,31 @@ says_rises told peer message change work same =
     rises_then numbers_end work.edge.next_label changed.edge.next_label said.edge.next_label (keeps change work same) (session_rises changed said (says_works told any peer message changed refl))
 
 end_keeps : (place : EndPlace) (end : EndState) (edge : EdgeState) → (with_end place end edge).next_label ≡ edge.next_label
-unfolding with_end
+unfolding with_end with_kept
 end_keeps place end edge = refl
 
 changed_keeps : (change : EndState → EndState) (place : Option EndPlace) (edge : EdgeState) → (with_end_changed change place edge).next_label ≡ edge.next_label
 changed_keeps change None edge = refl
 changed_keeps change (Some place) edge = end_keeps place (change (end_at edge place)) edge
 
+released_keeps : (label : Option ℕ) (place : Option EndPlace) (edge : EdgeState) → (with_released label place edge).next_label ≡ edge.next_label
+unfolding with_end with_kept
+released_keeps label None edge = refl
+released_keeps label (Some place) edge = refl
+
 named_keeps : (plan : Plan) (peer : EdgeId) (fec : PwFec) (one all : EndState → EndState) (pw_id : Option ℕ) (edge : EdgeState) → (with_named plan peer fec one all pw_id edge).next_label ≡ edge.next_label
-unfolding with_ends_beside
+unfolding with_ends_beside with_kept
 named_keeps plan peer fec one all None edge = refl
 named_keeps plan peer fec one all (Some pw_id) edge = changed_keeps one (end_named plan edge.me peer pw_id) edge
 
-advertises_rises : (told : Answers) (place : EndPlace) (content : Told) (work : Work) → nat_eq work.edge.next_label numbers_end ≡ false
-    → WorkRises work (says told place.peer (mapping place.pw_id work.edge.next_label content) (changes (advertising place work.edge.next_label content) work)).work
-unfolding changes with_end with_next_label
-advertises_rises told place content work left =
-    let given : Work = changes (advertising place work.edge.next_label content) work in
-    let message : ℕ → Message = mapping place.pw_id work.edge.next_label content in
+advertises_rises : (told : Answers) (place : EndPlace) (label : ℕ) (content : Told) (work : Work)
+    → WorkRises work (says told place.peer (mapping place.pw_id label content) (changes (advertising place label content) work)).work
+unfolding changes with_end with_next_label with_kept
+advertises_rises told place label content work =
+    let given : Work = changes (advertising place label content) work in
+    let message : ℕ → Message = mapping place.pw_id label content in
     let said : Work = (says told place.peer message given).work in
-    rises_then numbers_end work.edge.next_label given.edge.next_label said.edge.next_label (one_more numbers_end work.edge.next_label given.edge.next_label left refl)
+    rises_then numbers_end work.edge.next_label given.edge.next_label said.edge.next_label (one_more numbers_end work.edge.next_label given.edge.next_label refl)
     (session_rises given said (says_works told any place.peer message given refl))
 
 pub mend_rises : (plan : Plan) (told : Answers) → MendSteps plan told WorkRises
@@ -112,7 +121,7 @@ unfolding changes gives with_chosen with_told_down
 mend_rises plan told = record {
   same = rises_not;
   joined = λ a b c. rises_then numbers_end a.edge.next_label b.edge.next_label c.edge.next_label;
-  advertises = λ place content work here idle wished left. advertises_rises told place content work left;
+  advertises = λ place label content work here idle wished given. advertises_rises told place label content work;
   withdraws = λ place label content work here is wished.
       says_rises told place.peer (withdrawal place.pw_id label content) (withdrawing place) work (end_keeps place (withdrawn (end_at work.edge place)) work.edge);
   chooses = rises_not;
@@ -137,7 +146,7 @@ hear_rises plan told = record {
   unbinds = λ peer fec label work there.
       keeps (with_named plan peer fec (unbound label) (group_unbound fec.group) fec.pw_id) work (named_keeps plan peer fec (unbound label) (group_unbound fec.group) fec.pw_id work.edge);
   released = λ peer fec label work there.
-      keeps (λ edge. with_end_changed (released label) (end_of_fec plan edge peer fec) edge) work (changed_keeps (released label) (end_of_fec plan work.edge peer fec) work.edge);
+      keeps (λ edge. with_released label (end_of_fec plan edge peer fec) edge) work (released_keeps label (end_of_fec plan work.edge peer fec) work.edge);
   states = λ peer fec status work there.
       keeps (with_named plan peer fec (stated status) (group_stated fec.group status) fec.pw_id) work (named_keeps plan peer fec (stated status) (group_stated fec.group status) fec.pw_id work.edge);
   clears = λ service addresses from work. learns_rise work (changes (withdrawing_at service addresses from) work) (withdrawing_only service addresses from work).edge;
@@ -154,12 +163,13 @@ turned_wire_keeps wire true edge = refl
 turned_wire_keeps wire false edge = refl
 
 pub input_rises : (plan : Plan) (told : Answers) → InputSteps plan told WorkRises
-unfolding changes gives idles with_addresses with_bits with_learned with_next_ping with_peering with_priority with_ticks without_ends without_peerings
+unfolding changes gives idles with_addresses with_bits with_learned with_next_ping with_peering with_priority with_ticks without_ends without_peerings with_kept
 input_rises plan told = record {
   hear = hear_rises plan told;
   idles = rises_not;
   opens = λ peer own other work none. rises_not work;
   restarts = rises_not;
+  meets = λ peer work none. rises_not work;
   counts = rises_not;
   forgets = rises_not;
   turns = λ circuit row on work. keeps (turned plan circuit row on) work (turned_keeps plan circuit row on work.edge);

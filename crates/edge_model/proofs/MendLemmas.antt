@@ -6,7 +6,6 @@ use Rattle.net_base.specs.declared.plan.places.EdgeId.{EdgeId}
 use Rattle.net_base.specs.declared.plan.places.WireId.{WireId}
 use Rattle.net_values.specs.declared.mac.Mac.{Mac}
 use Rattle.net_base.specs.plan.Places.{wire_row}
-use Rattle.label_space.specs.Labels.{numbers_end}
 use Rattle.ldp_grammar.specs.declared.message.Message.{Message}
 use Rattle.pw_tlvs.specs.declared.pw_status.PwStatus.{PwStatus}
 use Rattle.pw_signalling.specs.declared.told.Told.{Told}
@@ -14,16 +13,17 @@ use Rattle.pw_signalling.specs.End.{LocalPart, Idle, Advertised, Withdrawing}
 use Rattle.edge_model.specs.Content.{mac_withdrawal, mapping, status_notification, withdrawal}
 use Rattle.edge_model.specs.declared.end_place.EndPlace.{EndPlace}
 use Rattle.edge_model.specs.EndPlaces.{end_places}
-use Rattle.edge_model.specs.Mend.{advertises_wish, advertising, and_says, each_end, is_new_choice, mends, mends_again, mends_choice, mends_end, mends_few, mends_local, mends_once, mends_status, mends_status_of, telling_status, tells_over, then_changes, wish, withdrawing, withdraws_unless, stands, withdraws}
+use Rattle.edge_model.specs.Mend.{advertises_under, advertises_wish, advertising, and_says, each_end, is_new_choice, mends, mends_again, mends_choice, mends_end, mends_few, mends_local, mends_once, mends_status, mends_status_of, telling_status, tells_over, then_changes, wish, withdrawing, withdraws_unless, stands, withdraws}
 use Rattle.edge_model.specs.Put.{Spoken, having_spoken, message_octets_of, put_octets, with_spoken, stays}
 use Rattle.edge_model.specs.Role.{status_to_tell}
 use Rattle.edge_model.specs.Session.{clears_ends, had_said, says, says_to}
 use Rattle.edge_model.specs.Spokes.{choosing}
-use Rattle.edge_model.specs.State.{Peering, end_at, has_end, is_there, with_chosen, with_end, with_next_label, with_peering, with_told_down}
+use Rattle.edge_model.specs.State.{Peering, end_at, has_end, is_there, with_chosen, with_end, with_next_label, with_peering, with_told_down, with_kept}
 use Rattle.edge_model.specs.Withdraw.{tells_piece, tells_piece_by}
 use Rattle.edge_model.specs.Work.{Work, Answers, changes, gives, next_answer, puts}
 use Rattle.edge_model.proofs.BridgeLemmas.{forgetting_only}
 use Rattle.edge_model.proofs.WalkLemmas.{MendSteps, mends_holds}
+use Rattle.edge_model.specs.Labels.{label_to_give}
 
 -- ---- a link that takes every call
 
@@ -63,13 +63,10 @@ module _ (plan : Plan) (told : Answers) (takes : TakesAll told) where
   mends_end_takes place work = of (end_at work.edge place).local where
     advertises_it : (wished : Option Told) → (advertises_wish told place wished work).failed ≡ false
     advertises_it None = refl
-    advertises_it (Some content) = by (nat_eq work.edge.next_label numbers_end) where
-      given : Work
-      given = changes (advertising place work.edge.next_label content) work
-
-      by : (b : Bool) → (cond b (stays work) (says told place.peer (mapping place.pw_id work.edge.next_label content) given)).failed ≡ false
-      by true = refl
-      by false = says_takes told place.peer (mapping place.pw_id work.edge.next_label content) given takes
+    advertises_it (Some content) = by (label_to_give work.edge) where
+      by : (r : Option ℕ) → (advertises_under told place content r work).failed ≡ false
+      by None = refl
+      by (Some label) = says_takes told place.peer (mapping place.pw_id label content) (changes (advertising place label content) work) takes
 
     withdraws_it : (label : ℕ) (content : Told) (wished : Option Told) → (withdraws_unless told place label content wished work).failed ≡ false
     withdraws_it label content wished = by (stands place content wished) where
@@ -169,7 +166,7 @@ SpeaksFrom k a b = (old : Option Peering) → SpeaksOn old (a.edge.peering k) �
 
 -- no session ends, and none moves to another state
 pub mends_speaks : (plan : Plan) (told : Answers) (k : ℕ) (work : Work) → TakesAll told → SpeaksOn (work.edge.peering k) ((mends plan told work).edge.peering k)
-unfolding changes gives with_chosen with_end with_next_label with_told_down SpeaksFrom
+unfolding changes gives with_chosen with_end with_next_label with_told_down SpeaksFrom with_kept
 mends_speaks plan told k work takes = mends_holds plan told (SpeaksFrom k) steps work (work.edge.peering k) (record { times = 0; is = same (work.edge.peering k) })
   where
     same : (kept : Option Peering) → kept ≡ option_map (having_spoken_times 0) kept
@@ -180,8 +177,8 @@ mends_speaks plan told k work takes = mends_holds plan told (SpeaksFrom k) steps
     steps = record {
       same = λ now old speaks. speaks;
       joined = λ a b c first next old speaks. next old (first old speaks);
-      advertises = λ place content now is idle wished left old speaks.
-          says_speaks told k old place.peer (mapping place.pw_id now.edge.next_label content) (changes (advertising place now.edge.next_label content) now) takes speaks;
+      advertises = λ place label content now is idle wished given old speaks.
+          says_speaks told k old place.peer (mapping place.pw_id label content) (changes (advertising place label content) now) takes speaks;
       withdraws = λ place label content now is advertised wished old speaks.
           says_speaks told k old place.peer (withdrawal place.pw_id label content) (changes (withdrawing place) now) takes speaks;
       chooses = λ now old speaks. speaks;

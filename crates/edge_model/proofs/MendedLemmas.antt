@@ -10,7 +10,9 @@ use Rattle.net_base.specs.declared.plan.wire_plan.WirePlan.{WirePlan}
 use Rattle.net_base.specs.declared.trace.down.Down.{Down}
 use Rattle.net_base.specs.plan.Paths.{mate, offer_of}
 use Rattle.net_base.specs.plan.Places.{wire_row}
-use Rattle.label_space.specs.Labels.{numbers_end}
+use Rattle.label_space.specs.declared.kept.Kept.{Kept}
+use Rattle.label_space.specs.Kept.{without}
+use Rattle.label_space.specs.Labels.{next_after, number_to_give}
 use Rattle.mac_table.specs.declared.mac_entry.MacEntry.{MacEntry}
 use Rattle.ldp_grammar.specs.declared.message.Message.{Message}
 use Rattle.pw_tlvs.specs.declared.pw_status.PwStatus.{PwStatus}
@@ -27,13 +29,13 @@ use Rattle.edge_model.specs.Content.{content_of, mac_withdrawal, mapping, status
 use Rattle.edge_model.specs.declared.effect.Effect.TheVariants.{Wire}
 use Rattle.edge_model.specs.declared.end_place.EndPlace.{EndPlace}
 use Rattle.edge_model.specs.EndPlaces.{end_places, is_terminal}
-use Rattle.edge_model.specs.Mend.{passed_wish, advertises_wish, advertising, and_says, cause_number, each_end, forgets_down, forgets_downs, forgetting_wire, is_new_choice, is_up_with, mends, mends_again, mends_choice, mends_end, mends_few, mends_local, mends_once, mends_status, mends_status_of, port_of_wire, status_held, status_offered, telling_status, tells_down, tells_downs, tells_over, tells_status, then_changes, wish, wish_of, withdrawing, stands, withdraws, passed_from, terminal_wish}
+use Rattle.edge_model.specs.Mend.{passed_wish, advertises_under, advertises_wish, advertising, and_says, cause_number, each_end, forgets_down, forgets_downs, forgetting_wire, is_new_choice, is_up_with, mends, mends_again, mends_choice, mends_end, mends_few, mends_local, mends_once, mends_status, mends_status_of, port_of_wire, status_held, status_offered, telling_status, tells_down, tells_downs, tells_over, tells_status, then_changes, wish, wish_of, withdrawing, stands, withdraws, passed_from, terminal_wish}
 use Rattle.edge_model.specs.Put.{Spoken, having_spoken, message_octets_of, put_octets, with_spoken, stays}
 use Rattle.edge_model.specs.Role.{down_at, is_chosen, role_in, status_to_tell, own_status}
 use Rattle.edge_model.specs.Session.{had_said, says, says_to}
 use Rattle.edge_model.specs.Settled.{IsForgotten, is_down_told, is_mended, is_status, is_told, tells_now, tells_wish}
 use Rattle.edge_model.specs.Spokes.{choosing}
-use Rattle.edge_model.specs.State.{EdgeState, Peering, addresses_of, end_at, with_addresses, with_chosen, with_end, with_next_label, with_peering, with_told_down, without_port}
+use Rattle.edge_model.specs.State.{EdgeState, Peering, addresses_of, end_at, with_addresses, with_chosen, with_end, with_next_label, with_peering, with_told_down, without_port, with_kept}
 use Rattle.edge_model.specs.Withdraw.{tells_piece, tells_piece_by}
 use Rattle.edge_model.specs.Work.{Work, Answers, changes, gives, next_answer, puts}
 use Rattle.edge_model.proofs.BridgeLemmas.{LearnsOnly, forgets_downs_only, forgetting_learns, learns_is}
@@ -44,21 +46,26 @@ use Rattle.edge_model.specs.Across.{held_beyond, held_from, held_of, mate_of}
 use Rattle.pw_stitch.specs.Change.{is_same_but_status}
 use Rattle.pw_stitch.specs.Passing.{passed_status}
 use Rattle.pw_stitch.proofs.ChangeLemmas.{same_without_status}
+use Rattle.edge_model.specs.Labels.{label_to_give}
+
+-- no label is left to be given
+abbrev none_to_give : EdgeState → Bool
+none_to_give edge = not (is_some (label_to_give edge))
 
 -- ---- at an end that is settled there is nothing to mend
 
 pub mends_end_not : (plan : Plan) (told : Answers) (place : EndPlace) (work : Work) → is_mended plan work.edge place ≡ true → mends_end plan told place work ≡ stays work
 mends_end_not plan told place work = of (end_at work.edge place).local where
   none_left : Bool
-  none_left = nat_eq work.edge.next_label numbers_end
+  none_left = none_to_give work.edge
 
-  left : (content : Told) (b : Bool) → b ≡ true
-      → cond b (stays work) (says told place.peer (mapping place.pw_id work.edge.next_label content) (changes (advertising place work.edge.next_label content) work)) ≡ stays work
-  left content b e = rw e refl
+  left : (content : Told) (r : Option ℕ) → not (is_some r) ≡ true → advertises_under told place content r work ≡ stays work
+  left content None e = refl
+  left content (Some label) e = absurd (cc (e))
 
   idle : (wished : Option Told) → not (is_some wished) || none_left ≡ true → advertises_wish told place wished work ≡ stays work
   idle None e = refl
-  idle (Some content) e = left content none_left e
+  idle (Some content) e = left content (label_to_give work.edge) e
 
   told_it : (label : ℕ) (content : Told) (b : Bool) → b ≡ true → cond b (stays work) (withdraws told place label content work) ≡ stays work
   told_it label content b e = rw e refl
@@ -218,14 +225,20 @@ record IsSpoken (old new : EdgeState) : Type 0 where
   ends : new.ends ≡ old.ends
   chosen : new.chosen ≡ old.chosen
   labels : new.next_label ≡ old.next_label
+  kept : new.kept ≡ old.kept
   ups : (k : ℕ) → is_up_with (new.peering k) ≡ is_up_with (old.peering k)
 
 spoken_not : (edge : EdgeState) → IsSpoken edge edge
-spoken_not edge = record { me = refl; wires = refl; bits = refl; priorities = refl; ends = refl; chosen = refl; labels = refl; ups = λ k. refl }
+spoken_not edge = record { me = refl; wires = refl; bits = refl; priorities = refl; ends = refl; chosen = refl; labels = refl; kept = refl; ups = λ k. refl }
+
+-- no label is left where none was
+spoken_labels : (old new : EdgeState) → IsSpoken old new → none_to_give old ≡ true → none_to_give new ≡ true
+spoken_labels old new spoken none =
+    ap (λ (n : ℕ). not (is_some (number_to_give n new.kept))) spoken.labels ∙ (ap (λ (ks : List Kept). not (is_some (number_to_give old.next_label ks))) spoken.kept ∙ none)
 
 put_spoken : (peer : EdgeId) (bytes : List ℕ) (work : Work) → IsSpoken work.edge (put_octets peer bytes true work).work.edge
 unfolding changes gives puts with_peering with_spoken
-put_spoken peer bytes work = record { me = refl; wires = refl; bits = refl; priorities = refl; ends = refl; chosen = refl; labels = refl; ups = λ k. up k } where
+put_spoken peer bytes work = record { me = refl; wires = refl; bits = refl; priorities = refl; ends = refl; chosen = refl; labels = refl; kept = refl; ups = λ k. up k } where
   up : (k : ℕ) → is_up_with (cond (nat_eq k peer.0) (option_map having_spoken (work.edge.peering peer.0)) (work.edge.peering k)) ≡ is_up_with (work.edge.peering k)
   up k = elim (cases_Bool (nat_eq k peer.0)) [
     | inl here ↦ rw here (up_spoken (work.edge.peering peer.0) ∙ ap (λ (n : ℕ). is_up_with (work.edge.peering n)) (sym (eqb-true k peer.0 here)))
@@ -241,6 +254,7 @@ spoken_then a b c first next = record {
   ends = next.ends ∙ first.ends;
   chosen = next.chosen ∙ first.chosen;
   labels = next.labels ∙ first.labels;
+  kept = next.kept ∙ first.kept;
   ups = λ k. next.ups k ∙ first.ups k;
 }
 
@@ -337,7 +351,7 @@ wish_steady plan a b place steady = of (wire_row plan place.wire) where
 -- ---- one end has another state
 
 pub end_put : (place : EndPlace) (end : EndState) (edge : EdgeState) → end_at (with_end place end edge) place ≡ end
-unfolding with_end
+unfolding with_end with_kept
 end_put place end edge = rw (eq-eqb place.wire.0 place.wire.0 refl, eq-eqb place.peer.0 place.peer.0 refl) refl
 
 -- an end stands at the place of another one
@@ -345,7 +359,7 @@ abbrev is_at : EndPlace → ℕ → ℕ → Bool
 is_at place wire k = nat_eq wire place.wire.0 && nat_eq k place.peer.0
 
 end_else : (place : EndPlace) (end : EndState) (edge : EdgeState) (wire k : ℕ) → is_at place wire k ≡ false → (with_end place end edge).ends wire k ≡ edge.ends wire k
-unfolding with_end
+unfolding with_end with_kept
 end_else place end edge wire k apart = elim (cases_Bool (nat_eq wire place.wire.0)) [
   | inl here ↦
       (let away : nat_eq k place.peer.0 ≡ false = ap (λ (b : Bool). b && nat_eq k place.peer.0) (sym here) ∙ apart in
@@ -379,15 +393,15 @@ remote_put place end edge same wire k = elim (cases_Bool (is_at place wire k)) [
 record EndStep (place : EndPlace) (old new : EdgeState) : Type 0 where
   steady : IsSteady old new
   others : (wire k : ℕ) → is_at place wire k ≡ false → new.ends wire k ≡ old.ends wire k
-  labels : nat_eq old.next_label numbers_end ≡ true → nat_eq new.next_label numbers_end ≡ true
+  labels : none_to_give old ≡ true → none_to_give new ≡ true
 
 step_not : (place : EndPlace) (edge : EdgeState) → EndStep place edge edge
 step_not place edge = record { steady = steady_not edge; others = λ wire k apart. refl; labels = λ none. none }
 
-changed_step : (place : EndPlace) (end : EndState) (label : ℕ) (old new : EdgeState) → end.remote ≡ (end_at old place).remote → (nat_eq old.next_label numbers_end ≡ true → nat_eq label numbers_end ≡ true)
-    → IsSpoken (with_next_label label (with_end place end old)) new → EndStep place old new
-unfolding with_end with_next_label
-changed_step place end label old new remote left spoken = record {
+changed_step : (place : EndPlace) (end : EndState) (label : ℕ) (kept : List Kept) (old new : EdgeState) → end.remote ≡ (end_at old place).remote
+    → (none_to_give old ≡ true → not (is_some (number_to_give label kept)) ≡ true) → IsSpoken (with_next_label label (with_kept kept (with_end place end old))) new → EndStep place old new
+unfolding with_end with_next_label with_kept
+changed_step place end label kept old new remote left spoken = record {
   steady = record {
     me = spoken.me;
     wires = spoken.wires;
@@ -398,12 +412,12 @@ changed_step place end label old new remote left spoken = record {
     ups = spoken.ups;
   };
   others = λ wire k apart. ap (λ (ends : ℕ → ℕ → EndState). ends wire k) spoken.ends ∙ end_else place end old wire k apart;
-  labels = λ none. ap (λ (n : ℕ). nat_eq n numbers_end) spoken.labels ∙ left none;
+  labels = λ none. ap (λ (n : ℕ). not (is_some (number_to_give n new.kept))) spoken.labels ∙ (ap (λ (ks : List Kept). not (is_some (number_to_give label ks))) spoken.kept ∙ left none);
 }
 
-changed_end : (place : EndPlace) (end : EndState) (label : ℕ) (old new : EdgeState) → IsSpoken (with_next_label label (with_end place end old)) new → end_at new place ≡ end
-unfolding with_end with_next_label
-changed_end place end label old new spoken = ap (λ (ends : ℕ → ℕ → EndState). ends place.wire.0 place.peer.0) spoken.ends ∙ end_put place end old
+changed_end : (place : EndPlace) (end : EndState) (label : ℕ) (kept : List Kept) (old new : EdgeState) → IsSpoken (with_next_label label (with_kept kept (with_end place end old))) new → end_at new place ≡ end
+unfolding with_end with_next_label with_kept
+changed_end place end label kept old new spoken = ap (λ (ends : ℕ → ℕ → EndState). ends place.wire.0 place.peer.0) spoken.ends ∙ end_put place end old
 
 -- ---- an end is advertised, withdrawn or left
 
@@ -412,10 +426,10 @@ record EndMends (plan : Plan) (place : EndPlace) (old new : EdgeState) : Type 0 
   mended : is_mended plan new place ≡ true
 
 -- an end is mended by what it should tell, whether a label is left, and what it tells
-mended_by : (plan : Plan) (edge : EdgeState) (place : EndPlace) (wished : Option Told) (none_left : Bool) (local : LocalPart) → wish plan edge place ≡ wished → nat_eq edge.next_label numbers_end ≡ none_left
+mended_by : (plan : Plan) (edge : EdgeState) (place : EndPlace) (wished : Option Told) (none_left : Bool) (local : LocalPart) → wish plan edge place ≡ wished → none_to_give edge ≡ none_left
     → (end_at edge place).local ≡ local → is_mended plan edge place ≡ tells_wish place wished none_left local
 mended_by plan edge place wished none_left local w n l =
-    ap (λ (o : Option Told). tells_wish place o (nat_eq edge.next_label numbers_end) (end_at edge place).local) w
+    ap (λ (o : Option Told). tells_wish place o (none_to_give edge) (end_at edge place).local) w
     ∙ (ap (λ (b : Bool). tells_wish place wished b (end_at edge place).local) n ∙ ap (tells_wish place wished none_left) l)
 
 -- what an end should tell still stands where it has told just that
@@ -431,7 +445,7 @@ stands_alike place content status None = refl
 stands_alike place content status (Some wished) = refl
 
 end_mends : (plan : Plan) (told : Answers) (place : EndPlace) (work : Work) → (mends_end plan told place work).failed ≡ false → EndMends plan place work.edge (mends_end plan told place work).work.edge
-unfolding changes with_end with_next_label
+unfolding changes with_end with_next_label with_kept
 end_mends plan told place work = of (end_at work.edge place).local refl where
   a : EdgeState
   a = work.edge
@@ -439,40 +453,35 @@ end_mends plan told place work = of (end_at work.edge place).local refl where
   stayed : is_mended plan a place ≡ true → EndMends plan place a a
   stayed mended = record { step = step_not place a; mended = mended }
 
-  advertises_it : (content : Told) → (end_at a place).local ≡ Idle false → wish plan a place ≡ Some content → nat_eq a.next_label numbers_end ≡ false
-      → (said : Spoken) → IsSpoken (advertising place a.next_label content a) said.work.edge → EndMends plan place a said.work.edge
-  advertises_it content is wished left said spoken =
-      let end : EndState = advertised a.next_label content (end_at a place) in
+  advertises_it : (label : ℕ) (content : Told) → (end_at a place).local ≡ Idle false → wish plan a place ≡ Some content → label_to_give a ≡ Some label
+      → (said : Spoken) → IsSpoken (advertising place label content a) said.work.edge → EndMends plan place a said.work.edge
+  advertises_it label content is wished given said spoken =
+      let end : EndState = advertised label content (end_at a place) in
       let step : EndStep place a said.work.edge =
-      changed_step place end (a.next_label + 1) a said.work.edge refl
+      changed_step place end (next_after a.next_label) (without label a.kept) a said.work.edge refl
       (λ none. absurd (wrong none)) spoken in
       record {
         step = step;
-        mended = mended_by plan said.work.edge place (Some content) (nat_eq said.work.edge.next_label numbers_end) (Advertised a.next_label content)
+        mended = mended_by plan said.work.edge place (Some content) (none_to_give said.work.edge) (Advertised label content)
             (wish_steady plan a said.work.edge place step.steady ∙ wished) refl
-            (ap (λ (e : EndState). e.local) (changed_end place end (a.next_label + 1) a said.work.edge spoken) ∙ ap (λ (l : LocalPart). (advertised a.next_label content (record { local = l; remote = (end_at a place).remote })).local) is)
+            (ap (λ (e : EndState). e.local) (changed_end place end (next_after a.next_label) (without label a.kept) a said.work.edge spoken) ∙ ap (λ (l : LocalPart). (advertised label content (record { local = l; remote = (end_at a place).remote })).local) is)
             ∙ stands_itself place content;
       }
     where
-      wrong : nat_eq a.next_label numbers_end ≡ true → ⊥
+      wrong : none_to_give a ≡ true → ⊥
       wrong none =
-          let clash : true ≡ false = sym none ∙ left in
+          let clash : true ≡ false = sym none ∙ ap (λ (r : Option ℕ). not (is_some r)) given in
           cc
 
   idle : (end_at a place).local ≡ Idle false → (wished : Option Told) → wish plan a place ≡ wished → (advertises_wish told place wished work).failed ≡ false
       → EndMends plan place a (advertises_wish told place wished work).work.edge
-  idle is None wished none = stayed (mended_by plan a place None (nat_eq a.next_label numbers_end) (Idle false) wished refl is)
-  idle is (Some content) wished none = by (nat_eq a.next_label numbers_end) refl none where
-    begun : Work
-    begun = changes (advertising place a.next_label content) work
-
-    message : ℕ → Message
-    message = mapping place.pw_id a.next_label content
-
-    by : (b : Bool) → nat_eq a.next_label numbers_end ≡ b → (cond b (stays work) (says told place.peer message begun)).failed ≡ false
-        → EndMends plan place a (cond b (stays work) (says told place.peer message begun)).work.edge
-    by true left none = stayed (mended_by plan a place (Some content) true (Idle false) wished left is)
-    by false left none = advertises_it content is wished left (says told place.peer message begun) (says_spoken told place.peer message begun none)
+  idle is None wished none = stayed (mended_by plan a place None (none_to_give a) (Idle false) wished refl is)
+  idle is (Some content) wished none = by (label_to_give a) refl none where
+    by : (r : Option ℕ) → label_to_give a ≡ r → (advertises_under told place content r work).failed ≡ false → EndMends plan place a (advertises_under told place content r work).work.edge
+    by None left none = stayed (mended_by plan a place (Some content) true (Idle false) wished (ap (λ (r : Option ℕ). not (is_some r)) left) is)
+    by (Some label) given none =
+        advertises_it label content is wished given (says told place.peer (mapping place.pw_id label content) (changes (advertising place label content) work))
+        (says_spoken told place.peer (mapping place.pw_id label content) (changes (advertising place label content) work) none)
 
   told_it : (label : ℕ) (content : Told) → (end_at a place).local ≡ Advertised label content → (b : Bool) → stands place content (wish plan a place) ≡ b
       → (cond b (stays work) (withdraws told place label content work)).failed ≡ false → EndMends plan place a (cond b (stays work) (withdraws told place label content work)).work.edge
@@ -487,18 +496,18 @@ end_mends plan told place work = of (end_at work.edge place).local refl where
     after said spoken =
         let end : EndState = withdrawn (end_at a place) in
         record {
-          step = changed_step place end a.next_label a said.work.edge refl (λ left. left) spoken;
-          mended = mended_by plan said.work.edge place (wish plan said.work.edge place) (nat_eq said.work.edge.next_label numbers_end) (Withdrawing label) refl refl
-              (ap (λ (e : EndState). e.local) (changed_end place end a.next_label a said.work.edge spoken) ∙ ap (λ (l : LocalPart). (withdrawn (record { local = l; remote = (end_at a place).remote })).local) is);
+          step = changed_step place end a.next_label a.kept a said.work.edge refl (λ left. left) spoken;
+          mended = mended_by plan said.work.edge place (wish plan said.work.edge place) (none_to_give said.work.edge) (Withdrawing label) refl refl
+              (ap (λ (e : EndState). e.local) (changed_end place end a.next_label a.kept a said.work.edge spoken) ∙ ap (λ (l : LocalPart). (withdrawn (record { local = l; remote = (end_at a place).remote })).local) is);
         }
   told_it label content is true still none =
-      stayed (mended_by plan a place (wish plan a place) (nat_eq a.next_label numbers_end) (Advertised label content) refl refl is ∙ still)
+      stayed (mended_by plan a place (wish plan a place) (none_to_give a) (Advertised label content) refl refl is ∙ still)
 
   of : (local : LocalPart) → (end_at a place).local ≡ local → (mends_local plan told place local work).failed ≡ false → EndMends plan place a (mends_local plan told place local work).work.edge
-  of (Idle true) is none = stayed (mended_by plan a place (wish plan a place) (nat_eq a.next_label numbers_end) (Idle true) refl refl is)
+  of (Idle true) is none = stayed (mended_by plan a place (wish plan a place) (none_to_give a) (Idle true) refl refl is)
   of (Idle false) is none = idle is (wish plan a place) refl none
   of (Advertised label content) is none = told_it label content is (stands place content (wish plan a place)) refl none
-  of (Withdrawing label) is none = stayed (mended_by plan a place (wish plan a place) (nat_eq a.next_label numbers_end) (Withdrawing label) refl refl is)
+  of (Withdrawing label) is none = stayed (mended_by plan a place (wish plan a place) (none_to_give a) (Withdrawing label) refl refl is)
 
 -- ---- a status is told
 
@@ -511,7 +520,7 @@ record EndTells (plan : Plan) (place : EndPlace) (old new : EdgeState) : Type 0 
   told : is_told plan new place ≡ true
 
 end_tells : (plan : Plan) (told : Answers) (place : EndPlace) (work : Work) → (mends_status plan told place work).failed ≡ false → EndTells plan place work.edge (mends_status plan told place work).work.edge
-unfolding changes with_end with_next_label
+unfolding changes with_end with_next_label with_kept
 end_tells plan told place work = of (end_at work.edge place).local refl where
   a : EdgeState
   a = work.edge
@@ -525,13 +534,13 @@ end_tells plan told place work = of (end_at work.edge place).local refl where
   after : (label : ℕ) (content : Told) → (end_at a place).local ≡ Advertised label content → (said : Spoken) → IsSpoken (telling_status place status a) said.work.edge → EndTells plan place a said.work.edge
   after label content is said spoken =
       let end : EndState = telling status (end_at a place) in
-      let step : EndStep place a said.work.edge = changed_step place end a.next_label a said.work.edge refl (λ left. left) spoken in
+      let step : EndStep place a said.work.edge = changed_step place end a.next_label a.kept a said.work.edge refl (λ left. left) spoken in
       let there : (end_at said.work.edge place).local ≡ (telling status (record { local = Advertised label content; remote = (end_at a place).remote })).local =
-      ap (λ (e : EndState). e.local) (changed_end place end a.next_label a said.work.edge spoken) ∙ ap (λ (l : LocalPart). (telling status (record { local = l; remote = (end_at a place).remote })).local) is in
+      ap (λ (e : EndState). e.local) (changed_end place end a.next_label a.kept a said.work.edge spoken) ∙ ap (λ (l : LocalPart). (telling status (record { local = l; remote = (end_at a place).remote })).local) is in
       record {
         step = step;
         same = λ at wished none_left. ap (tells_wish at wished none_left) there ∙ (stands_alike at content status wished ∙ ap (tells_wish at wished none_left) (sym is));
-        downs = λ role bits. ap (down role bits) (changed_end place end a.next_label a said.work.edge spoken) ∙ telling_down role bits status (end_at a place);
+        downs = λ role bits. ap (down role bits) (changed_end place end a.next_label a.kept a said.work.edge spoken) ∙ telling_down role bits status (end_at a place);
         told = ap (λ (l : LocalPart). tells_now (status_to_tell plan said.work.edge place).0 l) there
             ∙ (ap (λ (s : PwStatus). nat_eq status.0 s.0) (status_steady plan a said.work.edge place step.steady) ∙ eq-eqb status.0 status.0 refl);
       }
@@ -582,13 +591,13 @@ fewer place wished none_left then_none (Advertised label content) left is = is
 fewer place wished none_left then_none (Withdrawing label) left is = refl
 
 -- where the end tells as before, it stays mended
-mended_still : (plan : Plan) (place : EndPlace) (old new : EdgeState) → IsSteady old new → (nat_eq old.next_label numbers_end ≡ true → nat_eq new.next_label numbers_end ≡ true)
+mended_still : (plan : Plan) (place : EndPlace) (old new : EdgeState) → IsSteady old new → (none_to_give old ≡ true → none_to_give new ≡ true)
     → ((wished : Option Told) (none_left : Bool) → tells_wish place wished none_left (end_at new place).local ≡ tells_wish place wished none_left (end_at old place).local)
     → is_mended plan old place ≡ true → is_mended plan new place ≡ true
 mended_still plan place old new steady left same is =
-    ap (λ (o : Option Told). tells_wish place o (nat_eq new.next_label numbers_end) (end_at new place).local) (wish_steady plan old new place steady)
-    ∙ (same (wish plan old place) (nat_eq new.next_label numbers_end)
-    ∙ fewer place (wish plan old place) (nat_eq old.next_label numbers_end) (nat_eq new.next_label numbers_end) (end_at old place).local left is)
+    ap (λ (o : Option Told). tells_wish place o (none_to_give new) (end_at new place).local) (wish_steady plan old new place steady)
+    ∙ (same (wish plan old place) (none_to_give new)
+    ∙ fewer place (wish plan old place) (none_to_give old) (none_to_give new) (end_at old place).local left is)
 
 and_first : (a b : Bool) → a && b ≡ true → a ≡ true
 and_first true b e = refl
@@ -701,7 +710,7 @@ spoken_steady old new spoken = record {
 
 spoken_mended : (plan : Plan) (p : EndPlace) (old new : EdgeState) → IsSpoken old new → is_mended plan old p ≡ true → is_mended plan new p ≡ true
 spoken_mended plan p old new spoken is =
-    mended_still plan p old new (spoken_steady old new spoken) (λ none. ap (λ (n : ℕ). nat_eq n numbers_end) spoken.labels ∙ none)
+    mended_still plan p old new (spoken_steady old new spoken) (spoken_labels old new spoken)
     (λ wished none_left. ap (λ (ends : ℕ → ℕ → EndState). tells_wish p wished none_left (ends p.wire.0 p.peer.0).local) spoken.ends) is
 
 spoken_told : (plan : Plan) (p : EndPlace) (old new : EdgeState) → IsSpoken old new → is_told plan old p ≡ true → is_told plan new p ≡ true
@@ -823,7 +832,7 @@ choosing_mended plan place work is = by place.terminal refl where
   next = (changes (choosing plan) work).edge
 
   none_left : Bool
-  none_left = nat_eq next.next_label numbers_end
+  none_left = none_to_give next
 
   by : (terminal : Bool) → place.terminal ≡ terminal → is_mended plan next place ≡ true
   by true terminal = tells_some place terminal (wish plan next place) (wish plan work.edge place) none_left (end_at next place).local (wish_there plan next.chosen work.edge place) ∙ is

@@ -21,7 +21,7 @@ use Rattle.edge_model.specs.declared.effect.Effect.TheVariants.{Left, Sent, Drop
 use Rattle.edge_model.specs.declared.end_place.EndPlace.{EndPlace}
 use Rattle.edge_model.specs.Frame.{frame_input}
 use Rattle.edge_model.specs.Packet.{packet_input}
-use Rattle.edge_model.specs.State.{EdgeState, empty_edge, with_addresses, with_end}
+use Rattle.edge_model.specs.State.{EdgeState, empty_edge, with_addresses, with_end, with_kept}
 use Rattle.edge_model.specs.Work.{Answers, Work, beginning, changes, gives, idles, posts}
 
 abbrev an_edge : ℕ → EdgePlan
@@ -114,43 +114,43 @@ abbrev packet : List ℕ
 packet = 0 ∷ 1 ∷ 1 ∷ 255 ∷ 0 ∷ 0 ∷ 0 ∷ 0 ∷ broadcast
 
 sends : (on_frame raw taken broadcast).effects ≡ Sent b w (arrival.Circuit ca) packet ∷ []
-unfolding changes down gives idles posts with_addresses with_end
+unfolding changes down gives idles posts with_addresses with_end with_kept
 sends = refl
 
 -- a packet that the link does not take is dropped
 drops_refused : (on_frame raw refused broadcast).effects ≡ Dropped cause.LinkFault ∷ []
-unfolding changes down gives idles posts with_addresses with_end
+unfolding changes down gives idles posts with_addresses with_end with_kept
 drops_refused = refl
 
 -- it leaves at the circuit of the other edge, which has heard the station on the wire
 leaves : (on_packet raw packet).effects ≡ Left cb broadcast ∷ []
-unfolding changes down gives idles posts with_addresses with_end
+unfolding changes down gives idles posts with_addresses with_end with_kept
 leaves = refl
 
 learns : (on_packet raw packet).edge.learned 0 ≡ record { address = record { 0 = 2 ∷ 0 ∷ 0 ∷ 0 ∷ 0 ∷ 1 ∷ [] }; port = 1; tick = 0 } ∷ []
-unfolding changes down gives idles posts with_addresses with_end
+unfolding changes down gives idles posts with_addresses with_end with_kept
 learns = refl
 
 -- with label 17, which no end advertises, it is dropped
 drops_unknown : (on_packet raw (0 ∷ 1 ∷ 17 ∷ 255 ∷ 0 ∷ 0 ∷ 0 ∷ 0 ∷ broadcast)).effects ≡ Dropped cause.NoLabel ∷ []
-unfolding changes down gives idles posts with_addresses with_end
+unfolding changes down gives idles posts with_addresses with_end with_kept
 drops_unknown = refl
 
 -- and so it is with TTL 0, without the bottom bit, with an associated channel, or without its frame
 drops_expired : (on_packet raw (0 ∷ 1 ∷ 1 ∷ 0 ∷ 0 ∷ 0 ∷ 0 ∷ 0 ∷ broadcast)).effects ≡ Dropped cause.Ttl ∷ []
-unfolding changes down gives idles posts with_addresses with_end
+unfolding changes down gives idles posts with_addresses with_end with_kept
 drops_expired = refl
 
 drops_deeper : (on_packet raw (0 ∷ 1 ∷ 0 ∷ 255 ∷ 0 ∷ 0 ∷ 0 ∷ 0 ∷ broadcast)).effects ≡ Dropped cause.NotBottom ∷ []
-unfolding changes down gives idles posts with_addresses with_end
+unfolding changes down gives idles posts with_addresses with_end with_kept
 drops_deeper = refl
 
 drops_channel : (on_packet raw (0 ∷ 1 ∷ 1 ∷ 255 ∷ 16 ∷ 0 ∷ 0 ∷ 33 ∷ broadcast)).effects ≡ Dropped cause.NotOffered ∷ []
-unfolding changes down gives idles posts with_addresses with_end
+unfolding changes down gives idles posts with_addresses with_end with_kept
 drops_channel = refl
 
 drops_short : (on_packet raw (0 ∷ 1 ∷ 1 ∷ 255 ∷ 0 ∷ 0 ∷ 0 ∷ 0 ∷ [])).effects ≡ Dropped cause.Short ∷ []
-unfolding changes down gives idles posts with_addresses with_end
+unfolding changes down gives idles posts with_addresses with_end with_kept
 drops_short = refl
 
 -- ---- tagged mode, with requested VLAN 9 and without the control word
@@ -162,9 +162,9 @@ abbrev tagged_packet : List ℕ
 tagged_packet = 0 ∷ 1 ∷ 1 ∷ 255 ∷ 255 ∷ 255 ∷ 255 ∷ 255 ∷ 255 ∷ 255 ∷ 2 ∷ 0 ∷ 0 ∷ 0 ∷ 0 ∷ 1 ∷ 129 ∷ 0 ∷ 0 ∷ 9 ∷ 8 ∷ 0 ∷ []
 
 sends_tagged : (on_frame with_tag taken broadcast).effects ≡ Sent b w (arrival.Circuit ca) tagged_packet ∷ []
-unfolding changes down gives idles posts with_addresses with_end
+unfolding changes down gives idles posts with_addresses with_end with_kept
 sends_tagged = refl
 
 leaves_untagged : (on_packet with_tag tagged_packet).effects ≡ Left cb broadcast ∷ []
-unfolding changes down gives idles posts with_addresses with_end
+unfolding changes down gives idles posts with_addresses with_end with_kept
 leaves_untagged = refl

@@ -35,8 +35,8 @@ use Rattle.edge_model.specs.Ends.{wire_end}
 use Rattle.edge_model.specs.Frame.{copies}
 use Rattle.edge_model.specs.Passed.{ComesToCore, GivesMore, GoesOnBy, IsOfPassing, MayGoOnBy, WasTold, WithdrawalsGoOn, piece_octets}
 use Rattle.edge_model.specs.Put.{Spoken, having_spoken, message_octets_of, platform_of, put_octets, stays, with_spoken}
-use Rattle.edge_model.specs.Session.{ends, had_said, says, says_to}
-use Rattle.edge_model.specs.State.{EdgeState, Peering, end_at, has_end, is_there, with_addresses, with_ends_beside, with_peering}
+use Rattle.edge_model.specs.Session.{ends, had_said, says, says_to, losing_ends}
+use Rattle.edge_model.specs.State.{EdgeState, Peering, end_at, has_end, is_there, with_addresses, with_ends_beside, with_peering, with_kept}
 use Rattle.edge_model.specs.Withdraw.{tells_piece, tells_piece_by, tells_pieces}
 use Rattle.edge_model.specs.Work.{Work, Answers, changes, gives, next_answer, puts}
 use Rattle.edge_model.proofs.AgainLemmas.{refused, refused_keeps}
@@ -147,12 +147,12 @@ says_since told peer message work = record { me = besides.me; stood = λ k kept 
   by k kept is false away = record { before = kept; is = sym (besides.others k away) ∙ is; peers = refl; ends = λ wire. besides.ends wire k away }
 
 refused_tells : (peer : EdgeId) (bytes : List ℕ) (work : Work) → (refused peer bytes work).effects ≡ work.effects ++ (Session peer (name.Ended reason.LinkFault) ∷ Closed peer ∷ [])
-unfolding changes gives puts with_ends_beside
+unfolding changes gives puts with_ends_beside with_kept
 refused_tells peer bytes work = by (has_end (ends peer reason.LinkFault (puts peer bytes false work)).edge peer) ∙ append_assoc work.effects (Session peer (name.Ended reason.LinkFault) ∷ []) (Closed peer ∷ []) where
   ended : Work
   ended = ends peer reason.LinkFault (puts peer bytes false work)
 
-  by : (b : Bool) → (cond b ended (changes (with_ends_beside peer lost) ended)).effects ≡ ended.effects
+  by : (b : Bool) → (cond b ended (changes (losing_ends peer) ended)).effects ≡ ended.effects
   by true = refl
   by false = refl
 

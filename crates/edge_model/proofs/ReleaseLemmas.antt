@@ -15,13 +15,15 @@ use Rattle.edge_model.specs.EndPlaces.{end_named}
 use Rattle.edge_model.specs.Hear.{acts, acts_on, hears_one, was_up}
 use Rattle.edge_model.specs.Released.{IsOfNoEnd, MindsOwnReleases}
 use Rattle.edge_model.specs.Session.{happens_with_ends}
-use Rattle.edge_model.specs.Signal.{end_of_fec, hears_release, with_end_changed}
-use Rattle.edge_model.specs.State.{EdgeState, end_at, has_end, with_end}
+use Rattle.edge_model.specs.Signal.{end_of_fec, hears_release, with_released}
+use Rattle.edge_model.specs.State.{EdgeState, end_at, has_end, with_end, with_kept}
 use Rattle.edge_model.specs.Work.{Work, Answers, changes}
+use Rattle.edge_model.specs.Labels.{keeps_one, left_label}
+use Rattle.pw_signalling.specs.Laws.{own_label}
 
 -- an end with the state that it has
 pub same_end : (place : EndPlace) (end : EndState) (edge : EdgeState) → end ≡ end_at edge place → with_end place end edge ≡ edge
-unfolding with_end
+unfolding with_end with_kept
 same_end place end edge same = λ i. record edge { ends = λ wire k. each wire k i } where
   inner : (wire k : ℕ) → wire ≡ place.wire.0 → cond (nat_eq k place.peer.0) end (edge.ends wire k) ≡ edge.ends wire k
   inner wire k w = elim (cases_Bool (nat_eq k place.peer.0)) [
@@ -37,19 +39,25 @@ same_end place end edge same = λ i. record edge { ends = λ wire k. each wire k
     | inr away ↦ rw away refl
   ]
 
+left_none : (own : Option ℕ) → left_label own own ≡ None
+left_none None = refl
+left_none (Some label) = refl
+
 other_label : (plan : Plan) (peer : EdgeId) (fec : PwFec) (label : ℕ) (work : Work) → IsOfNoEnd plan work.edge peer fec label → hears_release plan peer fec (Some label) work ≡ work
-unfolding changes
+unfolding changes with_end with_kept
 other_label plan peer fec label work none = ap (λ (e : EdgeState). record work { edge = e }) (by (end_of_fec plan work.edge peer fec) refl) where
-  by : (place : Option EndPlace) → end_of_fec plan work.edge peer fec ≡ place → with_end_changed (released (Some label)) place work.edge ≡ work.edge
+  by : (place : Option EndPlace) → end_of_fec plan work.edge peer fec ≡ place → with_released (Some label) place work.edge ≡ work.edge
   by None is = refl
   by (Some place) is =
-      same_end place (released (Some label) (end_at work.edge place)) work.edge
-      (keeps_its_label.release (end_at work.edge place) label (none place is))
+      let still : released (Some label) (end_at work.edge place) ≡ end_at work.edge place = keeps_its_label.release (end_at work.edge place) label (none place is) in
+      ap (λ (e : EndState). with_kept (keeps_one (left_label (own_label (end_at work.edge place).local) (own_label e.local)) place.peer work.edge.kept) (with_end place e work.edge)) still
+      ∙ (ap (λ (r : Option ℕ). with_kept (keeps_one r place.peer work.edge.kept) (with_end place (end_at work.edge place) work.edge)) (left_none (own_label (end_at work.edge place).local))
+      ∙ ap (with_kept work.edge.kept) (same_end place (end_at work.edge place) work.edge refl))
 
 no_end : (plan : Plan) (peer : EdgeId) (fec : PwFec) (label : Option ℕ) (work : Work) → fec.pw_id ≡ None → hears_release plan peer fec label work ≡ work
 unfolding changes
 no_end plan peer fec label work none =
-    ap (λ (o : Option ℕ). record work { edge = with_end_changed (released label) (option_and_then (end_named plan work.edge.me peer) o) work.edge }) none
+    ap (λ (o : Option ℕ). record work { edge = with_released label (option_and_then (end_named plan work.edge.me peer) o) work.edge }) none
 
 heard : (plan : Plan) (told : Answers) (peer : EdgeId) (id : ℕ) (fec : PwFec) (label : ℕ) (work : Work)
     → IsOfNoEnd plan (happens_with_ends told peer (Received (LabelRelease id fec (Some label))) work).edge peer fec label

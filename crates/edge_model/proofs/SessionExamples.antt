@@ -11,18 +11,23 @@ use Rattle.net_base.specs.declared.plan.wire_plan.Class.TheVariants.{Mesh}
 use Rattle.net_base.specs.declared.trace.down.Down.TheVariants.{NoRemote}
 use Rattle.net_base.specs.declared.trace.state_name.Reason.TheVariants as reason
 use Rattle.net_base.specs.declared.trace.state_name.StateName.TheVariants as name
-use Rattle.edge_model.specs.Connection.{connected_input, lost_input}
+use Rattle.edge_model.specs.Connection.{connected_input, lost_input, restart_input}
 use Rattle.edge_model.specs.declared.effect.Effect.TheVariants.{Said, Session, Wire, Closed}
 use Rattle.edge_model.specs.Hear.{hears_pdu}
 use Rattle.edge_model.specs.Put.{with_spoken}
-use Rattle.edge_model.specs.State.{EdgeState, empty_edge, with_addresses, with_chosen, with_end, with_ends_beside, with_next_label, with_peering, with_told_down}
+use Rattle.edge_model.specs.State.{EdgeState, empty_edge, with_addresses, with_chosen, with_end, with_ends_beside, with_kept, with_learned, with_next_label, with_peering, with_ticks, with_told_down, without_ends, without_peerings}
+use Rattle.edge_model.specs.Tick.{tick_input}
 use Rattle.edge_model.specs.Work.{Work, Answers, beginning, changes, gives, idles, puts}
+use Rattle.label_space.specs.Kept.{waiting}
+use Rattle.label_space.specs.declared.kept.KeptState.{KeptState}
+use Rattle.label_space.specs.declared.kept.KeptState.TheVariants.{Rests}
 use Rattle.ldp_grammar.specs.declared.message.Message.{Message}
 use Rattle.ldp_grammar.specs.declared.message.Message.TheVariants.{Initialization, KeepAlive}
 use Rattle.ldp_grammar.specs.declared.pdu.Pdu.{Pdu}
 use Rattle.net_values.specs.declared.addr.Addr.{Addr}
 use Rattle.pw_signalling.specs.Down.{down}
 use Rattle.session_core.specs.Parameters.{proposal}
+use Rattle.session_core.specs.Table.{one_more}
 
 abbrev an_edge : ℕ → EdgePlan
 an_edge last = record { name = codes "pe"; address = record { 0 = 10 ∷ 0 ∷ 0 ∷ last ∷ [] }; first_label = 16; keepalive = 180; max_pdu = 4096 }
@@ -76,25 +81,25 @@ mapping_of_b = 0 ∷ 1 ∷ 0 ∷ 50 ∷ 10 ∷ 0 ∷ 0 ∷ 2 ∷ 0 ∷ 0 ∷ 4 �
 
 -- the passive end waits, the active one speaks
 waits : (connected taken a b).effects ≡ Session b name.Initialized ∷ []
-unfolding changes down gives idles puts with_addresses with_chosen with_end with_ends_beside with_next_label with_peering with_spoken with_told_down
+unfolding changes down gives idles puts with_addresses with_chosen with_end with_ends_beside with_next_label with_peering with_spoken with_told_down with_kept
 waits = refl
 
 speaks : (connected taken b a).effects ≡ Session a name.Initialized ∷ Said a initialization_of_b ∷ Session a name.OpenSent ∷ []
-unfolding changes down gives idles puts with_addresses with_chosen with_end with_ends_beside with_next_label with_peering with_spoken with_told_down
+unfolding changes down gives idles puts with_addresses with_chosen with_end with_ends_beside with_next_label with_peering with_spoken with_told_down with_kept
 speaks = refl
 
 -- where the link does not take it, the session ends at once
 fails : (connected failing b a).effects ≡ Session a name.Initialized ∷ Session a (name.Ended reason.LinkFault) ∷ Closed a ∷ []
-unfolding changes down gives idles puts with_addresses with_chosen with_end with_ends_beside with_next_label with_peering with_spoken with_told_down
+unfolding changes down gives idles puts with_addresses with_chosen with_end with_ends_beside with_next_label with_peering with_spoken with_told_down with_kept
 fails = refl
 
 -- edges that no wire joins have no connection
 apart : (connected taken a (record { 0 = 2 })).idle ≡ true
-unfolding changes down gives idles puts with_addresses with_chosen with_end with_ends_beside with_next_label with_peering with_spoken with_told_down
+unfolding changes down gives idles puts with_addresses with_chosen with_end with_ends_beside with_next_label with_peering with_spoken with_told_down with_kept
 apart = refl
 
 lost : (lost_input plan taken b (beginning (connected taken a b).edge [])).effects ≡ Session b (name.Ended reason.Closed) ∷ Closed b ∷ []
-unfolding changes down gives idles puts with_addresses with_chosen with_end with_ends_beside with_next_label with_peering with_spoken with_told_down
+unfolding changes down gives idles puts with_addresses with_chosen with_end with_ends_beside with_next_label with_peering with_spoken with_told_down with_kept
 lost = refl
 
 -- what each of them puts, as messages
@@ -117,11 +122,76 @@ hearing told peer pdus edge = hears_all told peer pdus (beginning edge [])
 -- the proposal is answered by one's own and by a KeepAlive
 answers : (hearing taken b (from_edge 2 (proposal_of 2 1 ∷ []) ∷ []) (connected taken a b).edge).effects
     ≡ Said b initialization_of_a ∷ Said b keep_alive_of_a ∷ Session b name.OpenRec ∷ []
-unfolding changes down gives idles puts with_addresses with_chosen with_end with_ends_beside with_next_label with_peering with_spoken with_told_down
+unfolding changes down gives idles puts with_addresses with_chosen with_end with_ends_beside with_next_label with_peering with_spoken with_told_down with_kept
 answers = refl
 
 -- and so the session comes up at the other end, which advertises its end of the wire
 comes_up : (hearing taken a (from_edge 1 (proposal_of 1 2 ∷ []) ∷ from_edge 1 (KeepAlive 2 ∷ []) ∷ []) (connected taken b a).edge).effects
     ≡ Said a keep_alive_of_b ∷ Session a name.OpenRec ∷ Session a name.Operational ∷ Said a mapping_of_b ∷ Wire (record { 0 = 0 }) (Some NoRemote) ∷ []
-unfolding changes down gives idles puts with_addresses with_chosen with_end with_ends_beside with_next_label with_peering with_spoken with_told_down
+unfolding changes down gives idles puts with_addresses with_chosen with_end with_ends_beside with_next_label with_peering with_spoken with_told_down with_kept
 comes_up = refl
+
+-- ---- labels are used again: the numbers of b
+
+abbrev up : EdgeState
+up = (hearing taken a (from_edge 1 (proposal_of 1 2 ∷ []) ∷ from_edge 1 (KeepAlive 2 ∷ []) ∷ []) (connected taken b a).edge).edge
+
+-- the mapping gave a number
+gives_one : up.next_label ≡ 17
+unfolding changes down gives idles puts with_addresses with_chosen with_end with_ends_beside with_learned with_next_label with_peering one_more with_spoken with_ticks with_told_down without_ends without_peerings with_kept
+gives_one = refl
+
+-- with the session its end is lost: the number waits for the neighbour, and rests from the next connection on
+abbrev after_loss : EdgeState
+after_loss = (lost_input plan taken a (beginning up [])).edge
+
+waits_for_it : after_loss.kept ≡ waiting 16 a ∷ []
+unfolding changes down gives idles puts with_addresses with_chosen with_end with_ends_beside with_learned with_next_label with_peering one_more with_spoken with_ticks with_told_down without_ends without_peerings with_kept
+waits_for_it = refl
+
+rests_then : (connected_input plan taken a (beginning after_loss [])).edge.kept ≡ record { label = 16; state = Rests 0 } ∷ []
+unfolding changes down gives idles puts with_addresses with_chosen with_end with_ends_beside with_learned with_next_label with_peering one_more with_spoken with_ticks with_told_down without_ends without_peerings with_kept
+rests_then = refl
+
+-- a restart keeps the next number and lets what is owned wait
+waits_after_restart : (restart_input (beginning up [])).edge.kept ≡ waiting 16 a ∷ []
+unfolding changes down gives idles puts with_addresses with_chosen with_end with_ends_beside with_learned with_next_label with_peering one_more with_spoken with_ticks with_told_down without_ends without_peerings with_kept
+waits_after_restart = refl
+
+next_after_restart : (restart_input (beginning up [])).edge.next_label ≡ 17
+unfolding changes down gives idles puts with_addresses with_chosen with_end with_ends_beside with_learned with_next_label with_peering one_more with_spoken with_ticks with_told_down without_ends without_peerings with_kept
+next_after_restart = refl
+
+-- an edge that has given all numbers, and whose last one is in a state
+abbrev given_all : KeptState → EdgeState → EdgeState
+given_all state edge = record edge { next_label = 1048576; kept = record { label = 1048575; state = state } ∷ [] }
+
+-- the session comes up, and nothing is advertised while the number waits or rests
+abbrev up_without : EdgeState
+up_without = (hearing taken a (from_edge 1 (proposal_of 1 2 ∷ []) ∷ from_edge 1 (KeepAlive 2 ∷ []) ∷ []) (given_all (Rests 62) (connected taken b a).edge)).edge
+
+none_said : (hearing taken a (from_edge 1 (proposal_of 1 2 ∷ []) ∷ from_edge 1 (KeepAlive 2 ∷ []) ∷ []) (given_all (Rests 0) (connected taken b a).edge)).effects
+    ≡ Said a keep_alive_of_b ∷ Session a name.OpenRec ∷ Session a name.Operational ∷ []
+unfolding changes down gives idles puts with_addresses with_chosen with_end with_ends_beside with_learned with_next_label with_peering one_more with_spoken with_ticks with_told_down without_ends without_peerings with_kept
+none_said = refl
+
+abbrev tick_of_b : EdgeState → Work
+tick_of_b edge = tick_input plan taken (beginning edge [])
+
+-- 63 ticks of its rest have passed with this one, and still it is not free
+none_yet : (tick_of_b up_without).effects ≡ []
+unfolding changes down gives idles puts with_addresses with_chosen with_end with_ends_beside with_learned with_next_label with_peering one_more with_spoken with_ticks with_told_down without_ends without_peerings with_kept
+none_yet = refl
+
+-- with the 64th one it is free before the edge mends its ends, and is given
+abbrev last_mapping_of_b : List ℕ
+last_mapping_of_b = 0 ∷ 1 ∷ 0 ∷ 50 ∷ 10 ∷ 0 ∷ 0 ∷ 2 ∷ 0 ∷ 0 ∷ 4 ∷ 0 ∷ 0 ∷ 40 ∷ 0 ∷ 0 ∷ 0 ∷ 3 ∷ 1 ∷ 0 ∷ 0 ∷ 16 ∷ 128 ∷ 128 ∷ 5 ∷ 8 ∷ 0 ∷ 0 ∷ 0 ∷ 0 ∷ 0 ∷ 0 ∷ 0 ∷ 100 ∷ 1 ∷ 4 ∷ 5 ∷ 220 ∷ 2 ∷ 0 ∷ 0 ∷ 4 ∷ 0 ∷ 15 ∷ 255 ∷ 255 ∷ 137 ∷ 106 ∷ 0 ∷ 4 ∷ 0 ∷ 0 ∷ 0 ∷ 0 ∷ []
+
+given_again : (tick_of_b (tick_of_b up_without).edge).effects ≡ Said a last_mapping_of_b ∷ Wire (record { 0 = 0 }) (Some NoRemote) ∷ []
+unfolding changes down gives idles puts with_addresses with_chosen with_end with_ends_beside with_learned with_next_label with_peering one_more with_spoken with_ticks with_told_down without_ends without_peerings with_kept
+given_again = refl
+
+-- the next number stays the last one, and the label is kept no longer
+none_kept : (tick_of_b (tick_of_b up_without).edge).edge.kept ≡ []
+unfolding changes down gives idles puts with_addresses with_chosen with_end with_ends_beside with_learned with_next_label with_peering one_more with_spoken with_ticks with_told_down without_ends without_peerings with_kept
+none_kept = refl

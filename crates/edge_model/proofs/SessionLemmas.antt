@@ -17,10 +17,11 @@ use Rattle.edge_model.specs.declared.effect.Effect.{Effect}
 use Rattle.edge_model.specs.declared.effect.Effect.TheVariants as effect
 use Rattle.edge_model.specs.Hear.{advises, holds}
 use Rattle.edge_model.specs.Put.{Spoken, message_octets_of, octets_of, put_octets, put_replies, put_reply, put_reply_to, puts_on, with_spoken}
-use Rattle.edge_model.specs.Session.{clears_ends, comes_of, ends, had_put, had_said, happens, happens_to, happens_with_ends, is_same_phase, says, says_to, tells_change, went_on, with_session}
-use Rattle.edge_model.specs.State.{EdgeState, Peering, has_end, with_ends_beside, with_learned, with_peering, without_ends, without_peerings}
+use Rattle.edge_model.specs.Session.{clears_ends, comes_of, ends, had_put, had_said, happens, happens_to, happens_with_ends, is_same_phase, says, says_to, tells_change, went_on, with_session, losing_ends}
+use Rattle.edge_model.specs.State.{EdgeState, Peering, has_end, with_ends_beside, with_learned, with_peering, without_ends, without_peerings, with_kept}
 use Rattle.edge_model.specs.Tick.{ticks_sessions}
 use Rattle.edge_model.specs.Work.{Work, Answers, changes, gives, next_answer, puts}
+use Rattle.edge_model.specs.Labels.{meeting}
 
 -- an effect of the session with one of these peers: the link took octets of LDP, a state is told, or the end is gone
 abbrev pub is_of_session : (ℕ → Bool) → Effect → Bool
@@ -269,9 +270,9 @@ happens_ends told peer event work = by (work.edge.peering peer.0) where
 
 -- the ends beside a peer are lost where its session does not stand
 pub clears_works : (mine : ℕ → Bool) (peer : EdgeId) (work : Work) → mine peer.0 ≡ true → IsSessionWork mine work (clears_ends peer work)
-unfolding changes with_ends_beside
+unfolding changes with_ends_beside with_kept
 clears_works mine peer work own = by (has_end work.edge peer) where
-  by : (stands : Bool) → IsSessionWork mine work (cond stands work (changes (with_ends_beside peer lost) work))
+  by : (stands : Bool) → IsSessionWork mine work (cond stands work (changes (losing_ends peer) work))
   by true = works_not mine work
   by false = record {
     edge = record { me = refl; circuits = refl; learned = refl; ticks = refl; others = λ k apart. refl; wires = refl; bits = refl; ends = λ wire k apart. rw (is_apart mine k peer.0 own apart) refl; downs = refl; priorities = refl; chosen = refl; labels = refl };
@@ -331,11 +332,21 @@ holds_works mine peer octets (Some kept) work own = peering_works mine peer (Som
 
 -- ---- connections and ticks
 
+-- what waits for a peer begins to rest
+pub meeting_works : (mine : ℕ → Bool) (peer : EdgeId) (work : Work) → IsSessionWork mine work (changes (meeting peer) work)
+unfolding changes with_kept
+meeting_works mine peer work = record {
+  edge = record { me = refl; circuits = refl; learned = refl; ticks = refl; others = λ k apart. refl; wires = refl; bits = refl; ends = λ wire k apart. refl; downs = refl; priorities = refl; chosen = refl; labels = refl };
+  effects = gives_none (is_of_session mine) work.effects;
+  idle = refl;
+}
+
 pub connects_works : (told : Answers) (mine : ℕ → Bool) (peer : EdgeId) (kept : Peering) (work : Work) → mine peer.0 ≡ true → IsSessionWork mine work (connects told peer kept work)
 connects_works told mine peer kept work own =
-    let stands : Work = changes (with_peering peer (Some kept)) work in
+    let began : Work = changes (meeting peer) work in
+    let stands : Work = changes (with_peering peer (Some kept)) began in
     let said : Work = gives (effect.Session peer name.Initialized) stands in
-    works_then mine work stands (connects told peer kept work) (peering_works mine peer (Some kept) work own)
+    works_then mine work stands (connects told peer kept work) (works_then mine work began stands (meeting_works mine peer work) (peering_works mine peer (Some kept) began own))
     (works_then mine stands said (connects told peer kept work) (gives_works mine (effect.Session peer name.Initialized) stands own) (happens_with_ends_works told mine peer table.Start said own))
 
 -- every peer
@@ -359,5 +370,5 @@ pub record IsRestartWork (old new : Work) : Type 0 where
   pub idle : new.idle ≡ old.idle
 
 pub restart_works : (work : Work) → IsRestartWork work (restart_input work)
-unfolding changes with_learned without_ends without_peerings
+unfolding changes with_learned without_ends without_peerings with_kept
 restart_works work = record { me = refl; circuits = refl; ticks = refl; learned = λ service. refl; peering = λ k. refl; effects = refl; idle = refl }

@@ -28,7 +28,7 @@ use Rattle.edge_model.specs.declared.effect.Effect.{Effect}
 use Rattle.edge_model.specs.declared.effect.Effect.TheVariants.{Said, Session, Wire, Closed}
 use Rattle.edge_model.specs.Hear.{hears_messages}
 use Rattle.edge_model.specs.Put.{platform_of, with_spoken}
-use Rattle.edge_model.specs.State.{EdgeState, empty_edge, with_addresses, with_bits, with_chosen, with_end, with_ends_beside, with_learned, with_next_label, with_peering, with_renewed, with_told_down, with_wire}
+use Rattle.edge_model.specs.State.{EdgeState, empty_edge, with_addresses, with_bits, with_chosen, with_end, with_ends_beside, with_learned, with_next_label, with_peering, with_renewed, with_told_down, with_wire, with_kept}
 use Rattle.edge_model.specs.Wire.{status_input, wire_input}
 use Rattle.edge_model.specs.Work.{Work, Answers, beginning, changes, gives, idles, puts}
 
@@ -130,17 +130,17 @@ b_up plan = (hearing plan a (proposal_of 1 2 ∷ KeepAlive 2 ∷ []) (connected 
 -- an end whose session comes up advertises a label
 advertises : (hearing plan b (KeepAlive 2 ∷ []) (hearing plan b (proposal_of 2 1 ∷ []) (connected plan a b)).edge).effects
     ≡ Session b name.Operational ∷ said_by_a (mapping_with 3 100 16 usual) ∷ Wire w (Some NoRemote) ∷ []
-unfolding changes down gives idles puts with_addresses with_chosen with_end with_ends_beside with_next_label with_peering with_spoken with_told_down
+unfolding changes down gives idles puts with_addresses with_chosen with_end with_ends_beside with_next_label with_peering with_spoken with_told_down with_kept
 advertises = refl
 
 -- it forwards once the label of the other one has come
 forwards : (hearing plan b (mapping_with 3 100 16 usual ∷ []) (a_up plan)).effects ≡ Wire w None ∷ []
-unfolding changes down gives idles puts with_addresses with_chosen with_end with_ends_beside with_next_label with_peering with_spoken with_told_down
+unfolding changes down gives idles puts with_addresses with_chosen with_end with_ends_beside with_next_label with_peering with_spoken with_told_down with_kept
 forwards = refl
 
 -- a mapping of a pseudowire that the plan lacks is released
 releases_unknown : (hearing plan b (mapping_with 3 99 16 usual ∷ []) (a_up plan)).effects ≡ said_by_a (LabelRelease 4 (bare_fec_of 99 usual) (Some 16)) ∷ []
-unfolding changes down gives idles puts with_addresses with_chosen with_end with_ends_beside with_next_label with_peering with_spoken with_told_down
+unfolding changes down gives idles puts with_addresses with_chosen with_end with_ends_beside with_next_label with_peering with_spoken with_told_down with_kept
 releases_unknown = refl
 
 abbrev a_set : EdgeState
@@ -155,7 +155,7 @@ abbrev turns : Bool → EdgeState → Work
 turns on edge = wire_input plan taken w on (beginning edge [])
 
 withdraws : (turns false b_set).effects ≡ said_by_b (LabelWithdraw 4 (bare_fec_of 100 usual) (Some 16)) ∷ Wire w (Some NoLocal) ∷ []
-unfolding changes down gives idles puts with_addresses with_chosen with_end with_ends_beside with_next_label with_peering with_spoken with_told_down with_wire
+unfolding changes down gives idles puts with_addresses with_chosen with_end with_ends_beside with_next_label with_peering with_spoken with_told_down with_wire with_kept
 withdraws = refl
 
 -- what was learned at the wire is forgotten, and what was learned at another port is not
@@ -166,33 +166,33 @@ abbrev b_taught : EdgeState
 b_taught = with_learned (λ service. learned_at 0 ∷ learned_at 1 ∷ []) b_set
 
 forgets : (turns false b_taught).edge.learned 0 ≡ learned_at 1 ∷ []
-unfolding changes down gives idles puts with_addresses with_chosen with_end with_ends_beside with_learned with_next_label with_peering with_spoken with_told_down with_wire
+unfolding changes down gives idles puts with_addresses with_chosen with_end with_ends_beside with_learned with_next_label with_peering with_spoken with_told_down with_wire with_kept
 forgets = refl
 
 -- the other end releases it, and does not forward
 releases : (hearing plan b (LabelWithdraw 4 (bare_fec_of 100 usual) (Some 16) ∷ []) a_set).effects
     ≡ said_by_a (LabelRelease 4 (bare_fec_of 100 usual) (Some 16)) ∷ Wire w (Some NoRemote) ∷ []
-unfolding changes down gives idles puts with_addresses with_chosen with_end with_ends_beside with_next_label with_peering with_spoken with_told_down
+unfolding changes down gives idles puts with_addresses with_chosen with_end with_ends_beside with_next_label with_peering with_spoken with_told_down with_kept
 releases = refl
 
 -- as long as the label is not released, no other one is given, whatever is on
 waits : (turns true (turns false b_set).edge).effects ≡ []
-unfolding changes down gives idles puts with_addresses with_chosen with_end with_ends_beside with_next_label with_peering with_renewed with_spoken with_told_down with_wire
+unfolding changes down gives idles puts with_addresses with_chosen with_end with_ends_beside with_next_label with_peering with_renewed with_spoken with_told_down with_wire with_kept
 waits = refl
 
 -- then it is the next one
 given_next : (hearing plan a (LabelRelease 4 (bare_fec_of 100 usual) (Some 16) ∷ []) (turns true (turns false b_set).edge).edge).effects
     ≡ said_by_b (mapping_with 5 100 17 usual) ∷ Wire w None ∷ []
-unfolding changes down gives idles puts with_addresses with_chosen with_end with_ends_beside with_next_label with_peering with_renewed with_spoken with_told_down with_wire
+unfolding changes down gives idles puts with_addresses with_chosen with_end with_ends_beside with_next_label with_peering with_renewed with_spoken with_told_down with_wire with_kept
 given_next = refl
 
 -- a wire that is on is not put on, nor one that the plan lacks
 idle_where_on : (turns true b_set).idle ≡ true
-unfolding changes down gives idles puts with_addresses with_chosen with_end with_ends_beside with_next_label with_peering with_renewed with_spoken with_told_down with_wire
+unfolding changes down gives idles puts with_addresses with_chosen with_end with_ends_beside with_next_label with_peering with_renewed with_spoken with_told_down with_wire with_kept
 idle_where_on = refl
 
 idle_elsewhere : (wire_input plan taken v false (beginning b_set [])).idle ≡ true
-unfolding changes down gives idles puts with_addresses with_chosen with_end with_ends_beside with_next_label with_peering with_renewed with_spoken with_told_down with_wire
+unfolding changes down gives idles puts with_addresses with_chosen with_end with_ends_beside with_next_label with_peering with_renewed with_spoken with_told_down with_wire with_kept
 idle_elsewhere = refl
 
 -- ---- a label that the other end releases unasked is declined: no other one is given until the wire is turned on again
@@ -201,11 +201,11 @@ abbrev b_declined : Work
 b_declined = hearing plan a (LabelRelease 4 (bare_fec_of 100 usual) (Some 16) ∷ []) b_set
 
 declined : b_declined.effects ≡ Wire w (Some NoLocal) ∷ []
-unfolding changes down gives idles puts with_addresses with_chosen with_end with_ends_beside with_next_label with_peering with_spoken with_told_down
+unfolding changes down gives idles puts with_addresses with_chosen with_end with_ends_beside with_next_label with_peering with_spoken with_told_down with_kept
 declined = refl
 
 renewed : (turns true (turns false b_declined.edge).edge).effects ≡ said_by_b (mapping_with 4 100 17 usual) ∷ Wire w None ∷ []
-unfolding changes down gives idles puts with_addresses with_chosen with_end with_ends_beside with_next_label with_peering with_renewed with_spoken with_told_down with_wire
+unfolding changes down gives idles puts with_addresses with_chosen with_end with_ends_beside with_next_label with_peering with_renewed with_spoken with_told_down with_wire with_kept
 renewed = refl
 
 -- ---- a whole group is withdrawn: each binding of the group goes, and one release answers with the same FEC
@@ -221,7 +221,7 @@ b_grouped = (hearing grouped_plan a (mapping_with 3 100 16 (content 1500 7 0) �
 
 releases_group : (hearing grouped_plan a (LabelWithdraw 4 group_fec None ∷ []) b_grouped).effects
     ≡ said_by_b (LabelRelease 5 group_fec None) ∷ Wire w (Some NoRemote) ∷ Wire v (Some NoRemote) ∷ []
-unfolding changes down gives idles puts with_addresses with_chosen with_end with_ends_beside with_next_label with_peering with_spoken with_told_down
+unfolding changes down gives idles puts with_addresses with_chosen with_end with_ends_beside with_next_label with_peering with_spoken with_told_down with_kept
 releases_group = refl
 
 -- ---- MTUs that differ: neither end forwards
@@ -230,22 +230,22 @@ abbrev narrow_plan : Plan
 narrow_plan = plan_of 16 (a_wire 0 100 (an_offer 1500 0) (an_offer 1400 0) ∷ [])
 
 narrow_at_a : (hearing narrow_plan b (mapping_with 3 100 16 (content 1400 0 0) ∷ []) (a_up narrow_plan)).effects ≡ Wire w (Some Mtu) ∷ []
-unfolding changes down gives idles puts with_addresses with_chosen with_end with_ends_beside with_next_label with_peering with_spoken with_told_down
+unfolding changes down gives idles puts with_addresses with_chosen with_end with_ends_beside with_next_label with_peering with_spoken with_told_down with_kept
 narrow_at_a = refl
 
 narrow_at_b : (hearing narrow_plan a (mapping_with 3 100 16 (content 1500 0 0) ∷ []) (b_up narrow_plan)).effects ≡ Wire w (Some Mtu) ∷ []
-unfolding changes down gives idles puts with_addresses with_chosen with_end with_ends_beside with_next_label with_peering with_spoken with_told_down
+unfolding changes down gives idles puts with_addresses with_chosen with_end with_ends_beside with_next_label with_peering with_spoken with_told_down with_kept
 narrow_at_b = refl
 
 -- ---- a status is told
 
 tells_failure : (status_input plan taken w 2 (beginning a_set [])).effects
     ≡ said_by_a (Notification 4 pw_status_notice (Some (record { 0 = 2 })) (Some (bare_fec_of 100 usual))) ∷ Wire w (Some LocalFault) ∷ []
-unfolding changes down gives idles puts with_addresses with_bits with_chosen with_end with_ends_beside with_next_label with_peering with_spoken with_told_down
+unfolding changes down gives idles puts with_addresses with_bits with_chosen with_end with_ends_beside with_next_label with_peering with_spoken with_told_down with_kept
 tells_failure = refl
 
 hears_failure : (hearing plan a (Notification 4 pw_status_notice (Some (record { 0 = 2 })) (Some (bare_fec_of 100 usual)) ∷ []) b_set).effects ≡ Wire w (Some RemoteFault) ∷ []
-unfolding changes down gives idles puts with_addresses with_chosen with_end with_ends_beside with_next_label with_peering with_spoken with_told_down
+unfolding changes down gives idles puts with_addresses with_chosen with_end with_ends_beside with_next_label with_peering with_spoken with_told_down with_kept
 hears_failure = refl
 
 -- ---- a session is lost, and with it what was told in it; a label is not given again
@@ -254,7 +254,7 @@ abbrev a_lost : Work
 a_lost = lost_input plan taken b (beginning a_set [])
 
 loses : a_lost.effects ≡ Session b (name.Ended reason.Closed) ∷ Closed b ∷ Wire w (Some NoLocal) ∷ []
-unfolding changes down gives idles puts with_addresses with_chosen with_end with_ends_beside with_next_label with_peering with_spoken with_told_down
+unfolding changes down gives idles puts with_addresses with_chosen with_end with_ends_beside with_next_label with_peering with_spoken with_told_down with_kept
 loses = refl
 
 abbrev b_again : EdgeState
@@ -262,7 +262,7 @@ b_again = (connected_input plan taken a (beginning (lost_input plan taken a (beg
 
 advertises_again : (hearing plan a (KeepAlive 2 ∷ []) (hearing plan a (proposal_of 1 2 ∷ []) b_again).edge).effects
     ≡ Session a name.Operational ∷ said_by_b (mapping_with 3 100 17 usual) ∷ Wire w (Some NoRemote) ∷ []
-unfolding changes down gives idles puts with_addresses with_chosen with_end with_ends_beside with_next_label with_peering with_spoken with_told_down
+unfolding changes down gives idles puts with_addresses with_chosen with_end with_ends_beside with_next_label with_peering with_spoken with_told_down with_kept
 advertises_again = refl
 
 -- ---- the last label that there is goes to the first wire, and the second one has none
@@ -272,11 +272,11 @@ last_plan = plan_of 1048575 (a_wire 0 100 (an_offer 1500 0) (an_offer 1500 0) �
 
 gives_the_last : (hearing last_plan b (KeepAlive 2 ∷ []) (hearing last_plan b (proposal_of 2 1 ∷ []) (connected last_plan a b)).edge).effects
     ≡ Session b name.Operational ∷ said_by_a (mapping_with 3 100 1048575 usual) ∷ Wire w (Some NoRemote) ∷ []
-unfolding changes down gives idles puts with_addresses with_chosen with_end with_ends_beside with_next_label with_peering with_spoken with_told_down
+unfolding changes down gives idles puts with_addresses with_chosen with_end with_ends_beside with_next_label with_peering with_spoken with_told_down with_kept
 gives_the_last = refl
 
 none_is_left : (hearing last_plan b (KeepAlive 2 ∷ []) (hearing last_plan b (proposal_of 2 1 ∷ []) (connected last_plan a b)).edge).edge.told_down 1 ≡ Some NoLocal
-unfolding changes down gives idles puts with_addresses with_chosen with_end with_ends_beside with_next_label with_peering with_spoken with_told_down
+unfolding changes down gives idles puts with_addresses with_chosen with_end with_ends_beside with_next_label with_peering with_spoken with_told_down with_kept
 none_is_left = refl
 
 -- ---- spokes: a tells that addresses have moved as it chooses one, and b forgets them and passes it on
@@ -293,16 +293,16 @@ all_moved id pw_id = AddressWithdraw id None (Some (bare_fec_of pw_id usual)) (S
 
 tells_as_it_chooses : (hearing spoke_plan b (mapping_with 3 100 16 usual ∷ []) (a_up spoke_plan)).effects
     ≡ said_by_a (Notification 5 pw_status_notice (Some (record { 0 = 0 })) (Some (bare_fec_of 100 usual))) ∷ said_by_a (all_moved 6 100) ∷ Wire w None ∷ []
-unfolding changes down gives idles puts with_addresses with_chosen with_end with_ends_beside with_next_label with_peering with_spoken with_told_down
+unfolding changes down gives idles puts with_addresses with_chosen with_end with_ends_beside with_next_label with_peering with_spoken with_told_down with_kept
 tells_as_it_chooses = refl
 
 abbrev b_spoked : EdgeState
 b_spoked = with_learned (λ service. learned_at 0 ∷ learned_at 1 ∷ []) (hearing spoke_plan a (mapping_with 3 100 16 usual ∷ mapping_with 4 200 17 usual ∷ []) (b_up spoke_plan)).edge
 
 forgets_elsewhere : (hearing spoke_plan a (all_moved 5 100 ∷ []) b_spoked).edge.learned 0 ≡ learned_at 0 ∷ []
-unfolding changes down gives idles puts with_addresses with_chosen with_end with_ends_beside with_learned with_next_label with_peering with_spoken with_told_down
+unfolding changes down gives idles puts with_addresses with_chosen with_end with_ends_beside with_learned with_next_label with_peering with_spoken with_told_down with_kept
 forgets_elsewhere = refl
 
 passes_on : (hearing spoke_plan a (all_moved 5 100 ∷ []) b_spoked).effects ≡ said_by_b (all_moved 5 200) ∷ []
-unfolding changes down gives idles puts with_addresses with_chosen with_end with_ends_beside with_learned with_next_label with_peering with_spoken with_told_down
+unfolding changes down gives idles puts with_addresses with_chosen with_end with_ends_beside with_learned with_next_label with_peering with_spoken with_told_down with_kept
 passes_on = refl

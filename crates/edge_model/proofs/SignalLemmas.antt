@@ -12,7 +12,6 @@ use Rattle.net_base.specs.declared.trace.state_name.Reason.TheVariants as reason
 use Rattle.net_values.specs.declared.mac.Mac.{Mac}
 use Rattle.net_base.specs.plan.Paths.{are_joined}
 use Rattle.net_base.specs.plan.Places.{wire_row}
-use Rattle.label_space.specs.Labels.{numbers_end}
 use Rattle.ldp_grammar.specs.declared.message.Message.{Message}
 use Rattle.ldp_grammar.specs.declared.pdu.Pdu.{Pdu}
 use Rattle.ldp_grammar.specs.declared.status_code.StatusCode.{StatusCode}
@@ -33,13 +32,13 @@ use Rattle.edge_model.specs.declared.end_place.EndPlace.{EndPlace}
 use Rattle.edge_model.specs.EndPlaces.{end_named, ends_here, passes}
 use Rattle.edge_model.specs.Frame.{is_own}
 use Rattle.edge_model.specs.Hear.{acts_on, hears, hears_message, hears_messages, hears_on, hears_one, hears_pdu, octets_input}
-use Rattle.edge_model.specs.Mend.{advertises, advertises_wish, advertising, and_says, cause_number, each_end, forgets_downs, forgetting_wire, is_new_choice, mends, mends_choice, mends_end, mends_local, mends_once, mends_status, mends_status_of, tells_down, tells_downs, tells_new_status, tells_over, telling_status, wish, withdrawing, withdraws, withdraws_unless, stands}
+use Rattle.edge_model.specs.Mend.{advertises_under, advertises, advertises_wish, advertising, and_says, cause_number, each_end, forgets_downs, forgetting_wire, is_new_choice, mends, mends_choice, mends_end, mends_local, mends_once, mends_status, mends_status_of, tells_down, tells_downs, tells_new_status, tells_over, telling_status, wish, withdrawing, withdraws, withdraws_unless, stands}
 use Rattle.edge_model.specs.Put.{Spoken, put_reply, stays}
 use Rattle.edge_model.specs.Role.{down_at, status_to_tell}
 use Rattle.edge_model.specs.Session.{had_said, happens_with_ends, says}
-use Rattle.edge_model.specs.Signal.{end_of_fec, hears_mapping, hears_release, hears_status, hears_withdraw, with_end_changed, with_named}
+use Rattle.edge_model.specs.Signal.{end_of_fec, hears_mapping, hears_release, hears_status, hears_withdraw, with_end_changed, with_named, with_released}
 use Rattle.edge_model.specs.Spokes.{choosing}
-use Rattle.edge_model.specs.State.{EdgeState, Peering, end_at, has_end, is_on, with_addresses, with_bits, with_chosen, with_circuit, with_end, with_ends_beside, with_learned, with_next_label, with_peering, with_priority, with_renewed, with_ticks, with_told_down, with_wire}
+use Rattle.edge_model.specs.State.{EdgeState, Peering, end_at, has_end, is_on, with_addresses, with_bits, with_chosen, with_circuit, with_end, with_ends_beside, with_learned, with_next_label, with_peering, with_priority, with_renewed, with_ticks, with_told_down, with_wire, with_kept}
 use Rattle.edge_model.specs.Tick.{counted, forgetting, tick_input, ticks_sessions}
 use Rattle.edge_model.specs.Wire.{is_own_spoke, priority_input, status_input, turned_wire, wire_input}
 use Rattle.edge_model.specs.Withdraw.{tells_piece, tells_piece_by}
@@ -48,6 +47,7 @@ use Rattle.edge_model.proofs.BridgeLemmas.{ForgetsOnly, forgets_downs_only, forg
 use Rattle.edge_model.proofs.LocalLemmas.{and_left, and_right}
 use Rattle.edge_model.proofs.SessionLemmas.{GivesOnly, IsSessionWork, advice_works, any, are_all, connects_works, gives_none, gives_then, happens_with_ends_works, is_of_session, says_works}
 use Rattle.edge_model.proofs.WalkLemmas.{HearSteps, MendSteps, acts_on_holds, hears_holds, hears_mapping_holds, hears_message_holds, hears_messages_holds, hears_on_holds, hears_one_holds, hears_pdu_holds, hears_status_holds, hears_withdraw_holds, mends_holds, mends_once_holds, ticks_hold}
+use Rattle.edge_model.specs.Labels.{label_to_give}
 
 -- an effect of a session, or a wire that began to forward or stopped
 abbrev pub is_of_signalling : Effect → Bool
@@ -127,20 +127,25 @@ pub says_signals : (told : Answers) (peer : EdgeId) (message : ℕ → Message) 
 says_signals told peer message work = session_signals work (says told peer message work).work (says_works told any peer message work refl)
 
 end_signals : (place : EndPlace) (end : EndState) (edge : EdgeState) → IsSignalled edge (with_end place end edge)
-unfolding with_end
+unfolding with_end with_kept
 end_signals place end edge = record { me = refl; circuits = refl; ticks = refl; wires = refl; bits = refl; priorities = refl }
 
 advertising_signals : (place : EndPlace) (label : ℕ) (content : Told) (edge : EdgeState) → IsSignalled edge (advertising place label content edge)
-unfolding with_end with_next_label
+unfolding with_end with_next_label with_kept
 advertising_signals place label content edge = record { me = refl; circuits = refl; ticks = refl; wires = refl; bits = refl; priorities = refl }
 
 beside_signals : (peer : EdgeId) (change : EndState → EndState) (edge : EdgeState) → IsSignalled edge (with_ends_beside peer change edge)
-unfolding with_ends_beside
+unfolding with_ends_beside with_kept
 beside_signals peer change edge = record { me = refl; circuits = refl; ticks = refl; wires = refl; bits = refl; priorities = refl }
 
 changed_signals : (change : EndState → EndState) (place : Option EndPlace) (edge : EdgeState) → IsSignalled edge (with_end_changed change place edge)
 changed_signals change None edge = signalled_not edge
 changed_signals change (Some place) edge = end_signals place (change (end_at edge place)) edge
+
+released_signals : (label : Option ℕ) (place : Option EndPlace) (edge : EdgeState) → IsSignalled edge (with_released label place edge)
+unfolding with_end with_kept
+released_signals label None edge = signalled_not edge
+released_signals label (Some place) edge = record { me = refl; circuits = refl; ticks = refl; wires = refl; bits = refl; priorities = refl }
 
 named_signals : (plan : Plan) (peer : EdgeId) (fec : PwFec) (one all : EndState → EndState) (pw_id : Option ℕ) (edge : EdgeState) → IsSignalled edge (with_named plan peer fec one all pw_id edge)
 named_signals plan peer fec one all None edge = beside_signals peer all edge
@@ -187,13 +192,10 @@ tells_wire_signals wire down work = record {
 -- ---- an end is mended
 
 pub advertises_end_signals : (told : Answers) (place : EndPlace) (content : Told) (work : Work) → IsSignalWork work (advertises told place content work).work
-advertises_end_signals told place content work = by (nat_eq work.edge.next_label numbers_end) where
-  begun : Work
-  begun = changes (advertising place work.edge.next_label content) work
-
-  by : (b : Bool) → IsSignalWork work (cond b (stays work) (says told place.peer (mapping place.pw_id work.edge.next_label content) begun)).work
-  by true = signals_not work
-  by false = advertises_signals told place work.edge.next_label content work
+advertises_end_signals told place content work = by (label_to_give work.edge) where
+  by : (r : Option ℕ) → IsSignalWork work (advertises_under told place content r work).work
+  by None = signals_not work
+  by (Some label) = advertises_signals told place label content work
 
 pub advertises_wish_signals : (told : Answers) (place : EndPlace) (wished : Option Told) (work : Work) → IsSignalWork work (advertises_wish told place wished work).work
 advertises_wish_signals told place None work = signals_not work
@@ -281,7 +283,7 @@ pub mend_signals : (plan : Plan) (told : Answers) → MendSteps plan told IsSign
 mend_signals plan told = record {
   same = signals_not;
   joined = signals_then;
-  advertises = λ place content work here idle wished left. advertises_signals told place work.edge.next_label content work;
+  advertises = λ place label content work here idle wished given. advertises_signals told place label content work;
   withdraws = λ place label content work here is wished. withdraws_signals told place label content work;
   chooses = chooses_signals plan;
   tells_status = λ place label content last work here is status other. tells_new_status_signals told place content _ work;
@@ -301,7 +303,7 @@ hear_signals plan told = record {
   unbinds = λ peer fec label work there.
       changes_signals (with_named plan peer fec (unbound label) (group_unbound fec.group) fec.pw_id) work (named_signals plan peer fec (unbound label) (group_unbound fec.group) fec.pw_id work.edge);
   released = λ peer fec label work there.
-      changes_signals (λ edge. with_end_changed (released label) (end_of_fec plan edge peer fec) edge) work (changed_signals (released label) (end_of_fec plan work.edge peer fec) work.edge);
+      changes_signals (λ edge. with_released label (end_of_fec plan edge peer fec) edge) work (released_signals label (end_of_fec plan work.edge peer fec) work.edge);
   states = λ peer fec status work there.
       changes_signals (with_named plan peer fec (stated status) (group_stated fec.group status) fec.pw_id) work (named_signals plan peer fec (stated status) (group_stated fec.group status) fec.pw_id work.edge);
   clears = λ service addresses from work. forget_signals work (changes (withdrawing_at service addresses from) work) (withdrawing_only service addresses from work);
@@ -415,7 +417,7 @@ pub record IsTickWork (old new : Work) : Type 0 where
   pub idle : new.idle ≡ old.idle
 
 pub tick_works : (plan : Plan) (told : Answers) (work : Work) → IsTickWork work (tick_input plan told work)
-unfolding changes with_learned with_ticks
+unfolding changes with_learned with_ticks with_kept
 tick_works plan told work =
     let counted_it : Work = changes counted work in
     let ticked : Work = ticks_sessions told 0 (length plan.edges) counted_it in

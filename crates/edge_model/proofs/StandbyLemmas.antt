@@ -14,13 +14,13 @@ use Rattle.pw_signalling.proofs.StandbyLemmas.{heeds_no_standby}
 use Rattle.edge_model.specs.declared.end_place.EndPlace.{EndPlace}
 use Rattle.edge_model.specs.Role.{down_at, is_chosen, role_at, role_in}
 use Rattle.edge_model.specs.StandbyBit.{SpokesAloneStandBy, told_status}
-use Rattle.edge_model.specs.State.{EdgeState, end_at, with_end}
+use Rattle.edge_model.specs.State.{EdgeState, end_at, with_end, with_kept}
 use Rattle.edge_model.proofs.MendedLemmas.{end_put}
 
 -- why an end does not forward once its peer has told a status
 told_down_at : (plan : Plan) (edge : EdgeState) (place : EndPlace) (status : PwStatus)
     → down_at plan (told_status place status edge) place ≡ down (role_at plan edge place) (edge.bits place.wire.0) (stated status (end_at edge place))
-unfolding with_end
+unfolding with_end with_kept
 told_down_at plan edge place status = ap (down (role_at plan edge place) (edge.bits place.wire.0)) (end_put place (stated status (end_at edge place)) edge)
 
 others : (plan : Plan) (edge : EdgeState) (place : EndPlace) (first second : PwStatus) → role_at plan edge place ≢ role.Core

@@ -24,7 +24,7 @@ use Rattle.edge_model.specs.Packet.{packet_input}
 use Rattle.edge_model.specs.Put.{with_spoken}
 use Rattle.edge_model.specs.Role.{status_to_tell}
 use Rattle.edge_model.specs.Signal.{hears_mapping, takes_content}
-use Rattle.edge_model.specs.State.{EdgeState, Peering, empty_edge, with_end, with_peering}
+use Rattle.edge_model.specs.State.{EdgeState, Peering, empty_edge, with_end, with_peering, with_kept}
 use Rattle.edge_model.specs.Work.{Answers, Work, beginning, changes, gives, posts, puts}
 use Rattle.pw_tlvs.specs.declared.point.Point.{Point}
 use Rattle.session_core.specs.State.{opened}
@@ -85,40 +85,40 @@ on_packet told held octets = packet_input plan told octets (beginning (point hel
 
 -- a packet under label 16 goes on under label 30, with TTL 254 and in the same traffic class, which is 5
 goes_on : (on_packet taken (bound_to 30) (0 ∷ 1 ∷ 11 ∷ 255 ∷ 0 ∷ 0 ∷ 7 ∷ [])).effects ≡ Sent c w (arrival.Wire w) (0 ∷ 1 ∷ 235 ∷ 254 ∷ 0 ∷ 0 ∷ 7 ∷ []) ∷ []
-unfolding gives posts with_end
+unfolding gives posts with_end with_kept
 goes_on = refl
 
 -- one under label 17 goes the other way, under label 20
 goes_back : (on_packet taken (bound_to 30) (0 ∷ 1 ∷ 17 ∷ 255 ∷ 0 ∷ 0 ∷ 7 ∷ [])).effects ≡ Sent a w (arrival.Wire w) (0 ∷ 1 ∷ 65 ∷ 254 ∷ 0 ∷ 0 ∷ 7 ∷ []) ∷ []
-unfolding gives posts with_end
+unfolding gives posts with_end with_kept
 goes_back = refl
 
 -- with TTL 1 it is dropped, and where the link does not take it
 drops_expired : (on_packet taken (bound_to 30) (0 ∷ 1 ∷ 17 ∷ 1 ∷ 0 ∷ 0 ∷ 7 ∷ [])).effects ≡ Dropped cause.Expired ∷ []
-unfolding gives posts with_end
+unfolding gives posts with_end with_kept
 drops_expired = refl
 
 drops_refused : (on_packet refused (bound_to 30) (0 ∷ 1 ∷ 17 ∷ 255 ∷ 0 ∷ 0 ∷ 7 ∷ [])).effects ≡ Dropped cause.LinkFault ∷ []
-unfolding gives posts with_end
+unfolding gives posts with_end with_kept
 drops_refused = refl
 
 stitched : is_stitched plan (point (bound_to 30)) w ≡ true
-unfolding with_end
+unfolding with_end with_kept
 stitched = refl
 
 -- ---- of the third edge it holds nothing
 
 drops_unbound : (on_packet taken None (0 ∷ 1 ∷ 11 ∷ 255 ∷ 0 ∷ 0 ∷ 7 ∷ [])).effects ≡ Dropped cause.NoBinding ∷ []
-unfolding gives posts with_end
+unfolding gives posts with_end with_kept
 drops_unbound = refl
 
 -- packets the other way still go on
 goes_back_alone : (on_packet taken None (0 ∷ 1 ∷ 17 ∷ 255 ∷ 0 ∷ 0 ∷ 7 ∷ [])).effects ≡ Sent a w (arrival.Wire w) (0 ∷ 1 ∷ 65 ∷ 254 ∷ 0 ∷ 0 ∷ 7 ∷ []) ∷ []
-unfolding gives posts with_end
+unfolding gives posts with_end with_kept
 goes_back_alone = refl
 
 not_stitched : is_stitched plan (point None) w ≡ false
-unfolding with_end
+unfolding with_end with_kept
 not_stitched = refl
 
 -- ---- what it tells, and what it takes
@@ -139,29 +139,29 @@ holding told = with_peering a (Some up) (point (Some (record { label = 30; told 
 
 -- it tells the first edge what the third one told, with its own point behind the others
 passes_all : wish plan (holding (told_with_points (a_point 9 ∷ []) 1400 (Some 1))) before ≡ Some (told_with_points (a_point 9 ∷ a_point 2 ∷ []) 1400 (Some 1))
-unfolding with_end with_peering
+unfolding with_end with_peering with_kept
 passes_all = refl
 
 -- nothing where the third edge has told nothing
 passes_nothing : wish plan (with_peering a (Some up) (point None)) before ≡ None
-unfolding with_end with_peering
+unfolding with_end with_peering with_kept
 passes_nothing = refl
 
 -- another status leaves what it has told, and is told alone; another MTU does not
 keeps_label : stands before (told_with_points (a_point 2 ∷ []) 1500 (Some 0)) (wish plan (holding (told_with_points [] 1500 (Some 32))) before) ≡ true
-unfolding with_end with_peering
+unfolding with_end with_peering with_kept
 keeps_label = refl
 
 passes_status : status_to_tell plan (holding (told_with_points [] 1500 (Some 32))) before ≡ record { 0 = 32 }
-unfolding with_end with_peering
+unfolding with_end with_peering with_kept
 passes_status = refl
 
 passes_no_status : status_to_tell plan (holding (told_with_points [] 1500 None)) before ≡ record { 0 = 0 }
-unfolding with_end with_peering
+unfolding with_end with_peering with_kept
 passes_no_status = refl
 
 takes_label_back : stands before (told_with_points (a_point 2 ∷ []) 1500 (Some 0)) (wish plan (holding (told_with_points [] 1400 (Some 0))) before) ≡ false
-unfolding with_end with_peering
+unfolding with_end with_peering with_kept
 takes_label_back = refl
 
 -- it takes what has passed two switching points, and neither its own point nor three
@@ -179,9 +179,9 @@ abbrev on_mapping : Work
 on_mapping = hears_mapping plan taken a (bare_fec_of 100 content) 16 None (a_point 2 ∷ []) (beginning (holding content) [])
 
 holds_nothing : (on_mapping.edge.ends 0 0).remote ≡ None
-unfolding gives posts puts changes with_end with_peering with_spoken
+unfolding gives posts puts changes with_end with_peering with_spoken with_kept
 holds_nothing = refl
 
 releases_it : on_mapping.effects ≡ Said a (0 ∷ 1 ∷ 0 ∷ 38 ∷ 10 ∷ 0 ∷ 0 ∷ 2 ∷ 0 ∷ 0 ∷ 4 ∷ 3 ∷ 0 ∷ 28 ∷ 0 ∷ 0 ∷ 0 ∷ 1 ∷ 1 ∷ 0 ∷ 0 ∷ 12 ∷ 128 ∷ 128 ∷ 5 ∷ 4 ∷ 0 ∷ 0 ∷ 0 ∷ 0 ∷ 0 ∷ 0 ∷ 0 ∷ 100 ∷ 2 ∷ 0 ∷ 0 ∷ 4 ∷ 0 ∷ 0 ∷ 0 ∷ 16 ∷ []) ∷ []
-unfolding gives posts puts changes with_end with_peering with_spoken
+unfolding gives posts puts changes with_end with_peering with_spoken with_kept
 releases_it = refl

@@ -33,7 +33,7 @@ use Rattle.edge_model.specs.Put.{Spoken, stays}
 use Rattle.edge_model.specs.Role.{down_at, role_at}
 use Rattle.edge_model.specs.Session.{happens_with_ends}
 use Rattle.edge_model.specs.Spokes.{choosing}
-use Rattle.edge_model.specs.State.{EdgeState, Peering, empty_edge, has_end, is_on, with_bits, with_learned, with_priority, without_ends, without_peerings}
+use Rattle.edge_model.specs.State.{EdgeState, Peering, empty_edge, has_end, is_on, with_bits, with_learned, with_priority, without_ends, without_peerings, with_kept}
 use Rattle.edge_model.specs.Step.{edge_step}
 use Rattle.edge_model.specs.Synced.{InSync, IsSynced}
 use Rattle.edge_model.specs.Tick.{counted, forgetting, ticks_sessions}
@@ -66,7 +66,7 @@ pub synced_first : (plan : Plan) (me : EdgeId) → InSync plan (empty_edge plan 
 synced_first plan me = fresh_synced plan (empty_edge plan me) (λ wire k. refl) (λ wire. refl)
 
 pub restart_synced : (plan : Plan) (work : Work) → InSync plan (restart_input work).edge
-unfolding changes with_learned without_ends without_peerings
+unfolding changes with_learned without_ends without_peerings with_kept
 restart_synced plan work = fresh_synced plan (restart_input work).edge (λ wire k. refl) (λ wire. refl)
 
 -- ---- an edge mends

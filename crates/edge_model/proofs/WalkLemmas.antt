@@ -43,7 +43,6 @@ use Rattle.pw_tlvs.specs.declared.point.Point.{Point}
 use Rattle.pw_tlvs.specs.declared.pw_fec.PwFec.{PwFec}
 use Rattle.pw_signalling.specs.declared.binding.Binding.{Binding}
 use Rattle.pw_signalling.specs.Rows.{bound, group_stated, group_unbound, stated, unbound}
-use Rattle.label_space.specs.Labels.{numbers_end}
 use Rattle.pw_tlvs.specs.declared.pw_status.PwStatus.{PwStatus}
 use Rattle.pw_signalling.specs.declared.told.Told.{Told}
 use Rattle.pw_signalling.specs.End.{EndState, LocalPart, Idle, Advertised, Withdrawing}
@@ -75,7 +74,7 @@ use Rattle.edge_model.specs.Echo.{channel_octets, channel_under, echoes, is_pick
 use Rattle.edge_model.specs.Ends.{is_up, wire_end}
 use Rattle.edge_model.specs.Frame.{copies, copy_by, frame_input, hearing, is_own, port_at, received, targets_of}
 use Rattle.edge_model.specs.Hear.{acts, acts_on, advice_of, advises, hears, hears_few, hears_front, hears_message, hears_messages, hears_on, hears_one, hears_pdu, hears_within, holds, octets_input, was_up}
-use Rattle.edge_model.specs.Mend.{advertises, advertises_wish, advertising, and_says, cause_number, each_end, forgets_down, forgets_downs, forgetting_wire, is_new_choice, mends, mends_choice, mends_end, mends_few, mends_local, mends_once, mends_status, mends_status_of, port_of_wire, tells_down, tells_downs, tells_new_status, tells_over, telling_status, then_changes, wish, stands, withdrawing, withdraws, withdraws_unless}
+use Rattle.edge_model.specs.Mend.{advertises, advertises_under, advertises_wish, advertising, and_says, cause_number, each_end, forgets_down, forgets_downs, forgetting_wire, is_new_choice, mends, mends_choice, mends_end, mends_few, mends_local, mends_once, mends_status, mends_status_of, port_of_wire, tells_down, tells_downs, tells_new_status, tells_over, telling_status, then_changes, wish, stands, withdrawing, withdraws, withdraws_unless}
 use Rattle.edge_model.specs.Packet.{switched_by, switched_to, switched_under, towards, advertiser, alerted, alerts_by, alerts_end, behind_entry, bridges_frame, by_offer, enters, is_alert, is_channel, labelled, least_label, opened_by, owned, packet_input, switched, terminated, unpacked_at}
 use Rattle.edge_model.specs.Put.{Spoken, put_reply, stays}
 use Rattle.edge_model.specs.Ping.{asks, far_address, ping_between, ping_input, pinging, pings_at, pings_by, pings_in, pings_under}
@@ -84,13 +83,14 @@ use Rattle.edge_model.specs.Send.{drops, packet_of, sends, sends_copy, sends_und
 use Rattle.edge_model.specs.Session.{had_said, happens_with_ends, says}
 use Rattle.edge_model.specs.Signal.{end_of_fec, hears_mapping, hears_release, hears_status, hears_withdraw, maps_to, releases_label, takes_content, with_end_changed, with_named}
 use Rattle.edge_model.specs.Spokes.{choosing}
-use Rattle.edge_model.specs.State.{EdgeState, Peering, end_at, has_end, is_on, with_addresses, with_bits, with_chosen, with_end, with_next_label, with_peering, with_priority, with_told_down}
+use Rattle.edge_model.specs.State.{EdgeState, Peering, end_at, has_end, is_on, with_addresses, with_bits, with_chosen, with_end, with_next_label, with_peering, with_priority, with_told_down, with_kept}
 use Rattle.edge_model.specs.Step.{edge_step}
 use Rattle.edge_model.specs.Tick.{counted, forgetting, tick_input, ticks_sessions}
 use Rattle.edge_model.specs.Wire.{is_own_spoke, priority_input, status_input, turned_wire, wire_input}
 use Rattle.edge_model.specs.Withdraw.{tells_piece, tells_piece_by, tells_pieces}
 use Rattle.edge_model.specs.Work.{Work, Answers, changes, gives, idles}
 use Rattle.edge_model.proofs.SessionLemmas.{any, says_works}
+use Rattle.edge_model.specs.Labels.{label_to_give, meeting}
 
 -- the edge has an end at this place, by the plan
 pub record IsEndAt (plan : Plan) (me : EdgeId) (place : EndPlace) : Type 0 where
@@ -105,9 +105,9 @@ pub record MendSteps (plan : Plan) (told : Answers) (R : Work → Work → Type 
   pub same : (work : Work) → R work work
   pub joined : (a b c : Work) → R a b → R b c → R a c
   -- an end is advertised
-  pub advertises : (place : EndPlace) (content : Told) (work : Work) → IsEndAt plan work.edge.me place
-      → (end_at work.edge place).local ≡ Idle false → wish plan work.edge place ≡ Some content → nat_eq work.edge.next_label numbers_end ≡ false
-      → R work (says told place.peer (mapping place.pw_id work.edge.next_label content) (changes (advertising place work.edge.next_label content) work)).work
+  pub advertises : (place : EndPlace) (label : ℕ) (content : Told) (work : Work) → IsEndAt plan work.edge.me place
+      → (end_at work.edge place).local ≡ Idle false → wish plan work.edge place ≡ Some content → label_to_give work.edge ≡ Some label
+      → R work (says told place.peer (mapping place.pw_id label content) (changes (advertising place label content) work)).work
   -- one is withdrawn
   pub withdraws : (place : EndPlace) (label : ℕ) (content : Told) (work : Work) → IsEndAt plan work.edge.me place
       → (end_at work.edge place).local ≡ Advertised label content → stands place content (wish plan work.edge place) ≡ false
@@ -151,16 +151,13 @@ module _ (plan : Plan) (told : Answers) (R : Work → Work → Type 0) (steps : 
 
   advertises_walks : (place : EndPlace) (content : Told) (work : Work) → IsEndAt plan work.edge.me place → (end_at work.edge place).local ≡ Idle false → wish plan work.edge place ≡ Some content
       → Walks R work (advertises told place content work).work
-  unfolding changes with_end with_next_label
-  advertises_walks place content work here idle wished = by (nat_eq work.edge.next_label numbers_end) refl where
-    begun : Work
-    begun = changes (advertising place work.edge.next_label content) work
-
-    by : (b : Bool) → nat_eq work.edge.next_label numbers_end ≡ b → Walks R work (cond b (stays work) (says told place.peer (mapping place.pw_id work.edge.next_label content) begun)).work
-    by true left = walks_not steps work
-    by false left = record {
-      holds = steps.advertises place content work here idle wished left;
-      me = (says_works told any place.peer (mapping place.pw_id work.edge.next_label content) begun refl).edge.me;
+  unfolding changes with_end with_next_label with_kept
+  advertises_walks place content work here idle wished = by (label_to_give work.edge) refl where
+    by : (r : Option ℕ) → label_to_give work.edge ≡ r → Walks R work (advertises_under told place content r work).work
+    by None none = walks_not steps work
+    by (Some label) given = record {
+      holds = steps.advertises place label content work here idle wished given;
+      me = (says_works told any place.peer (mapping place.pw_id label content) (changes (advertising place label content) work) refl).edge.me;
     }
 
   advertises_wish_walks : (place : EndPlace) (wished : Option Told) (work : Work) → IsEndAt plan work.edge.me place → (end_at work.edge place).local ≡ Idle false → wish plan work.edge place ≡ wished
@@ -170,7 +167,7 @@ module _ (plan : Plan) (told : Answers) (R : Work → Work → Type 0) (steps : 
 
   withdraws_walks : (place : EndPlace) (label : ℕ) (content : Told) (wished : Option Told) (work : Work) → IsEndAt plan work.edge.me place
       → (end_at work.edge place).local ≡ Advertised label content → wish plan work.edge place ≡ wished → Walks R work (withdraws_unless told place label content wished work).work
-  unfolding changes with_end
+  unfolding changes with_end with_kept
   withdraws_walks place label content wished work here told_it is = by (stands place content wished) refl where
     by : (b : Bool) → stands place content wished ≡ b → Walks R work (cond b (stays work) (withdraws told place label content work)).work
     by true still = walks_not steps work
@@ -199,7 +196,7 @@ module _ (plan : Plan) (told : Answers) (R : Work → Work → Type 0) (steps : 
   tells_over_walks : (place : EndPlace) (label : ℕ) (content : Told) (last : Option PwStatus) (work : Work) → IsEndAt plan work.edge.me place
       → (end_at work.edge place).local ≡ Advertised label content → content.status ≡ last
       → Walks R work (tells_over told place content (status_to_tell plan work.edge place) last work).work
-  unfolding changes with_end
+  unfolding changes with_end with_kept
   tells_over_walks place label content None work here told_it is = walks_not steps work
   tells_over_walks place label content (Some last) work here told_it is = by (nat_eq last.0 (status_to_tell plan work.edge place).0) refl where
     by : (b : Bool) → nat_eq last.0 (status_to_tell plan work.edge place).0 ≡ b
@@ -542,6 +539,7 @@ pub record InputSteps (plan : Plan) (told : Answers) (R : Work → Work → Type
   pub hear : HearSteps plan told R
   pub idles : (work : Work) → R work (idles work)
   -- connections
+  pub meets : (peer : EdgeId) (work : Work) → has_end work.edge peer ≡ false → R work (changes (meeting peer) work)
   pub opens : (peer : EdgeId) (own other : EdgePlan) (work : Work) → has_end work.edge peer ≡ false
       → R work (gives (effect.Session peer name.Initialized) (changes (with_peering peer (Some (opened_with own other))) work))
   pub restarts : (work : Work) → R work (restart_input work)
@@ -569,14 +567,16 @@ module _ (plan : Plan) (told : Answers) (R : Work → Work → Type 0) (steps : 
   changed_holds change work one = steps.hear.mend.joined work (changes change work) (mends plan told (changes change work)) one (mends_holds plan told R steps.hear.mend (changes change work))
 
   pub connected_holds : (peer : EdgeId) (work : Work) → R work (connected_input plan told peer work)
+  unfolding changes with_kept
   connected_holds peer work = by (are_joined plan work.edge.me.0 peer.0) (has_end work.edge peer) refl where
     between : has_end work.edge peer ≡ false → (first second : Option EdgePlan) → R work (connects_between plan told peer first second work)
     between none None second = steps.idles work
     between none (Some first) None = steps.idles work
     between none (Some first) (Some second) =
-        let began : Work = gives (effect.Session peer name.Initialized) (changes (with_peering peer (Some (opened_with first second))) work) in
+        let met : Work = changes (meeting peer) work in
+        let began : Work = gives (effect.Session peer name.Initialized) (changes (with_peering peer (Some (opened_with first second))) met) in
         let started : Work = happens_with_ends told peer table.Start began in
-        steps.hear.mend.joined work began (mends plan told started) (steps.opens peer first second work none)
+        steps.hear.mend.joined work began (mends plan told started) (steps.hear.mend.joined work met began (steps.meets peer work none) (steps.opens peer first second met none))
         (steps.hear.mend.joined began started (mends plan told started) (steps.hear.happens peer table.Start began) (mends_holds plan told R steps.hear.mend started))
 
     by : (joined stands : Bool) → has_end work.edge peer ≡ stands

@@ -10,6 +10,7 @@ use Rattle.session_core.specs.declared.peers.Peers.{Peers}
 use Rattle.session_core.specs.State.{opened}
 use Rattle.session_core.specs.Table as table
 use Rattle.edge_model.specs.declared.effect.Effect.TheVariants.{Session}
+use Rattle.edge_model.specs.Labels.{keeping_all, meeting}
 use Rattle.edge_model.specs.Mend.{mends}
 use Rattle.edge_model.specs.Session.{happens_with_ends}
 use Rattle.edge_model.specs.State.{EdgeState, Peering, has_end, with_learned, with_peering, without_ends, without_peerings}
@@ -23,10 +24,10 @@ peers_of own other = record { me = own.address; peer = other.address; keepalive 
 abbrev pub opened_with : EdgePlan → EdgePlan → Peering
 opened_with own other = record { session = opened (peers_of own other); held = []; next_id = 1 }
 
--- the edge's end of the connection stands, and its session begins; the active end speaks first (RFC 5036 section 2.5.3)
+-- what waits for the peer begins to rest, the edge's end of the connection stands, and its session begins; the active end speaks first (RFC 5036 section 2.5.3)
 abbrev pub connects : Answers → EdgeId → Peering → Work → Work
 connects told peer kept work =
-    happens_with_ends told peer table.Start (gives (Session peer name.Initialized) (changes (with_peering peer (Some kept)) work))
+    happens_with_ends told peer table.Start (gives (Session peer name.Initialized) (changes (with_peering peer (Some kept)) (changes (meeting peer) work)))
 
 abbrev pub connects_between : Plan → Answers → EdgeId → Option EdgePlan → Option EdgePlan → Work → Work
 connects_between plan told peer (Some own) (Some other) work = mends plan told (connects told peer (opened_with own other) work)
@@ -44,10 +45,10 @@ abbrev pub lost_input : Plan → Answers → EdgeId → Work → Work
 lost_input plan told peer work =
     if has_end work.edge peer then mends plan told (happens_with_ends told peer (table.Closed reason.Closed) work) else idles work
 
--- the edge restarts: it keeps its ticks, what was set of its circuits and wires, and the label that it gives next, so that no
--- label is given again; it tells nothing
+-- the edge restarts: it keeps its ticks, what was set of its circuits and wires, the label that it gives next, and the numbers that may
+-- be given again, those that its ends have owned among them; it tells nothing
 abbrev pub restarted : EdgeState → EdgeState
-restarted edge = without_ends (with_learned (λ service. []) (without_peerings edge))
+restarted edge = without_ends (with_learned (λ service. []) (without_peerings (keeping_all edge)))
 
 -- the input `Restart`: it always applies
 abbrev pub restart_input : Work → Work

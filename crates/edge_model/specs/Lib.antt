@@ -11,6 +11,7 @@ pub mod EndPlaces
 pub mod Ends
 pub mod Frame
 pub mod Hear
+pub mod Labels
 pub mod Local
 pub mod Mend
 pub mod Mended

@@ -11,7 +11,6 @@ use Rattle.net_base.specs.declared.plan.places.EdgeId.{EdgeId}
 use Rattle.net_base.specs.plan.Paths.{edge_address, mate, offer_of}
 use Rattle.net_base.specs.plan.Places.{wire_row}
 use Rattle.hvpls_spokes.specs.Port.{is_wire_port, ports_of}
-use Rattle.label_space.specs.Labels.{numbers_end}
 use Rattle.pw_tlvs.specs.declared.pw_status.PwStatus.{PwStatus}
 use Rattle.pw_status.specs.declared.method.Method.{Method}
 use Rattle.pw_status.specs.declared.method.Method.TheVariants as method
@@ -29,11 +28,12 @@ use Rattle.edge_model.specs.declared.end_place.EndPlace.{EndPlace}
 use Rattle.edge_model.specs.Across.{held_of}
 use Rattle.edge_model.specs.Content.{content_of, mapping, status_notification, withdrawal}
 use Rattle.edge_model.specs.EndPlaces.{end_places}
+use Rattle.edge_model.specs.Labels.{giving, label_to_give}
 use Rattle.edge_model.specs.Put.{Spoken, stays}
 use Rattle.edge_model.specs.Role.{down_at, is_chosen, status_to_tell}
 use Rattle.edge_model.specs.Session.{says}
 use Rattle.edge_model.specs.Spokes.{choosing}
-use Rattle.edge_model.specs.State.{EdgeState, Peering, addresses_of, end_at, with_addresses, with_end, with_next_label, with_told_down, without_port}
+use Rattle.edge_model.specs.State.{EdgeState, Peering, addresses_of, end_at, with_addresses, with_end, with_told_down, without_port}
 use Rattle.edge_model.specs.Withdraw.{tells_piece}
 use Rattle.edge_model.specs.Work.{Work, Answers, changes, gives}
 
@@ -102,15 +102,17 @@ wish plan edge place = wish_of plan edge place (wire_row plan place.wire)
 
 -- ---- an end is advertised, withdrawn or left
 
--- the end advertises the next label with its content
+-- the end advertises a label with its content
 abbrev pub advertising : EndPlace → ℕ → Told → EdgeState → EdgeState
-advertising place label told edge = with_next_label (label + 1) (with_end place (advertised label told (end_at edge place)) edge)
+advertising place label told edge = giving label (with_end place (advertised label told (end_at edge place)) edge)
 
 -- an idle end takes a label and puts a Label Mapping; where no label is left it stays idle
+abbrev pub advertises_under : Answers → EndPlace → Told → Option ℕ → Work → Spoken
+advertises_under told place content None work = stays work
+advertises_under told place content (Some label) work = says told place.peer (mapping place.pw_id label content) (changes (advertising place label content) work)
+
 abbrev pub advertises : Answers → EndPlace → Told → Work → Spoken
-advertises told place content work =
-    if work.edge.next_label == numbers_end then stays work
-    else says told place.peer (mapping place.pw_id work.edge.next_label content) (changes (advertising place work.edge.next_label content) work)
+advertises told place content work = advertises_under told place content (label_to_give work.edge) work
 
 abbrev pub advertises_wish : Answers → EndPlace → Option Told → Work → Spoken
 advertises_wish told place None work = stays work

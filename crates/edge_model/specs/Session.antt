@@ -13,7 +13,8 @@ use Rattle.session_core.specs.State.{SessionState}
 use Rattle.session_core.specs.Table.{SessionEvent, Outcome, Stay, Goes, Ends, outcome_of}
 use Rattle.edge_model.specs.declared.effect.Effect.TheVariants.{Session, Closed}
 use Rattle.edge_model.specs.Put.{Spoken, message_octets_of, put_octets, put_replies}
-use Rattle.edge_model.specs.State.{Peering, has_end, with_ends_beside, with_peering}
+use Rattle.edge_model.specs.Labels.{keeps_lost}
+use Rattle.edge_model.specs.State.{EdgeState, Peering, has_end, with_ends_beside, with_kept, with_peering}
 use Rattle.edge_model.specs.Work.{Work, Answers, changes, gives, next_answer}
 
 -- the session has ended: it is told, and then that the edge's end of the connection is gone. What was held is given up
@@ -56,9 +57,12 @@ happens_to told peer event (Some kept) work = comes_of told peer kept (outcome_o
 abbrev pub happens : Answers → EdgeId → SessionEvent → Work → Work
 happens told peer event work = happens_to told peer event (work.edge.peering peer.0) work
 
--- where no session with a peer stands, each end beside it is lost (RFC 5036 section 3.5.1.1)
+-- where no session with a peer stands, each end beside it is lost, and its label waits for the peer (RFC 5036 section 3.5.1.1)
+abbrev pub losing_ends : EdgeId → EdgeState → EdgeState
+losing_ends peer edge = with_kept (keeps_lost peer edge.ends edge.places edge.kept) (with_ends_beside peer lost edge)
+
 abbrev pub clears_ends : EdgeId → Work → Work
-clears_ends peer work = if has_end work.edge peer then work else changes (with_ends_beside peer lost) work
+clears_ends peer work = if has_end work.edge peer then work else changes (losing_ends peer) work
 
 -- an event happens to the session with a peer, and its ends are lost where it ends
 abbrev pub happens_with_ends : Answers → EdgeId → SessionEvent → Work → Work

@@ -4,11 +4,11 @@ use Rattle.std.specs.Prelude.{◌≡◌, ◌==◌, ◌||◌, not, is_some, ℕ, 
 use Rattle.net_base.specs.declared.plan.Plan.{Plan}
 use Rattle.net_base.specs.declared.plan.wire_plan.WirePlan.{WirePlan}
 use Rattle.net_base.specs.plan.Places.{wire_row}
-use Rattle.label_space.specs.Labels.{numbers_end}
 use Rattle.pw_tlvs.specs.declared.pw_status.PwStatus.{PwStatus}
 use Rattle.pw_signalling.specs.declared.told.Told.{Told}
 use Rattle.pw_signalling.specs.End.{LocalPart, Idle, Advertised, Withdrawing}
 use Rattle.edge_model.specs.declared.end_place.EndPlace.{EndPlace}
+use Rattle.edge_model.specs.Labels.{label_to_give}
 use Rattle.edge_model.specs.Mend.{cause_number, port_of_wire, stands, wish}
 use Rattle.edge_model.specs.Role.{down_at, status_to_tell}
 use Rattle.edge_model.specs.State.{EdgeState, addresses_of, end_at, without_port}
@@ -21,7 +21,7 @@ tells_wish place wished none_left (Advertised label content) = stands place cont
 tells_wish place wished none_left (Withdrawing label) = true
 
 abbrev pub is_mended : Plan → EdgeState → EndPlace → Bool
-is_mended plan edge place = tells_wish place (wish plan edge place) (edge.next_label == numbers_end) (end_at edge place).local
+is_mended plan edge place = tells_wish place (wish plan edge place) (not (is_some (label_to_give edge))) (end_at edge place).local
 
 -- the status that it has told, where it has told one, is the one of now
 abbrev pub is_status : ℕ → Option PwStatus → Bool

@@ -12,11 +12,12 @@ use Rattle.ldp_grammar.specs.declared.status_code.StatusCode.{StatusCode}
 use Rattle.pw_signalling.specs.declared.binding.Binding.{Binding}
 use Rattle.pw_signalling.specs.declared.told.Told.{Told}
 use Rattle.pw_signalling.specs.End.{EndState}
-use Rattle.pw_signalling.specs.Rows.{bound, group_stated, group_unbound, released, stated, unbound}
+use Rattle.pw_signalling.specs.Rows.{bound, group_stated, group_unbound, stated, unbound}
 use Rattle.pw_stitch.specs.Accepting.{accepts}
 use Rattle.edge_model.specs.declared.end_place.EndPlace.{EndPlace}
 use Rattle.edge_model.specs.Content.{binding_in, pw_status_code, release}
 use Rattle.edge_model.specs.EndPlaces.{end_named}
+use Rattle.edge_model.specs.Labels.{releasing}
 use Rattle.edge_model.specs.Session.{says}
 use Rattle.edge_model.specs.State.{EdgeState, end_at, with_end, with_ends_beside}
 use Rattle.edge_model.specs.Work.{Work, Answers, changes}
@@ -68,10 +69,14 @@ abbrev pub hears_withdraw : Plan → Answers → EdgeId → PwFec → Option ℕ
 hears_withdraw plan told peer fec label work =
     releases_label told peer fec label (changes (with_named plan peer fec (unbound label) (group_unbound fec.group) fec.pw_id) work)
 
+abbrev pub with_released : Option ℕ → Option EndPlace → EdgeState → EdgeState
+with_released label None edge = edge
+with_released label (Some place) edge = releasing label place edge
+
 -- Label Release of the own label, or without a label: an end that has withdrawn it is idle, and one that advertises it is
 -- declined. One of another label, or without a PW ID, changes nothing
 abbrev pub hears_release : Plan → EdgeId → PwFec → Option ℕ → Work → Work
-hears_release plan peer fec label work = changes (λ edge. with_end_changed (released label) (end_of_fec plan edge peer fec) edge) work
+hears_release plan peer fec label work = changes (λ edge. with_released label (end_of_fec plan edge peer fec) edge) work
 
 -- a Notification with the status of a pseudowire, or of each one of the peer's group
 abbrev pub hears_status : Plan → EdgeId → StatusCode → Option PwStatus → Option PwFec → Work → Work

@@ -9,11 +9,13 @@ use Rattle.net_base.specs.declared.plan.places.CircuitId.{CircuitId}
 use Rattle.net_base.specs.declared.plan.places.WireId.{WireId}
 use Rattle.net_base.specs.declared.trace.down.Down.{Down}
 use Rattle.net_base.specs.declared.trace.down.Down.TheVariants.{NoLocal}
+use Rattle.label_space.specs.declared.kept.Kept.{Kept}
 use Rattle.mac_table.specs.declared.mac_entry.MacEntry.{MacEntry}
 use Rattle.pw_signalling.specs.End.{EndState, fresh}
 use Rattle.pw_signalling.specs.Rows.{renewed}
 use Rattle.session_core.specs.State.{SessionState}
 use Rattle.edge_model.specs.declared.end_place.EndPlace.{EndPlace}
+use Rattle.edge_model.specs.EndPlaces.{end_places}
 
 -- what an edge keeps for a neighbour as long as its end of their connection stands
 pub record Peering : Type 0 where
@@ -26,8 +28,9 @@ pub record Peering : Type 0 where
 
 -- what an edge holds
 pub record EdgeState : Type 0 where
-  -- its own place
+  -- its own place, and where it has ends of pseudowires
   pub me : EdgeId
+  pub places : List EndPlace
   -- the circuits that are on
   pub circuit_on : ℕ → Bool
   -- what the bridge of each service has learned
@@ -51,6 +54,8 @@ pub record EdgeState : Type 0 where
   pub chosen : ℕ → Option WireId
   -- the label that it gives next (RFC 3032 section 2.1)
   pub next_label : ℕ
+  -- the numbers that it has given, that no end owns any more, and that may be given again some time
+  pub kept : List Kept
   -- the sequence number of its next ping of each wire (RFC 792)
   pub next_ping : ℕ → ℕ
 
@@ -76,6 +81,7 @@ first_ping = 1
 abbrev pub empty_edge : Plan → EdgeId → EdgeState
 empty_edge plan me = record {
   me = me;
+  places = end_places plan me;
   circuit_on = λ circuit. true;
   learned = λ service. [];
   ticks = 0;
@@ -87,6 +93,7 @@ empty_edge plan me = record {
   priority = λ wire. priority_in (slice_get plan.wires wire);
   chosen = λ service. None;
   next_label = first_label plan me;
+  kept = [];
   next_ping = λ wire. first_ping;
 }
 
@@ -182,6 +189,10 @@ with_chosen chosen edge = record edge { chosen = chosen }
 -- another label is next
 unfoldable pub with_next_label : ℕ → EdgeState → EdgeState
 with_next_label label edge = record edge { next_label = label }
+
+-- other numbers are kept to be given again
+unfoldable pub with_kept : List Kept → EdgeState → EdgeState
+with_kept kept edge = record edge { kept = kept }
 
 -- another sequence number of the next ping of one wire
 unfoldable pub with_next_ping : WireId → ℕ → EdgeState → EdgeState

@@ -4,6 +4,7 @@ use Rattle.net_base.specs.declared.plan.Plan.{Plan}
 use Rattle.net_base.specs.declared.plan.service_plan.ServicePlan.{ServicePlan}
 use Rattle.mac_table.specs.Addresses.{is_young}
 use Rattle.mac_table.specs.declared.mac_entry.MacEntry.{MacEntry}
+use Rattle.edge_model.specs.Labels.{resting}
 use Rattle.edge_model.specs.State.{EdgeState, later, with_learned, with_ticks}
 use Rattle.session_core.specs.Table.{Ticked}
 use Rattle.edge_model.specs.Mend.{mends}
@@ -19,15 +20,15 @@ aged now (Some row) entries = filter (is_young now row.age) entries
 abbrev pub forgetting : Plan → EdgeState → EdgeState
 forgetting plan edge = with_learned (λ service. aged edge.ticks (slice_get plan.services service) (edge.learned service)) edge
 
--- the edge counts the tick
+-- the edge's labels rest, and it counts the tick
 abbrev pub counted : EdgeState → EdgeState
-counted edge = with_ticks (later edge.ticks) edge
+counted edge = with_ticks (later edge.ticks) (resting edge)
 
 -- the sessions with so many edges from a place on have the tick, in the plan's order
 abbrev pub ticks_sessions : Answers → ℕ → ℕ → Work → Work
 ticks_sessions told place zero work = work
 ticks_sessions told place (suc count) work = ticks_sessions told (place + 1) count (happens_with_ends told (record { 0 = place }) Ticked work)
 
--- the input `Tick`: it always applies. The edge counts it, its sessions have it, its bridges forget, and then it mends its ends
+-- the input `Tick`: it always applies. Its labels rest first, the edge counts the tick, its sessions have it, its bridges forget, and then it mends its ends
 abbrev pub tick_input : Plan → Answers → Work → Work
 tick_input plan told work = mends plan told (changes (forgetting plan) (ticks_sessions told 0 (length plan.edges) (changes counted work)))

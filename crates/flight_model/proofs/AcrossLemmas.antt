@@ -1,7 +1,6 @@
 -- What a switching point tells on one side of a wire is what it holds on the other side.
-use Rattle.std.proofs.Common.{◌≡◌, ◌&&◌, ◌∙◌, ℕ, Bool, true, false, cond, nat_eq, is_some, List, Option, Some, None, refl, sym, ap, subst}
+use Rattle.std.proofs.Common.{◌≡◌, ◌&&◌, ◌∙◌, ℕ, Bool, true, false, not, cond, nat_eq, is_some, List, Option, Some, None, refl, sym, ap, subst}
 use Rattle.std.proofs.lemmas.Bool.{eqb-true}
-use Rattle.label_space.specs.Labels.{numbers_end}
 use Rattle.net_base.specs.declared.plan.Plan.{Plan}
 use Rattle.net_base.specs.declared.plan.places.EdgeId.{EdgeId}
 use Rattle.net_base.specs.declared.plan.places.WireId.{WireId}
@@ -23,6 +22,7 @@ use Rattle.edge_model.specs.Across.{held_beyond, held_from, held_of, mate_of}
 use Rattle.edge_model.specs.Content.{told_with}
 use Rattle.edge_model.specs.declared.end_place.EndPlace.{EndPlace}
 use Rattle.edge_model.specs.EndPlaces.{end_places, is_named, is_terminal}
+use Rattle.edge_model.specs.Labels.{label_to_give}
 use Rattle.edge_model.specs.Mend.{is_up_with, passed_from, passed_wish, stands, terminal_wish, wish, wish_by, wish_of}
 use Rattle.edge_model.specs.Role.{own_status, status_to_tell}
 use Rattle.edge_model.specs.State.{EdgeState, end_at}
@@ -168,8 +168,12 @@ module _ (plan : Plan) (checked : IsChecked plan) (me from to : EdgeId) (wire : 
     pub passes_on : PassesOn plan me from to wire row edge content
     passes_on = by_held (edge.ends wire.0 from.0).remote refl (edge.wire_on wire.0) (is_up_with (edge.peering to.0)) refl refl (ap (stands near.place content) (sym wish_is) ∙ still)
 
-  none_left : (binding : Binding) → (edge.ends wire.0 from.0).remote ≡ Some binding → edge.wire_on wire.0 ≡ true → is_up_with (edge.peering to.0) ≡ true → (edge.ends wire.0 to.0).local ≡ Idle false → edge.next_label ≡ numbers_end
-  none_left binding held on up idle = eqb-true edge.next_label numbers_end (rw (local_is, wished) at ends) where
+  none_left : (binding : Binding) → (edge.ends wire.0 from.0).remote ≡ Some binding → edge.wire_on wire.0 ≡ true → is_up_with (edge.peering to.0) ≡ true → (edge.ends wire.0 to.0).local ≡ Idle false → label_to_give edge ≡ None
+  none_left binding held on up idle = none_of (label_to_give edge) (rw (local_is, wished) at ends) where
+    none_of : (r : Option ℕ) → not (is_some r) ≡ true → r ≡ None
+    none_of None is = refl
+    none_of (Some label) is = absurd (cc (is))
+
     local_is : (end_at edge near.place).local ≡ Idle false
     local_is = ap (λ (e : EndState). e.local) end_same ∙ idle
 

@@ -18,8 +18,8 @@ use Rattle.edge_model.specs.declared.end_place.EndPlace.{EndPlace}
 use Rattle.edge_model.specs.EndPlaces.{end_named}
 use Rattle.edge_model.specs.Hear.{acts_on}
 use Rattle.edge_model.specs.Session.{says}
-use Rattle.edge_model.specs.Signal.{end_of_fec, hears_mapping, hears_status, hears_withdraw, maps_to, releases_label, takes_content, with_end_changed, with_named}
-use Rattle.edge_model.specs.State.{EdgeState, Peering, end_at, is_there, with_end, with_ends_beside}
+use Rattle.edge_model.specs.Signal.{end_of_fec, hears_mapping, hears_status, hears_withdraw, maps_to, releases_label, takes_content, with_end_changed, with_named, with_released}
+use Rattle.edge_model.specs.State.{EdgeState, Peering, end_at, is_there, with_end, with_ends_beside, with_kept}
 use Rattle.edge_model.specs.Work.{Work, changes}
 use Rattle.network_model.specs.Absorb.{taken_all}
 use Rattle.flight_model.specs.Bound.{AreBound, HasSaid, LeavesBound, is_withdrawal_of}
@@ -30,7 +30,8 @@ use Rattle.flight_model.specs.Messages.{IsSaid, IsSound}
 use Rattle.flight_model.specs.Pair.{IsStanding}
 use Rattle.flight_model.specs.Rules.{TellsOfWire, TellsPlan}
 use Rattle.flight_model.proofs.AcceptLemmas.{takes_told}
-use Rattle.flight_model.proofs.EdgeBindingLemmas.{HasSameEnds, clash, end_beside_other, end_label}
+use Rattle.flight_model.proofs.EdgeBindingLemmas.{HasSameEnds, clash, end_beside_other, end_given}
+use Rattle.flight_model.proofs.GivenLemmas.{given_on, heard_given, released_ends}
 use Rattle.flight_model.proofs.HeardBindingLemmas.{HearsAs, bound_hears, bound_hears_unknown, bound_hears_withdrawal, mapping_known, mapping_unknown, other_code, release_heard, status_heard_as, unknown_released, withdraw_heard}
 use Rattle.flight_model.proofs.HearingLemmas.{withdraws_addresses}
 use Rattle.flight_model.proofs.LeaveLemmas.{leaves_same, leaves_spoken}
@@ -90,15 +91,20 @@ release_leaves plan me peer far out before after fec label kept work has at of_w
     standing = rw at at has.talk.here
 
 end_peering : (place : EndPlace) (end : EndState) (edge : EdgeState) → (with_end place end edge).peering ≡ edge.peering
-unfolding with_end
+unfolding with_end with_kept
 end_peering place end edge = refl
 
 changed_peering : (change : EndState → EndState) (found : Option EndPlace) (edge : EdgeState) → (with_end_changed change found edge).peering ≡ edge.peering
 changed_peering change None edge = refl
 changed_peering change (Some place) edge = end_peering place (change (end_at edge place)) edge
 
+released_peering : (label : Option ℕ) (found : Option EndPlace) (edge : EdgeState) → (with_released label found edge).peering ≡ edge.peering
+unfolding with_end with_kept
+released_peering label None edge = refl
+released_peering label (Some place) edge = refl
+
 beside_peering : (peer : EdgeId) (change : EndState → EndState) (edge : EdgeState) → (with_ends_beside peer change edge).peering ≡ edge.peering
-unfolding with_ends_beside
+unfolding with_ends_beside with_kept
 beside_peering peer change edge = refl
 
 named_peering : (plan : Plan) (peer : EdgeId) (fec : PwFec) (one all : EndState → EndState) (pw_id : Option ℕ) (edge : EdgeState) → (with_named plan peer fec one all pw_id edge).peering ≡ edge.peering
@@ -134,9 +140,9 @@ module _ (plan : Plan) (peer : EdgeId) (checked : IsChecked plan) (far : EdgeSta
   status_leaves : (id : ℕ) (code : StatusCode) (status : Option PwStatus) (fec : Option PwFec) → LeavesBound plan work.edge.me peer.0 far out (Notification id code status fec ∷ messages) work
       → LeavesBound plan work.edge.me peer.0 far out messages (hears_status plan peer code status fec work)
   status_leaves id code None fec leaves =
-      unchanged_leaves plan work.edge.me peer far out (Notification id code None fec) messages work (λ pw_id own. refl) (record { label = refl; local = λ wire row is joined. refl; remote = λ wire row next near is joined alone. refl }) leaves
+      unchanged_leaves plan work.edge.me peer far out (Notification id code None fec) messages work (λ pw_id own. refl) (record { label = λ label given. given; local = λ wire row is joined. refl; remote = λ wire row next near is joined alone. refl }) leaves
   status_leaves id code (Some status) None leaves =
-      unchanged_leaves plan work.edge.me peer far out (Notification id code (Some status) None) messages work (λ pw_id own. refl) (record { label = refl; local = λ wire row is joined. refl; remote = λ wire row next near is joined alone. refl }) leaves
+      unchanged_leaves plan work.edge.me peer far out (Notification id code (Some status) None) messages work (λ pw_id own. refl) (record { label = λ label given. given; local = λ wire row is joined. refl; remote = λ wire row next near is joined alone. refl }) leaves
   status_leaves id code (Some status) (Some fec) leaves = by_code (nat_eq code.code pw_status_code) refl where
     by_code : (b : Bool) → nat_eq code.code pw_status_code ≡ b → LeavesBound plan work.edge.me peer.0 far out messages (cond b (changes (with_named plan peer fec (stated status) (group_stated fec.group status) fec.pw_id) work) work)
     by_code true right = heard_leaves plan work.edge.me peer far out (Notification id code (Some status) (Some fec)) messages (with_named plan peer fec (stated status) (group_stated fec.group status) fec.pw_id) work (λ pw_id own. refl)
@@ -145,16 +151,16 @@ module _ (plan : Plan) (peer : EdgeId) (checked : IsChecked plan) (far : EdgeSta
 
   pub acts_leaves : (m : Message) (other : Peers) → IsSaid other m → withdraws_addresses m ≡ false → TellsPlan plan peer.0 work.edge.me.0 m → LeavesBound plan work.edge.me peer.0 far out (m ∷ messages) work → LeavesBound plan work.edge.me peer.0 far out messages (acts_on plan taken_all peer m work)
   acts_leaves (Initialization id params) other said plain tells leaves =
-      unchanged_leaves plan work.edge.me peer far out (Initialization id params) messages work (λ pw_id own. refl) (record { label = refl; local = λ wire row is joined. refl; remote = λ wire row next near is joined alone. refl }) leaves
+      unchanged_leaves plan work.edge.me peer far out (Initialization id params) messages work (λ pw_id own. refl) (record { label = λ label given. given; local = λ wire row is joined. refl; remote = λ wire row next near is joined alone. refl }) leaves
   acts_leaves (KeepAlive id) other said plain tells leaves =
-      unchanged_leaves plan work.edge.me peer far out (KeepAlive id) messages work (λ pw_id own. refl) (record { label = refl; local = λ wire row is joined. refl; remote = λ wire row next near is joined alone. refl }) leaves
+      unchanged_leaves plan work.edge.me peer far out (KeepAlive id) messages work (λ pw_id own. refl) (record { label = λ label given. given; local = λ wire row is joined. refl; remote = λ wire row next near is joined alone. refl }) leaves
   acts_leaves (Notification id code status fec) other said plain tells leaves = status_leaves id code status fec leaves
   acts_leaves (AddressWithdraw id addresses fec macs) other said plain tells leaves = clash (sym plain)
   acts_leaves (LabelMapping id fec label status points) other said plain tells leaves = mapping_leaves id fec label status points said tells leaves
   acts_leaves (LabelWithdraw id fec label) other said plain tells leaves = withdraw_leaves id fec label said leaves
   acts_leaves (LabelRelease id fec label) other said plain tells leaves =
-      heard_leaves plan work.edge.me peer far out (LabelRelease id fec label) messages (λ edge. with_end_changed (released label) (end_of_fec plan edge peer fec) edge) work (λ pw_id own. refl)
-      (changed_peering (released label) (end_of_fec plan work.edge peer fec) work.edge) (release_heard plan peer id fec label work.edge checked) leaves
+      heard_leaves plan work.edge.me peer far out (LabelRelease id fec label) messages (λ edge. with_released label (end_of_fec plan edge peer fec) edge) work (λ pw_id own. refl)
+      (released_peering label (end_of_fec plan work.edge peer fec) work.edge) (release_heard plan peer id fec label work.edge checked) leaves
   acts_leaves m other said plain tells leaves = absurd said
 
 -- ---- for every other place
@@ -168,12 +174,12 @@ pub spared_leaves : (plan : Plan) (me : EdgeId) (place : ℕ) (far : EdgeState) 
 spared_leaves plan me place far out answers old new spared leaves = leaves_same plan me place far out answers old new spared.spares.said (λ near. sym (ap is_there spared.spares.kept) ∙ near) spared.same leaves
 
 wires_same : (place : ℕ) (work : Work) → SparesWires place work work
-wires_same place work = record { spares = spares_same place work; same = record { label = refl; ends = λ wire. refl } }
+wires_same place work = record { spares = spares_same place work; same = record { label = λ label given. given; ends = λ wire. refl } }
 
 wires_then : (place : ℕ) (a b c : Work) → SparesWires place a b → SparesWires place b c → SparesWires place a c
 wires_then place a b c one next = record {
   spares = spares_then place a b c one.spares next.spares;
-  same = record { label = next.same.label ∙ one.same.label; ends = λ wire. next.same.ends wire ∙ one.same.ends wire };
+  same = record { label = λ label given. next.same.label label (one.same.label label given); ends = λ wire. next.same.ends wire ∙ one.same.ends wire };
 }
 
 changes_spare : (place : ℕ) (change : EdgeState → EdgeState) (work : Work) → (change work.edge).peering ≡ work.edge.peering → HasSameEnds place work.edge (change work.edge) → SparesWires place work (changes change work)
@@ -183,28 +189,34 @@ changes_spare place change work kept same = record { spares = record { kept = ap
 says_spare : (place : ℕ) (peer : EdgeId) (message : ℕ → Message) (work : Work) → nat_eq place peer.0 ≡ false → SparesWires place work (says taken_all peer message work).work
 says_spare place peer message work apart = record { spares = says_spares place peer message work apart; same = by_end (work.edge.peering peer.0) refl } where
   by_end : (near : Option Peering) → work.edge.peering peer.0 ≡ near → HasSameEnds place work.edge (says taken_all peer message work).work.edge
-  by_end None at = subst (λ (w : Work). HasSameEnds place work.edge w.edge) (sym (says_none peer message work at)) (record { label = refl; ends = λ wire. refl })
+  by_end None at = subst (λ (w : Work). HasSameEnds place work.edge w.edge) (sym (says_none peer message work at)) (record { label = λ label given. given; ends = λ wire. refl })
   by_end (Some kept) at =
       let spoken : HasSpoken peer kept message work (says taken_all peer message work).work = says_spoken peer kept message work at in
-      record { label = spoken.label; ends = λ wire. ap (λ (f : ℕ → ℕ → EndState). f wire place) spoken.ends }
+      record { label = given_on work.edge (says taken_all peer message work).work.edge spoken.label spoken.labels; ends = λ wire. ap (λ (f : ℕ → ℕ → EndState). f wire place) spoken.ends }
 
 module _ (plan : Plan) (peer : EdgeId) (place : ℕ) (apart : nat_eq place peer.0 ≡ false) where
   named_same : (change : EndState → EndState) (n : ℕ) (edge : EdgeState) → HasSameEnds place edge (with_end_changed change (end_named plan edge.me peer n) edge)
   named_same change n edge = by_end (end_named plan edge.me peer n) refl where
     by_end : (found : Option EndPlace) → end_named plan edge.me peer n ≡ found → HasSameEnds place edge (with_end_changed change found edge)
-    by_end None is = record { label = refl; ends = λ wire. refl }
+    by_end None is = record { label = λ label given. given; ends = λ wire. refl }
     by_end (Some end) is = record {
-      label = end_label end (change (end_at edge end)) edge;
+      label = end_given end (change (end_at edge end)) edge;
       ends = λ wire. end_beside_other end (change (end_at edge end)) edge wire place (subst (λ (p : EdgeId). nat_eq place p.0 ≡ false) (sym (named_is plan edge.me peer n end is).peer_is) apart);
     }
 
   fec_same : (change : EndState → EndState) (name : Option ℕ) (edge : EdgeState) → HasSameEnds place edge (with_end_changed change (option_and_then (end_named plan edge.me peer) name) edge)
-  fec_same change None edge = record { label = refl; ends = λ wire. refl }
+  fec_same change None edge = record { label = λ label given. given; ends = λ wire. refl }
   fec_same change (Some n) edge = named_same change n edge
 
+  released_same : (label : Option ℕ) (name : Option ℕ) (edge : EdgeState) → HasSameEnds place edge (with_released label (option_and_then (end_named plan edge.me peer) name) edge)
+  released_same label name edge = record {
+    label = heard_given label (option_and_then (end_named plan edge.me peer) name) edge;
+    ends = λ wire. ap (λ (f : ℕ → ℕ → EndState). f wire place) (released_ends label (option_and_then (end_named plan edge.me peer) name) edge) ∙ (fec_same (released label) name edge).ends wire;
+  }
+
   beside_same : (change : EndState → EndState) (edge : EdgeState) → HasSameEnds place edge (with_ends_beside peer change edge)
-  unfolding with_ends_beside
-  beside_same change edge = record { label = refl; ends = λ wire. rw apart refl }
+  unfolding with_ends_beside with_kept
+  beside_same change edge = record { label = λ label given. given; ends = λ wire. rw apart refl }
 
   all_same : (fec : PwFec) (one all : EndState → EndState) (name : Option ℕ) (edge : EdgeState) → HasSameEnds place edge (with_named plan peer fec one all name edge)
   all_same fec one all None edge = beside_same all edge
@@ -247,5 +259,5 @@ module _ (plan : Plan) (peer : EdgeId) (place : ℕ) (apart : nat_eq place peer.
       wires_then place work (changes change work) _ (changes_spare place change work (named_peering plan peer fec (unbound label) (group_unbound fec.group) fec.pw_id work.edge) (all_same fec (unbound label) (group_unbound fec.group) fec.pw_id work.edge))
       (says_spare place peer (release fec label) (changes change work) apart)
   acts_spare (LabelRelease id fec label) other work said plain =
-      changes_spare place (λ edge. with_end_changed (released label) (end_of_fec plan edge peer fec) edge) work (changed_peering (released label) (end_of_fec plan work.edge peer fec) work.edge) (fec_same (released label) fec.pw_id work.edge)
+      changes_spare place (λ edge. with_released label (end_of_fec plan edge peer fec) edge) work (released_peering label (end_of_fec plan work.edge peer fec) work.edge) (released_same label fec.pw_id work.edge)
   acts_spare m other work said plain = absurd said

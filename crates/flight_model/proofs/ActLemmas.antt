@@ -27,8 +27,9 @@ use Rattle.edge_model.specs.declared.end_place.EndPlace.{EndPlace}
 use Rattle.edge_model.specs.EndPlaces.{end_named, end_places, is_named}
 use Rattle.edge_model.specs.Hear.{acts_on}
 use Rattle.edge_model.specs.Mend.{is_up_with}
-use Rattle.edge_model.specs.Signal.{accepts_at, end_of_fec, hears_mapping, hears_release, hears_status, hears_withdraw, maps_to, releases_label, takes_content, with_end_changed, with_named}
-use Rattle.edge_model.specs.State.{EdgeState, end_at, with_end, with_ends_beside}
+use Rattle.edge_model.specs.Signal.{accepts_at, end_of_fec, hears_mapping, hears_release, hears_status, hears_withdraw, maps_to, releases_label, takes_content, with_end_changed, with_named, with_released}
+use Rattle.edge_model.specs.Labels.{releasing}
+use Rattle.edge_model.specs.State.{EdgeState, end_at, with_end, with_ends_beside, with_kept}
 use Rattle.edge_model.specs.Work.{Work, changes}
 use Rattle.network_model.specs.Absorb.{taken_all}
 use Rattle.flight_model.specs.Messages.{IsSaid, IsSound}
@@ -37,7 +38,7 @@ use Rattle.flight_model.proofs.HearingLemmas.{withdraws_addresses}
 use Rattle.flight_model.proofs.OfferLemmas.{IsOfWires, heard_sound, release_is, status_sound}
 use Rattle.flight_model.proofs.PlaceLemmas.{IsEndOf, named_is}
 use Rattle.flight_model.proofs.RowLemmas.{clash}
-use Rattle.flight_model.proofs.SoundLemmas.{sound_beside, sound_with_end}
+use Rattle.flight_model.proofs.SoundLemmas.{sound_beside, sound_releasing, sound_with_end}
 use Rattle.flight_model.proofs.SteadyLemmas.{IsSteady}
 
 -- ---- the end that a FEC names is beside the peer
@@ -82,7 +83,7 @@ module _ (limit : ℕ → ℕ) where
   unchanged edge = record { peering = refl; me = refl; sound = λ sound. sound }
 
   end_changes : (change : EndState → EndState) (place : EndPlace) (edge : EdgeState) → KeepsPart (limit place.wire.0) change → is_up_with (edge.peering place.peer.0) ≡ true → HasChanged limit edge (with_end place (change (end_at edge place)) edge)
-  unfolding with_end
+  unfolding with_end with_kept
   end_changes change place edge keeps up = record {
     peering = refl;
     me = refl;
@@ -91,7 +92,7 @@ module _ (limit : ℕ → ℕ) where
   }
 
   beside_changes : (change : EndState → EndState) (peer : EdgeId) (edge : EdgeState) → ((most : ℕ) → KeepsPart most change) → is_up_with (edge.peering peer.0) ≡ true → HasChanged limit edge (with_ends_beside peer change edge)
-  unfolding with_ends_beside
+  unfolding with_ends_beside with_kept
   beside_changes change peer edge keeps up = record {
     peering = refl;
     me = refl;
@@ -116,6 +117,12 @@ module _ (limit : ℕ → ℕ) where
     by_id : (pw_id : Option ℕ) → HasChanged limit edge (with_end_changed change (option_and_then (end_named plan edge.me peer) pw_id) edge)
     by_id None = unchanged edge
     by_id (Some pw_id) = named_changes plan peer change pw_id edge keeps up
+
+  releasing_changes : (label : Option ℕ) (place : EndPlace) (edge : EdgeState) → ((most : ℕ) → KeepsPart most (released label)) → is_up_with (edge.peering place.peer.0) ≡ true → HasChanged limit edge (releasing label place edge)
+  unfolding with_end with_kept
+  releasing_changes label place edge keeps up =
+      let one : HasChanged limit edge (with_end place (released label (end_at edge place)) edge) = end_changes (released label) place edge (keeps (limit place.wire.0)) up in
+      record { peering = refl; me = refl; sound = λ sound. sound_releasing label place edge sound (one.sound sound) }
 
 -- changes of what is held alone
 held_unless : (limit : ℕ) (label : Option ℕ) (held : Option Binding) → IsSoundHeld limit held → IsSoundHeld limit (unless_named label held)
@@ -164,7 +171,7 @@ released_keeps label limit e part held = (by_local e.local part, held) where
   by_local : (local : LocalPart) → IsSoundPart local → IsSoundPart (release_part label local)
   by_local (Idle declined) sound = tt
   by_local (Advertised own told) sound = either (names label own) (Idle true) (Advertised own told) tt sound
-  by_local (Withdrawing own) sound = either (names label own) (Idle false) (Withdrawing own) tt tt
+  by_local (Withdrawing own) sound = either (names label own) (Idle false) (Withdrawing own) tt sound
 
 -- ---- rows
 
@@ -195,6 +202,16 @@ taken_few plan me place content is takes few =
     by_side : (terminal : Bool) → terminal || accepts_at (edge_address plan me) content ≡ true → length content.points ≤ cond terminal 3 2
     by_side true takes = few
     by_side false takes = by_address (edge_address plan me) takes
+
+release_changes : (limit : ℕ → ℕ) (plan : Plan) (peer : EdgeId) (label : Option ℕ) (fec : PwFec) (edge : EdgeState) → is_up_with (edge.peering peer.0) ≡ true → HasChanged limit edge (with_released label (end_of_fec plan edge peer fec) edge)
+release_changes limit plan peer label fec edge up = by_id fec.pw_id where
+  by_place : (pw_id : ℕ) (found : Option EndPlace) → end_named plan edge.me peer pw_id ≡ found → HasChanged limit edge (with_released label found edge)
+  by_place pw_id None at = unchanged limit edge
+  by_place pw_id (Some place) at = releasing_changes limit label place edge (released_keeps label) (rw (named_beside plan edge.me peer pw_id place at) up)
+
+  by_id : (pw_id : Option ℕ) → HasChanged limit edge (with_released label (option_and_then (end_named plan edge.me peer) pw_id) edge)
+  by_id None = unchanged limit edge
+  by_id (Some pw_id) = by_place pw_id (end_named plan edge.me peer pw_id) refl
 
 module _ (plan : Plan) (me peer : EdgeId) (other : Peers) (I : Work → Type 0) (steady : IsSteady plan me I) where
   changed : (change : EdgeState → EdgeState) (work : Work) → HasChanged (point_limit plan me.0) work.edge (change work.edge) → I work → I (changes change work)
@@ -243,7 +260,7 @@ module _ (plan : Plan) (me peer : EdgeId) (other : Peers) (I : Work → Type 0) 
 
   releases : (fec : PwFec) (label : Option ℕ) (work : Work) → is_up_with (work.edge.peering peer.0) ≡ true → I work → I (hears_release plan peer fec label work)
   releases fec label work up i =
-      changed (λ edge. with_end_changed (released label) (end_of_fec plan edge peer fec) edge) work (fec_changes (point_limit plan me.0) plan peer (released label) fec work.edge (released_keeps label) up) i
+      changed (λ edge. with_released label (end_of_fec plan edge peer fec) edge) work (release_changes (point_limit plan me.0) plan peer label fec work.edge up) i
 
   states : (code : StatusCode) (status : Option PwStatus) (fec : Option PwFec) (work : Work) → is_up_with (work.edge.peering peer.0) ≡ true → IsState status → I work → I (hears_status plan peer code status fec work)
   states code None fec work up small i = i

@@ -70,13 +70,16 @@ some_still test xs m some = some-append test xs (m ∷ []) ∙ or_first (some_me
 some_last : (test : Message → Bool) (xs : List Message) (m : Message) → test m ≡ true → some_message test (xs ++ m ∷ []) ≡ true
 some_last test xs m one = some-append test xs (m ∷ []) ∙ or_second (some_message test xs) (some_message test (m ∷ [])) (or_first (test m) false one)
 
+same_number : (m n : ℕ) → (m == n) ≡ true → m ≡ n
+same_number m n is = grind (arith, nat_tests)
+
 -- ---- labels that were old stay old
 
 itself : (n : ℕ) → (n == n) ≡ true
 itself n = grind (arith, nat_tests)
 
 -- whatever is old in one state is old in another one
-older : (pw_id next next2 : ℕ) (near near2 : LocalPart) → ((label : ℕ) → is_old next near label ≡ true → is_old next2 near2 label ≡ true)
+older : (pw_id : ℕ) (next next2 : ℕ → Bool) (near near2 : LocalPart) → ((label : ℕ) → is_old next near label ≡ true → is_old next2 near2 label ≡ true)
     → (named label : Option ℕ) → names_old pw_id next near named label ≡ true → names_old pw_id next2 near2 named label ≡ true
 older pw_id next next2 near near2 follows None label old = clash old
 older pw_id next next2 near near2 follows (Some other) None old = clash old
@@ -86,14 +89,14 @@ older pw_id next next2 near near2 follows (Some other) (Some label) old = either
     either true h = follows label h
     either false h = refl
 
-withdraws_older : (pw_id next next2 : ℕ) (near near2 : LocalPart) → ((label : ℕ) → is_old next near label ≡ true → is_old next2 near2 label ≡ true)
+withdraws_older : (pw_id : ℕ) (next next2 : ℕ → Bool) (near near2 : LocalPart) → ((label : ℕ) → is_old next near label ≡ true → is_old next2 near2 label ≡ true)
     → (m : Message) → withdraws_old pw_id next near m ≡ true → withdraws_old pw_id next2 near2 m ≡ true
 withdraws_older pw_id next next2 near near2 follows (LabelWithdraw id fec label) old = older pw_id next next2 near near2 follows fec.pw_id label old
 withdraws_older pw_id next next2 near near2 follows (Notification id code status None) old = refl
 withdraws_older pw_id next next2 near near2 follows (Notification id code status (Some fec)) old = old
 withdraws_older pw_id next next2 near near2 follows m old = old
 
-releases_older : (pw_id next next2 : ℕ) (near near2 : LocalPart) → ((label : ℕ) → is_old next near label ≡ true → is_old next2 near2 label ≡ true)
+releases_older : (pw_id : ℕ) (next next2 : ℕ → Bool) (near near2 : LocalPart) → ((label : ℕ) → is_old next near label ≡ true → is_old next2 near2 label ≡ true)
     → (m : Message) → releases_old pw_id next near m ≡ true → releases_old pw_id next2 near2 m ≡ true
 releases_older pw_id next next2 near near2 follows (LabelRelease id fec label) old = older pw_id next next2 near near2 follows fec.pw_id label old
 releases_older pw_id next next2 near near2 follows m old = old
@@ -111,24 +114,34 @@ status_heard_is : (pw_id label : ℕ) (status : PwStatus) (told told2 : Told) (i
     → heard_of pw_id (status_notification pw_id status told id) (Some (record { label = label; told = told2 })) ≡ Some (record { label = label; told = with_status status told2 })
 status_heard_is pw_id label status told told2 id = rw (itself pw_id) refl
 
--- an idle end advertises the next label
-pub binding_advertises : (pw_id next : ℕ) (declined : Bool) (told : Told) (id : ℕ) (far : Option Binding) (out back : List Message)
-    → IsBoundBy pw_id next (Idle declined) far out back → IsBoundBy pw_id (next + 1) (Advertised next told) far (out ++ mapping pw_id next told id ∷ []) back
-binding_advertises pw_id next declined told id far out back is = record {
-  agrees = after-append pw_id out (mapping pw_id next told id ∷ []) far ∙ mapping_heard pw_id next told id (bound_after pw_id out far);
-  withdrawn = all_more (withdraws_old pw_id (next + 1) (Advertised next told)) out (mapping pw_id next told id)
-      (all_weaker (withdraws_old pw_id next (Idle declined)) (withdraws_old pw_id (next + 1) (Advertised next told)) out
-      (withdraws_older pw_id next (next + 1) (Idle declined) (Advertised next told) (still next declined told)) is.withdrawn) refl;
-  released = all_weaker (releases_old pw_id next (Idle declined)) (releases_old pw_id (next + 1) (Advertised next told)) back
-      (releases_older pw_id next (next + 1) (Idle declined) (Advertised next told) (still next declined told)) is.released;
-  waits = grind (arith, nat_tests);
+-- what is given stays given
+abbrev pub StaysGiven : (ℕ → Bool) → (ℕ → Bool) → Type 0
+StaysGiven next next2 = (label : ℕ) → next label ≡ true → next2 label ≡ true
+
+-- an idle end advertises a label that was not given
+pub binding_advertises : (pw_id : ℕ) (next next2 : ℕ → Bool) (new : ℕ) (declined : Bool) (told : Told) (id : ℕ) (far : Option Binding) (out back : List Message) → StaysGiven next next2 → next new ≡ false → next2 new ≡ true
+    → IsBoundBy pw_id next (Idle declined) far out back → IsBoundBy pw_id next2 (Advertised new told) far (out ++ mapping pw_id new told id ∷ []) back
+binding_advertises pw_id next next2 new declined told id far out back follows none given is = record {
+  agrees = after-append pw_id out (mapping pw_id new told id ∷ []) far ∙ mapping_heard pw_id new told id (bound_after pw_id out far);
+  withdrawn = all_more (withdraws_old pw_id next2 (Advertised new told)) out (mapping pw_id new told id)
+      (all_weaker (withdraws_old pw_id next (Idle declined)) (withdraws_old pw_id next2 (Advertised new told)) out
+      (withdraws_older pw_id next next2 (Idle declined) (Advertised new told) still) is.withdrawn) refl;
+  released = all_weaker (releases_old pw_id next (Idle declined)) (releases_old pw_id next2 (Advertised new told)) back
+      (releases_older pw_id next next2 (Idle declined) (Advertised new told) still) is.released;
+  waits = given;
 }
   where
-    still : (next : ℕ) (declined : Bool) (told : Told) (label : ℕ) → is_old next (Idle declined) label ≡ true → is_old (next + 1) (Advertised next told) label ≡ true
-    still next declined told label old = grind (arith, nat_tests)
+    apart : (label : ℕ) → next label ≡ true → (same : Bool) → (new == label) ≡ same → not same ≡ true
+    apart label old true is = clash (sym none ∙ (ap next (same_number new label is) ∙ old))
+    apart label old false is = refl
+
+    still : (label : ℕ) → is_old next (Idle declined) label ≡ true → is_old next2 (Advertised new told) label ≡ true
+    still label old =
+        let before : next label ≡ true = and_left (next label) true old in
+        and_both (next2 label) (not (new == label)) (follows label before) (apart label before (new == label) refl)
 
 -- an end that advertises withdraws its label
-pub binding_withdraws : (pw_id next label : ℕ) (told content : Told) (id : ℕ) (far : Option Binding) (out back : List Message)
+pub binding_withdraws : (pw_id : ℕ) (next : ℕ → Bool) (label : ℕ) (told content : Told) (id : ℕ) (far : Option Binding) (out back : List Message)
     → IsBoundBy pw_id next (Advertised label told) far out back → IsBoundBy pw_id next (Withdrawing label) far (out ++ withdrawal pw_id label content id ∷ []) back
 binding_withdraws pw_id next label told content id far out back is = record {
   agrees = after-append pw_id out (withdrawal pw_id label content id ∷ []) far
@@ -136,19 +149,19 @@ binding_withdraws pw_id next label told content id far out back is = record {
   withdrawn = all_more (withdraws_old pw_id next (Withdrawing label)) out (withdrawal pw_id label content id)
       (all_weaker (withdraws_old pw_id next (Advertised label told)) (withdraws_old pw_id next (Withdrawing label)) out
       (withdraws_older pw_id next next (Advertised label told) (Withdrawing label) (still next label told)) is.withdrawn)
-      (or_second (not (pw_id == pw_id)) (is_old next (Withdrawing label) label) (and_both (nat_lt label next) true is.waits refl));
+      (or_second (not (pw_id == pw_id)) (is_old next (Withdrawing label) label) (and_both (next label) true is.waits refl));
   released = all_weaker (releases_old pw_id next (Advertised label told)) (releases_old pw_id next (Withdrawing label)) back
       (releases_older pw_id next next (Advertised label told) (Withdrawing label) (still next label told)) is.released;
-  waits = and_both (nat_lt label next) (some_message (is_withdrawal_of pw_id label) (out ++ withdrawal pw_id label content id ∷ []) || some_message (is_release_of pw_id label) back) is.waits
+  waits = and_both (next label) (some_message (is_withdrawal_of pw_id label) (out ++ withdrawal pw_id label content id ∷ []) || some_message (is_release_of pw_id label) back) is.waits
       (or_first (some_message (is_withdrawal_of pw_id label) (out ++ withdrawal pw_id label content id ∷ [])) (some_message (is_release_of pw_id label) back)
       (some_last (is_withdrawal_of pw_id label) out (withdrawal pw_id label content id) (and_both (pw_id == pw_id) (label == label) (itself pw_id) (itself label))));
 }
   where
-    still : (next own : ℕ) (told : Told) (label : ℕ) → is_old next (Advertised own told) label ≡ true → is_old next (Withdrawing own) label ≡ true
+    still : (next : ℕ → Bool) (own : ℕ) (told : Told) (label : ℕ) → is_old next (Advertised own told) label ≡ true → is_old next (Withdrawing own) label ≡ true
     still next own told label old = grind (arith, nat_tests)
 
 -- an end that advertises tells a status
-pub binding_tells : (pw_id next label : ℕ) (told content : Told) (status : PwStatus) (id : ℕ) (far : Option Binding) (out back : List Message)
+pub binding_tells : (pw_id : ℕ) (next : ℕ → Bool) (label : ℕ) (told content : Told) (status : PwStatus) (id : ℕ) (far : Option Binding) (out back : List Message)
     → IsBoundBy pw_id next (Advertised label told) far out back → IsBoundBy pw_id next (Advertised label (with_status status told)) far (out ++ status_notification pw_id status content id ∷ []) back
 binding_tells pw_id next label told content status id far out back is = record {
   agrees = after-append pw_id out (status_notification pw_id status content id ∷ []) far
@@ -163,26 +176,26 @@ binding_tells pw_id next label told content status id far out back is = record {
 
 -- ---- what an edge says of other wires, and of the session
 
-waits_out : (pw_id next : ℕ) (near : LocalPart) (out back : List Message) (m : Message) → is_waited_for pw_id next near out back ≡ true → is_waited_for pw_id next near (out ++ m ∷ []) back ≡ true
+waits_out : (pw_id : ℕ) (next : ℕ → Bool) (near : LocalPart) (out back : List Message) (m : Message) → is_waited_for pw_id next near out back ≡ true → is_waited_for pw_id next near (out ++ m ∷ []) back ≡ true
 waits_out pw_id next (Idle declined) out back m waits = refl
 waits_out pw_id next (Advertised label told) out back m waits = waits
 waits_out pw_id next (Withdrawing label) out back m waits =
-    and_both (nat_lt label next) (some_message (is_withdrawal_of pw_id label) (out ++ m ∷ []) || some_message (is_release_of pw_id label) back)
-    (and_left (nat_lt label next) (some_message (is_withdrawal_of pw_id label) out || some_message (is_release_of pw_id label) back) waits)
-    (either (some_message (is_withdrawal_of pw_id label) out) refl (and_right (nat_lt label next) (some_message (is_withdrawal_of pw_id label) out || some_message (is_release_of pw_id label) back) waits))
+    and_both (next label) (some_message (is_withdrawal_of pw_id label) (out ++ m ∷ []) || some_message (is_release_of pw_id label) back)
+    (and_left (next label) (some_message (is_withdrawal_of pw_id label) out || some_message (is_release_of pw_id label) back) waits)
+    (either (some_message (is_withdrawal_of pw_id label) out) refl (and_right (next label) (some_message (is_withdrawal_of pw_id label) out || some_message (is_release_of pw_id label) back) waits))
   where
     either : (here : Bool) → some_message (is_withdrawal_of pw_id label) out ≡ here → here || some_message (is_release_of pw_id label) back ≡ true
         → some_message (is_withdrawal_of pw_id label) (out ++ m ∷ []) || some_message (is_release_of pw_id label) back ≡ true
     either true is h = or_first (some_message (is_withdrawal_of pw_id label) (out ++ m ∷ [])) (some_message (is_release_of pw_id label) back) (some_still (is_withdrawal_of pw_id label) out m is)
     either false is h = or_second (some_message (is_withdrawal_of pw_id label) (out ++ m ∷ [])) (some_message (is_release_of pw_id label) back) h
 
-waits_back : (pw_id next : ℕ) (near : LocalPart) (out back : List Message) (m : Message) → is_waited_for pw_id next near out back ≡ true → is_waited_for pw_id next near out (back ++ m ∷ []) ≡ true
+waits_back : (pw_id : ℕ) (next : ℕ → Bool) (near : LocalPart) (out back : List Message) (m : Message) → is_waited_for pw_id next near out back ≡ true → is_waited_for pw_id next near out (back ++ m ∷ []) ≡ true
 waits_back pw_id next (Idle declined) out back m waits = refl
 waits_back pw_id next (Advertised label told) out back m waits = waits
 waits_back pw_id next (Withdrawing label) out back m waits =
-    and_both (nat_lt label next) (some_message (is_withdrawal_of pw_id label) out || some_message (is_release_of pw_id label) (back ++ m ∷ []))
-    (and_left (nat_lt label next) (some_message (is_withdrawal_of pw_id label) out || some_message (is_release_of pw_id label) back) waits)
-    (either (some_message (is_withdrawal_of pw_id label) out) (and_right (nat_lt label next) (some_message (is_withdrawal_of pw_id label) out || some_message (is_release_of pw_id label) back) waits))
+    and_both (next label) (some_message (is_withdrawal_of pw_id label) out || some_message (is_release_of pw_id label) (back ++ m ∷ []))
+    (and_left (next label) (some_message (is_withdrawal_of pw_id label) out || some_message (is_release_of pw_id label) back) waits)
+    (either (some_message (is_withdrawal_of pw_id label) out) (and_right (next label) (some_message (is_withdrawal_of pw_id label) out || some_message (is_release_of pw_id label) back) waits))
   where
     either : (here : Bool) → here || some_message (is_release_of pw_id label) back ≡ true → here || some_message (is_release_of pw_id label) (back ++ m ∷ []) ≡ true
     either true h = refl
@@ -201,7 +214,7 @@ silent_named : (pw_id : ℕ) (named : Option ℕ) → names_other pw_id named �
 silent_named pw_id None other = other
 silent_named pw_id (Some n) other = refl
 
-silent_old : (pw_id next : ℕ) (near : LocalPart) (named label : Option ℕ) → names_other pw_id named && is_some label ≡ true → names_old pw_id next near named label ≡ true
+silent_old : (pw_id : ℕ) (next : ℕ → Bool) (near : LocalPart) (named label : Option ℕ) → names_other pw_id named && is_some label ≡ true → names_old pw_id next near named label ≡ true
 silent_old pw_id next near None label silent = silent
 silent_old pw_id next near (Some n) None silent = clash (no (not (n == pw_id)) silent)
   where
@@ -238,18 +251,18 @@ silent_heard pw_id (Notification id code (Some status) (Some fec)) held silent =
     by_code false is = refl
 silent_heard pw_id m held silent = refl
 
-silent_withdraws : (pw_id next : ℕ) (near : LocalPart) (m : Message) → is_silent pw_id m ≡ true → withdraws_old pw_id next near m ≡ true
+silent_withdraws : (pw_id : ℕ) (next : ℕ → Bool) (near : LocalPart) (m : Message) → is_silent pw_id m ≡ true → withdraws_old pw_id next near m ≡ true
 silent_withdraws pw_id next near (LabelMapping id fec label status points) silent = silent_named pw_id fec.pw_id silent
 silent_withdraws pw_id next near (LabelWithdraw id fec label) silent = silent_old pw_id next near fec.pw_id label silent
 silent_withdraws pw_id next near (Notification id code status None) silent = refl
 silent_withdraws pw_id next near (Notification id code status (Some fec)) silent = silent_named pw_id fec.pw_id silent
 silent_withdraws pw_id next near m silent = refl
 
-pub silent_releases : (pw_id next : ℕ) (near : LocalPart) (m : Message) → is_silent pw_id m ≡ true → releases_old pw_id next near m ≡ true
+pub silent_releases : (pw_id : ℕ) (next : ℕ → Bool) (near : LocalPart) (m : Message) → is_silent pw_id m ≡ true → releases_old pw_id next near m ≡ true
 silent_releases pw_id next near (LabelRelease id fec label) silent = silent_old pw_id next near fec.pw_id label silent
 silent_releases pw_id next near m silent = refl
 
-pub binding_says_other : (pw_id next : ℕ) (near : LocalPart) (far : Option Binding) (out back : List Message) (m : Message) → is_silent pw_id m ≡ true
+pub binding_says_other : (pw_id : ℕ) (next : ℕ → Bool) (near : LocalPart) (far : Option Binding) (out back : List Message) (m : Message) → is_silent pw_id m ≡ true
     → IsBoundBy pw_id next near far out back → IsBoundBy pw_id next near far (out ++ m ∷ []) back
 binding_says_other pw_id next near far out back m silent is = record {
   agrees = after-append pw_id out (m ∷ []) far ∙ (silent_heard pw_id m (bound_after pw_id out far) silent ∙ is.agrees);
@@ -259,7 +272,7 @@ binding_says_other pw_id next near far out back m silent is = record {
 }
 
 -- it says a release, of whatever
-pub binding_says_release : (pw_id next : ℕ) (near : LocalPart) (far : Option Binding) (out back : List Message) (id : ℕ) (fec : PwFec) (label : Option ℕ)
+pub binding_says_release : (pw_id : ℕ) (next : ℕ → Bool) (near : LocalPart) (far : Option Binding) (out back : List Message) (id : ℕ) (fec : PwFec) (label : Option ℕ)
     → IsBoundBy pw_id next near far out back → IsBoundBy pw_id next near far (out ++ LabelRelease id fec label ∷ []) back
 binding_says_release pw_id next near far out back id fec label is = record {
   agrees = after-append pw_id out (LabelRelease id fec label ∷ []) far ∙ is.agrees;
@@ -269,7 +282,7 @@ binding_says_release pw_id next near far out back id fec label is = record {
 }
 
 -- the neighbour says what releases no label of the wire but an old one
-pub binding_answers : (pw_id next : ℕ) (near : LocalPart) (far : Option Binding) (out back : List Message) (m : Message) → releases_old pw_id next near m ≡ true
+pub binding_answers : (pw_id : ℕ) (next : ℕ → Bool) (near : LocalPart) (far : Option Binding) (out back : List Message) (m : Message) → releases_old pw_id next near m ≡ true
     → IsBoundBy pw_id next near far out back → IsBoundBy pw_id next near far out (back ++ m ∷ [])
 binding_answers pw_id next near far out back m old is = record {
   agrees = is.agrees;
@@ -279,30 +292,27 @@ binding_answers pw_id next near far out back m old is = record {
 }
 
 -- another end of the edge takes a label
-pub binding_goes_on : (pw_id next : ℕ) (near : LocalPart) (far : Option Binding) (out back : List Message) → IsBoundBy pw_id next near far out back → IsBoundBy pw_id (next + 1) near far out back
-binding_goes_on pw_id next near far out back is = record {
+pub binding_goes_on : (pw_id : ℕ) (next next2 : ℕ → Bool) (near : LocalPart) (far : Option Binding) (out back : List Message) → StaysGiven next next2 → IsBoundBy pw_id next near far out back → IsBoundBy pw_id next2 near far out back
+binding_goes_on pw_id next next2 near far out back follows is = record {
   agrees = is.agrees;
-  withdrawn = all_weaker (withdraws_old pw_id next near) (withdraws_old pw_id (next + 1) near) out (withdraws_older pw_id next (next + 1) near near (λ label old. still next near label old)) is.withdrawn;
-  released = all_weaker (releases_old pw_id next near) (releases_old pw_id (next + 1) near) back (releases_older pw_id next (next + 1) near near (λ label old. still next near label old)) is.released;
+  withdrawn = all_weaker (withdraws_old pw_id next near) (withdraws_old pw_id next2 near) out (withdraws_older pw_id next next2 near near (λ label old. still near label old)) is.withdrawn;
+  released = all_weaker (releases_old pw_id next near) (releases_old pw_id next2 near) back (releases_older pw_id next next2 near near (λ label old. still near label old)) is.released;
   waits = waits near is.waits;
 }
   where
-    further : (a b : ℕ) → nat_lt a b ≡ true → nat_lt a (b + 1) ≡ true
-    further a b h = grind (arith, nat_tests)
+    still : (near : LocalPart) (label : ℕ) → is_old next near label ≡ true → is_old next2 near label ≡ true
+    still near label old = and_both (next2 label) (not (has_advertised near label)) (follows label (and_left (next label) (not (has_advertised near label)) old)) (and_right (next label) (not (has_advertised near label)) old)
 
-    still : (next : ℕ) (near : LocalPart) (label : ℕ) → is_old next near label ≡ true → is_old (next + 1) near label ≡ true
-    still next near label old = and_both (nat_lt label (next + 1)) (not (has_advertised near label)) (further label next (and_left (nat_lt label next) (not (has_advertised near label)) old)) (and_right (nat_lt label next) (not (has_advertised near label)) old)
-
-    waits : (near : LocalPart) → is_waited_for pw_id next near out back ≡ true → is_waited_for pw_id (next + 1) near out back ≡ true
+    waits : (near : LocalPart) → is_waited_for pw_id next near out back ≡ true → is_waited_for pw_id next2 near out back ≡ true
     waits (Idle declined) h = refl
-    waits (Advertised label told) h = further label next h
+    waits (Advertised label told) h = follows label h
     waits (Withdrawing label) h =
-        and_both (nat_lt label (next + 1)) (some_message (is_withdrawal_of pw_id label) out || some_message (is_release_of pw_id label) back)
-        (further label next (and_left (nat_lt label next) (some_message (is_withdrawal_of pw_id label) out || some_message (is_release_of pw_id label) back) h))
-        (and_right (nat_lt label next) (some_message (is_withdrawal_of pw_id label) out || some_message (is_release_of pw_id label) back) h)
+        and_both (next2 label) (some_message (is_withdrawal_of pw_id label) out || some_message (is_release_of pw_id label) back)
+        (follows label (and_left (next label) (some_message (is_withdrawal_of pw_id label) out || some_message (is_release_of pw_id label) back) h))
+        (and_right (next label) (some_message (is_withdrawal_of pw_id label) out || some_message (is_release_of pw_id label) back) h)
 
 -- an idle end is declined no longer, or is declined
-pub binding_renews : (pw_id next : ℕ) (one other : Bool) (far : Option Binding) (out back : List Message) → IsBoundBy pw_id next (Idle one) far out back → IsBoundBy pw_id next (Idle other) far out back
+pub binding_renews : (pw_id : ℕ) (next : ℕ → Bool) (one other : Bool) (far : Option Binding) (out back : List Message) → IsBoundBy pw_id next (Idle one) far out back → IsBoundBy pw_id next (Idle other) far out back
 binding_renews pw_id next one other far out back is = record {
   agrees = is.agrees;
   withdrawn = all_weaker (withdraws_old pw_id next (Idle one)) (withdraws_old pw_id next (Idle other)) out (withdraws_older pw_id next next (Idle one) (Idle other) (λ label old. old)) is.withdrawn;
@@ -311,13 +321,13 @@ binding_renews pw_id next one other far out back is = record {
 }
 
 -- two ends of a new connection
-pub binding_begins : (pw_id next : ℕ) → IsBoundBy pw_id next (Idle false) None [] []
+pub binding_begins : (pw_id : ℕ) (next : ℕ → Bool) → IsBoundBy pw_id next (Idle false) None [] []
 binding_begins pw_id next = record { agrees = refl; withdrawn = refl; released = refl; waits = refl }
 
 -- ---- what is heard
 
 -- the neighbour hears the next message, and it is no withdrawal that the end waits for
-pub binding_heard : (pw_id next : ℕ) (near : LocalPart) (far : Option Binding) (m : Message) (out back : List Message) → ((label : ℕ) → near ≡ Withdrawing label → is_withdrawal_of pw_id label m ≡ false)
+pub binding_heard : (pw_id : ℕ) (next : ℕ → Bool) (near : LocalPart) (far : Option Binding) (m : Message) (out back : List Message) → ((label : ℕ) → near ≡ Withdrawing label → is_withdrawal_of pw_id label m ≡ false)
     → IsBoundBy pw_id next near far (m ∷ out) back → IsBoundBy pw_id next near (heard_of pw_id m far) out back
 binding_heard pw_id next near far m out back other is = record {
   agrees = is.agrees;
@@ -332,7 +342,7 @@ binding_heard pw_id next near far m out back other is = record {
     waits (Withdrawing label) other h = rw (other label refl) at h
 
 -- it hears a withdrawal, and releases the label
-pub binding_hears_withdrawal : (pw_id next : ℕ) (near : LocalPart) (far : Option Binding) (id id2 : ℕ) (fec fec2 : PwFec) (label : Option ℕ) (out back : List Message) → fec2.pw_id ≡ fec.pw_id
+pub binding_hears_withdrawal : (pw_id : ℕ) (next : ℕ → Bool) (near : LocalPart) (far : Option Binding) (id id2 : ℕ) (fec fec2 : PwFec) (label : Option ℕ) (out back : List Message) → fec2.pw_id ≡ fec.pw_id
     → IsBoundBy pw_id next near far (LabelWithdraw id fec label ∷ out) back
     → IsBoundBy pw_id next near (heard_of pw_id (LabelWithdraw id fec label) far) out (back ++ LabelRelease id2 fec2 label ∷ [])
 binding_hears_withdrawal pw_id next near far id id2 fec fec2 label out back same is = record {
@@ -347,10 +357,10 @@ binding_hears_withdrawal pw_id next near far id id2 fec fec2 label out back same
     waits (Idle declined) h = refl
     waits (Advertised own told) h = h
     waits (Withdrawing own) h =
-        and_both (nat_lt own next) (some_message (is_withdrawal_of pw_id own) out || some_message (is_release_of pw_id own) (back ++ LabelRelease id2 fec2 label ∷ []))
-        (and_left (nat_lt own next) ((names_label pw_id own fec.pw_id label || some_message (is_withdrawal_of pw_id own) out) || some_message (is_release_of pw_id own) back) h)
+        and_both (next own) (some_message (is_withdrawal_of pw_id own) out || some_message (is_release_of pw_id own) (back ++ LabelRelease id2 fec2 label ∷ []))
+        (and_left (next own) ((names_label pw_id own fec.pw_id label || some_message (is_withdrawal_of pw_id own) out) || some_message (is_release_of pw_id own) back) h)
         (either (names_label pw_id own fec.pw_id label) refl (some_message (is_withdrawal_of pw_id own) out)
-        (and_right (nat_lt own next) ((names_label pw_id own fec.pw_id label || some_message (is_withdrawal_of pw_id own) out) || some_message (is_release_of pw_id own) back) h))
+        (and_right (next own) ((names_label pw_id own fec.pw_id label || some_message (is_withdrawal_of pw_id own) out) || some_message (is_release_of pw_id own) back) h))
       where
         either : (here : Bool) → names_label pw_id own fec.pw_id label ≡ here → (later : Bool) → (here || later) || some_message (is_release_of pw_id own) back ≡ true
             → later || some_message (is_release_of pw_id own) (back ++ LabelRelease id2 fec2 label ∷ []) ≡ true
@@ -359,18 +369,18 @@ binding_hears_withdrawal pw_id next near far id id2 fec fec2 label out back same
         either false now false h = some_still (is_release_of pw_id own) back (LabelRelease id2 fec2 label) h
 
 -- an old label that is released is none that is advertised
-old_released : (next : ℕ) (near : LocalPart) (label : ℕ) → is_old next near label ≡ true → advertised_by (release_part (Some label) near) ≡ advertised_by near
+old_released : (next : ℕ → Bool) (near : LocalPart) (label : ℕ) → is_old next near label ≡ true → advertised_by (release_part (Some label) near) ≡ advertised_by near
 old_released next (Idle declined) label old = refl
 old_released next (Advertised own told) label old = grind (arith, nat_tests)
 old_released next (Withdrawing own) label old = grind (arith, nat_tests)
 
-still_old : (next : ℕ) (near : LocalPart) (label other : ℕ) → is_old next near other ≡ true → is_old next (release_part (Some label) near) other ≡ true
+still_old : (next : ℕ → Bool) (near : LocalPart) (label other : ℕ) → is_old next near other ≡ true → is_old next (release_part (Some label) near) other ≡ true
 still_old next (Idle declined) label other old = old
 still_old next (Advertised own told) label other old = grind (arith, nat_tests)
 still_old next (Withdrawing own) label other old = grind (arith, nat_tests)
 
 -- what releases no label that the end waits for
-hears_other : (pw_id next : ℕ) (near : LocalPart) (far : Option Binding) (m : Message) (out back : List Message) → ((label : ℕ) → is_release_of pw_id label m ≡ false)
+hears_other : (pw_id : ℕ) (next : ℕ → Bool) (near : LocalPart) (far : Option Binding) (m : Message) (out back : List Message) → ((label : ℕ) → is_release_of pw_id label m ≡ false)
     → IsBoundBy pw_id next near far out (m ∷ back) → IsBoundBy pw_id next near far out back
 hears_other pw_id next near far m out back other is = record {
   agrees = is.agrees;
@@ -385,7 +395,7 @@ hears_other pw_id next near far m out back other is = record {
     waits (Withdrawing label) h = rw (other label) at h
 
 -- a release of an old label of the wire
-hears_old : (pw_id next : ℕ) (near : LocalPart) (far : Option Binding) (id label : ℕ) (fec : PwFec) (out back : List Message) → is_old next near label ≡ true → (fec.pw_id ≡ Some pw_id)
+hears_old : (pw_id : ℕ) (next : ℕ → Bool) (near : LocalPart) (far : Option Binding) (id label : ℕ) (fec : PwFec) (out back : List Message) → is_old next near label ≡ true → (fec.pw_id ≡ Some pw_id)
     → IsBoundBy pw_id next near far out (LabelRelease id fec (Some label) ∷ back) → IsBoundBy pw_id next (release_part (Some label) near) far out back
 hears_old pw_id next near far id label fec out back old named is = record {
   agrees = is.agrees ∙ sym (old_released next near label old);
@@ -406,16 +416,13 @@ hears_old pw_id next near far id label fec out back old named is = record {
         by_label false = h
     waits (Withdrawing own) h = by_label (label == own) (rw (itself pw_id) at h)
       where
-        by_label : (same : Bool) → nat_lt own next && (some_message (is_withdrawal_of pw_id own) out || (same || some_message (is_release_of pw_id own) back)) ≡ true
+        by_label : (same : Bool) → next own && (some_message (is_withdrawal_of pw_id own) out || (same || some_message (is_release_of pw_id own) back)) ≡ true
             → is_waited_for pw_id next (cond same (Idle false) (Withdrawing own)) out back ≡ true
         by_label true h = refl
         by_label false h = h
 
-same_number : (m n : ℕ) → (m == n) ≡ true → m ≡ n
-same_number m n is = grind (arith, nat_tests)
-
 -- the end hears the next message of its neighbour
-pub binding_hears : (pw_id next : ℕ) (near : LocalPart) (far : Option Binding) (m : Message) (out back : List Message) → IsBoundBy pw_id next near far out (m ∷ back) → IsBoundBy pw_id next (answered_part pw_id m near) far out back
+pub binding_hears : (pw_id : ℕ) (next : ℕ → Bool) (near : LocalPart) (far : Option Binding) (m : Message) (out back : List Message) → IsBoundBy pw_id next near far out (m ∷ back) → IsBoundBy pw_id next (answered_part pw_id m near) far out back
 binding_hears pw_id next near far (LabelRelease id fec label) out back is = by_name fec.pw_id label refl refl (and_left (names_old pw_id next near fec.pw_id label) (all_messages (releases_old pw_id next near) back) is.released)
   where
     by_name : (named given : Option ℕ) → fec.pw_id ≡ named → label ≡ given → names_old pw_id next near named given ≡ true → IsBoundBy pw_id next (released_by pw_id named given near) far out back

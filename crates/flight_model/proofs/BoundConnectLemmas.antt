@@ -20,13 +20,13 @@ use Rattle.session_core.specs.Table.{Start}
 use Rattle.edge_model.specs.Connection.{connects, connects_between, opened_with, peers_of}
 use Rattle.edge_model.specs.declared.effect.Effect.TheVariants.{Session}
 use Rattle.edge_model.specs.Mend.{is_up_with, mends}
-use Rattle.edge_model.specs.State.{EdgeState, Peering, is_there, with_peering}
+use Rattle.edge_model.specs.State.{EdgeState, Peering, is_there, with_kept, with_peering}
 use Rattle.edge_model.specs.Work.{Work, changes, gives, idles}
 use Rattle.network_model.specs.Absorb.{begin_at, idle, taken_all}
 use Rattle.network_model.specs.Connection.{connect_event, connected_work, connecting}
 use Rattle.network_model.specs.State.{NetworkState, held, stands}
 use Rattle.flight_model.specs.Binding.{is_idle}
-use Rattle.flight_model.specs.Bound.{AreBound, AreBoundBy, HasSaid, IsBoundBy, LeavesBound}
+use Rattle.flight_model.specs.Bound.{AreBound, AreBoundBy, HasSaid, given_of, IsBoundBy, LeavesBound}
 use Rattle.flight_model.specs.Coming.{is_talk}
 use Rattle.flight_model.specs.Ends.{HasTypes, IsOrdered, ends_at}
 use Rattle.flight_model.specs.Facts.{flight}
@@ -37,6 +37,8 @@ use Rattle.flight_model.proofs.ActBindingLemmas.{spared_leaves}
 use Rattle.flight_model.proofs.BetweenLemmas.{LeavesOthers, back_between, connected_two, out_between}
 use Rattle.flight_model.proofs.BoundEventLemmas.{Bounds, Starts, begins_bound, bound_turns, held_now, starts}
 use Rattle.flight_model.proofs.ConnectLemmas.{ConnectsOn, HasOpened, connected_is, connects_on, connects_spares, connects_steady, none_on_way, none_there, opened_low}
+use Rattle.edge_model.specs.Labels.{meeting}
+use Rattle.flight_model.proofs.GivenLemmas.{met_given}
 use Rattle.flight_model.proofs.EdgeBindingLemmas.{HasSameEnds, bound_turned, clash}
 use Rattle.flight_model.proofs.EventBindingLemmas.{bound_silent, event_spare, no_far}
 use Rattle.flight_model.proofs.MendingLemmas.{mends_keep}
@@ -49,7 +51,7 @@ use Rattle.flight_model.proofs.WorkBindingLemmas.{HoldsAll, HoldsOctets, held_st
 
 -- ---- ends of a session that is not up
 
-idle_bound : (pw_id next : ℕ) (near : LocalPart) (far : Option Binding) → is_idle near ≡ true → far ≡ None → IsBoundBy pw_id next near far [] []
+idle_bound : (pw_id : ℕ) (next : ℕ → Bool) (near : LocalPart) (far : Option Binding) → is_idle near ≡ true → far ≡ None → IsBoundBy pw_id next near far [] []
 idle_bound pw_id next (Idle declined) far idle none = record { agrees = none; withdrawn = refl; released = refl; waits = refl }
 idle_bound pw_id next (Advertised label told) far idle none = clash idle
 idle_bound pw_id next (Withdrawing label) far idle none = clash idle
@@ -60,9 +62,9 @@ low_end limit false e low sound = sound
 
 low_bound : {limit limit2 : ℕ → ℕ} → (plan : Plan) (a b : ℕ) (one other : EdgeState) → TellsSoundly limit one → TellsSoundly limit2 other → is_up_with (one.peering b) ≡ false → is_up_with (other.peering a) ≡ false → AreBound plan a b one other [] []
 low_bound {limit} {limit2} plan a b one other sound sound' low low' = record {
-  near = λ wire row is joined. idle_bound row.pw_id one.next_label (one.ends wire.0 b).local (other.ends wire.0 a).remote (low_end (limit wire.0) (is_up_with (one.peering b)) (one.ends wire.0 b) low (sound.ends wire.0 b)).0
+  near = λ wire row is joined. idle_bound row.pw_id (given_of one) (one.ends wire.0 b).local (other.ends wire.0 a).remote (low_end (limit wire.0) (is_up_with (one.peering b)) (one.ends wire.0 b) low (sound.ends wire.0 b)).0
       (low_end (limit2 wire.0) (is_up_with (other.peering a)) (other.ends wire.0 a) low' (sound'.ends wire.0 a)).1;
-  far = λ wire row is joined. idle_bound row.pw_id other.next_label (other.ends wire.0 a).local (one.ends wire.0 b).remote (low_end (limit2 wire.0) (is_up_with (other.peering a)) (other.ends wire.0 a) low' (sound'.ends wire.0 a)).0
+  far = λ wire row is joined. idle_bound row.pw_id (given_of other) (other.ends wire.0 a).local (one.ends wire.0 b).remote (low_end (limit2 wire.0) (is_up_with (other.peering a)) (other.ends wire.0 a) low' (sound'.ends wire.0 a)).0
       (low_end (limit wire.0) (is_up_with (one.peering b)) (one.ends wire.0 b) low (sound.ends wire.0 b)).1;
 }
 
@@ -119,14 +121,20 @@ module _ (plan : Plan) (network : NetworkState) (me peer : EdgeId) (one other : 
 
   begun_same : (place : ℕ) (kept : Peering) (work : Work) → HasSameEnds place work.edge (gives (Session peer name.Initialized) (changes (with_peering peer (Some kept)) work)).edge
   unfolding gives changes with_peering
-  begun_same place kept work = record { label = refl; ends = λ wire. refl }
+  begun_same place kept work = record { label = λ label given. given; ends = λ wire. refl }
+
+  met_same : (place : ℕ) (work : Work) → HasSameEnds place work.edge (changes (meeting peer) work).edge
+  unfolding changes with_kept
+  met_same place work = record { label = met_given peer work.edge; ends = λ wire. refl }
 
   connects_same : (place : ℕ) → nat_eq place peer.0 ≡ false → HasSameEnds place (begin_at network me).edge (connects taken_all peer (opened_with one other) (begin_at network me)).edge
   connects_same place gone =
-      let told : Work = gives (Session peer name.Initialized) (changes (with_peering peer (Some (opened_with one other))) (begin_at network me)) in
-      let first = begun_same place (opened_with one other) (begin_at network me) in
+      let met : Work = changes (meeting peer) (begin_at network me) in
+      let told : Work = gives (Session peer name.Initialized) (changes (with_peering peer (Some (opened_with one other))) met) in
+      let began = met_same place (begin_at network me) in
+      let first = begun_same place (opened_with one other) met in
       let then = event_spare place peer Start told gone in
-      record { label = then.same.label ∙ first.label; ends = λ wire. then.same.ends wire ∙ first.ends wire }
+      record { label = λ label given. then.same.label label (first.label label (began.label label given)); ends = λ wire. then.same.ends wire ∙ (first.ends wire ∙ began.ends wire) }
 
   connects_bound : OnBound (connects taken_all peer (opened_with one other) (begin_at network me))
   connects_bound = (

@@ -18,7 +18,7 @@ use Rattle.edge_model.specs.EndPlaces.{ends_here, passes}
 use Rattle.edge_model.specs.Frame.{is_own, port_at, received}
 use Rattle.edge_model.specs.Hear.{hears_few, octets_input}
 use Rattle.edge_model.specs.Mend.{mends}
-use Rattle.edge_model.specs.State.{EdgeState, Peering, is_on, is_there, with_bits, with_learned, with_priority, without_ends, without_peerings}
+use Rattle.edge_model.specs.State.{EdgeState, Peering, is_on, is_there, with_bits, with_learned, with_priority, without_ends, without_peerings, with_kept}
 use Rattle.edge_model.specs.Tick.{tick_input}
 use Rattle.edge_model.specs.Wire.{is_own_spoke, turned_wire}
 use Rattle.edge_model.specs.Work.{Work, changes, idles}
@@ -28,7 +28,7 @@ use Rattle.network_model.specs.Connection.{deliver_event, delivering, is_drained
 use Rattle.network_model.specs.Frame.{entering, frame_event, next_origin}
 use Rattle.network_model.specs.declared.packet.Packet.{Packet}
 use Rattle.network_model.specs.Packet.{again_event, arrive_event, discard_event, packet_work, repeating}
-use Rattle.network_model.specs.State.{NetworkState, held, held_by, stands, with_frame, with_packet, with_pipe, without_octets_to, without_packet}
+use Rattle.network_model.specs.State.{NetworkState, held, held_by, stands, with_copy, with_frame, with_older, with_pipe, without_octets_to, without_packet}
 use Rattle.network_model.specs.Tick.{tick_at, tick_event, ticks_from}
 use Rattle.network_model.specs.Wire.{priority_event, status_event, wire_event}
 use Rattle.network_model.specs.Ping.{ping_event, ping_work}
@@ -51,7 +51,7 @@ use Rattle.flight_model.proofs.PipeLemmas.{pipe_from, pipe_there, pipe_to}
 use Rattle.flight_model.proofs.SettleLemmas.{apart_turned, settle}
 use Rattle.flight_model.proofs.WorkBindingLemmas.{HoldsOctets, WorksBound, bound_work_kept, leaves_octets}
 use Rattle.flight_model.proofs.WorkingLemmas.{bits_kept, circuit_kept, lost_kept, packet_kept, priority_kept, received_kept, tick_kept, wire_kept, ping_kept}
-use Rattle.flight_model.proofs.WorksLemmas.{no_more, work_keeps, works_begin, works_kept}
+use Rattle.flight_model.proofs.WorksLemmas.{no_more, work_keeps, works_begin, works_counted, works_kept}
 use Rattle.edge_model.proofs.BridgeLemmas.{PingGoes, PingIdles, PingOutcome, ping_outcome}
 
 -- the ends of wires between each two edges are bound
@@ -136,27 +136,10 @@ lose_bounds plan me peer network checked types ordered bounds = by_stand (stands
   by_stand true is = losing_bounds plan me peer network checked types ordered bounds is
   by_stand false is = bounds
 
--- ---- ticks pass
-
-ticks_bound : (plan : Plan) (place count : ℕ) (network : NetworkState) → IsChecked plan → HasTypes plan → IsOrdered plan network → Bounds plan network → Bounds plan (ticks_from plan place count network).state
-ticks_bound plan place zero network checked types ordered bounds = bounds
-ticks_bound plan place (suc count) network checked types ordered bounds =
-    let me : EdgeId = record { 0 = place } in
-    let start : Starts plan network me = starts plan network me ordered in
-    ticks_bound plan (place + 1) count (tick_at plan me network).state checked types
-    (work_keeps plan network me 0 0 (tick_input plan taken_all (begin_at network me)) ordered
-    (tick_kept plan me (WorksOn plan network me) (works_kept plan network me checked types) (begin_at network me) (works_begin plan network me ordered))).ordered
-    (work_bounds plan network me 0 0 checked types (tick_input plan taken_all (begin_at network me)) bounds start
-    (tick_kept plan me (WorksBound plan network me checked types (λ k. held network me.0 k) start.answers) (bound_work_kept plan network me checked types (λ k. held network me.0 k) start.answers) (begin_at network me)
-    (starts_bound plan network me checked types ordered bounds start)))
-
-pub tick_bounds : (plan : Plan) (network : NetworkState) → IsChecked plan → HasTypes plan → IsOrdered plan network → Bounds plan network → Bounds plan (tick_event plan network).state
-tick_bounds plan network checked types ordered bounds = ticks_bound plan 0 (length plan.edges) network checked types ordered bounds
-
 -- ---- an edge restarts
 
 restart_leaves : (plan : Plan) (me : EdgeId) (network : NetworkState) (place : ℕ) → LeavesFor (AreBoundBy plan) (without_octets_to me network) me (restart_input (begin_at network me)) place
-unfolding changes with_learned without_ends without_peerings
+unfolding changes with_learned without_ends without_peerings with_kept
 restart_leaves plan me network place = record { bound = λ messages answers said answered out_is back_is near far. clash near }
 
 pub restart_bounds : (plan : Plan) (me : EdgeId) (network : NetworkState) → Bounds plan network → Bounds plan (restart_event me network).state
@@ -212,7 +195,7 @@ unfolding without_packet
 arrived_same plan number network bounds a b apart = record { bound = (bounds a b apart).bound }
 
 repeated_same : (plan : Plan) (packet : Packet) (network : NetworkState) → Bounds plan network → Bounds plan (repeating packet network).state
-unfolding with_packet
+unfolding with_copy
 repeated_same plan packet network bounds a b apart = record { bound = (bounds a b apart).bound }
 
 pub arrive_bounds : (plan : Plan) (packet : Option Packet) (network : NetworkState) → IsChecked plan → HasTypes plan → IsOrdered plan network → Bounds plan network → Bounds plan (arrive_event plan packet network).state

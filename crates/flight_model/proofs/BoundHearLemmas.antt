@@ -35,7 +35,7 @@ use Rattle.flight_model.proofs.WorkLemmas.{with_peering_spares}
 rows_both : (plan : Plan) (me : EdgeId) (I J : Work → Type 0) → KeptByRows plan me I → KeptByRows plan me J → KeptByRows plan me (λ work. I work × J work)
 rows_both plan me I J one other = record {
   placed = λ work both. one.placed work both.0;
-  advertises = λ place content work is at wished some both. (one.advertises place content work is at wished some both.0, other.advertises place content work is at wished some both.1);
+  advertises = λ place label content work is at wished given both. (one.advertises place label content work is at wished given both.0, other.advertises place label content work is at wished given both.1);
   withdraws = λ place label content work is at wished both. (one.withdraws place label content work is at wished both.0, other.withdraws place label content work is at wished both.1);
   tells = λ place label content last work is at told changed both. (one.tells place label content last work is at told changed both.0, other.tells place label content last work is at told changed both.1);
   clears = λ place label content addresses work is at piece both. (one.clears place label content addresses work is at piece both.0, other.clears place label content addresses work is at piece both.1);
@@ -101,8 +101,8 @@ module _ (plan : Plan) (network : NetworkState) (me peer : EdgeId) (apart : nat_
 
     holding_same : (rest : List ℕ) (near : Option Peering) (work : Work) (place : ℕ) → work.edge.peering peer.0 ≡ near → HasSameEnds place work.edge (holds peer rest near work).edge
     unfolding changes with_peering
-    holding_same rest None work place at = record { label = refl; ends = λ wire. refl }
-    holding_same rest (Some kept) work place at = record { label = refl; ends = λ wire. refl }
+    holding_same rest None work place at = record { label = λ label given. given; ends = λ wire. refl }
+    holding_same rest (Some kept) work place at = record { label = λ label given. given; ends = λ wire. refl }
 
     holding_said : (rest : List ℕ) (near : Option Peering) (work : Work) (place : ℕ) → said_to place (holds peer rest near work).effects ≡ said_to place work.effects
     unfolding changes

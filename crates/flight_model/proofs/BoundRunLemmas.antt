@@ -24,14 +24,15 @@ use Rattle.network_model.specs.Run.{state_after}
 use Rattle.network_model.specs.State.{NetworkState, empty_network, held, stands}
 use Rattle.network_model.specs.Step.{brings, step}
 use Rattle.flight_model.specs.Binding.{is_withdrawing}
-use Rattle.flight_model.specs.Bound.{AreBound, IsBoundBy, is_waited_for}
+use Rattle.flight_model.specs.Bound.{AreBound, IsBoundBy, given_of, is_waited_for}
 use Rattle.flight_model.specs.Ends.{HasTypes, IsOrdered, ends_at}
 use Rattle.flight_model.specs.Facts.{flight}
 use Rattle.flight_model.specs.Laws.{BothStand, HasAgreed, IsRun, IsStillBetween, IsUnbound, KeepsToldRule, OfWires, RunsAgreeAfterFlight, RunsSettle, network_after}
 use Rattle.flight_model.specs.Pair.{ArePaired}
 use Rattle.flight_model.specs.Sound.{point_limit}
 use Rattle.flight_model.proofs.BoundConnectLemmas.{connect_bounds, low_end}
-use Rattle.flight_model.proofs.BoundEventLemmas.{Bounds, again_bounds, arrive_bounds, circuit_bounds, deliver_bounds, discard_bounds, frame_bounds, lose_bounds, restart_bounds, priority_bounds, status_bounds, tick_bounds, wire_bounds, ping_bounds}
+use Rattle.flight_model.proofs.BoundEventLemmas.{Bounds, again_bounds, arrive_bounds, circuit_bounds, deliver_bounds, discard_bounds, frame_bounds, lose_bounds, restart_bounds, priority_bounds, status_bounds, wire_bounds, ping_bounds}
+use Rattle.flight_model.proofs.TickBindingLemmas.{tick_bounds}
 use Rattle.flight_model.proofs.EdgeBindingLemmas.{clash}
 use Rattle.flight_model.proofs.PlanLemmas.{both_in}
 use Rattle.flight_model.proofs.RuledNetworkLemmas.{IsRuledNetwork}
@@ -40,28 +41,28 @@ use Rattle.flight_model.proofs.RunLemmas.{both_apart, empty_ordered, none_said, 
 
 -- ---- runs
 
-brings_bounds : (plan : Plan) (event : Event) (network : NetworkState) → IsChecked plan → HasTypes plan → IsEventOf plan event → IsOrdered plan network → KeepsToldRule plan network → Bounds plan network → Bounds plan (brings plan event network).state
-brings_bounds plan (Connect from to) network checked types planned ordered told bounds = connect_bounds plan from to network checked types ordered bounds
-brings_bounds plan (Deliver from to count) network checked types planned ordered told bounds = deliver_bounds plan from to count network checked types ordered bounds told
-brings_bounds plan (Lose me peer) network checked types planned ordered told bounds = lose_bounds plan me peer network checked types ordered bounds
-brings_bounds plan (Restart me) network checked types planned ordered told bounds = restart_bounds plan me network bounds
-brings_bounds plan Tick network checked types planned ordered told bounds = tick_bounds plan network checked types ordered bounds
-brings_bounds plan (Frame circuit octets) network checked types planned ordered told bounds = frame_bounds plan circuit octets (circuit_row plan circuit) network checked types ordered bounds
-brings_bounds plan (Circuit circuit on) network checked types planned ordered told bounds = circuit_bounds plan circuit on (circuit_row plan circuit) network checked types ordered bounds
-brings_bounds plan (Wire me wire on) network checked types planned ordered told bounds = wire_bounds plan me wire on network checked types ordered bounds
-brings_bounds plan (Status me wire bits) network checked types planned ordered told bounds = status_bounds plan me wire bits network checked types planned.2 ordered bounds
-brings_bounds plan (Priority me wire priority) network checked types planned ordered told bounds = priority_bounds plan me wire priority network checked types ordered bounds
-brings_bounds plan (Arrive number) network checked types planned ordered told bounds = arrive_bounds plan (packet_at network number) network checked types ordered bounds
-brings_bounds plan (Discard number) network checked types planned ordered told bounds = discard_bounds plan (packet_at network number) network bounds
-brings_bounds plan (Again number) network checked types planned ordered told bounds = again_bounds plan (packet_at network number) network bounds
-brings_bounds plan (Ping me wire) network checked types planned ordered told bounds = ping_bounds plan me wire network checked types ordered bounds
+brings_bounds : (plan : Plan) (event : Event) (network : NetworkState) → IsChecked plan → HasTypes plan → IsEventOf plan event → IsOrdered plan network → IsRuledNetwork plan network → KeepsToldRule plan network → Bounds plan network → Bounds plan (brings plan event network).state
+brings_bounds plan (Connect from to) network checked types planned ordered ruled told bounds = connect_bounds plan from to network checked types ordered bounds
+brings_bounds plan (Deliver from to count) network checked types planned ordered ruled told bounds = deliver_bounds plan from to count network checked types ordered bounds told
+brings_bounds plan (Lose me peer) network checked types planned ordered ruled told bounds = lose_bounds plan me peer network checked types ordered bounds
+brings_bounds plan (Restart me) network checked types planned ordered ruled told bounds = restart_bounds plan me network bounds
+brings_bounds plan Tick network checked types planned ordered ruled told bounds = tick_bounds plan network checked types ordered ruled bounds
+brings_bounds plan (Frame circuit octets) network checked types planned ordered ruled told bounds = frame_bounds plan circuit octets (circuit_row plan circuit) network checked types ordered bounds
+brings_bounds plan (Circuit circuit on) network checked types planned ordered ruled told bounds = circuit_bounds plan circuit on (circuit_row plan circuit) network checked types ordered bounds
+brings_bounds plan (Wire me wire on) network checked types planned ordered ruled told bounds = wire_bounds plan me wire on network checked types ordered bounds
+brings_bounds plan (Status me wire bits) network checked types planned ordered ruled told bounds = status_bounds plan me wire bits network checked types planned.2 ordered bounds
+brings_bounds plan (Priority me wire priority) network checked types planned ordered ruled told bounds = priority_bounds plan me wire priority network checked types ordered bounds
+brings_bounds plan (Arrive number) network checked types planned ordered ruled told bounds = arrive_bounds plan (packet_at network number) network checked types ordered bounds
+brings_bounds plan (Discard number) network checked types planned ordered ruled told bounds = discard_bounds plan (packet_at network number) network bounds
+brings_bounds plan (Again number) network checked types planned ordered ruled told bounds = again_bounds plan (packet_at network number) network bounds
+brings_bounds plan (Ping me wire) network checked types planned ordered ruled told bounds = ping_bounds plan me wire network checked types ordered bounds
 
 after_bounds : (plan : Plan) (events : List Event) (network : NetworkState) → IsChecked plan → HasTypes plan → All (IsEventOf plan) events → IsOrdered plan network → IsRuledNetwork plan network → Bounds plan network → Bounds plan (state_after plan network events)
 after_bounds plan [] network checked types planned ordered ruled bounds = bounds
 after_bounds plan (e ∷ es) network checked types planned ordered ruled bounds =
     let here : IsEventOf plan e = All-head (IsEventOf plan) e es planned in
     after_bounds plan es (step plan network e).state checked types (All-tail (IsEventOf plan) e es planned) (step_keeps plan e network checked types here ordered).ordered (brings_ruled plan e network checked types here ordered ruled)
-    (brings_bounds plan e network checked types here ordered (keeps_told_rule plan network ordered ruled) bounds)
+    (brings_bounds plan e network checked types here ordered ruled (keeps_told_rule plan network ordered ruled) bounds)
 
 -- no end stands yet
 empty_bounds : (plan : Plan) → Bounds plan (empty_network plan)
@@ -159,22 +160,22 @@ still network a b is both =
     }
 
 -- an end waits for a release only where a message is on its way
-waits_not : (pw_id next : ℕ) (near : LocalPart) → is_waited_for pw_id next near [] [] ≡ true → is_withdrawing near ≡ false
+waits_not : (pw_id : ℕ) (next : ℕ → Bool) (near : LocalPart) → is_waited_for pw_id next near [] [] ≡ true → is_withdrawing near ≡ false
 waits_not pw_id next (Idle declined) waits = refl
 waits_not pw_id next (Advertised label told) waits = refl
-waits_not pw_id next (Withdrawing label) waits = clash (and_right (nat_lt label next) false waits)
+waits_not pw_id next (Withdrawing label) waits = clash (and_right (next label) false waits)
 
 agreed : (plan : Plan) (network : NetworkState) (a b : ℕ) → IsStillBetween network a b → AreBoundNow plan network a b → OfWires plan network a b HasAgreed
 agreed plan network a b quiet now wire row is joined =
     let out : now.pair.messages ≡ [] = none_said (ends_at plan a b).me now.pair.messages (sym quiet.out ∙ now.pair.out_is) in
     let back : now.pair.answers ≡ [] = none_said (ends_at plan b a).me now.pair.answers (sym quiet.back ∙ now.pair.back_is) in
-    let near : IsBoundBy row.pw_id (network.edges a).next_label ((network.edges a).ends wire.0 b).local ((network.edges b).ends wire.0 a).remote [] [] = rw (out, back) at (now.bound.near wire row is joined) in
-    let far : IsBoundBy row.pw_id (network.edges b).next_label ((network.edges b).ends wire.0 a).local ((network.edges a).ends wire.0 b).remote [] [] = rw (back, out) at (now.bound.far wire row is joined) in
+    let near : IsBoundBy row.pw_id (given_of (network.edges a)) ((network.edges a).ends wire.0 b).local ((network.edges b).ends wire.0 a).remote [] [] = rw (out, back) at (now.bound.near wire row is joined) in
+    let far : IsBoundBy row.pw_id (given_of (network.edges b)) ((network.edges b).ends wire.0 a).local ((network.edges a).ends wire.0 b).remote [] [] = rw (back, out) at (now.bound.far wire row is joined) in
     record {
       near = far.agrees;
       far = near.agrees;
-      one_waits_not = waits_not row.pw_id (network.edges a).next_label ((network.edges a).ends wire.0 b).local near.waits;
-      other_waits_not = waits_not row.pw_id (network.edges b).next_label ((network.edges b).ends wire.0 a).local far.waits;
+      one_waits_not = waits_not row.pw_id (given_of (network.edges a)) ((network.edges a).ends wire.0 b).local near.waits;
+      other_waits_not = waits_not row.pw_id (given_of (network.edges b)) ((network.edges b).ends wire.0 a).local far.waits;
     }
 
 -- ---- between two ends that do not stand

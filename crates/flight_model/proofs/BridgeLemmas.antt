@@ -62,7 +62,7 @@ well_more (e ∷ es) more well rest = (well.0, well_more es more well.1 rest)
 
 -- all that is left as it was
 pub learns_keeps : (old new : EdgeState) → LearnsOnly old new → KeepsEnds old new
-learns_keeps old new only = record { me = only.me; wire_on = only.wires; bits = only.bits; ends = only.ends; told_down = only.downs; next_label = only.labels }
+learns_keeps old new only = record { me = only.me; wire_on = only.wires; bits = only.bits; ends = only.ends; told_down = only.downs; next_label = only.labels; kept = only.kept }
 
 -- sessions and ends are left as they were, and only effects of bridging are given out
 given_are : (old new : Work) → KeepsEnds old.edge new.edge → new.edge.peering ≡ old.edge.peering → GivesOnly is_of_bridging old.effects new.effects → new.idle ≡ old.idle → IsBridged old new
@@ -87,7 +87,7 @@ pub bridges_are : (old new : Work) → BridgesOnly old new → IsBridged old new
 bridges_are old new only = given_are old new (learns_keeps old.edge new.edge only.edge) only.edge.peering only.effects only.idle
 
 pings_keep : (pings : ℕ → ℕ) (edge : EdgeState) → KeepsEnds edge (with_pings pings edge)
-pings_keep pings edge = record { me = refl; wire_on = refl; bits = refl; ends = refl; told_down = refl; next_label = refl }
+pings_keep pings edge = record { me = refl; wire_on = refl; bits = refl; ends = refl; told_down = refl; next_label = refl; kept = refl }
 
 -- so it is with a ping that applies
 pub pings_are : (old new : Work) → PingsOnly old new → IsBridged old new

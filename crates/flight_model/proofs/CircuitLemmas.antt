@@ -21,7 +21,7 @@ use Rattle.network_model.specs.Circuit.{circuit_event}
 use Rattle.network_model.specs.Frame.{entering, frame_event, next_origin}
 use Rattle.network_model.specs.declared.packet.Packet.{Packet}
 use Rattle.network_model.specs.Packet.{again_event, arrive_event, discard_event, packet_work, repeating}
-use Rattle.network_model.specs.State.{NetworkState, with_frame, with_packet, without_packet}
+use Rattle.network_model.specs.State.{NetworkState, with_copy, with_frame, without_packet}
 use Rattle.network_model.specs.Wire.{priority_event, status_event, wire_event}
 use Rattle.network_model.specs.Ping.{ping_event, ping_work}
 use Rattle.flight_model.specs.Ends.{HasTypes, IsOrdered, KeepsOrder, WorksOn}
@@ -88,7 +88,7 @@ unfolding without_packet
 arrived_works plan number network me work works = record { fine = works.fine; sound = works.sound; alone = works.alone; left = λ place away. works.left place away }
 
 repeated_ordered : (plan : Plan) (packet : Packet) (network : NetworkState) → IsOrdered plan network → IsOrdered plan (repeating packet network).state
-unfolding with_packet
+unfolding with_copy
 repeated_ordered plan packet network ordered = record { two = λ a b apart. ordered.two a b apart; alone = λ a. ordered.alone a; placed = λ a. ordered.placed a; sound = λ a. ordered.sound a }
 
 pub arrive_keeps : (plan : Plan) (packet : Option Packet) (network : NetworkState) → IsChecked plan → HasTypes plan → IsOrdered plan network → KeepsOrder plan (arrive_event plan packet network)

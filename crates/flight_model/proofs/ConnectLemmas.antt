@@ -21,7 +21,7 @@ use Rattle.edge_model.specs.declared.effect.Effect.TheVariants.{Session}
 use Rattle.edge_model.specs.Put.{having_spoken}
 use Rattle.edge_model.specs.Mend.{is_up_with, mends}
 use Rattle.edge_model.specs.Session.{happens, says, with_session}
-use Rattle.edge_model.specs.State.{EdgeState, Peering, is_there, with_peering}
+use Rattle.edge_model.specs.State.{EdgeState, Peering, is_there, with_kept, with_peering}
 use Rattle.edge_model.specs.Work.{Work, changes, gives, idles}
 use Rattle.network_model.specs.Absorb.{absorb_all, begin_at, idle, taken_all}
 use Rattle.network_model.specs.Connection.{connect_event, connected_work, connecting}
@@ -37,7 +37,9 @@ use Rattle.flight_model.proofs.BetweenLemmas.{LeavesOthers, back_between, connec
 use Rattle.flight_model.proofs.EventLemmas.{idle_keeps}
 use Rattle.flight_model.proofs.MendingLemmas.{mends_keep}
 use Rattle.flight_model.proofs.SayLemmas.{clears_fine, clears_spares, says_fine, says_spares}
-use Rattle.flight_model.proofs.SoundLemmas.{happens_sound}
+use Rattle.flight_model.proofs.SoundLemmas.{happens_sound, sound_rekept}
+use Rattle.flight_model.proofs.NameLemmas.{meeting_rekept}
+use Rattle.edge_model.specs.Labels.{meeting}
 use Rattle.flight_model.proofs.SteadyLemmas.{IsSteady, steady_rows}
 use Rattle.flight_model.proofs.MeetLemmas.{goes_shows}
 use Rattle.flight_model.proofs.PipeLemmas.{all_edges, all_good, good-append}
@@ -144,20 +146,44 @@ opened_spared own other me peer old new fine spares has = record {
   waits = has.waits;
 }
 
+-- the two edges meet
+met_says : (peer : EdgeId) (work : Work) → (changes (meeting peer) work).effects ≡ work.effects
+unfolding changes
+met_says peer work = refl
+
+met_fine : (me peer : EdgeId) (work : Work) → IsFine me work → IsFine me (changes (meeting peer) work)
+unfolding changes with_kept
+met_fine me peer work fine = record { place = fine.place; idle = fine.idle; well = fine.well }
+
+met_spares : (place : ℕ) (peer : EdgeId) (work : Work) → Spares place work (changes (meeting peer) work)
+unfolding changes with_kept
+met_spares place peer work = record { kept = refl; said = refl; closed = refl }
+
+met_sound : {limit : ℕ → ℕ} → (peer : EdgeId) (work : Work) → TellsSoundly limit work.edge → TellsSoundly limit (changes (meeting peer) work).edge
+unfolding changes with_kept
+met_sound peer work sound = sound_rekept work.edge (meeting peer work.edge) (meeting_rekept peer work.edge) refl refl sound
+
+met_peering : (peer : EdgeId) (work : Work) → (changes (meeting peer) work).edge.peering ≡ work.edge.peering
+unfolding changes with_kept
+met_peering peer work = refl
+
 connects_opens : (me peer : EdgeId) (one other : EdgePlan) (work : Work) → AreEnds (peers_of one other) (peers_of other one) → work.effects ≡ [] → IsFine me work
     → HasOpened (peers_of one other) (peers_of other one) me peer (connects taken_all peer (opened_with one other) work)
 unfolding started
 connects_opens me peer one other work ends none fine =
-    let has : HasOpened (peers_of one other) (peers_of other one) me peer (started peer one other work) = starts_opens me peer one other work ends none fine in
-    opened_spared (peers_of one other) (peers_of other one) me peer (started peer one other work) (connects taken_all peer (opened_with one other) work)
-    (clears_fine me peer (started peer one other work) has.fine) (clears_spares peer.0 peer (started peer one other work)) has
+    let met : Work = changes (meeting peer) work in
+    let has : HasOpened (peers_of one other) (peers_of other one) me peer (started peer one other met) = starts_opens me peer one other met ends (met_says peer work ∙ none) (met_fine me peer work fine) in
+    opened_spared (peers_of one other) (peers_of other one) me peer (started peer one other met) (connects taken_all peer (opened_with one other) work)
+    (clears_fine me peer (started peer one other met) has.fine) (clears_spares peer.0 peer (started peer one other met)) has
 
 pub connects_spares : (place : ℕ) (peer : EdgeId) (kept : Peering) (work : Work) → nat_eq place peer.0 ≡ false → Spares place work (connects taken_all peer kept work)
 connects_spares place peer kept work apart =
-    let there : Work = changes (with_peering peer (Some kept)) work in
+    let met : Work = changes (meeting peer) work in
+    let there : Work = changes (with_peering peer (Some kept)) met in
     let told : Work = gives (Session peer name.Initialized) there in
-    spares_then place work there _ (with_peering_spares place peer (Some kept) work apart)
-    (spares_then place there told _ (session_spares place peer name.Initialized there) (event_spares place peer Start told apart))
+    spares_then place work met _ (met_spares place peer work)
+    (spares_then place met there _ (with_peering_spares place peer (Some kept) met apart)
+    (spares_then place there told _ (session_spares place peer name.Initialized there) (event_spares place peer Start told apart)))
 
 -- ends beside a peer whose session begins
 open_sound : {limit : ℕ → ℕ} → (peer : EdgeId) (kept : Peering) (work : Work) → work.edge.peering peer.0 ≡ None → kept.session.phase ≡ phase.Initialized → TellsSoundly limit work.edge
@@ -166,6 +192,7 @@ unfolding gives changes with_peering
 open_sound peer kept work none state sound = record {
   least = sound.least;
   most = sound.most;
+  kept = sound.kept;
   bits = sound.bits;
   ends = λ wire k. elim (cases_Bool (nat_eq k peer.0)) [
     | inl same ↦ rw (same, state) (rw (eqb-true k peer.0 same) (rw none at (sound.ends wire peer.0)))
@@ -226,8 +253,9 @@ pub connects_on : (plan : Plan) (network : NetworkState) (me peer : EdgeId) (one
     → ConnectsOn plan network (peers_of one other) (peers_of other one) me peer (connects taken_all peer (opened_with one other) (begin_at network me))
 connects_on plan network me peer one other ordered between ends none = record {
   opened = connects_opens me peer one other (begin_at network me) ends refl (record { place = ordered.placed me.0; idle = refl; well = tt });
-  sound = happens_sound taken_all peer Start (gives (Session peer name.Initialized) (changes (with_peering peer (Some (opened_with one other))) (begin_at network me)))
-      (open_sound peer (opened_with one other) (begin_at network me) none refl (ordered.sound me.0));
+  sound = happens_sound taken_all peer Start (gives (Session peer name.Initialized) (changes (with_peering peer (Some (opened_with one other))) (changes (meeting peer) (begin_at network me))))
+      (open_sound peer (opened_with one other) (changes (meeting peer) (begin_at network me)) (ap (λ (f : ℕ → Option Peering). f peer.0) (met_peering peer (begin_at network me)) ∙ none) refl
+      (met_sound peer (begin_at network me) (ordered.sound me.0)));
   alone = (connects_spares me.0 peer (opened_with one other) (begin_at network me) between).kept ∙ ordered.alone me.0;
   left = λ place away here. left_spared (ends_at plan me.0 place) (ends_at plan place me.0) place ((network.edges place).peering me.0) (flight network me.0 place) (network.pipes place me.0) (begin_at network me) (connects taken_all peer (opened_with one other) (begin_at network me))
       (connects_spares place peer (opened_with one other) (begin_at network me) here) ((works_begin plan network me ordered).left place away);

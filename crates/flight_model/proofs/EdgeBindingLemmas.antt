@@ -13,9 +13,9 @@ use Rattle.ldp_grammar.specs.declared.message.Message.{Message}
 use Rattle.pw_signalling.specs.declared.binding.Binding.{Binding}
 use Rattle.pw_signalling.specs.End.{EndState, LocalPart}
 use Rattle.edge_model.specs.declared.end_place.EndPlace.{EndPlace}
-use Rattle.edge_model.specs.State.{EdgeState, end_at, with_end}
-use Rattle.flight_model.specs.Bound.{AreBound, IsBoundBy, is_silent, releases_old}
-use Rattle.flight_model.proofs.BindingLemmas.{binding_answers, binding_says_other}
+use Rattle.edge_model.specs.State.{EdgeState, end_at, with_end, with_kept}
+use Rattle.flight_model.specs.Bound.{AreBound, IsBoundBy, given_of, is_silent, releases_old}
+use Rattle.flight_model.proofs.BindingLemmas.{StaysGiven, binding_answers, binding_goes_on, binding_says_other}
 use Rattle.flight_model.proofs.PlaceLemmas.{IsEndOf, member_by_pw_id}
 use Rattle.net_base.proofs.PathLemmas.{joins_turned}
 
@@ -31,34 +31,38 @@ same_number m n is = grind (arith, nat_tests)
 -- ---- one end of an edge
 
 pub end_there : (place : EndPlace) (end : EndState) (edge : EdgeState) → (with_end place end edge).ends place.wire.0 place.peer.0 ≡ end
-unfolding with_end
+unfolding with_end with_kept
 end_there place end edge = rw (itself place.wire.0, itself place.peer.0) refl
 
 pub end_of_other : (place : EndPlace) (end : EndState) (edge : EdgeState) (wire peer : ℕ) → nat_eq wire place.wire.0 ≡ false → (with_end place end edge).ends wire peer ≡ edge.ends wire peer
-unfolding with_end
+unfolding with_end with_kept
 end_of_other place end edge wire peer apart = rw apart refl
 
 pub end_beside_other : (place : EndPlace) (end : EndState) (edge : EdgeState) (wire peer : ℕ) → nat_eq peer place.peer.0 ≡ false → (with_end place end edge).ends wire peer ≡ edge.ends wire peer
-unfolding with_end
+unfolding with_end with_kept
 end_beside_other place end edge wire peer apart = elim (cases_Bool (nat_eq wire place.wire.0)) [
   | inl same ↦ rw (same, apart) (ap (λ (n : ℕ). edge.ends n peer) (sym (same_number wire place.wire.0 same)))
   | inr other ↦ rw other refl
 ]
 
-pub end_label : (place : EndPlace) (end : EndState) (edge : EdgeState) → (with_end place end edge).next_label ≡ edge.next_label
-unfolding with_end
+pub end_label : (place : EndPlace) (end : EndState) (edge : EdgeState) → given_of (with_end place end edge) ≡ given_of edge
+unfolding with_end with_kept
 end_label place end edge = refl
+
+pub end_given : (place : EndPlace) (end : EndState) (edge : EdgeState) → StaysGiven (given_of edge) (given_of (with_end place end edge))
+unfolding with_end
+end_given place end edge label given = given
 
 -- ---- the same ends
 
--- two edges have the same label next and the same ends beside a peer
+-- what was given stays given, and the ends beside a peer are the same
 pub record HasSameEnds (peer : ℕ) (old new : EdgeState) : Type 0 where
-  pub label : new.next_label ≡ old.next_label
+  pub label : StaysGiven (given_of old) (given_of new)
   pub ends : (wire : ℕ) → new.ends wire peer ≡ old.ends wire peer
 
 pub bound_same : (plan : Plan) (a b : ℕ) (old new other : EdgeState) (out back : List Message) → HasSameEnds b old new → AreBound plan a b old other out back → AreBound plan a b new other out back
 bound_same plan a b old new other out back same bound = record {
-  near = λ wire row is joined. rw (same.label, same.ends wire.0) (bound.near wire row is joined);
+  near = λ wire row is joined. rw (same.ends wire.0) (binding_goes_on row.pw_id (given_of old) (given_of new) (old.ends wire.0 b).local (other.ends wire.0 a).remote out back same.label (bound.near wire row is joined));
   far = λ wire row is joined. rw (same.ends wire.0) (bound.far wire row is joined);
 }
 
@@ -73,26 +77,22 @@ bound_turned plan a b one other out back bound = record {
 
 -- ---- an edge says something of one of its ends
 
--- what goes on where the edge gives another label next
-abbrev pub GoesOn : ℕ → ℕ → Type 0
-GoesOn next next2 = (pw_id : ℕ) (near : LocalPart) (far : Option Binding) (out back : List Message) → IsBoundBy pw_id next near far out back → IsBoundBy pw_id next2 near far out back
-
 -- what an edge makes of one end with one message: it is about this end alone, and releases nothing
 pub record SaysOf (place : EndPlace) (m : Message) (old new : EdgeState) : Type 0 where
-  pub goes : GoesOn old.next_label new.next_label
+  pub goes : StaysGiven (given_of old) (given_of new)
   pub others : (wire : ℕ) → nat_eq wire place.wire.0 ≡ false → new.ends wire place.peer.0 ≡ old.ends wire place.peer.0
   pub remote : (end_at new place).remote ≡ (end_at old place).remote
-  pub own : (far : Option Binding) (out back : List Message) → IsBoundBy place.pw_id old.next_label (end_at old place).local far out back
-      → IsBoundBy place.pw_id new.next_label (end_at new place).local far (out ++ m ∷ []) back
+  pub own : (far : Option Binding) (out back : List Message) → IsBoundBy place.pw_id (given_of old) (end_at old place).local far out back
+      → IsBoundBy place.pw_id (given_of new) (end_at new place).local far (out ++ m ∷ []) back
   pub silent : (pw_id : ℕ) → place.pw_id == pw_id ≡ false → is_silent pw_id m ≡ true
-  pub releases : (pw_id next : ℕ) (near : LocalPart) → releases_old pw_id next near m ≡ true
+  pub releases : (pw_id : ℕ) (next : ℕ → Bool) (near : LocalPart) → releases_old pw_id next near m ≡ true
 
 pub bound_says : (plan : Plan) (me : EdgeId) (place : EndPlace) (m : Message) (old new other : EdgeState) (out back : List Message) → IsChecked plan → IsEndOf plan me place → SaysOf place m old new
     → AreBound plan me.0 place.peer.0 old other out back → AreBound plan me.0 place.peer.0 new other (out ++ m ∷ []) back
 bound_says plan me place m old new other out back checked there says bound = record {
   near = λ wire row is joined. near wire row is joined (nat_eq wire.0 place.wire.0) refl;
-  far = λ wire row is joined. binding_answers row.pw_id other.next_label (other.ends wire.0 me.0).local (new.ends wire.0 place.peer.0).remote back out m (says.releases row.pw_id other.next_label (other.ends wire.0 me.0).local)
-      (subst (λ (r : Option Binding). IsBoundBy row.pw_id other.next_label (other.ends wire.0 me.0).local r back out) (sym (remote wire.0 (nat_eq wire.0 place.wire.0) refl)) (bound.far wire row is joined));
+  far = λ wire row is joined. binding_answers row.pw_id (given_of other) (other.ends wire.0 me.0).local (new.ends wire.0 place.peer.0).remote back out m (says.releases row.pw_id (given_of other) (other.ends wire.0 me.0).local)
+      (subst (λ (r : Option Binding). IsBoundBy row.pw_id (given_of other) (other.ends wire.0 me.0).local r back out) (sym (remote wire.0 (nat_eq wire.0 place.wire.0) refl)) (bound.far wire row is joined));
 }
   where
     remote : (wire : ℕ) (same : Bool) → nat_eq wire place.wire.0 ≡ same → (new.ends wire place.peer.0).remote ≡ (old.ends wire place.peer.0).remote
@@ -106,25 +106,25 @@ bound_says plan me place m old new other out back checked there says bound = rec
         sides m n = grind (arith, nat_tests)
 
     near : (wire : WireId) (row : WirePlan) → wire_row plan wire ≡ Some row → joins me.0 place.peer.0 row.path ≡ true → (same : Bool) → nat_eq wire.0 place.wire.0 ≡ same
-        → IsBoundBy row.pw_id new.next_label (new.ends wire.0 place.peer.0).local (other.ends wire.0 me.0).remote (out ++ m ∷ []) back
+        → IsBoundBy row.pw_id (given_of new) (new.ends wire.0 place.peer.0).local (other.ends wire.0 me.0).remote (out ++ m ∷ []) back
     near wire row is joined true here =
         let pw_id : place.pw_id ≡ row.pw_id = same_number place.pw_id row.pw_id (member_by_pw_id plan me place wire row checked is joined there ∙ turned wire.0 place.wire.0 true here) in
-        subst (λ (n : ℕ). IsBoundBy n new.next_label (new.ends wire.0 place.peer.0).local (other.ends wire.0 me.0).remote (out ++ m ∷ []) back) pw_id
-        (subst (λ (w : ℕ). IsBoundBy place.pw_id new.next_label (new.ends w place.peer.0).local (other.ends wire.0 me.0).remote (out ++ m ∷ []) back) (sym (same_number wire.0 place.wire.0 here))
+        subst (λ (n : ℕ). IsBoundBy n (given_of new) (new.ends wire.0 place.peer.0).local (other.ends wire.0 me.0).remote (out ++ m ∷ []) back) pw_id
+        (subst (λ (w : ℕ). IsBoundBy place.pw_id (given_of new) (new.ends w place.peer.0).local (other.ends wire.0 me.0).remote (out ++ m ∷ []) back) (sym (same_number wire.0 place.wire.0 here))
         (says.own (other.ends wire.0 me.0).remote out back
-        (subst (λ (w : ℕ). IsBoundBy place.pw_id old.next_label (old.ends w place.peer.0).local (other.ends wire.0 me.0).remote out back) (same_number wire.0 place.wire.0 here)
-        (subst (λ (n : ℕ). IsBoundBy n old.next_label (old.ends wire.0 place.peer.0).local (other.ends wire.0 me.0).remote out back) (sym pw_id) (bound.near wire row is joined)))))
+        (subst (λ (w : ℕ). IsBoundBy place.pw_id (given_of old) (old.ends w place.peer.0).local (other.ends wire.0 me.0).remote out back) (same_number wire.0 place.wire.0 here)
+        (subst (λ (n : ℕ). IsBoundBy n (given_of old) (old.ends wire.0 place.peer.0).local (other.ends wire.0 me.0).remote out back) (sym pw_id) (bound.near wire row is joined)))))
     near wire row is joined false away =
-        binding_says_other row.pw_id new.next_label (new.ends wire.0 place.peer.0).local (other.ends wire.0 me.0).remote out back m
+        binding_says_other row.pw_id (given_of new) (new.ends wire.0 place.peer.0).local (other.ends wire.0 me.0).remote out back m
         (says.silent row.pw_id (member_by_pw_id plan me place wire row checked is joined there ∙ turned wire.0 place.wire.0 false away))
-        (subst (λ (e : EndState). IsBoundBy row.pw_id new.next_label e.local (other.ends wire.0 me.0).remote out back) (sym (says.others wire.0 away))
-        (says.goes row.pw_id (old.ends wire.0 place.peer.0).local (other.ends wire.0 me.0).remote out back (bound.near wire row is joined)))
+        (subst (λ (e : EndState). IsBoundBy row.pw_id (given_of new) e.local (other.ends wire.0 me.0).remote out back) (sym (says.others wire.0 away))
+        (binding_goes_on row.pw_id (given_of old) (given_of new) (old.ends wire.0 place.peer.0).local (other.ends wire.0 me.0).remote out back says.goes (bound.near wire row is joined)))
 
 -- the ends beside another peer are as they were
-pub bound_elsewhere : (plan : Plan) (a b : ℕ) (old new other : EdgeState) (out back : List Message) → GoesOn old.next_label new.next_label → ((wire : ℕ) → new.ends wire b ≡ old.ends wire b)
+pub bound_elsewhere : (plan : Plan) (a b : ℕ) (old new other : EdgeState) (out back : List Message) → StaysGiven (given_of old) (given_of new) → ((wire : ℕ) → new.ends wire b ≡ old.ends wire b)
     → AreBound plan a b old other out back → AreBound plan a b new other out back
 bound_elsewhere plan a b old new other out back goes same bound = record {
-  near = λ wire row is joined. subst (λ (e : EndState). IsBoundBy row.pw_id new.next_label e.local (other.ends wire.0 a).remote out back) (sym (same wire.0))
-      (goes row.pw_id (old.ends wire.0 b).local (other.ends wire.0 a).remote out back (bound.near wire row is joined));
+  near = λ wire row is joined. subst (λ (e : EndState). IsBoundBy row.pw_id (given_of new) e.local (other.ends wire.0 a).remote out back) (sym (same wire.0))
+      (binding_goes_on row.pw_id (given_of old) (given_of new) (old.ends wire.0 b).local (other.ends wire.0 a).remote out back goes (bound.near wire row is joined));
   far = λ wire row is joined. rw (same wire.0) (bound.far wire row is joined);
 }

@@ -13,17 +13,18 @@ use Rattle.session_core.specs.Messages.{message_of}
 use Rattle.session_core.specs.State.{SessionState}
 use Rattle.session_core.specs.Table.{SessionEvent, Outcome, Stay, Goes, Ends, outcome_of}
 use Rattle.edge_model.specs.Put.{having_spoken, put_replies}
-use Rattle.edge_model.specs.Session.{clears_ends, comes_of, ends, happens, happens_with_ends, with_session}
-use Rattle.edge_model.specs.State.{EdgeState, Peering, has_end, is_there, with_ends_beside, with_peering}
+use Rattle.edge_model.specs.Session.{clears_ends, comes_of, ends, happens, happens_with_ends, with_session, losing_ends}
+use Rattle.edge_model.specs.State.{EdgeState, Peering, has_end, is_there, with_ends_beside, with_peering, with_kept}
 use Rattle.edge_model.specs.Work.{Work, changes, gives}
 use Rattle.network_model.specs.Absorb.{taken_all}
-use Rattle.flight_model.specs.Bound.{AreBound, HasSaid, LeavesBound, is_silent}
+use Rattle.flight_model.specs.Bound.{AreBound, HasSaid, given_of, LeavesBound, is_silent}
 use Rattle.flight_model.specs.Ends.{ends_at}
 use Rattle.flight_model.specs.Meeting.{IsFine, Shows, closes, said_to}
 use Rattle.flight_model.specs.Messages.{AreSaid, octets_of_all}
 use Rattle.flight_model.specs.Pair.{StayInStep, having_put_all, messages_put, octets_put}
 use Rattle.flight_model.proofs.ActBindingLemmas.{SparesWires}
 use Rattle.flight_model.proofs.BindingLemmas.{binding_answers, binding_says_other, silent_releases}
+use Rattle.flight_model.proofs.GivenLemmas.{cleared_given, given_on}
 use Rattle.flight_model.proofs.EdgeBindingLemmas.{bound_same, clash}
 use Rattle.flight_model.proofs.KeepLemmas.{KeepsEnds, happens_keeps}
 use Rattle.flight_model.proofs.LeaveLemmas.{leaves_more, leaves_none}
@@ -42,9 +43,9 @@ reply_silent pw_id (reply.Notice status) id ends = refl
 
 pub bound_silent : (plan : Plan) (a b : ℕ) (one other : EdgeState) (out back : List Message) (m : Message) → ((pw_id : ℕ) → is_silent pw_id m ≡ true) → AreBound plan a b one other out back → AreBound plan a b one other (out ++ m ∷ []) back
 bound_silent plan a b one other out back m silent bound = record {
-  near = λ wire row is joined. binding_says_other row.pw_id one.next_label (one.ends wire.0 b).local (other.ends wire.0 a).remote out back m (silent row.pw_id) (bound.near wire row is joined);
-  far = λ wire row is joined. binding_answers row.pw_id other.next_label (other.ends wire.0 a).local (one.ends wire.0 b).remote back out m
-      (silent_releases row.pw_id other.next_label (other.ends wire.0 a).local m (silent row.pw_id)) (bound.far wire row is joined);
+  near = λ wire row is joined. binding_says_other row.pw_id (given_of one) (one.ends wire.0 b).local (other.ends wire.0 a).remote out back m (silent row.pw_id) (bound.near wire row is joined);
+  far = λ wire row is joined. binding_answers row.pw_id (given_of other) (other.ends wire.0 a).local (one.ends wire.0 b).remote back out m
+      (silent_releases row.pw_id (given_of other) (other.ends wire.0 a).local m (silent row.pw_id)) (bound.far wire row is joined);
 }
 
 behind_one : (xs : List Message) (m : Message) (ys : List Message) → (xs ++ m ∷ []) ++ ys ≡ xs ++ m ∷ ys
@@ -66,14 +67,14 @@ bound_replies plan a b one other out back (r ∷ rs) kept bound =
 
 pub cleared_there : (peer : EdgeId) (work : Work) → has_end work.edge peer ≡ true → clears_ends peer work ≡ work
 cleared_there peer work there = by_end (has_end work.edge peer) there where
-  by_end : (b : Bool) → b ≡ true → cond b work (changes (with_ends_beside peer lost) work) ≡ work
+  by_end : (b : Bool) → b ≡ true → cond b work (changes (losing_ends peer) work) ≡ work
   by_end true e = refl
   by_end false e = clash e
 
 cleared_else : (place : ℕ) (peer : EdgeId) (work : Work) → nat_eq place peer.0 ≡ false → (wire : ℕ) → (clears_ends peer work).edge.ends wire place ≡ work.edge.ends wire place
-unfolding changes with_ends_beside
+unfolding changes with_ends_beside with_kept
 cleared_else place peer work apart wire = by_end (has_end work.edge peer) where
-  by_end : (b : Bool) → (cond b work (changes (with_ends_beside peer lost) work)).edge.ends wire place ≡ work.edge.ends wire place
+  by_end : (b : Bool) → (cond b work (changes (losing_ends peer) work)).edge.ends wire place ≡ work.edge.ends wire place
   by_end true = refl
   by_end false = rw apart refl
 
@@ -85,7 +86,7 @@ event_spare place peer event work apart =
     record {
       spares = spares_then place work after _ (happens_spares taken_all place peer event work apart) (clears_spares place peer after);
       same = record {
-        label = (cleared_rest peer after).0 ∙ kept.next_label;
+        label = λ label given. cleared_given peer after label (given_on work.edge after.edge kept.next_label kept.kept label given);
         ends = λ wire. cleared_else place peer after apart wire ∙ ap (λ (f : ℕ → ℕ → EndState). f wire place) kept.ends;
       };
     }
@@ -142,7 +143,7 @@ leaves_event plan me peer far out before after answers event kept work has fine 
       (leaves_more plan me peer.0 far out (octets_put replies now) before after work new has (messages_put replies now) goes.here.between.one (said_last own has.messages (messages_put replies now) goes.said)
       (put_octets_are replies now ∙ ap (λ (p : Peers). octets_of_all p.me (messages_put replies now)) peers) shows.says (λ near. ap is_there at)
       (λ near bound. bound_same plan me.0 peer.0 work.edge new.edge far (has.messages ++ messages_put replies now) after
-      (record { label = keeps.next_label; ends = λ wire. ap (λ (f : ℕ → ℕ → EndState). f wire peer.0) keeps.ends })
+      (record { label = given_on work.edge new.edge keeps.next_label keeps.kept; ends = λ wire. ap (λ (f : ℕ → ℕ → EndState). f wire peer.0) keeps.ends })
       (bound_replies plan me.0 peer.0 work.edge far has.messages after replies now (follows (ap goes_on is) has.messages bound))) leaves)
 
   by_far : (next : SessionState) (replies : List Reply) → outcome_of kept.session event ≡ Goes next replies → (far_end : Option Peering) → far.peering me.0 ≡ far_end → LeavesBound plan me peer.0 far out after (clears_ends peer new)

@@ -1,5 +1,5 @@
 -- Events that touch the sessions of one edge: octets are delivered, an end is lost, an edge restarts, and ticks pass.
-use Rattle.std.proofs.Common.{◌≡◌, ◌++◌, ◌&&◌, ◌||◌, ◌+◌, ◌∙◌, ℕ, zero, suc, Bool, true, false, cond, not, nat_eq, length, take, drop, List, [], Option, Some, None, refl, sym, ap, subst, append_assoc, inl, inr}
+use Rattle.std.proofs.Common.{◌≡◌, ◌≢◌, ◌∷◌, ◌++◌, ◌&&◌, ◌||◌, ◌+◌, ◌∙◌, ℕ, zero, suc, Bool, true, false, cond, not, nat_eq, length, take, drop, List, [], Option, Some, None, refl, sym, ap, subst, append_assoc, inl, inr, ⊎_elim}
 use Rattle.std.proofs.lemmas.Bool.{cases_Bool, eqb-true}
 use Rattle.std.proofs.lemmas.List.{take-append-drop}
 use Rattle.net_base.specs.declared.plan.Plan.{Plan}
@@ -13,18 +13,25 @@ use Rattle.edge_model.specs.Connection.{restart_input}
 use Rattle.edge_model.specs.Hear.{hears_few, octets_input}
 use Rattle.edge_model.specs.Mend.{mends}
 use Rattle.edge_model.specs.Session.{happens_with_ends}
-use Rattle.edge_model.specs.State.{Peering, is_there, with_learned, without_ends, without_peerings}
+use Rattle.label_space.specs.Kept.{kept_at}
+use Rattle.edge_model.specs.Labels.{owners_of}
+use Rattle.edge_model.specs.Mend.{is_up_with}
+use Rattle.edge_model.specs.State.{EdgeState, Peering, is_there, with_learned, without_ends, without_peerings, with_kept}
 use Rattle.edge_model.specs.Tick.{tick_input}
 use Rattle.edge_model.specs.Work.{Work, changes, idles}
 use Rattle.network_model.specs.Absorb.{begin_at, idle, taken_all}
 use Rattle.network_model.specs.Connection.{deliver_event, delivering, hearing_work, is_drained_pipe, lose_event, losing, losing_work, restart_event}
-use Rattle.network_model.specs.State.{NetworkState, stands, with_edge, with_pipe, without_octets_to}
+use Rattle.network_model.specs.State.{NetworkState, lives_on, stands, with_edge, with_older, with_pipe, without_octets_to}
+use Rattle.network_model.specs.declared.packet.Packet.{Packet}
+use Rattle.network_model.specs.Age.{aged_entries}
+use Rattle.net_base.specs.declared.trace.entry.Entry.TheVariants.{Aged}
 use Rattle.network_model.specs.Tick.{tick_at, tick_event, ticks_from}
 use Rattle.flight_model.specs.Ends.{HasTypes, IsOrdered, IsPaired, KeepsOrder, WorksOn, ends_at}
 use Rattle.flight_model.specs.Facts.{HoldsBut, flight}
 use Rattle.flight_model.specs.Flight.{is_empty}
 use Rattle.flight_model.specs.Messages.{octets_of_all}
 use Rattle.flight_model.specs.Pair.{ArePaired, AreTalking}
+use Rattle.flight_model.specs.Endings.{TellGoodEnds}
 use Rattle.flight_model.specs.Sound.{TellsSoundly, point_limit}
 use Rattle.flight_model.proofs.HearLemmas.{HearsOn, heard_works, hears_kept}
 use Rattle.flight_model.proofs.HearingLemmas.{few_heard, message_heard}
@@ -32,10 +39,11 @@ use Rattle.flight_model.proofs.MendingLemmas.{mends_keep}
 use Rattle.flight_model.proofs.PipeLemmas.{all_good, good-append, pipe_from, pipe_there, pipe_to}
 use Rattle.flight_model.proofs.ReactLemmas.{goes_in_step}
 use Rattle.flight_model.proofs.SettleLemmas.{apart_turned}
-use Rattle.flight_model.proofs.SoundLemmas.{fresh_sound}
+use Rattle.flight_model.proofs.SoundLemmas.{end_label, fresh_sound}
+use Rattle.flight_model.proofs.FreedLemmas.{IsOwnedAt, owned_from, owners_own}
 use Rattle.flight_model.proofs.WorkLemmas.{same_place}
 use Rattle.flight_model.proofs.WorkingLemmas.{lost_kept, tick_kept}
-use Rattle.flight_model.proofs.WorksLemmas.{AreOthers, no_end, no_more, work_keeps, works_begin, works_kept, works_settle}
+use Rattle.flight_model.proofs.WorksLemmas.{AreOthers, no_end, no_more, work_keeps, works_begin, works_counted, works_kept, works_settle}
 
 pub idle_keeps : (plan : Plan) (network : NetworkState) → IsOrdered plan network → KeepsOrder plan (idle network)
 idle_keeps plan network ordered = record { ordered = ordered; good = (tt, tt) }
@@ -73,12 +81,25 @@ ticks_keep plan place (suc count) network checked types ordered =
     let me : EdgeId = record { 0 = place } in
     let one : KeepsOrder plan (tick_at plan me network) =
     work_keeps plan network me 0 0 (tick_input plan taken_all (begin_at network me)) ordered
-    (tick_kept plan me (WorksOn plan network me) (works_kept plan network me checked types) (begin_at network me) (works_begin plan network me ordered)) in
+    (tick_kept plan me (WorksOn plan network me) (works_kept plan network me checked types) (begin_at network me) (works_counted plan network me (begin_at network me) (works_begin plan network me ordered))) in
     let more : KeepsOrder plan (ticks_from plan (place + 1) count (tick_at plan me network).state) = ticks_keep plan (place + 1) count (tick_at plan me network).state checked types one.ordered in
     record { ordered = more.ordered; good = good-append (tick_at plan me network).entries (ticks_from plan (place + 1) count (tick_at plan me network).state).entries one.good more.good }
 
+pub older_ordered : (plan : Plan) (network : NetworkState) → IsOrdered plan network → IsOrdered plan (with_older network)
+unfolding with_older
+older_ordered plan network ordered = record { two = λ a b apart. ordered.two a b apart; alone = λ a. ordered.alone a; placed = λ a. ordered.placed a; sound = λ a. ordered.sound a }
+
+aged_good : (packets : List Packet) → TellGoodEnds (aged_entries packets)
+aged_good [] = tt
+aged_good (p ∷ ps) = by (lives_on p) (aged_good ps) where
+  by : (b : Bool) → TellGoodEnds (aged_entries ps) → TellGoodEnds (cond b (aged_entries ps) (Aged p.number ∷ aged_entries ps))
+  by true good = good
+  by false good = (tt, good)
+
 pub tick_keeps : (plan : Plan) (network : NetworkState) → IsChecked plan → HasTypes plan → IsOrdered plan network → KeepsOrder plan (tick_event plan network)
-tick_keeps plan network checked types ordered = ticks_keep plan 0 (length plan.edges) network checked types ordered
+tick_keeps plan network checked types ordered =
+    let rest : KeepsOrder plan (ticks_from plan 0 (length plan.edges) (with_older network)) = ticks_keep plan 0 (length plan.edges) (with_older network) checked types (older_ordered plan network ordered) in
+    record { ordered = rest.ordered; good = good-append (aged_entries network.under_way) (ticks_from plan 0 (length plan.edges) (with_older network)).entries (aged_good network.under_way) rest.good }
 
 -- ---- an edge restarts
 
@@ -109,11 +130,22 @@ unfolding without_octets_to
 same_edges me network = refl
 
 restart_sound : (limit : ℕ → ℕ) (me : EdgeId) (network : NetworkState) → TellsSoundly limit (network.edges me.0) → TellsSoundly limit (restart_input (begin_at network me)).edge
-unfolding changes with_learned without_ends without_peerings
-restart_sound limit me network sound = record { least = sound.least; most = sound.most; bits = sound.bits; ends = λ wire peer. fresh_sound (limit wire) false }
+unfolding changes with_learned without_ends without_peerings with_kept
+restart_sound limit me network sound = record {
+  least = sound.least;
+  most = sound.most;
+  kept = λ label there. ⊎_elim (λ (before : kept_at label edge.kept ≢ None). sound.kept label before)
+      (λ (at : IsOwnedAt edge.ends label). end_label (limit at.wire) (is_up_with (edge.peering at.peer)) (edge.ends at.wire at.peer) label (sound.ends at.wire at.peer) at.owned)
+      (owned_from edge.ends (owners_of edge.ends edge.places) edge.kept label (owners_own edge.ends edge.places) there);
+  bits = sound.bits;
+  ends = λ wire peer. fresh_sound (limit wire) false;
+}
+  where
+    edge : EdgeState
+    edge = network.edges me.0
 
 restart_works : (plan : Plan) (me : EdgeId) (network : NetworkState) → IsOrdered plan network → WorksOn plan (without_octets_to me network) me (restart_input (begin_at network me))
-unfolding changes with_learned without_ends without_peerings
+unfolding changes with_learned without_ends without_peerings with_kept
 restart_works plan me network ordered = record {
   fine = record { place = ordered.placed me.0; idle = refl; well = tt };
   sound = restart_sound (point_limit plan me.0) me network (ordered.sound me.0);

@@ -16,7 +16,7 @@ use Rattle.session_core.specs.Parameters.{proposal}
 use Rattle.session_core.specs.Phase.{Phase}
 use Rattle.session_core.specs.Phase as phase
 use Rattle.edge_model.specs.Put.{with_spoken}
-use Rattle.edge_model.specs.State.{with_addresses, with_chosen, with_peering}
+use Rattle.edge_model.specs.State.{with_addresses, with_chosen, with_kept, with_peering}
 use Rattle.edge_model.specs.Work.{changes, gives, idles, puts}
 use Rattle.network_model.specs.State.{NetworkState, with_edge, with_pipe}
 use Rattle.flight_model.specs.Ends.{ends_at}
@@ -61,11 +61,11 @@ connected = Connect a b ∷ []
 
 -- the active end has spoken, and the passive end waits
 first_row : states connected ≡ (Some phase.OpenSent, Some phase.Initialized)
-unfolding changes down gives idles puts with_addresses with_chosen with_edge with_peering with_pipe with_spoken
+unfolding changes down gives idles puts with_addresses with_chosen with_edge with_kept with_peering with_pipe with_spoken
 first_row = refl
 
 on_its_way : flight (network_after plan connected) 0 1 ≡ octets_of_all (ends_at plan 0 1).me (Initialization 1 (proposal (ends_at plan 0 1)) ∷ [])
-unfolding changes down gives idles puts with_addresses with_chosen with_edge with_peering with_pipe with_spoken
+unfolding changes down gives idles puts with_addresses with_chosen with_edge with_kept with_peering with_pipe with_spoken
 on_its_way = refl
 
 -- the ends of the plan are as the laws ask

@@ -107,10 +107,10 @@ none_stated pw_id id code (Some status) (Some fec) = by_code (nat_eq code.code p
 
 -- and an edge that holds nothing of the peer makes nothing of it
 pub session_heard_as : (plan : Plan) (me peer : EdgeId) (m : Message) (edge : EdgeState) → is_session m ≡ true → ((wire : ℕ) → (edge.ends wire peer.0).remote ≡ None) → HearsAs plan me peer m edge edge
-session_heard_as plan me peer (Initialization id params) edge is none = record { label = refl; local = λ wire row at joined. refl; remote = λ wire row next near at joined alone. refl }
-session_heard_as plan me peer (KeepAlive id) edge is none = record { label = refl; local = λ wire row at joined. refl; remote = λ wire row next near at joined alone. refl }
+session_heard_as plan me peer (Initialization id params) edge is none = record { label = λ label given. given; local = λ wire row at joined. refl; remote = λ wire row next near at joined alone. refl }
+session_heard_as plan me peer (KeepAlive id) edge is none = record { label = λ label given. given; local = λ wire row at joined. refl; remote = λ wire row next near at joined alone. refl }
 session_heard_as plan me peer (Notification id code status fec) edge is none = record {
-  label = refl;
+  label = λ label given. given;
   local = λ wire row at joined. refl;
   remote = λ wire row next near at joined alone. none wire.0 ∙ (sym (none_stated row.pw_id id code status fec) ∙ ap (heard_of row.pw_id (Notification id code status fec)) (sym (none wire.0)));
 }
@@ -124,7 +124,7 @@ session_says_none m pw_id own is = refl
 rows_beside : (plan : Plan) (me : EdgeId) (I : Work → Type 0) (Q : Type 0) → KeptByRows plan me I → KeptByRows plan me (λ work. I work × Q)
 rows_beside plan me I Q rows = record {
   placed = λ work both. rows.placed work both.0;
-  advertises = λ place content work at is wished some both. (rows.advertises place content work at is wished some both.0, both.1);
+  advertises = λ place label content work at is wished given both. (rows.advertises place label content work at is wished given both.0, both.1);
   withdraws = λ place label content work at is changed both. (rows.withdraws place label content work at is changed both.0, both.1);
   tells = λ place label content last work at is told other both. (rows.tells place label content last work at is told other both.0, both.1);
   clears = λ place label content addresses work at is piece both. (rows.clears place label content addresses work at is piece both.0, both.1);
@@ -251,7 +251,7 @@ module _ (plan : Plan) (network : NetworkState) (me peer : EdgeId) (apart : nat_
   by_leaves (AddressWithdraw id addresses fec macs) messages work is leaves =
       by_place (AddressWithdraw id addresses fec macs ∷ messages) messages work work
       (λ bound. unchanged_leaves plan me peer (network.edges peer.0) (flight network me.0 peer.0) (AddressWithdraw id addresses fec macs) messages work (λ pw_id own. refl)
-      (record { label = refl; local = λ wire row at joined. refl; remote = λ wire row next near at joined alone. refl }) bound) (λ place there bound. bound) leaves
+      (record { label = λ label given. given; local = λ wire row at joined. refl; remote = λ wire row next near at joined alone. refl }) bound) (λ place there bound. bound) leaves
   by_leaves m messages work is leaves = clash is
 
   pub bound_kept : KeptByHearing plan me peer (ends_at plan peer.0 me.0) HearsBound

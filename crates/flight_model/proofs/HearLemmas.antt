@@ -187,6 +187,7 @@ module _ (plan : Plan) (network : NetworkState) (me peer : EdgeId) (apart : nat_
   held_sound kept rest work at sound = record {
     least = sound.least;
     most = sound.most;
+    kept = sound.kept;
     bits = sound.bits;
     ends = λ wire k. elim (cases_Bool (nat_eq k peer.0)) [
       | inl same ↦ rw same (rw (eqb-true k peer.0 same) (rw at at (sound.ends wire peer.0)))

@@ -20,22 +20,23 @@ use Rattle.pw_signalling.specs.Rows.{bound, group_stated, group_unbound, is_in_g
 use Rattle.edge_model.specs.declared.end_place.EndPlace.{EndPlace}
 use Rattle.edge_model.specs.Content.{bare, binding_in, pw_status_code, release}
 use Rattle.edge_model.specs.EndPlaces.{end_named}
-use Rattle.edge_model.specs.Signal.{end_of_fec, with_end_changed, with_named}
-use Rattle.edge_model.specs.State.{EdgeState, end_at, with_end, with_ends_beside}
+use Rattle.edge_model.specs.Signal.{end_of_fec, with_end_changed, with_named, with_released}
+use Rattle.edge_model.specs.State.{EdgeState, end_at, with_end, with_ends_beside, with_kept}
 use Rattle.flight_model.specs.Binding.{heard_of, where_named}
-use Rattle.flight_model.specs.Bound.{AreBound, IsBoundBy, answered_part, is_withdrawal_of, names_old, withdraws_old}
+use Rattle.flight_model.specs.Bound.{given_of, AreBound, IsBoundBy, answered_part, is_withdrawal_of, names_old, withdraws_old}
 use Rattle.flight_model.specs.Flight.{all_messages}
-use Rattle.flight_model.proofs.BindingLemmas.{binding_answers, binding_heard, binding_hears, binding_hears_withdrawal, binding_says_release}
-use Rattle.flight_model.proofs.EdgeBindingLemmas.{clash, end_label, end_of_other, end_there, itself, same_number}
+use Rattle.flight_model.proofs.BindingLemmas.{StaysGiven, binding_goes_on, binding_answers, binding_heard, binding_hears, binding_hears_withdrawal, binding_says_release}
+use Rattle.flight_model.proofs.GivenLemmas.{heard_given, released_ends}
+use Rattle.flight_model.proofs.EdgeBindingLemmas.{clash, end_given, end_of_other, end_there, itself, same_number}
 use Rattle.flight_model.proofs.PlaceLemmas.{IsNamed, named_is, not_named, wire_by_pw_id}
 
 -- ---- what an edge makes of a message, wire by wire
 
 pub record HearsAs (plan : Plan) (me peer : EdgeId) (m : Message) (old new : EdgeState) : Type 0 where
-  pub label : new.next_label ≡ old.next_label
+  pub label : StaysGiven (given_of old) (given_of new)
   pub local : (wire : WireId) (row : WirePlan) → wire_row plan wire ≡ Some row → joins me.0 peer.0 row.path ≡ true → (new.ends wire.0 peer.0).local ≡ answered_part row.pw_id m (old.ends wire.0 peer.0).local
   -- the message names its wire
-  pub remote : (wire : WireId) (row : WirePlan) (next : ℕ) (near : LocalPart) → wire_row plan wire ≡ Some row → joins me.0 peer.0 row.path ≡ true → withdraws_old row.pw_id next near m ≡ true
+  pub remote : (wire : WireId) (row : WirePlan) (next : ℕ → Bool) (near : LocalPart) → wire_row plan wire ≡ Some row → joins me.0 peer.0 row.path ≡ true → withdraws_old row.pw_id next near m ≡ true
       → (new.ends wire.0 peer.0).remote ≡ heard_of row.pw_id m (old.ends wire.0 peer.0).remote
 
 and_left : (a b : Bool) → a && b ≡ true → a ≡ true
@@ -43,9 +44,10 @@ and_left true b h = refl
 and_left false b h = clash h
 
 near_heard : (plan : Plan) (me peer : EdgeId) (m : Message) (old new other : EdgeState) (out back : List Message) → HearsAs plan me peer m old new → AreBound plan me.0 peer.0 old other out (m ∷ back)
-    → (wire : WireId) (row : WirePlan) → wire_row plan wire ≡ Some row → joins me.0 peer.0 row.path ≡ true → IsBoundBy row.pw_id new.next_label (new.ends wire.0 peer.0).local (other.ends wire.0 me.0).remote out back
+    → (wire : WireId) (row : WirePlan) → wire_row plan wire ≡ Some row → joins me.0 peer.0 row.path ≡ true → IsBoundBy row.pw_id (given_of new) (new.ends wire.0 peer.0).local (other.ends wire.0 me.0).remote out back
 near_heard plan me peer m old new other out back hears bound wire row is joined =
-    rw (hears.label, hears.local wire row is joined) (binding_hears row.pw_id old.next_label (old.ends wire.0 peer.0).local (other.ends wire.0 me.0).remote m out back (bound.near wire row is joined))
+    rw (hears.local wire row is joined) (binding_goes_on row.pw_id (given_of old) (given_of new) (answered_part row.pw_id m (old.ends wire.0 peer.0).local) (other.ends wire.0 me.0).remote out back hears.label
+    (binding_hears row.pw_id (given_of old) (old.ends wire.0 peer.0).local (other.ends wire.0 me.0).remote m out back (bound.near wire row is joined)))
 
 -- a message that is no withdrawal
 pub bound_hears : (plan : Plan) (me peer : EdgeId) (m : Message) (old new other : EdgeState) (out back : List Message) → ((pw_id label : ℕ) → is_withdrawal_of pw_id label m ≡ false) → HearsAs plan me peer m old new
@@ -53,10 +55,10 @@ pub bound_hears : (plan : Plan) (me peer : EdgeId) (m : Message) (old new other 
 bound_hears plan me peer m old new other out back none hears bound = record {
   near = near_heard plan me peer m old new other out back hears bound;
   far = λ wire row is joined.
-      let own : IsBoundBy row.pw_id other.next_label (other.ends wire.0 me.0).local (old.ends wire.0 peer.0).remote (m ∷ back) out = bound.far wire row is joined in
-      rw (hears.remote wire row other.next_label (other.ends wire.0 me.0).local is joined
-      (and_left (withdraws_old row.pw_id other.next_label (other.ends wire.0 me.0).local m) (all_messages (withdraws_old row.pw_id other.next_label (other.ends wire.0 me.0).local) back) own.withdrawn))
-      (binding_heard row.pw_id other.next_label (other.ends wire.0 me.0).local (old.ends wire.0 peer.0).remote m back out (λ label at. none row.pw_id label) own);
+      let own : IsBoundBy row.pw_id (given_of other) (other.ends wire.0 me.0).local (old.ends wire.0 peer.0).remote (m ∷ back) out = bound.far wire row is joined in
+      rw (hears.remote wire row (given_of other) (other.ends wire.0 me.0).local is joined
+      (and_left (withdraws_old row.pw_id (given_of other) (other.ends wire.0 me.0).local m) (all_messages (withdraws_old row.pw_id (given_of other) (other.ends wire.0 me.0).local) back) own.withdrawn))
+      (binding_heard row.pw_id (given_of other) (other.ends wire.0 me.0).local (old.ends wire.0 peer.0).remote m back out (λ label at. none row.pw_id label) own);
 }
 
 -- a withdrawal, which is answered
@@ -64,28 +66,28 @@ pub bound_hears_withdrawal : (plan : Plan) (me peer : EdgeId) (id id2 : ℕ) (fe
     → HearsAs plan me peer (LabelWithdraw id fec label) old new → AreBound plan me.0 peer.0 old other out (LabelWithdraw id fec label ∷ back)
     → AreBound plan me.0 peer.0 new other (out ++ release fec label id2 ∷ []) back
 bound_hears_withdrawal plan me peer id id2 fec label old new other out back hears bound = record {
-  near = λ wire row is joined. binding_says_release row.pw_id new.next_label (new.ends wire.0 peer.0).local (other.ends wire.0 me.0).remote out back id2 (bare fec) label
+  near = λ wire row is joined. binding_says_release row.pw_id (given_of new) (new.ends wire.0 peer.0).local (other.ends wire.0 me.0).remote out back id2 (bare fec) label
       (near_heard plan me peer (LabelWithdraw id fec label) old new other out back hears bound wire row is joined);
   far = λ wire row is joined.
-      let own : IsBoundBy row.pw_id other.next_label (other.ends wire.0 me.0).local (old.ends wire.0 peer.0).remote (LabelWithdraw id fec label ∷ back) out = bound.far wire row is joined in
-      rw (hears.remote wire row other.next_label (other.ends wire.0 me.0).local is joined
-      (and_left (withdraws_old row.pw_id other.next_label (other.ends wire.0 me.0).local (LabelWithdraw id fec label)) (all_messages (withdraws_old row.pw_id other.next_label (other.ends wire.0 me.0).local) back) own.withdrawn))
-      (binding_hears_withdrawal row.pw_id other.next_label (other.ends wire.0 me.0).local (old.ends wire.0 peer.0).remote id id2 fec (bare fec) label back out refl own);
+      let own : IsBoundBy row.pw_id (given_of other) (other.ends wire.0 me.0).local (old.ends wire.0 peer.0).remote (LabelWithdraw id fec label ∷ back) out = bound.far wire row is joined in
+      rw (hears.remote wire row (given_of other) (other.ends wire.0 me.0).local is joined
+      (and_left (withdraws_old row.pw_id (given_of other) (other.ends wire.0 me.0).local (LabelWithdraw id fec label)) (all_messages (withdraws_old row.pw_id (given_of other) (other.ends wire.0 me.0).local) back) own.withdrawn))
+      (binding_hears_withdrawal row.pw_id (given_of other) (other.ends wire.0 me.0).local (old.ends wire.0 peer.0).remote id id2 fec (bare fec) label back out refl own);
 }
 
 -- a mapping of a wire that is not known, whose label is released
 pub bound_hears_unknown : (plan : Plan) (me peer : EdgeId) (id id2 : ℕ) (fec : PwFec) (label : ℕ) (status : Option PwStatus) (points : List Point) (edge other : EdgeState) (out back : List Message)
     → HearsAs plan me peer (LabelMapping id fec label status points) edge edge
-    → ((wire : WireId) (row : WirePlan) (next : ℕ) (near : LocalPart) → wire_row plan wire ≡ Some row → joins me.0 peer.0 row.path ≡ true → is_some fec.pw_id ≡ true → names_old row.pw_id next near fec.pw_id (Some label) ≡ true)
+    → ((wire : WireId) (row : WirePlan) (next : ℕ → Bool) (near : LocalPart) → wire_row plan wire ≡ Some row → joins me.0 peer.0 row.path ≡ true → is_some fec.pw_id ≡ true → names_old row.pw_id next near fec.pw_id (Some label) ≡ true)
     → AreBound plan me.0 peer.0 edge other out (LabelMapping id fec label status points ∷ back) → AreBound plan me.0 peer.0 edge other (out ++ release fec (Some label) id2 ∷ []) back
 bound_hears_unknown plan me peer id id2 fec label status points edge other out back hears unknown bound =
     let m : Message = LabelMapping id fec label status points in
     let heard : AreBound plan me.0 peer.0 edge other out back = bound_hears plan me peer m edge edge other out back (λ pw_id own. refl) hears bound in
     record {
-      near = λ wire row is joined. binding_says_release row.pw_id edge.next_label (edge.ends wire.0 peer.0).local (other.ends wire.0 me.0).remote out back id2 (bare fec) (Some label) (heard.near wire row is joined);
-      far = λ wire row is joined. binding_answers row.pw_id other.next_label (other.ends wire.0 me.0).local (edge.ends wire.0 peer.0).remote back out (release fec (Some label) id2)
-          (unknown wire row other.next_label (other.ends wire.0 me.0).local is joined
-          (and_left (is_some fec.pw_id) (all_messages (withdraws_old row.pw_id other.next_label (other.ends wire.0 me.0).local) back) (bound.far wire row is joined).withdrawn))
+      near = λ wire row is joined. binding_says_release row.pw_id (given_of edge) (edge.ends wire.0 peer.0).local (other.ends wire.0 me.0).remote out back id2 (bare fec) (Some label) (heard.near wire row is joined);
+      far = λ wire row is joined. binding_answers row.pw_id (given_of other) (other.ends wire.0 me.0).local (edge.ends wire.0 peer.0).remote back out (release fec (Some label) id2)
+          (unknown wire row (given_of other) (other.ends wire.0 me.0).local is joined
+          (and_left (is_some fec.pw_id) (all_messages (withdraws_old row.pw_id (given_of other) (other.ends wire.0 me.0).local) back) (bound.far wire row is joined).withdrawn))
           (heard.far wire row is joined);
     }
 
@@ -143,7 +145,7 @@ mapping_known plan peer id fec label status points place edge checked named = by
   by_name : (name : Option ℕ) → fec.pw_id ≡ name → option_and_then (end_named plan edge.me peer) name ≡ Some place → HearsAs plan edge.me peer (LabelMapping id fec label status points) edge new
   by_name None is none = absurd (cc)
   by_name (Some n) is there = record {
-    label = end_label place (bound binding (end_at edge place)) edge;
+    label = end_given place (bound binding (end_at edge place)) edge;
     local = λ wire row at joined. ap (λ (e : EndState). e.local) (end_changed plan peer n (bound binding) place edge wire row checked at joined there)
         ∙ local_of (n == row.pw_id) (bound binding (edge.ends wire.0 peer.0)) (edge.ends wire.0 peer.0) (edge.ends wire.0 peer.0).local refl refl;
     remote = λ wire row next near at joined alone. rw is (ap (λ (e : EndState). e.remote) (end_changed plan peer n (bound binding) place edge wire row checked at joined there)
@@ -154,7 +156,7 @@ mapping_known plan peer id fec label status points place edge checked named = by
 pub mapping_unknown : (plan : Plan) (peer : EdgeId) (id : ℕ) (fec : PwFec) (label : ℕ) (status : Option PwStatus) (points : List Point) (edge : EdgeState) → IsChecked plan → end_of_fec plan edge peer fec ≡ None
     → HearsAs plan edge.me peer (LabelMapping id fec label status points) edge edge
 mapping_unknown plan peer id fec label status points edge checked none = record {
-  label = refl;
+  label = λ label given. given;
   local = λ wire row at joined. refl;
   remote = λ wire row next near at joined alone. by_name wire row at joined fec.pw_id refl none;
 }
@@ -170,7 +172,7 @@ mapping_unknown plan peer id fec label status points edge checked none = record 
 
 -- and then its label is none of a wire between the two
 pub unknown_released : (plan : Plan) (peer : EdgeId) (fec : PwFec) (label : ℕ) (edge : EdgeState) → IsChecked plan → end_of_fec plan edge peer fec ≡ None
-    → (wire : WireId) (row : WirePlan) (next : ℕ) (near : LocalPart) → wire_row plan wire ≡ Some row → joins edge.me.0 peer.0 row.path ≡ true → is_some fec.pw_id ≡ true → names_old row.pw_id next near fec.pw_id (Some label) ≡ true
+    → (wire : WireId) (row : WirePlan) (next : ℕ → Bool) (near : LocalPart) → wire_row plan wire ≡ Some row → joins edge.me.0 peer.0 row.path ≡ true → is_some fec.pw_id ≡ true → names_old row.pw_id next near fec.pw_id (Some label) ≡ true
 unknown_released plan peer fec label edge checked none wire row next near at joined some = by_name fec.pw_id none some where
   by_name : (name : Option ℕ) → option_and_then (end_named plan edge.me peer) name ≡ None → is_some name ≡ true → names_old row.pw_id next near name (Some label) ≡ true
   by_name None none some = clash some
@@ -184,16 +186,17 @@ changed_ends plan peer n change edge wire row checked at joined = by_end (end_na
   by_end None is = rw (not_named plan edge.me peer n wire row checked at joined is) refl
   by_end (Some place) is = end_changed plan peer n change place edge wire row checked at joined is
 
-changed_label : (change : EndState → EndState) (found : Option EndPlace) (edge : EdgeState) → (with_end_changed change found edge).next_label ≡ edge.next_label
-changed_label change None edge = refl
-changed_label change (Some place) edge = end_label place (change (end_at edge place)) edge
+changed_label : (change : EndState → EndState) (found : Option EndPlace) (edge : EdgeState) → StaysGiven (given_of edge) (given_of (with_end_changed change found edge))
+unfolding with_end
+changed_label change None edge = λ label given. given
+changed_label change (Some place) edge = λ label given. given
 
-beside_label : (peer : EdgeId) (change : EndState → EndState) (edge : EdgeState) → (with_ends_beside peer change edge).next_label ≡ edge.next_label
+beside_label : (peer : EdgeId) (change : EndState → EndState) (edge : EdgeState) → StaysGiven (given_of edge) (given_of (with_ends_beside peer change edge))
 unfolding with_ends_beside
-beside_label peer change edge = refl
+beside_label peer change edge = λ label given. given
 
 beside_ends : (peer : EdgeId) (change : EndState → EndState) (edge : EdgeState) (wire : ℕ) → (with_ends_beside peer change edge).ends wire peer.0 ≡ change (edge.ends wire peer.0)
-unfolding with_ends_beside
+unfolding with_ends_beside with_kept
 beside_ends peer change edge wire = rw (itself peer.0) refl
 
 -- Label Withdraw
@@ -220,7 +223,7 @@ withdraw_heard plan peer id fec label edge checked = by_name fec.pw_id refl wher
 
 -- Label Release
 pub release_heard : (plan : Plan) (peer : EdgeId) (id : ℕ) (fec : PwFec) (label : Option ℕ) (edge : EdgeState) → IsChecked plan
-    → HearsAs plan edge.me peer (LabelRelease id fec label) edge (with_end_changed (released label) (end_of_fec plan edge peer fec) edge)
+    → HearsAs plan edge.me peer (LabelRelease id fec label) edge (with_released label (end_of_fec plan edge peer fec) edge)
 release_heard plan peer id fec label edge checked = by_name fec.pw_id refl where
   part_of : (b : Bool) (e : EndState) → (cond b (released label e) e).local ≡ cond b (release_part label e.local) e.local
   part_of true e = refl
@@ -230,12 +233,12 @@ release_heard plan peer id fec label edge checked = by_name fec.pw_id refl where
   same_remote true e = refl
   same_remote false e = refl
 
-  by_name : (name : Option ℕ) → fec.pw_id ≡ name → HearsAs plan edge.me peer (LabelRelease id fec label) edge (with_end_changed (released label) (option_and_then (end_named plan edge.me peer) name) edge)
-  by_name None is = record { label = refl; local = λ wire row at joined. rw is refl; remote = λ wire row next near at joined alone. refl }
+  by_name : (name : Option ℕ) → fec.pw_id ≡ name → HearsAs plan edge.me peer (LabelRelease id fec label) edge (with_released label (option_and_then (end_named plan edge.me peer) name) edge)
+  by_name None is = record { label = λ label given. given; local = λ wire row at joined. rw is refl; remote = λ wire row next near at joined alone. refl }
   by_name (Some n) is = record {
-    label = changed_label (released label) (end_named plan edge.me peer n) edge;
-    local = λ wire row at joined. rw is (ap (λ (e : EndState). e.local) (changed_ends plan peer n (released label) edge wire row checked at joined) ∙ part_of (n == row.pw_id) (edge.ends wire.0 peer.0));
-    remote = λ wire row next near at joined alone. ap (λ (e : EndState). e.remote) (changed_ends plan peer n (released label) edge wire row checked at joined) ∙ same_remote (n == row.pw_id) (edge.ends wire.0 peer.0);
+    label = heard_given label (end_named plan edge.me peer n) edge;
+    local = λ wire row at joined. rw is (ap (λ (f : ℕ → ℕ → EndState). (f wire.0 peer.0).local) (released_ends label (end_named plan edge.me peer n) edge) ∙ ap (λ (e : EndState). e.local) (changed_ends plan peer n (released label) edge wire row checked at joined) ∙ part_of (n == row.pw_id) (edge.ends wire.0 peer.0));
+    remote = λ wire row next near at joined alone. ap (λ (f : ℕ → ℕ → EndState). (f wire.0 peer.0).remote) (released_ends label (end_named plan edge.me peer n) edge) ∙ ap (λ (e : EndState). e.remote) (changed_ends plan peer n (released label) edge wire row checked at joined) ∙ same_remote (n == row.pw_id) (edge.ends wire.0 peer.0);
   }
 
 -- a status, of a pseudowire
@@ -263,4 +266,4 @@ status_heard_as plan peer id code status fec edge checked right = by_name fec.pw
 -- a notification of another code
 pub other_code : (plan : Plan) (peer : EdgeId) (id : ℕ) (code : StatusCode) (status : PwStatus) (fec : PwFec) (edge : EdgeState) → code.code == pw_status_code ≡ false
     → HearsAs plan edge.me peer (Notification id code (Some status) (Some fec)) edge edge
-other_code plan peer id code status fec edge wrong = record { label = refl; local = λ wire row at joined. refl; remote = λ wire row next near at joined alone. rw wrong refl }
+other_code plan peer id code status fec edge wrong = record { label = λ label given. given; local = λ wire row at joined. refl; remote = λ wire row next near at joined alone. rw wrong refl }

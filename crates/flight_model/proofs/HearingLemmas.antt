@@ -17,7 +17,7 @@ use Rattle.edge_model.specs.Hear.{acts, acts_on, hears_few, hears_message, hears
 use Rattle.edge_model.specs.Mend.{mends}
 use Rattle.edge_model.specs.Put.{platform_of}
 use Rattle.edge_model.specs.Session.{clears_ends, ends, happens_with_ends}
-use Rattle.edge_model.specs.State.{Peering, has_end, is_there, with_ends_beside, with_peering}
+use Rattle.edge_model.specs.State.{Peering, has_end, is_there, with_ends_beside, with_peering, with_kept}
 use Rattle.edge_model.specs.Work.{Work, Answers, changes, gives}
 use Rattle.network_model.specs.Absorb.{taken_all}
 use Rattle.flight_model.specs.Messages.{AreSaid, IsSaid, octets_of_all}
@@ -108,7 +108,7 @@ unfolding gives changes with_peering
 ended_none peer why work = rw (same_place peer.0) refl
 
 cleared_none : (peer : EdgeId) (work : Work) → work.edge.peering peer.0 ≡ None → (clears_ends peer work).edge.peering peer.0 ≡ None
-unfolding changes with_ends_beside
+unfolding changes with_ends_beside with_kept
 cleared_none peer work at = rw (at, at) refl
 
 -- a fatal message ends the session

@@ -32,9 +32,10 @@ pub record KeepsEnds (old new : EdgeState) : Type 0 where
   pub ends : new.ends ≡ old.ends
   pub told_down : new.told_down ≡ old.told_down
   pub next_label : new.next_label ≡ old.next_label
+  pub kept : new.kept ≡ old.kept
 
 pub keeps_same : (edge : EdgeState) → KeepsEnds edge edge
-keeps_same edge = record { me = refl; wire_on = refl; bits = refl; ends = refl; told_down = refl; next_label = refl }
+keeps_same edge = record { me = refl; wire_on = refl; bits = refl; ends = refl; told_down = refl; next_label = refl; kept = refl }
 
 pub keeps_then : (a b c : EdgeState) → KeepsEnds a b → KeepsEnds b c → KeepsEnds a c
 keeps_then a b c one next = record {
@@ -44,15 +45,16 @@ keeps_then a b c one next = record {
   ends = next.ends ∙ one.ends;
   told_down = next.told_down ∙ one.told_down;
   next_label = next.next_label ∙ one.next_label;
+  kept = next.kept ∙ one.kept;
 }
 
 pub peering_keeps : (peer : EdgeId) (near : Option Peering) (work : Work) → KeepsEnds work.edge (changes (with_peering peer near) work).edge
 unfolding changes with_peering
-peering_keeps peer near work = record { me = refl; wire_on = refl; bits = refl; ends = refl; told_down = refl; next_label = refl }
+peering_keeps peer near work = record { me = refl; wire_on = refl; bits = refl; ends = refl; told_down = refl; next_label = refl; kept = refl }
 
 pub put_keeps : (peer : EdgeId) (bytes : List ℕ) (taken : Bool) (work : Work) → KeepsEnds work.edge (put_octets peer bytes taken work).work.edge
 unfolding gives changes with_spoken with_peering puts
-put_keeps peer bytes true work = record { me = refl; wire_on = refl; bits = refl; ends = refl; told_down = refl; next_label = refl }
+put_keeps peer bytes true work = record { me = refl; wire_on = refl; bits = refl; ends = refl; told_down = refl; next_label = refl; kept = refl }
 put_keeps peer bytes false work = keeps_same work.edge
 
 reply_keeps : (told : Answers) (peer : EdgeId) (r : Reply) (near : Option Peering) (work : Work) → KeepsEnds work.edge (put_reply_to told peer r near work).work.edge
@@ -70,7 +72,7 @@ replies_keep told peer (r ∷ rs) work =
 
 pub ends_keeps : (peer : EdgeId) (why : Reason) (work : Work) → KeepsEnds work.edge (ends peer why work).edge
 unfolding gives changes with_peering
-ends_keeps peer why work = record { me = refl; wire_on = refl; bits = refl; ends = refl; told_down = refl; next_label = refl }
+ends_keeps peer why work = record { me = refl; wire_on = refl; bits = refl; ends = refl; told_down = refl; next_label = refl; kept = refl }
 
 tells_keeps : (peer : EdgeId) (same : Bool) (new : Phase) (work : Work) → KeepsEnds work.edge (cond same work (gives (effect.Session peer (phase_name new)) work)).edge
 unfolding gives

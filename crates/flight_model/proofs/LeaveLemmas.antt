@@ -14,7 +14,10 @@ use Rattle.flight_model.specs.Ends.{ends_at}
 use Rattle.flight_model.specs.Meeting.{said_to}
 use Rattle.flight_model.specs.Messages.{AreSaid, IsSaid, octets_of_all}
 use Rattle.flight_model.specs.Pair.{AreFit, IsStanding}
-use Rattle.flight_model.proofs.EdgeBindingLemmas.{GoesOn, HasSameEnds, bound_elsewhere, bound_same, clash}
+use Rattle.flight_model.specs.Bound.{given_of}
+use Rattle.flight_model.proofs.BindingLemmas.{StaysGiven}
+use Rattle.flight_model.proofs.GivenLemmas.{given_on}
+use Rattle.flight_model.proofs.EdgeBindingLemmas.{HasSameEnds, bound_elsewhere, bound_same, clash}
 use Rattle.flight_model.proofs.SaidLemmas.{all_joined, said-append}
 use Rattle.flight_model.proofs.SpokenLemmas.{HasSpoken}
 use Rattle.flight_model.proofs.UniqueLemmas.{said_once}
@@ -30,7 +33,7 @@ leaves_same plan me place far out answers old new said there same leaves = recor
 
 -- the ends beside the place are as they were, and another end took a label, or none
 pub leaves_goes : (plan : Plan) (me : EdgeId) (place : ℕ) (far : EdgeState) (out : List ℕ) (answers : List Message) (old new : Work) → said_to place new.effects ≡ said_to place old.effects
-    → (is_there (new.edge.peering place) ≡ true → is_there (old.edge.peering place) ≡ true) → GoesOn old.edge.next_label new.edge.next_label → ((wire : ℕ) → new.edge.ends wire place ≡ old.edge.ends wire place)
+    → (is_there (new.edge.peering place) ≡ true → is_there (old.edge.peering place) ≡ true) → StaysGiven (given_of old.edge) (given_of new.edge) → ((wire : ℕ) → new.edge.ends wire place ≡ old.edge.ends wire place)
     → LeavesBound plan me place far out answers old → LeavesBound plan me place far out answers new
 leaves_goes plan me place far out answers old new said there goes same leaves = record {
   bound = λ messages are is near other. bound_elsewhere plan me.0 place old.edge new.edge far messages answers goes same (leaves.bound messages are (rw said at is) (there near) other);
@@ -74,7 +77,7 @@ leaves_spoken plan me peer far out before after kept message old changed new has
     (ap (λ (p : Peers). written (message kept.next_id) (platform_of p.me)) standing.peers ∙ sym (same_end (written (message kept.next_id) (platform_of (ends_at plan me.0 peer.0).me))))
     (spoken.said ∙ ap (λ (l : List ℕ). l ++ message_octets_of kept message) same) (λ near. ap is_there at)
     (λ near bound. bound_same plan me.0 peer.0 changed.edge new.edge far (has.messages ++ message kept.next_id ∷ []) after
-    (record { label = spoken.label; ends = λ wire. ap (λ (f : ℕ → ℕ → EndState). f wire peer.0) spoken.ends }) (follows bound)) leaves
+    (record { label = given_on changed.edge new.edge spoken.label spoken.labels; ends = λ wire. ap (λ (f : ℕ → ℕ → EndState). f wire peer.0) spoken.ends }) (follows bound)) leaves
   where
     standing : IsStanding (ends_at plan me.0 peer.0) (ends_at plan peer.0 me.0) kept
     standing = rw at at has.talk.here

@@ -26,6 +26,8 @@ pub mod MeetLemmas
 pub mod MendedRunLemmas
 pub mod MendingLemmas
 pub mod MentionLemmas
+pub mod FreedLemmas
+pub mod GivenLemmas
 pub mod NameLemmas
 pub mod OfferLemmas
 pub mod OutcomeLemmas
@@ -60,6 +62,7 @@ pub mod SteadyLemmas
 mod StitchExamples
 pub mod TalkLemmas
 pub mod TellLemmas
+pub mod TickBindingLemmas
 pub mod ToldLemmas
 pub mod UniqueLemmas
 pub mod UpExamples

@@ -28,7 +28,7 @@ use Rattle.edge_model.specs.Hear.{hears_on, octets_input}
 use Rattle.edge_model.specs.Mend.{is_up_with, mends, wish_by, wish_of}
 use Rattle.edge_model.specs.Packet.{packet_input}
 use Rattle.edge_model.specs.Session.{happens_with_ends}
-use Rattle.edge_model.specs.State.{EdgeState, Peering, empty_edge, has_end, with_addresses, with_bits, with_circuit, with_learned, with_priority, with_renewed, with_wire, without_ends, without_peerings}
+use Rattle.edge_model.specs.State.{EdgeState, Peering, empty_edge, has_end, with_addresses, with_bits, with_circuit, with_learned, with_priority, with_renewed, with_wire, without_ends, without_peerings, with_kept}
 use Rattle.edge_model.specs.Ping.{ping_input}
 use Rattle.edge_model.specs.Tick.{counted, forgetting, tick_input, ticks_sessions}
 use Rattle.edge_model.specs.Wire.{is_own_spoke, priority_input, status_input, turned_wire, wire_input}
@@ -47,7 +47,7 @@ use Rattle.network_model.specs.Frame.{entering, frame_event, frame_work, next_or
 use Rattle.network_model.specs.Packet.{again_event, arrive_event, discard_event, packet_at, packet_work}
 use Rattle.network_model.specs.Ping.{ping_event, ping_work}
 use Rattle.network_model.specs.Run.{state_after}
-use Rattle.network_model.specs.State.{NetworkState, edge_at, empty_network, stands, with_edge, with_frame, with_packet, with_pipe, without_octets_to, without_packet}
+use Rattle.network_model.specs.State.{NetworkState, edge_at, empty_network, stands, with_copy, with_edge, with_frame, with_older, with_pipe, without_octets_to, without_packet}
 use Rattle.network_model.specs.Step.{step}
 use Rattle.network_model.specs.Tick.{tick_at, ticks_from}
 use Rattle.network_model.specs.Wire.{priority_event, status_event, wire_event}
@@ -136,7 +136,7 @@ module _ (plan : Plan) (checked : IsChecked plan) where
     lost_mend peer = applies_mend (has_end work.edge peer) (happens_with_ends taken_all peer (Closed reason.Closed) work) (happens_with_ends_works taken_all any peer (Closed reason.Closed) work refl).edge.me
 
     restart_mend : IsMendedAt plan k (restart_input work).edge
-    unfolding changes without_ends with_learned without_peerings
+    unfolding changes without_ends with_learned without_peerings with_kept
     restart_mend = silent_mended plan k (restart_input work).edge mended.me (λ wire peer. refl) (λ peer. refl)
 
     tick_mend : IsMendedAt plan k (tick_input plan taken_all work).edge
@@ -316,8 +316,12 @@ module _ (plan : Plan) (checked : IsChecked plan) where
   discard_holds None network holds = holds
   discard_holds (Some packet) network holds = without_holds packet.number network holds
 
+  older_holds : (network : NetworkState) → HoldsOfEach (IsMendedAt plan) network → HoldsOfEach (IsMendedAt plan) (with_older network)
+  unfolding with_older
+  older_holds network holds = holds
+
   again_holds : (found : Option Packet) (network : NetworkState) → HoldsOfEach (IsMendedAt plan) network → HoldsOfEach (IsMendedAt plan) (again_event found network).state
-  unfolding with_packet
+  unfolding with_copy
   again_holds None network holds = holds
   again_holds (Some packet) network holds = holds
 
@@ -328,7 +332,7 @@ module _ (plan : Plan) (checked : IsChecked plan) where
   event_holds (Deliver from to count) network holds = deliver_holds from to count network holds
   event_holds (Lose me peer) network holds = lose_holds me peer network holds
   event_holds (Restart me) network holds = restart_holds me network holds
-  event_holds Tick network holds = ticks_hold 0 (length plan.edges) network holds
+  event_holds Tick network holds = ticks_hold 0 (length plan.edges) (with_older network) (older_holds network holds)
   event_holds (Frame circuit octets) network holds = frame_keeps circuit octets (circuit_row plan circuit) network holds
   event_holds (Circuit circuit on) network holds = circuit_keeps circuit on (circuit_row plan circuit) network holds
   event_holds (Wire me wire on) network holds = wire_keeps me wire on network holds

@@ -15,7 +15,7 @@ use Rattle.edge_model.specs.declared.effect.Effect.TheVariants.{Wire}
 use Rattle.edge_model.specs.declared.end_place.EndPlace.{EndPlace}
 use Rattle.edge_model.specs.Content.{mac_withdrawal, mapping}
 use Rattle.edge_model.specs.EndPlaces.{end_places}
-use Rattle.edge_model.specs.Mend.{advertises_wish, advertising, cause_number, each_end, forgets_down, forgets_downs, forgetting_wire, is_new_choice, mends, mends_again, mends_choice, mends_end, mends_few, mends_local, mends_once, mends_status, mends_status_of, stands, tells_down, tells_downs, tells_new_status, tells_over, wish, withdraws}
+use Rattle.edge_model.specs.Mend.{advertises_under, advertises_wish, advertising, cause_number, each_end, forgets_down, forgets_downs, forgetting_wire, is_new_choice, mends, mends_again, mends_choice, mends_end, mends_few, mends_local, mends_once, mends_status, mends_status_of, stands, tells_down, tells_downs, tells_new_status, tells_over, wish, withdraws}
 use Rattle.edge_model.specs.Put.{Spoken, stays}
 use Rattle.edge_model.specs.Role.{down_at, status_to_tell}
 use Rattle.edge_model.specs.Session.{says}
@@ -29,13 +29,14 @@ use Rattle.flight_model.proofs.BridgeLemmas.{learns_keeps}
 use Rattle.flight_model.proofs.KeepLemmas.{KeepsEnds}
 use Rattle.flight_model.proofs.PieceLemmas.{IsPiece, none_are_piece}
 use Rattle.flight_model.proofs.PlaceLemmas.{IsEndOf, places_are}
+use Rattle.edge_model.specs.Labels.{label_to_give}
 
 -- what is so of an edge at work at this place, and what each row of mending keeps
 pub record KeptByRows (plan : Plan) (me : EdgeId) (I : Work → Type 0) : Type 0 where
   pub placed : (work : Work) → I work → work.edge.me ≡ me
-  -- an idle end advertises the next label
-  pub advertises : (place : EndPlace) (content : Told) (work : Work) → IsEndOf plan me place → (end_at work.edge place).local ≡ Idle false → wish plan work.edge place ≡ Some content
-      → work.edge.next_label == numbers_end ≡ false → I work → I (says taken_all place.peer (mapping place.pw_id work.edge.next_label content) (changes (advertising place work.edge.next_label content) work)).work
+  -- an idle end advertises the label that is given
+  pub advertises : (place : EndPlace) (label : ℕ) (content : Told) (work : Work) → IsEndOf plan me place → (end_at work.edge place).local ≡ Idle false → wish plan work.edge place ≡ Some content
+      → label_to_give work.edge ≡ Some label → I work → I (says taken_all place.peer (mapping place.pw_id label content) (changes (advertising place label content) work)).work
   -- an end withdraws its label where what it has told does not stand
   pub withdraws : (place : EndPlace) (label : ℕ) (content : Told) (work : Work) → IsEndOf plan me place → (end_at work.edge place).local ≡ Advertised label content → stands place content (wish plan work.edge place) ≡ false
       → I work → I (withdraws taken_all place label content work).work
@@ -53,19 +54,19 @@ pub record KeptByRows (plan : Plan) (me : EdgeId) (I : Work → Type 0) : Type 0
 -- the choice among spokes leaves them so
 choosing_rest : (plan : Plan) (edge : EdgeState) → KeepsEnds edge (choosing plan edge) × ((choosing plan edge).peering ≡ edge.peering)
 unfolding with_chosen
-choosing_rest plan edge = (record { me = refl; wire_on = refl; bits = refl; ends = refl; told_down = refl; next_label = refl }, refl)
+choosing_rest plan edge = (record { me = refl; wire_on = refl; bits = refl; ends = refl; told_down = refl; next_label = refl; kept = refl }, refl)
 
 module _ (plan : Plan) (me : EdgeId) (I : Work → Type 0) (kept : KeptByRows plan me I) where
   pub end_keeps : (place : EndPlace) → IsEndOf plan me place → (work : Work) → I work → I (mends_end plan taken_all place work).work
   end_keeps place is work i = by_local (end_at work.edge place).local refl where
-    by_label : (content : Told) → (end_at work.edge place).local ≡ Idle false → wish plan work.edge place ≡ Some content → (none : Bool) → work.edge.next_label == numbers_end ≡ none
-        → I (cond none (stays work) (says taken_all place.peer (mapping place.pw_id work.edge.next_label content) (changes (advertising place work.edge.next_label content) work))).work
-    by_label content at wished true none = i
-    by_label content at wished false some = kept.advertises place content work is at wished some i
+    by_label : (content : Told) → (end_at work.edge place).local ≡ Idle false → wish plan work.edge place ≡ Some content → (r : Option ℕ) → label_to_give work.edge ≡ r
+        → I (advertises_under taken_all place content r work).work
+    by_label content at wished None none = i
+    by_label content at wished (Some label) given = kept.advertises place label content work is at wished given i
 
     by_wish : (end_at work.edge place).local ≡ Idle false → (wished : Option Told) → wish plan work.edge place ≡ wished → I (advertises_wish taken_all place wished work).work
     by_wish at None wished = i
-    by_wish at (Some content) wished = by_label content at wished (work.edge.next_label == numbers_end) refl
+    by_wish at (Some content) wished = by_label content at wished (label_to_give work.edge) refl
 
     unless : (label : ℕ) (content : Told) → (end_at work.edge place).local ≡ Advertised label content → (still : Bool) → stands place content (wish plan work.edge place) ≡ still
         → I (cond still (stays work) (withdraws taken_all place label content work)).work

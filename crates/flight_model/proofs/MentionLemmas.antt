@@ -37,31 +37,47 @@ all_kept P Q (m ∷ ms) keeps all = (keeps m all.0, all_kept P Q ms keeps all.1)
 
 -- ---- what is named goes on
 
-pub may_kept : (old new : EdgeState) (peer label : ℕ) (place : Option EndPlace) → KeepsNames old new → MayNameAt old peer place label → MayNameAt new peer place label
-may_kept old new peer label None keeps may = may
-may_kept old new peer label (Some place) keeps may = keeps.names place.wire.0 peer label may
+-- whatever message or binding may name a label with an end beside a peer may do so still
+abbrev pub KeepsMentions : ℕ → EdgeState → EdgeState → Type 0
+KeepsMentions peer old new = (wire label : ℕ) → MayName old wire peer label → MayName new wire peer label
+
+pub mentions : (peer : ℕ) (old new : EdgeState) → KeepsNames old new → KeepsMentions peer old new
+mentions peer old new keeps wire label may = keeps.names wire peer label None may
+
+may_mentioned : (old new : EdgeState) (peer label : ℕ) (place : Option EndPlace) → KeepsMentions peer old new → MayNameAt old peer place label → MayNameAt new peer place label
+may_mentioned old new peer label None keeps may = may
+may_mentioned old new peer label (Some place) keeps may = keeps place.wire.0 label may
 
 -- the end that a FEC names at an edge that stays at its place
-named_kept : (plan : Plan) (old new : EdgeState) (peer label : ℕ) (fec : PwFec) → new.me ≡ old.me → KeepsNames old new
+named_kept : (plan : Plan) (old new : EdgeState) (peer label : ℕ) (fec : PwFec) → new.me ≡ old.me → KeepsMentions peer old new
     → MayNameAt old peer (end_of_fec plan old (record { 0 = peer }) fec) label → MayNameAt new peer (end_of_fec plan new (record { 0 = peer }) fec) label
 named_kept plan old new peer label fec same keeps may =
     subst (λ (place : Option EndPlace). MayNameAt new peer place label) (ap (λ (k : EdgeId). option_and_then (end_named plan k (record { 0 = peer })) fec.pw_id) (sym same))
-    (may_kept old new peer label (end_of_fec plan old (record { 0 = peer }) fec) keeps may)
+    (may_mentioned old new peer label (end_of_fec plan old (record { 0 = peer }) fec) keeps may)
+
+pub own_mentioned : (plan : Plan) (old new : EdgeState) (peer : ℕ) (m : Message) → new.me ≡ old.me → KeepsMentions peer old new → NamesOwn plan old peer m → NamesOwn plan new peer m
+own_mentioned plan old new peer (LabelMapping id fec label status points) same keeps may = named_kept plan old new peer label fec same keeps may
+own_mentioned plan old new peer (LabelWithdraw id fec (Some label)) same keeps may = named_kept plan old new peer label fec same keeps may
+own_mentioned plan old new peer (LabelWithdraw id fec None) same keeps may = tt
+own_mentioned plan old new peer m same keeps may = tt
 
 pub own_kept : (plan : Plan) (old new : EdgeState) (peer : ℕ) (m : Message) → new.me ≡ old.me → KeepsNames old new → NamesOwn plan old peer m → NamesOwn plan new peer m
-own_kept plan old new peer (LabelMapping id fec label status points) same keeps may = named_kept plan old new peer label fec same keeps may
-own_kept plan old new peer (LabelWithdraw id fec (Some label)) same keeps may = named_kept plan old new peer label fec same keeps may
-own_kept plan old new peer (LabelWithdraw id fec None) same keeps may = tt
-own_kept plan old new peer m same keeps may = tt
+own_kept plan old new peer m same keeps may = own_mentioned plan old new peer m same (mentions peer old new keeps) may
+
+pub far_mentioned : (plan : Plan) (old new : EdgeState) (peer : ℕ) (m : Message) → new.me ≡ old.me → KeepsMentions peer old new → NamesFar plan old peer m → NamesFar plan new peer m
+far_mentioned plan old new peer (LabelRelease id fec (Some label)) same keeps may = named_kept plan old new peer label fec same keeps may
+far_mentioned plan old new peer (LabelRelease id fec None) same keeps may = tt
+far_mentioned plan old new peer m same keeps may = tt
 
 pub far_kept : (plan : Plan) (old new : EdgeState) (peer : ℕ) (m : Message) → new.me ≡ old.me → KeepsNames old new → NamesFar plan old peer m → NamesFar plan new peer m
-far_kept plan old new peer (LabelRelease id fec (Some label)) same keeps may = named_kept plan old new peer label fec same keeps may
-far_kept plan old new peer (LabelRelease id fec None) same keeps may = tt
-far_kept plan old new peer m same keeps may = tt
+far_kept plan old new peer m same keeps may = far_mentioned plan old new peer m same (mentions peer old new keeps) may
+
+pub binds_mentioned : (old new : EdgeState) (wire peer : ℕ) (held : Option Binding) → KeepsMentions peer old new → BindsGiven old wire peer held → BindsGiven new wire peer held
+binds_mentioned old new wire peer None keeps given = tt
+binds_mentioned old new wire peer (Some binding) keeps given = keeps wire binding.label given
 
 pub binds_kept : (old new : EdgeState) (wire peer : ℕ) (held : Option Binding) → KeepsNames old new → BindsGiven old wire peer held → BindsGiven new wire peer held
-binds_kept old new wire peer None keeps given = tt
-binds_kept old new wire peer (Some binding) keeps given = keeps.names wire peer binding.label given
+binds_kept old new wire peer held keeps given = binds_mentioned old new wire peer held (mentions peer old new keeps) given
 
 -- ---- what an edge says
 

@@ -37,7 +37,7 @@ use Rattle.flight_model.proofs.PlaceLemmas.{IsEndOf, find_holds, places_are}
 -- what the bridge has learned is no matter of neighbours and of the ends of pseudowires
 pub forgetting_rest : (service : ServiceId) (addresses : List Mac) (from : ℕ) (edge : EdgeState) → KeepsEnds edge (withdrawing_at service addresses from edge) × ((withdrawing_at service addresses from edge).peering ≡ edge.peering)
 unfolding with_addresses
-forgetting_rest service addresses from edge = (record { me = refl; wire_on = refl; bits = refl; ends = refl; told_down = refl; next_label = refl }, refl)
+forgetting_rest service addresses from edge = (record { me = refl; wire_on = refl; bits = refl; ends = refl; told_down = refl; next_label = refl; kept = refl }, refl)
 
 -- the terminal end of a wire is one of the edge
 pub wire_end_is : (plan : Plan) (me : EdgeId) (wire : WireId) (place : EndPlace) → wire_end plan me wire ≡ Some place → IsEndOf plan me place

@@ -17,7 +17,7 @@ use Rattle.edge_model.specs.EndPlaces.{end_named}
 use Rattle.edge_model.specs.Signal.{end_of_fec}
 use Rattle.edge_model.specs.State.{EdgeState}
 use Rattle.network_model.specs.State.{NetworkState}
-use Rattle.flight_model.specs.Bound.{AreBound, has_advertised, is_old, is_release_of, is_waited_for, is_withdrawal_of, names_old, releases_old, some_message}
+use Rattle.flight_model.specs.Bound.{AreBound, given_of, has_advertised, is_old, is_release_of, is_waited_for, is_withdrawal_of, names_old, releases_old, some_message}
 use Rattle.flight_model.specs.Ends.{IsOrdered, ends_at}
 use Rattle.flight_model.specs.Facts.{flight}
 use Rattle.flight_model.specs.Flight.{all_messages}
@@ -49,11 +49,11 @@ never false so fails = clash so
 
 -- ---- a label that is withdrawn
 
-awaits_release : (pw_id next : ℕ) (near : LocalPart) (out back : List Message) → is_waited_for pw_id next near out back ≡ true → AwaitsRelease pw_id near out back
+awaits_release : (pw_id : ℕ) (next : ℕ → Bool) (near : LocalPart) (out back : List Message) → is_waited_for pw_id next near out back ≡ true → AwaitsRelease pw_id near out back
 awaits_release pw_id next (Idle declined) out back waits = tt
 awaits_release pw_id next (Advertised label told) out back waits = tt
 awaits_release pw_id next (Withdrawing label) out back waits =
-    let some = and_right (nat_lt label next) (some_message (is_withdrawal_of pw_id label) out || some_message (is_release_of pw_id label) back) waits in
+    let some = and_right (next label) (some_message (is_withdrawal_of pw_id label) out || some_message (is_release_of pw_id label) back) waits in
     elim (cases_Bool (some_message (is_withdrawal_of pw_id label) out)) [
       | inl here ↦ inl here
       | inr away ↦ inr (rw away at some)
@@ -68,7 +68,7 @@ runs_await_releases plan events run a b both =
       back = now.pair.answers;
       goes = record { octets = now.pair.out_is; said = now.pair.talk.said };
       comes = record { octets = now.pair.back_is; said = now.pair.talk.answered };
-      awaits = λ wire row is joined. awaits_release row.pw_id (network.edges a).next_label ((network.edges a).ends wire.0 b).local now.pair.messages now.pair.answers (now.bound.near wire row is joined).waits;
+      awaits = λ wire row is joined. awaits_release row.pw_id (given_of (network.edges a)) ((network.edges a).ends wire.0 b).local now.pair.messages now.pair.answers (now.bound.near wire row is joined).waits;
     }
 
 -- ---- a label that is released
@@ -80,17 +80,17 @@ advertised_owned (Advertised own told) label is = is
 advertised_owned (Withdrawing own) label is = clash is
 
 -- a label that is named with the wire itself is old
-old_label : (pw_id next : ℕ) (near : LocalPart) (named : Option ℕ) (label : ℕ) → named ≡ Some pw_id → names_old pw_id next near named (Some label) ≡ true → has_advertised near label ≡ false
+old_label : (pw_id : ℕ) (next : ℕ → Bool) (near : LocalPart) (named : Option ℕ) (label : ℕ) → named ≡ Some pw_id → names_old pw_id next near named (Some label) ≡ true → has_advertised near label ≡ false
 old_label pw_id next near named label is old =
     let own : not (nat_eq pw_id pw_id) || is_old next near label ≡ true = rw is at old in
-    is_not (has_advertised near label) (and_right (nat_lt label next) (not (has_advertised near label)) (rw (itself pw_id) at own))
+    is_not (has_advertised near label) (and_right (next label) (not (has_advertised near label)) (rw (itself pw_id) at own))
   where
     is_not : (b : Bool) → not b ≡ true → b ≡ false
     is_not true e = clash e
     is_not false e = refl
 
 -- and there is one
-some_label : {P : Type 0} (pw_id next : ℕ) (near : LocalPart) (named : Option ℕ) → named ≡ Some pw_id → names_old pw_id next near named None ≡ true → P
+some_label : {P : Type 0} (pw_id : ℕ) (next : ℕ → Bool) (near : LocalPart) (named : Option ℕ) → named ≡ Some pw_id → names_old pw_id next near named None ≡ true → P
 some_label pw_id next near named is old =
     let none : false ≡ true = rw is at old in
     clash none
@@ -98,10 +98,10 @@ some_label pw_id next near named is old =
 module _ (plan : Plan) (checked : IsChecked plan) (a b : ℕ) (one other : EdgeState) (placed : one.me ≡ record { 0 = a }) where
   -- the Label Releases of each wire between the two are of old labels
   abbrev OfOldLabels : Message → Type 0
-  OfOldLabels m = (wire : WireId) (row : WirePlan) → wire_row plan wire ≡ Some row → joins a b row.path ≡ true → releases_old row.pw_id one.next_label (one.ends wire.0 b).local m ≡ true
+  OfOldLabels m = (wire : WireId) (row : WirePlan) → wire_row plan wire ≡ Some row → joins a b row.path ≡ true → releases_old row.pw_id (given_of one) (one.ends wire.0 b).local m ≡ true
 
   -- whoever owns the label is the end that it is named with
-  module _ (fec : PwFec) (label : ℕ) (told : NamesTold plan a b fec) (old : names_old told.row.pw_id one.next_label (one.ends told.wire.0 b).local fec.pw_id (Some label) ≡ true) where
+  module _ (fec : PwFec) (label : ℕ) (told : NamesTold plan a b fec) (old : names_old told.row.pw_id (given_of one) (one.ends told.wire.0 b).local fec.pw_id (Some label) ≡ true) where
     named : fec.pw_id ≡ Some told.row.pw_id
     named = ap (λ (f : PwFec). f.pw_id) told.bare
 
@@ -114,7 +114,7 @@ module _ (plan : Plan) (checked : IsChecked plan) (a b : ℕ) (one other : EdgeS
           let there : has_advertised (one.ends told.wire.0 b).local label ≡ true =
           subst (λ (k : ℕ). has_advertised (one.ends told.wire.0 k).local label ≡ true) at.1
           (subst (λ (w : ℕ). has_advertised (one.ends w peer).local label ≡ true) (at.0 ∙ ap (λ (w : WireId). w.0) same) so) in
-          never (has_advertised (one.ends told.wire.0 b).local label) there (old_label told.row.pw_id one.next_label (one.ends told.wire.0 b).local fec.pw_id label named old))
+          never (has_advertised (one.ends told.wire.0 b).local label) there (old_label told.row.pw_id (given_of one) (one.ends told.wire.0 b).local fec.pw_id label named old))
       | inr not_so ↦ not_so
     ]
 
@@ -126,7 +126,7 @@ module _ (plan : Plan) (checked : IsChecked plan) (a b : ℕ) (one other : EdgeS
   by_label : (id : ℕ) (fec : PwFec) (label : Option ℕ) → IsRuled plan b a other one (LabelRelease id fec label) → OfOldLabels (LabelRelease id fec label) → NamesUnadvertised one (LabelRelease id fec label)
   by_label id fec None ruled old =
       let told : NamesTold plan a b fec = tells_plan plan b a (LabelRelease id fec None) ruled.tells in
-      some_label told.row.pw_id one.next_label (one.ends told.wire.0 b).local fec.pw_id (ap (λ (f : PwFec). f.pw_id) told.bare) (old told.wire told.row told.is told.joined)
+      some_label told.row.pw_id (given_of one) (one.ends told.wire.0 b).local fec.pw_id (ap (λ (f : PwFec). f.pw_id) told.bare) (old told.wire told.row told.is told.joined)
   by_label id fec (Some label) ruled old =
       let told : NamesTold plan a b fec = tells_plan plan b a (LabelRelease id fec (Some label)) ruled.tells in
       unadvertised fec label told (old told.wire told.row told.is told.joined) ruled.far
@@ -136,12 +136,12 @@ module _ (plan : Plan) (checked : IsChecked plan) (a b : ℕ) (one other : EdgeS
   one_named m ruled old = tt
 
   all_named : (messages : List Message) → AllMessages (IsRuled plan b a other one) messages
-      → ((wire : WireId) (row : WirePlan) → wire_row plan wire ≡ Some row → joins a b row.path ≡ true → all_messages (releases_old row.pw_id one.next_label (one.ends wire.0 b).local) messages ≡ true)
+      → ((wire : WireId) (row : WirePlan) → wire_row plan wire ≡ Some row → joins a b row.path ≡ true → all_messages (releases_old row.pw_id (given_of one) (one.ends wire.0 b).local) messages ≡ true)
       → AllMessages (NamesUnadvertised one) messages
   all_named [] ruled old = tt
   all_named (m ∷ messages) ruled old = (
-    one_named m ruled.0 (λ wire row is joined. and_left (releases_old row.pw_id one.next_label (one.ends wire.0 b).local m) (all_messages (releases_old row.pw_id one.next_label (one.ends wire.0 b).local) messages) (old wire row is joined)),
-    all_named messages ruled.1 (λ wire row is joined. and_right (releases_old row.pw_id one.next_label (one.ends wire.0 b).local m) (all_messages (releases_old row.pw_id one.next_label (one.ends wire.0 b).local) messages) (old wire row is joined)),
+    one_named m ruled.0 (λ wire row is joined. and_left (releases_old row.pw_id (given_of one) (one.ends wire.0 b).local m) (all_messages (releases_old row.pw_id (given_of one) (one.ends wire.0 b).local) messages) (old wire row is joined)),
+    all_named messages ruled.1 (λ wire row is joined. and_right (releases_old row.pw_id (given_of one) (one.ends wire.0 b).local m) (all_messages (releases_old row.pw_id (given_of one) (one.ends wire.0 b).local) messages) (old wire row is joined)),
   )
 
 pub runs_release_unadvertised : RunsReleaseUnadvertised

@@ -1,5 +1,5 @@
 -- Mending keeps what is left of the ends of wires, for every place.
-use Rattle.std.proofs.Common.{◌≡◌, ◌==◌, ◌+◌, ◌++◌, ◌∙◌, not, nat_eq, ℕ, true, false, List, [], ◌∷◌, Option, Some, None, refl, sym, ap, subst, inl, inr}
+use Rattle.std.proofs.Common.{◌≡◌, ◌==◌, ◌+◌, ◌++◌, ◌∙◌, not, nat_eq, ℕ, Bool, true, false, List, [], ◌∷◌, Option, Some, None, refl, sym, ap, subst, inl, inr}
 use Rattle.std.proofs.lemmas.Bool.{cases_Bool, eqb-true}
 use Rattle.label_space.specs.Labels.{numbers_end}
 use Rattle.net_base.specs.declared.plan.Plan.{Plan}
@@ -20,16 +20,18 @@ use Rattle.edge_model.specs.Content.{mac_withdrawal, mapping, status_notificatio
 use Rattle.edge_model.specs.Mend.{advertising, is_up_with, stands, telling_status, wish, withdrawing}
 use Rattle.edge_model.specs.Role.{status_to_tell}
 use Rattle.edge_model.specs.Session.{says}
-use Rattle.edge_model.specs.State.{EdgeState, Peering, end_at, is_there, with_end, with_next_label, with_told_down}
+use Rattle.edge_model.specs.State.{EdgeState, Peering, end_at, is_there, with_end, with_next_label, with_told_down, with_kept}
 use Rattle.edge_model.specs.Work.{Work, changes, gives}
 use Rattle.network_model.specs.Absorb.{taken_all}
-use Rattle.flight_model.specs.Bound.{AreBound, HasSaid, IsBoundBy, LeavesBound, is_silent, releases_old}
+use Rattle.edge_model.specs.Labels.{giving, label_to_give}
+use Rattle.flight_model.proofs.GivenLemmas.{advertised_given, given_on, not_given, now_given}
+use Rattle.flight_model.specs.Bound.{given_of, AreBound, HasSaid, IsBoundBy, LeavesBound, is_silent, releases_old}
 use Rattle.flight_model.specs.Ends.{HasTypes, ends_at}
 use Rattle.flight_model.specs.Meeting.{said_to}
 use Rattle.flight_model.specs.Pair.{IsStanding}
 use Rattle.flight_model.specs.Sound.{TellsSoundly, point_limit}
 use Rattle.flight_model.proofs.BindingLemmas.{binding_advertises, binding_goes_on, binding_says_other, binding_tells, binding_withdraws}
-use Rattle.flight_model.proofs.EdgeBindingLemmas.{SaysOf, bound_says, clash, end_beside_other, end_label, end_of_other, end_there}
+use Rattle.flight_model.proofs.EdgeBindingLemmas.{SaysOf, bound_says, clash, end_beside_other, end_given, end_label, end_of_other, end_there}
 use Rattle.flight_model.proofs.KeepLemmas.{KeepsEnds}
 use Rattle.flight_model.proofs.LeaveLemmas.{leaves_goes, leaves_same, leaves_spoken}
 use Rattle.flight_model.proofs.MendingLemmas.{KeptByRows}
@@ -43,59 +45,55 @@ use Rattle.flight_model.proofs.WorksLemmas.{changed_edge}
 
 -- ---- one end of an edge is another one, and a label is given
 
-label_ends : (label : ℕ) (edge : EdgeState) → (with_next_label label edge).ends ≡ edge.ends
-unfolding with_next_label
-label_ends label edge = refl
-
-label_is : (label : ℕ) (edge : EdgeState) → (with_next_label label edge).next_label ≡ label
-unfolding with_next_label
-label_is label edge = refl
+giving_ends : (label : ℕ) (edge : EdgeState) → (giving label edge).ends ≡ edge.ends
+unfolding with_next_label with_kept
+giving_ends label edge = refl
 
 other_number : (pw_id other : ℕ) → pw_id == other ≡ false → not (pw_id == other) ≡ true
 other_number pw_id other apart = rw apart refl
 
 -- the edge has advertised an end
-advertising_says : (place : EndPlace) (content : Told) (id : ℕ) (edge : EdgeState) → (end_at edge place).local ≡ Idle false
-    → SaysOf place (mapping place.pw_id edge.next_label content id) edge (advertising place edge.next_label content edge)
-advertising_says place content id edge at = record {
-  goes = λ pw_id near far out back is. rw (label_is (edge.next_label + 1) (with_end place end edge)) (binding_goes_on pw_id edge.next_label near far out back is);
+advertising_says : (place : EndPlace) (label : ℕ) (content : Told) (id : ℕ) (edge : EdgeState) → (end_at edge place).local ≡ Idle false → label_to_give edge ≡ Some label → IsLabel label
+    → SaysOf place (mapping place.pw_id label content id) edge (advertising place label content edge)
+advertising_says place label content id edge at give is_label = record {
+  goes = advertised_given place label content edge;
   others = λ wire away. ap (λ (f : ℕ → ℕ → EndState). f wire place.peer.0) ends ∙ end_of_other place end edge wire place.peer.0 away;
   remote = ap (λ (e : EndState). e.remote) own;
   own = λ far out back is.
-      subst (λ (n : ℕ). IsBoundBy place.pw_id n (end_at (advertising place edge.next_label content edge) place).local far (out ++ m ∷ []) back) (sym (label_is (edge.next_label + 1) (with_end place end edge)))
-      (subst (λ (l : LocalPart). IsBoundBy place.pw_id (edge.next_label + 1) l far (out ++ m ∷ []) back) (sym local)
-      (binding_advertises place.pw_id edge.next_label false content id far out back (subst (λ (l : LocalPart). IsBoundBy place.pw_id edge.next_label l far out back) at is)));
+      subst (λ (l : LocalPart). IsBoundBy place.pw_id (given_of (advertising place label content edge)) l far (out ++ m ∷ []) back) (sym local)
+      (binding_advertises place.pw_id (given_of edge) (given_of (advertising place label content edge)) label false content id far out back (advertised_given place label content edge) (not_given edge label give)
+      (now_given place label content edge give is_label) (subst (λ (l : LocalPart). IsBoundBy place.pw_id (given_of edge) l far out back) at is));
   silent = λ pw_id apart. other_number place.pw_id pw_id apart;
   releases = λ pw_id next near. refl;
 }
   where
     end : EndState
-    end = advertised edge.next_label content (end_at edge place)
+    end = advertised label content (end_at edge place)
 
-    ends : (advertising place edge.next_label content edge).ends ≡ (with_end place end edge).ends
-    ends = label_ends (edge.next_label + 1) (with_end place end edge)
+    ends : (advertising place label content edge).ends ≡ (with_end place end edge).ends
+    ends = giving_ends label (with_end place end edge)
 
     m : Message
-    m = mapping place.pw_id edge.next_label content id
+    m = mapping place.pw_id label content id
 
-    own : end_at (advertising place edge.next_label content edge) place ≡ end
+    own : end_at (advertising place label content edge) place ≡ end
     own = ap (λ (f : ℕ → ℕ → EndState). f place.wire.0 place.peer.0) ends ∙ end_there place end edge
 
-    local : (end_at (advertising place edge.next_label content edge) place).local ≡ Advertised edge.next_label content
-    local = ap (λ (e : EndState). e.local) own ∙ ap (advertise_part edge.next_label content) at
+    local : (end_at (advertising place label content edge) place).local ≡ Advertised label content
+    local = ap (λ (e : EndState). e.local) own ∙ ap (advertise_part label content) at
 
 -- it has changed an end without a label
 changing_says : (place : EndPlace) (m : Message) (end : EndState) (edge : EdgeState) → end.remote ≡ (end_at edge place).remote
-    → ((far : Option Binding) (out back : List Message) → IsBoundBy place.pw_id edge.next_label (end_at edge place).local far out back → IsBoundBy place.pw_id edge.next_label end.local far (out ++ m ∷ []) back)
-    → ((pw_id : ℕ) → place.pw_id == pw_id ≡ false → is_silent pw_id m ≡ true) → ((pw_id next : ℕ) (near : LocalPart) → releases_old pw_id next near m ≡ true)
+    → ((far : Option Binding) (out back : List Message) → IsBoundBy place.pw_id (given_of edge) (end_at edge place).local far out back → IsBoundBy place.pw_id (given_of edge) end.local far (out ++ m ∷ []) back)
+    → ((pw_id : ℕ) → place.pw_id == pw_id ≡ false → is_silent pw_id m ≡ true) → ((pw_id : ℕ) (next : ℕ → Bool) (near : LocalPart) → releases_old pw_id next near m ≡ true)
     → SaysOf place m edge (with_end place end edge)
 changing_says place m end edge remote own silent releases = record {
-  goes = λ pw_id near far out back is. rw (end_label place end edge) is;
+  goes = end_given place end edge;
   others = λ wire away. end_of_other place end edge wire place.peer.0 away;
   remote = ap (λ (e : EndState). e.remote) (end_there place end edge) ∙ remote;
   own = λ far out back is.
-      subst (λ (n : ℕ). IsBoundBy place.pw_id n (end_at (with_end place end edge) place).local far (out ++ m ∷ []) back) (sym (end_label place end edge))
-      (subst (λ (e : EndState). IsBoundBy place.pw_id edge.next_label e.local far (out ++ m ∷ []) back) (sym (end_there place end edge)) (own far out back is));
+      subst (λ (n : ℕ → Bool). IsBoundBy place.pw_id n (end_at (with_end place end edge) place).local far (out ++ m ∷ []) back) (sym (end_label place end edge))
+      (subst (λ (e : EndState). IsBoundBy place.pw_id (given_of edge) e.local far (out ++ m ∷ []) back) (sym (end_there place end edge)) (own far out back is));
   silent = silent;
   releases = releases;
 }
@@ -104,25 +102,25 @@ withdrawing_says : (place : EndPlace) (label : ℕ) (told content : Told) (id : 
     → SaysOf place (withdrawal place.pw_id label content id) edge (withdrawing place edge)
 withdrawing_says place label told content id edge at =
     changing_says place (withdrawal place.pw_id label content id) (withdrawn (end_at edge place)) edge refl
-    (λ far out back is. subst (λ (l : LocalPart). IsBoundBy place.pw_id edge.next_label l far (out ++ withdrawal place.pw_id label content id ∷ []) back) (sym (ap withdraw_part at))
-    (binding_withdraws place.pw_id edge.next_label label told content id far out back (subst (λ (l : LocalPart). IsBoundBy place.pw_id edge.next_label l far out back) at is)))
+    (λ far out back is. subst (λ (l : LocalPart). IsBoundBy place.pw_id (given_of edge) l far (out ++ withdrawal place.pw_id label content id ∷ []) back) (sym (ap withdraw_part at))
+    (binding_withdraws place.pw_id (given_of edge) label told content id far out back (subst (λ (l : LocalPart). IsBoundBy place.pw_id (given_of edge) l far out back) at is)))
     (λ pw_id apart. rw apart refl) (λ pw_id next near. refl)
 
 telling_says : (place : EndPlace) (label : ℕ) (told content : Told) (status : PwStatus) (id : ℕ) (edge : EdgeState) → (end_at edge place).local ≡ Advertised label told
     → SaysOf place (status_notification place.pw_id status content id) edge (telling_status place status edge)
 telling_says place label told content status id edge at =
     changing_says place (status_notification place.pw_id status content id) (telling status (end_at edge place)) edge refl
-    (λ far out back is. subst (λ (l : LocalPart). IsBoundBy place.pw_id edge.next_label l far (out ++ status_notification place.pw_id status content id ∷ []) back) (sym (ap (tell_part status) at))
-    (binding_tells place.pw_id edge.next_label label told content status id far out back (subst (λ (l : LocalPart). IsBoundBy place.pw_id edge.next_label l far out back) at is)))
+    (λ far out back is. subst (λ (l : LocalPart). IsBoundBy place.pw_id (given_of edge) l far (out ++ status_notification place.pw_id status content id ∷ []) back) (sym (ap (tell_part status) at))
+    (binding_tells place.pw_id (given_of edge) label told content status id far out back (subst (λ (l : LocalPart). IsBoundBy place.pw_id (given_of edge) l far out back) at is)))
     (λ pw_id apart. other_number place.pw_id pw_id apart) (λ pw_id next near. refl)
 
 -- it has told that addresses are to be forgotten, and is as it was
 clearing_says : (place : EndPlace) (addresses : List Mac) (content : Told) (id : ℕ) (edge : EdgeState) → SaysOf place (mac_withdrawal place.pw_id addresses content id) edge edge
 clearing_says place addresses content id edge = record {
-  goes = λ pw_id near far out back is. is;
+  goes = λ label given. given;
   others = λ wire away. refl;
   remote = refl;
-  own = λ far out back is. binding_says_other place.pw_id edge.next_label (end_at edge place).local far out back (mac_withdrawal place.pw_id addresses content id) refl is;
+  own = λ far out back is. binding_says_other place.pw_id (given_of edge) (end_at edge place).local far out back (mac_withdrawal place.pw_id addresses content id) refl is;
   silent = λ pw_id apart. refl;
   releases = λ pw_id next near. refl;
 }
@@ -148,15 +146,15 @@ unfolding changes
 changed_said change work place = refl
 
 advertising_peering : (place : EndPlace) (label : ℕ) (content : Told) (edge : EdgeState) → (advertising place label content edge).peering ≡ edge.peering
-unfolding with_end with_next_label
+unfolding with_end with_next_label with_kept
 advertising_peering place label content edge = refl
 
 advertising_else : (place : EndPlace) (label : ℕ) (content : Told) (edge : EdgeState) (wire peer : ℕ) → nat_eq peer place.peer.0 ≡ false → (advertising place label content edge).ends wire peer ≡ edge.ends wire peer
 advertising_else place label content edge wire peer apart =
-    ap (λ (f : ℕ → ℕ → EndState). f wire peer) (label_ends (label + 1) (with_end place (advertised label content (end_at edge place)) edge)) ∙ end_beside_other place (advertised label content (end_at edge place)) edge wire peer apart
+    ap (λ (f : ℕ → ℕ → EndState). f wire peer) (giving_ends label (with_end place (advertised label content (end_at edge place)) edge)) ∙ end_beside_other place (advertised label content (end_at edge place)) edge wire peer apart
 
 end_peering : (place : EndPlace) (end : EndState) (edge : EdgeState) → (with_end place end edge).peering ≡ edge.peering
-unfolding with_end
+unfolding with_end with_kept
 end_peering place end edge = refl
 
 module _ (plan : Plan) (me : EdgeId) (checked : IsChecked plan) (fars : ℕ → EdgeState) (outs : ℕ → List ℕ) (answers : ℕ → List Message) where
@@ -174,7 +172,7 @@ module _ (plan : Plan) (me : EdgeId) (checked : IsChecked plan) (fars : ℕ → 
     | inl here ↦ subst (λ (k : ℕ). LeavesBound plan me k (fars k) (outs k) (answers k) new) (sym (eqb-true c place.peer.0 here)) (beside (subst (λ (k : ℕ). nat_eq k me.0 ≡ false) (eqb-true c place.peer.0 here) away))
     | inr gone ↦ leaves_goes plan me c (fars c) (outs c) (answers c) work new (spoken.said_else c gone ∙ changed_said change work c)
         (λ near. sym (ap is_there (spoken.elsewhere c gone ∙ ap (λ (e : EdgeState). e.peering c) (changed_edge change work) ∙ ap (λ (f : ℕ → Option Peering). f c) same)) ∙ near)
-        (λ pw_id near far out back is. subst (λ (n : ℕ). IsBoundBy pw_id n near far out back) (sym (spoken.label ∙ ap (λ (e : EdgeState). e.next_label) (changed_edge change work))) ((about 0).goes pw_id near far out back is))
+        (λ label given. given_on (changes change work).edge new.edge spoken.label spoken.labels label (subst (λ (e : EdgeState). given_of e label ≡ true) (sym (changed_edge change work)) ((about 0).goes label given)))
         (λ wire. ap (λ (f : ℕ → ℕ → EndState). f wire c) spoken.ends ∙ (ap (λ (e : EdgeState). e.ends wire c) (changed_edge change work) ∙ elsewhere wire c gone)) (leaves c away)
   ]
     where
@@ -205,16 +203,16 @@ module _ (plan : Plan) (me : EdgeId) (checked : IsChecked plan) (fars : ℕ → 
     abbrev pub KeepsAll : Work → Type 0
     KeepsAll work = I work × LeavesAll work
 
-    all_advertise : (place : EndPlace) (content : Told) (work : Work) → IsEndOf plan me place → (end_at work.edge place).local ≡ Idle false → wish plan work.edge place ≡ Some content
-        → work.edge.next_label == numbers_end ≡ false → KeepsAll work → KeepsAll (says taken_all place.peer (mapping place.pw_id work.edge.next_label content) (changes (advertising place work.edge.next_label content) work)).work
-    all_advertise place content work is at wished some all =
+    all_advertise : (place : EndPlace) (label : ℕ) (content : Told) (work : Work) → IsEndOf plan me place → (end_at work.edge place).local ≡ Idle false → wish plan work.edge place ≡ Some content
+        → label_to_give work.edge ≡ Some label → KeepsAll work → KeepsAll (says taken_all place.peer (mapping place.pw_id label content) (changes (advertising place label content) work)).work
+    all_advertise place label content work is at wished give all =
         let tells : TellsSoundly (point_limit plan me.0) work.edge = sound work all.0 in
         let told : WishesSoundly work.edge place content = wishes plan me checked types work.edge place content tells is wished in
-        let label : IsLabel work.edge.next_label = next_is_label work.edge tells some in (
-          rows.advertises place content work is at wished some all.0,
-          row_leaves place (mapping place.pw_id work.edge.next_label content) (advertising place work.edge.next_label content) work is told.up (advertising_peering place work.edge.next_label content work.edge)
-              (λ id. advertising_says place content id work.edge at) (advertising_else place work.edge.next_label content work.edge)
-              (mapping_sound place.pw_id work.edge.next_label content (end_small plan me place checked is) label told.sound)
+        let one : IsLabel label = next_is_label work.edge label tells give in (
+          rows.advertises place label content work is at wished give all.0,
+          row_leaves place (mapping place.pw_id label content) (advertising place label content) work is told.up (advertising_peering place label content work.edge)
+              (λ id. advertising_says place label content id work.edge at give one) (advertising_else place label content work.edge)
+              (mapping_sound place.pw_id label content (end_small plan me place checked is) one told.sound)
               (said work all.0) all.1,
         )
 
@@ -253,13 +251,13 @@ module _ (plan : Plan) (me : EdgeId) (checked : IsChecked plan) (fars : ℕ → 
     down_leaves : (place : EndPlace) (down : Option Down) (work : Work) → LeavesAll work → LeavesAll (gives (Wire place.wire down) (changes (with_told_down place.wire down) work))
     unfolding gives changes with_told_down
     down_leaves place down work leaves c away =
-        leaves_same plan me c (fars c) (outs c) (answers c) work _ (said-append c work.effects (Wire place.wire down ∷ []) ∙ same_end (said_to c work.effects)) (λ near. near) (record { label = refl; ends = λ wire. refl }) (leaves c away)
+        leaves_same plan me c (fars c) (outs c) (answers c) work _ (said-append c work.effects (Wire place.wire down ∷ []) ∙ same_end (said_to c work.effects)) (λ near. near) (record { label = λ label given. given; ends = λ wire. refl }) (leaves c away)
 
     others_leave : (change : EdgeState → EdgeState) (work : Work) → KeepsEnds work.edge (change work.edge) → (change work.edge).peering ≡ work.edge.peering → LeavesAll work → LeavesAll (changes change work)
     unfolding changes
     others_leave change work keeps peering leaves c away =
         leaves_same plan me c (fars c) (outs c) (answers c) work _ refl (λ near. sym (ap (λ (f : ℕ → Option Peering). is_there (f c)) peering) ∙ near)
-        (record { label = keeps.next_label; ends = λ wire. ap (λ (f : ℕ → ℕ → EndState). f wire c) keeps.ends }) (leaves c away)
+        (record { label = given_on work.edge (change work.edge) keeps.next_label keeps.kept; ends = λ wire. ap (λ (f : ℕ → ℕ → EndState). f wire c) keeps.ends }) (leaves c away)
 
     pub rows_leave : KeptByRows plan me KeepsAll
     rows_leave = record {

@@ -28,8 +28,8 @@ use Rattle.edge_model.specs.Content.{bare_fec_of, binding_in, pw_status_code, re
 use Rattle.edge_model.specs.EndPlaces.{end_named}
 use Rattle.edge_model.specs.Hear.{acts_on}
 use Rattle.edge_model.specs.Put.{platform_of}
-use Rattle.edge_model.specs.Signal.{end_of_fec, hears_status, maps_to, releases_label, takes_content, with_end_changed, with_named}
-use Rattle.edge_model.specs.State.{EdgeState, Peering, end_at, with_end}
+use Rattle.edge_model.specs.Signal.{end_of_fec, hears_release, hears_status, maps_to, releases_label, takes_content, with_end_changed, with_named, with_released}
+use Rattle.edge_model.specs.State.{EdgeState, Peering, end_at, with_end, with_kept}
 use Rattle.edge_model.specs.Work.{Work, changes}
 use Rattle.network_model.specs.Absorb.{taken_all}
 use Rattle.flight_model.specs.Ends.{HasTypes, ends_at}
@@ -39,7 +39,7 @@ use Rattle.flight_model.proofs.AcceptLemmas.{takes_told}
 use Rattle.flight_model.proofs.HearingLemmas.{KeptByHearing, withdraws_addresses}
 use Rattle.flight_model.proofs.MendingLemmas.{KeptByRows}
 use Rattle.flight_model.proofs.MentionLemmas.{binds_status, binds_unless, release_of_withdrawal, release_own}
-use Rattle.flight_model.proofs.NameLemmas.{end_fact, names_end, names_same, owns_released}
+use Rattle.flight_model.proofs.NameLemmas.{end_fact, names_end, names_releasing, names_same, owns_released}
 use Rattle.flight_model.proofs.OfferLemmas.{IsOfWires, release_is}
 use Rattle.flight_model.proofs.PlaceLemmas.{NamedEnd, end_of}
 use Rattle.flight_model.proofs.RuledLemmas.{ChangesEnds, FitsIf, IsFitEnd, IsRuled, WorksRuled, changes_keep}
@@ -59,7 +59,7 @@ pub rows_hearing : (plan : Plan) (others : ℕ → EdgeState) (me : EdgeId) (pee
     → KeptByRows plan me (IsHearing plan others me.0 peer first held messages)
 rows_hearing plan others me peer first held messages rows = record {
   placed = λ work hears. rows.placed work hears.works;
-  advertises = λ place content work end_is idle wished some hears. record { works = rows.advertises place content work end_is idle wished some hears.works; to_hear = hears.to_hear };
+  advertises = λ place label content work end_is idle wished given hears. record { works = rows.advertises place label content work end_is idle wished given hears.works; to_hear = hears.to_hear };
   withdraws = λ place label content work end_is at wished hears. record { works = rows.withdraws place label content work end_is at wished hears.works; to_hear = hears.to_hear };
   tells = λ place label content last work end_is at told other hears. record { works = rows.tells place label content last work end_is at told other hears.works; to_hear = hears.to_hear };
   clears = λ place label content addresses work end_is at piece hears. record { works = rows.clears place label content addresses work end_is at piece hears.works; to_hear = hears.to_hear };
@@ -104,7 +104,7 @@ module _ (plan : Plan) (checked : IsChecked plan) (types : HasTypes plan) (other
   -- an end that owns no more is another one, and tells and holds what is planned
   end_changes : (place : EndPlace) (end : EndState) (work : Work) → ((label : ℕ) → Rattle.flight_model.specs.Rules.part_owns end.local label ≡ true → Rattle.flight_model.specs.Rules.part_owns (end_at work.edge place).local label ≡ true)
       → TellsAt plan me.0 place.wire.0 place.peer.0 end → (nat_eq place.peer.0 me.0 ≡ false → BindsGiven (others place.peer.0) place.wire.0 me.0 end.remote) → At work → ChangesEnds plan others me.0 work.edge (with_end place end work.edge)
-  unfolding with_end
+  unfolding with_end with_kept
   end_changes place end work less tells given works = record {
     place = refl;
     peering = refl;
@@ -119,14 +119,18 @@ module _ (plan : Plan) (checked : IsChecked plan) (types : HasTypes plan) (other
 
   -- ---- releases
 
-  released_changes : (label : Option ℕ) (place : Option EndPlace) (work : Work) → At work → ChangesEnds plan others me.0 work.edge (with_end_changed (released label) place work.edge)
+  released_changes : (label : Option ℕ) (place : Option EndPlace) (work : Work) → At work → ChangesEnds plan others me.0 work.edge (with_released label place work.edge)
+  unfolding with_end with_kept
   released_changes label None work works = same_changes work works
-  released_changes label (Some place) work works = end_changes place (released label (end_at work.edge place)) work (owns_released label (end_at work.edge place))
+  released_changes label (Some place) work works =
+      let end : ChangesEnds plan others me.0 work.edge (with_end place (released label (end_at work.edge place)) work.edge) =
+      end_changes place (released label (end_at work.edge place)) work (owns_released label (end_at work.edge place))
       (local_tells plan me.0 place.wire.0 place.peer.0 (end_at work.edge place) (released label (end_at work.edge place)).local (λ row is joined near. near_released plan row me.0 place.peer.0 label (end_at work.edge place).local near) (works.edge.tells place.wire.0 place.peer.0))
-      (λ gone. (works.left place.peer.0 gone).bound place.wire.0) works
+      (λ gone. (works.left place.peer.0 gone).bound place.wire.0) works in
+      record { place = end.place; peering = end.peering; keeps = names_releasing label place work.edge; most = end.most; bits = end.bits; tells = end.tells; bound = end.bound }
 
-  release_heard : (fec : PwFec) (label : Option ℕ) (work : Work) → At work → At (changes (λ edge. with_end_changed (released label) (end_of_fec plan edge peer fec) edge) work)
-  release_heard fec label work works = changes_keep plan others me.0 first held (λ edge. with_end_changed (released label) (end_of_fec plan edge peer fec) edge) work (released_changes label (end_of_fec plan work.edge peer fec) work works) works
+  release_heard : (fec : PwFec) (label : Option ℕ) (work : Work) → At work → At (hears_release plan peer fec label work)
+  release_heard fec label work works = changes_keep plan others me.0 first held (λ edge. with_released label (end_of_fec plan edge peer fec) edge) work (released_changes label (end_of_fec plan work.edge peer fec) work works) works
 
   -- ---- withdrawals
 

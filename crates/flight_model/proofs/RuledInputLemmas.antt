@@ -17,7 +17,7 @@ use Rattle.edge_model.specs.Frame.{received}
 use Rattle.edge_model.specs.Mend.{mends}
 use Rattle.edge_model.specs.Packet.{packet_input}
 use Rattle.edge_model.specs.Session.{happens_with_ends}
-use Rattle.edge_model.specs.State.{EdgeState, with_addresses, with_bits, with_circuit, with_learned, with_priority, with_renewed, with_ticks, with_wire}
+use Rattle.edge_model.specs.State.{EdgeState, with_addresses, with_bits, with_circuit, with_learned, with_priority, with_renewed, with_ticks, with_wire, with_kept}
 use Rattle.edge_model.specs.Tick.{counted, forgetting, ticks_sessions}
 use Rattle.edge_model.specs.Wire.{turned_wire}
 use Rattle.edge_model.specs.Work.{Work, Answers, changes, idles}
@@ -47,36 +47,32 @@ change_quiet change work leaves = record { same = leaves.same; peering = leaves.
 
 idles_quiet : (work : Work) → IsQuietStep work (idles work)
 unfolding idles
-idles_quiet work = record { same = record { me = refl; ends = refl; bits = refl; next = refl }; peering = refl; said = λ place. refl; closed = λ place. refl }
+idles_quiet work = record { same = record { me = refl; ends = refl; bits = refl; next = refl; kept = refl }; peering = refl; said = λ place. refl; closed = λ place. refl }
 
 circuit_leaves : (circuit : CircuitId) (on : Bool) (edge : EdgeState) → LeavesEnds edge (with_circuit circuit on edge)
 unfolding with_circuit
-circuit_leaves circuit on edge = record { same = record { me = refl; ends = refl; bits = refl; next = refl }; peering = refl }
+circuit_leaves circuit on edge = record { same = record { me = refl; ends = refl; bits = refl; next = refl; kept = refl }; peering = refl }
 
 turned_leaves : (plan : Plan) (circuit : CircuitId) (row : CircuitPlan) (on : Bool) (edge : EdgeState) → LeavesEnds edge (turned plan circuit row on edge)
 unfolding with_circuit with_addresses
-turned_leaves plan circuit row true edge = record { same = record { me = refl; ends = refl; bits = refl; next = refl }; peering = refl }
-turned_leaves plan circuit row false edge = record { same = record { me = refl; ends = refl; bits = refl; next = refl }; peering = refl }
-
-counted_leaves : (edge : EdgeState) → LeavesEnds edge (counted edge)
-unfolding with_ticks
-counted_leaves edge = record { same = record { me = refl; ends = refl; bits = refl; next = refl }; peering = refl }
+turned_leaves plan circuit row true edge = record { same = record { me = refl; ends = refl; bits = refl; next = refl; kept = refl }; peering = refl }
+turned_leaves plan circuit row false edge = record { same = record { me = refl; ends = refl; bits = refl; next = refl; kept = refl }; peering = refl }
 
 forgetting_leaves : (plan : Plan) (edge : EdgeState) → LeavesEnds edge (forgetting plan edge)
 unfolding with_learned
-forgetting_leaves plan edge = record { same = record { me = refl; ends = refl; bits = refl; next = refl }; peering = refl }
+forgetting_leaves plan edge = record { same = record { me = refl; ends = refl; bits = refl; next = refl; kept = refl }; peering = refl }
 
 wire_leaves : (wire : WireId) (on : Bool) (edge : EdgeState) → LeavesEnds edge (with_wire wire on edge)
 unfolding with_wire
-wire_leaves wire on edge = record { same = record { me = refl; ends = refl; bits = refl; next = refl }; peering = refl }
+wire_leaves wire on edge = record { same = record { me = refl; ends = refl; bits = refl; next = refl; kept = refl }; peering = refl }
 
 priority_leaves : (wire : WireId) (priority : ℕ) (edge : EdgeState) → LeavesEnds edge (with_priority wire priority edge)
 unfolding with_priority
-priority_leaves wire priority edge = record { same = record { me = refl; ends = refl; bits = refl; next = refl }; peering = refl }
+priority_leaves wire priority edge = record { same = record { me = refl; ends = refl; bits = refl; next = refl; kept = refl }; peering = refl }
 
 bridged_quiet : (old new : Work) → IsBridged old new → IsQuietStep old new
 bridged_quiet old new bridged = record {
-  same = record { me = bridged.keeps.me; ends = bridged.keeps.ends; bits = bridged.keeps.bits; next = bridged.keeps.next_label };
+  same = record { me = bridged.keeps.me; ends = bridged.keeps.ends; bits = bridged.keeps.bits; next = bridged.keeps.next_label; kept = bridged.keeps.kept };
   peering = bridged.peering;
   said = bridged.said;
   closed = bridged.closed;
@@ -102,12 +98,13 @@ module _ (plan : Plan) (checked : IsChecked plan) (types : HasTypes plan) (other
   sessions_ruled place (suc count) work works =
       sessions_ruled (place + 1) count (happens_with_ends taken_all (record { 0 = place }) table.Ticked work) (event_ruled plan others me.0 first held (record { 0 = place }) table.Ticked work tt works)
 
-  pub tick_ruled : (work : Work) → WorksRuled plan others me.0 first held work → WorksRuled plan others me.0 first held (mends plan taken_all (changes (forgetting plan) (ticks_sessions taken_all 0 (length plan.edges) (changes counted work))))
+  -- its labels rest, and it has counted the tick
+  pub tick_ruled : (work : Work) → WorksRuled plan others me.0 first held (changes counted work) → WorksRuled plan others me.0 first held (mends plan taken_all (changes (forgetting plan) (ticks_sessions taken_all 0 (length plan.edges) (changes counted work))))
   tick_ruled work works =
       let begun : Work = changes counted work in
       let ticked : Work = ticks_sessions taken_all 0 (length plan.edges) begun in
       mends_ruled (changes (forgetting plan) ticked) (leaves_keep (forgetting plan) ticked (forgetting_leaves plan ticked.edge)
-      (sessions_ruled 0 (length plan.edges) begun (leaves_keep counted work (counted_leaves work.edge) works)))
+      (sessions_ruled 0 (length plan.edges) begun works))
 
   -- ---- circuits, wires and failure bits
 
@@ -146,7 +143,7 @@ module _ (plan : Plan) (checked : IsChecked plan) (types : HasTypes plan) (other
   bits_changes wire bits work low works = record {
     place = refl;
     peering = refl;
-    keeps = names_still work.edge (with_bits wire bits work.edge) refl refl;
+    keeps = names_still work.edge (with_bits wire bits work.edge) refl refl refl;
     most = works.edge.most;
     bits = λ w. either (nat_eq w wire.0) (work.edge.bits w) (works.edge.bits w);
     tells = λ w k. works.edge.tells w k;

@@ -19,7 +19,7 @@ use Rattle.flight_model.specs.Messages.{octets_of_all}
 use Rattle.flight_model.specs.Pair.{AreFit}
 use Rattle.flight_model.specs.Rules.{AllMessages, BindsGiven, NamesFar, NamesOwn, OwnsItsLabels}
 use Rattle.flight_model.proofs.MentionLemmas.{all_kept, all_more, own_kept}
-use Rattle.flight_model.proofs.NameLemmas.{HasLeast, KeepsNames, names_same, names_still, names_then, split}
+use Rattle.flight_model.proofs.NameLemmas.{HasKept, HasLeast, KeepsNames, names_same, names_still, names_then, split}
 use Rattle.flight_model.proofs.OutcomeLemmas.{IsFitSession}
 use Rattle.flight_model.proofs.SaidLemmas.{IsReady, all_joined}
 use Rattle.flight_model.proofs.ToldLemmas.{TellsFirm, TellsOwn}
@@ -41,6 +41,7 @@ FitsIf own (Some kept) = IsFitEnd own kept
 pub record IsRuledEdge (plan : Plan) (me : ℕ) (edge : EdgeState) : Type 0 where
   pub place : edge.me ≡ record { 0 = me }
   pub owned : OwnsItsLabels edge
+  pub rests : HasKept edge
   pub least : HasLeast 16 edge
   pub most : edge.next_label ≤ numbers_end
   pub bits : (wire : ℕ) → edge.bits wire ≤ 31
@@ -109,6 +110,7 @@ steps_keep plan others me first was held old new steps works = record {
   edge = record {
     place = steps.place ∙ works.edge.place;
     owned = steps.keeps.owned works.edge.owned;
+    rests = steps.keeps.kept works.edge.owned works.edge.rests;
     least = steps.keeps.least 16 works.edge.least;
     most = steps.most;
     bits = steps.bits;
@@ -132,15 +134,16 @@ steps_keep plan others me first was held old new steps works = record {
 
 -- ---- silent steps
 
--- an edge whose ends and failure bits are the same, with the same label next
+-- an edge whose ends and failure bits are the same, with the same labels
 pub record SameEnds (old new : EdgeState) : Type 0 where
   pub me : new.me ≡ old.me
   pub ends : new.ends ≡ old.ends
   pub bits : new.bits ≡ old.bits
   pub next : new.next_label ≡ old.next_label
+  pub kept : new.kept ≡ old.kept
 
 same_names : (old new : EdgeState) → SameEnds old new → KeepsNames old new
-same_names old new same = names_still old new same.ends same.next
+same_names old new same = names_still old new same.ends same.next same.kept
 
 same_tells : (plan : Plan) (me : ℕ) (old new : EdgeState) → SameEnds old new → TellsOwn plan me old → TellsOwn plan me new
 same_tells plan me old new same tells wire peer = subst (λ (f : ℕ → ℕ → EndState). Rattle.flight_model.proofs.ToldLemmas.TellsAt plan me wire peer (f wire peer)) (sym same.ends) (tells wire peer)
@@ -216,7 +219,7 @@ pub still_stands : (plan : Plan) (others : ℕ → EdgeState) (me : ℕ) (first 
 unfolding changes with_peering
 still_stands plan others me first held peer kept now work at same fit works = steps_keep plan others me first held held work (changes (with_peering peer (Some now)) work) (record {
   place = refl;
-  keeps = names_still work.edge (with_peering peer (Some now) work.edge) refl refl;
+  keeps = names_still work.edge (with_peering peer (Some now) work.edge) refl refl refl;
   most = works.edge.most;
   bits = works.edge.bits;
   tells = λ wire k. works.edge.tells wire k;

@@ -15,7 +15,7 @@ use Rattle.net_base.specs.plan.Paths.{edge_address, expected, follows, joins, ma
 use Rattle.net_base.proofs.PathLemmas.{joins_turned, mate_back, mate_joined, place_of}
 use Rattle.net_base.specs.plan.Places.{wire_row}
 use Rattle.net_values.specs.Label.{IsLabel}
-use Rattle.label_space.specs.Labels.{numbers_end}
+use Rattle.label_space.specs.Labels.{next_after, numbers_end}
 use Rattle.pw_tlvs.specs.declared.pw_status.PwStatus.{PwStatus}
 use Rattle.pw_tlvs.specs.Written.{IsPointInRange}
 use Rattle.ldp_grammar.specs.Written.{IsState, point_tlvs}
@@ -32,10 +32,11 @@ use Rattle.edge_model.specs.declared.effect.Effect.TheVariants.{Wire}
 use Rattle.edge_model.specs.declared.end_place.EndPlace.{EndPlace}
 use Rattle.edge_model.specs.Content.{content_of, mac_withdrawal, mapping, status_notification, withdrawal}
 use Rattle.edge_model.specs.EndPlaces.{end_named}
+use Rattle.edge_model.specs.Labels.{label_to_give}
 use Rattle.edge_model.specs.Mend.{advertising, is_up_with, passed_from, passed_wish, status_held, status_offered, telling_status, tells_status, terminal_wish, wish, wish_by, wish_of, withdrawing}
 use Rattle.edge_model.specs.Role.{role_at, status_to_tell}
 use Rattle.edge_model.specs.Session.{says}
-use Rattle.edge_model.specs.State.{EdgeState, end_at, with_end, with_next_label, with_told_down}
+use Rattle.edge_model.specs.State.{EdgeState, end_at, with_end, with_next_label, with_told_down, with_kept}
 use Rattle.edge_model.specs.Work.{Work, changes, gives}
 use Rattle.network_model.specs.Absorb.{taken_all}
 use Rattle.flight_model.specs.Ends.{AreFieldOffers, HasTypes, IsFieldOffer, ends_at}
@@ -48,7 +49,7 @@ use Rattle.flight_model.proofs.AcceptLemmas.{wanted_tells}
 use Rattle.flight_model.proofs.KeepLemmas.{KeepsEnds}
 use Rattle.flight_model.proofs.MendingLemmas.{KeptByRows}
 use Rattle.flight_model.proofs.MentionLemmas.{clearance_far, clearance_own, mapping_far, mapping_names, status_far, status_own, withdrawal_far, withdrawal_names}
-use Rattle.flight_model.proofs.NameLemmas.{end_fact, is_same, names_advertising, names_new, names_telling, names_withdrawing}
+use Rattle.flight_model.proofs.NameLemmas.{IsToGive, advertised_next, end_fact, given_below, given_least, is_same, names_advertising, names_new, names_telling, names_withdrawing, to_give}
 use Rattle.flight_model.proofs.OfferLemmas.{IsOfWires, clearance_is, content_can, mapping_sound, offer_sound, own_in_range, own_octets, status_is, withdrawal_is}
 use Rattle.flight_model.proofs.PieceLemmas.{IsPiece}
 use Rattle.flight_model.proofs.PlaceLemmas.{IsEndOf, NamedEnd, end_of}
@@ -57,6 +58,7 @@ use Rattle.flight_model.proofs.RuledLemmas.{ChangesEnds, IsQuietStep, IsRuled, W
 use Rattle.flight_model.proofs.RuledSessionLemmas.{SaysNothing, gives_quiet, says_ruled}
 use Rattle.flight_model.proofs.SaidLemmas.{ready}
 use Rattle.flight_model.proofs.SteadyLemmas.{edge_address_is}
+use Rattle.flight_model.proofs.SoundLemmas.{after_most}
 use Rattle.flight_model.proofs.TellLemmas.{TellsOwnOffer, tells_own_offer}
 use Rattle.flight_model.proofs.ToldLemmas.{HeldFits, TellsAt, TellsOwn, clearance_tells, has_status, local_tells, mapping_tells, near_advertised, near_told, near_withdrawn, notification_tells, offer_tells, withdrawal_tells}
 
@@ -154,14 +156,8 @@ label_below n low = omega (arith, low)
 label_below_next : (label next : ℕ) → label < next → next ≤ numbers_end → label ≤ 1048575
 label_below_next label next low most = omega (arith, low, most)
 
-next_is_label : (next : ℕ) → 16 ≤ next → next ≤ numbers_end → next == numbers_end ≡ false → IsLabel next
-next_is_label next least most some = record { above = least; below = less next most some }
-  where
-    less : (next : ℕ) → next ≤ numbers_end → next == numbers_end ≡ false → next ≤ 1048575
-    less next most some = grind (arith, nat_tests)
-
-one_more : (next : ℕ) → next ≤ numbers_end → next == numbers_end ≡ false → next + 1 ≤ numbers_end
-one_more next most some = grind (arith, nat_tests)
+given_label : (label next : ℕ) → 16 ≤ label → label < next → next ≤ numbers_end → IsLabel label
+given_label label next least low most = record { above = least; below = label_below_next label next low most }
 
 -- ---- rows
 
@@ -265,50 +261,52 @@ module _ (plan : Plan) (checked : IsChecked plan) (types : HasTypes plan) (other
       by_gate false e = absurd (cc)
 
   -- the edge with the advertisement
-  advertising_changes : (place : EndPlace) (content : Told) (work : Work) → (end_is : IsEndOf plan me place) → (end_at work.edge place).local ≡ Idle false → work.edge.next_label == numbers_end ≡ false
-      → TellsExpected plan end_is.row me.0 place.peer.0 content → At work → ChangesEnds plan others me.0 work.edge (advertising place work.edge.next_label content work.edge)
-  unfolding with_end with_next_label
-  advertising_changes place content work end_is idle some tells works = record {
+  advertising_changes : (place : EndPlace) (label : ℕ) (content : Told) (work : Work) → (end_is : IsEndOf plan me place) → (end_at work.edge place).local ≡ Idle false → label_to_give work.edge ≡ Some label
+      → TellsExpected plan end_is.row me.0 place.peer.0 content → At work → ChangesEnds plan others me.0 work.edge (advertising place label content work.edge)
+  unfolding with_end with_next_label with_kept
+  advertising_changes place label content work end_is idle given tells works = record {
     place = refl;
     peering = refl;
-    keeps = names_advertising place content work.edge false idle;
-    most = one_more work.edge.next_label works.edge.most some;
+    keeps = names_advertising place label content work.edge false idle works.edge.owned works.edge.rests (to_give work.edge label works.edge.rests given);
+    most = subst (λ (n : ℕ). n ≤ numbers_end) (sym (advertised_next place label content work.edge)) (after_most work.edge.next_label works.edge.most);
     bits = works.edge.bits;
-    tells = λ wire peer. end_fact (λ w k e. TellsAt plan me.0 w k e) place (advertised work.edge.next_label content (end_at work.edge place)) work.edge wire peer
-        (local_tells plan me.0 place.wire.0 place.peer.0 (end_at work.edge place) (advertised work.edge.next_label content (end_at work.edge place)).local
-        (λ row is joined near. near_advertised plan row me.0 place.peer.0 work.edge.next_label content (end_at work.edge place).local
+    tells = λ wire peer. end_fact (λ w k e. TellsAt plan me.0 w k e) place (advertised label content (end_at work.edge place)) work.edge wire peer
+        (local_tells plan me.0 place.wire.0 place.peer.0 (end_at work.edge place) (advertised label content (end_at work.edge place)).local
+        (λ row is joined near. near_advertised plan row me.0 place.peer.0 label content (end_at work.edge place).local
         (subst (λ (r : WirePlan). TellsExpected plan r me.0 place.peer.0 content) (sym (row_is plan place.wire end_is.row row end_is.is is)) tells) near)
         (works.edge.tells place.wire.0 place.peer.0))
         (works.edge.tells wire peer);
-    bound = λ place2 wire away. end_fact (λ w k e. k ≡ place2 → BindsGiven (others place2) w me.0 e.remote) place (advertised work.edge.next_label content (end_at work.edge place)) work.edge wire place2
+    bound = λ place2 wire away. end_fact (λ w k e. k ≡ place2 → BindsGiven (others place2) w me.0 e.remote) place (advertised label content (end_at work.edge place)) work.edge wire place2
         (λ same. subst (λ (k : ℕ). BindsGiven (others k) place.wire.0 me.0 (end_at work.edge place).remote) same ((works.left place.peer.0 (subst (λ (k : ℕ). nat_eq k me.0 ≡ false) (sym same) away)).bound place.wire.0))
         (λ same. (works.left place2 away).bound wire) refl;
   }
 
-  advertises_ruled : (place : EndPlace) (content : Told) (work : Work) → IsEndOf plan me place → (end_at work.edge place).local ≡ Idle false → wish plan work.edge place ≡ Some content → work.edge.next_label == numbers_end ≡ false
-      → At work → At (says taken_all place.peer (mapping place.pw_id work.edge.next_label content) (changes (advertising place work.edge.next_label content) work)).work
-  advertises_ruled place content work end_is idle wished some works =
+  advertises_ruled : (place : EndPlace) (label : ℕ) (content : Told) (work : Work) → IsEndOf plan me place → (end_at work.edge place).local ≡ Idle false → wish plan work.edge place ≡ Some content → label_to_give work.edge ≡ Some label
+      → At work → At (says taken_all place.peer (mapping place.pw_id label content) (changes (advertising place label content) work)).work
+  advertises_ruled place label content work end_is idle wished given works =
       let told : WishTells place end_is.row content = wish_tells place work.edge content works.edge.place (works.edge.bits place.wire.0) works.edge.tells end_is wished in
       let tells : TellsExpected plan end_is.row me.0 place.peer.0 content = told.0 in
-      let next : EdgeState = advertising place work.edge.next_label content work.edge in
-      let new : ChangesEnds plan others me.0 work.edge next = advertising_changes place content work end_is idle some tells works in
-      let after : Work = changes (advertising place work.edge.next_label content) work in
-      let after_is : after.edge ≡ next = changed (advertising place work.edge.next_label content) work in
+      let next : EdgeState = advertising place label content work.edge in
+      let give : IsToGive work.edge label = to_give work.edge label works.edge.rests given in
+      let new : ChangesEnds plan others me.0 work.edge next = advertising_changes place label content work end_is idle given tells works in
+      let after : Work = changes (advertising place label content) work in
+      let after_is : after.edge ≡ next = changed (advertising place label content) work in
       let named : NamedEnd plan me place.peer place.wire end_is.row = end_of plan me place.peer place.wire end_is.row checked end_is.is end_is.joined in
-      let label_is : IsLabel work.edge.next_label = next_is_label work.edge.next_label works.edge.least.next works.edge.most some in
+      let label_is : IsLabel label =
+      given_label label (next_after work.edge.next_label) (given_least 16 work.edge label works.edge.least give) (given_below work.edge label works.edge.rests give) (after_most work.edge.next_label works.edge.most) in
       let row_small : place.pw_id < 2 ^ 32 = subst (λ (n : ℕ). n < 2 ^ 32) (sym end_is.pw_id) (pw_id_fits plan place.wire end_is.row checked end_is.is) in
-      let sayable : IsOfWires (mapping place.pw_id work.edge.next_label content) =
-      mapping_sound place.pw_id work.edge.next_label content row_small label_is (told_sound plan place.wire end_is.row me.0 place.peer.0 content checked types end_is.is end_is.joined tells told.1) in
-      says_ruled plan others me.0 first held place.peer (mapping place.pw_id work.edge.next_label content) after
-      (λ id low fit away. subst (λ (e : EdgeState). IsRuled plan me.0 place.peer.0 e (others place.peer.0) (mapping place.pw_id work.edge.next_label content id)) (sym after_is) (record {
+      let sayable : IsOfWires (mapping place.pw_id label content) =
+      mapping_sound place.pw_id label content row_small label_is (told_sound plan place.wire end_is.row me.0 place.peer.0 content checked types end_is.is end_is.joined tells told.1) in
+      says_ruled plan others me.0 first held place.peer (mapping place.pw_id label content) after
+      (λ id low fit away. subst (λ (e : EdgeState). IsRuled plan me.0 place.peer.0 e (others place.peer.0) (mapping place.pw_id label content id)) (sym after_is) (record {
         fit = fit;
-        ready = ready (ends_at plan me.0 place.peer.0) (mapping place.pw_id work.edge.next_label content id) fit (sayable.said (ends_at plan me.0 place.peer.0) id low);
-        own = mapping_names plan next place.peer.0 named.place place.pw_id work.edge.next_label content id (name_is place next (new.place ∙ works.edge.place) end_is named)
-            (named_end place next work.edge.next_label (new.place ∙ works.edge.place) end_is (names_new place content work.edge false idle works.edge.owned) named);
-        far = mapping_far plan (others place.peer.0) me.0 place.pw_id work.edge.next_label content id;
+        ready = ready (ends_at plan me.0 place.peer.0) (mapping place.pw_id label content id) fit (sayable.said (ends_at plan me.0 place.peer.0) id low);
+        own = mapping_names plan next place.peer.0 named.place place.pw_id label content id (name_is place next (new.place ∙ works.edge.place) end_is named)
+            (named_end place next label (new.place ∙ works.edge.place) end_is (names_new place label content work.edge false idle works.edge.owned works.edge.rests give) named);
+        far = mapping_far plan (others place.peer.0) me.0 place.pw_id label content id;
         tells = mapping_tells plan place.wire end_is.row me.0 place.peer.0 place.pw_id work.edge.next_label id content end_is.is end_is.joined end_is.pw_id tells;
       }))
-      (changes_keep plan others me.0 first held (advertising place work.edge.next_label content) work new works)
+      (changes_keep plan others me.0 first held (advertising place label content) work new works)
 
   -- what an end has told
   near_is : (place : EndPlace) (label : ℕ) (content : Told) (work : Work) → (end_is : IsEndOf plan me place) → (end_at work.edge place).local ≡ Advertised label content → At work → TellsExpected plan end_is.row me.0 place.peer.0 content
@@ -329,7 +327,7 @@ module _ (plan : Plan) (checked : IsChecked plan) (types : HasTypes plan) (other
   -- one end is another, which owns no more, tells what is planned, and holds the same
   end_changes : (place : EndPlace) (end : EndState) (edge : EdgeState) → Rattle.flight_model.proofs.NameLemmas.KeepsNames edge (with_end place end edge) → end.remote ≡ (end_at edge place).remote → TellsAt plan me.0 place.wire.0 place.peer.0 end
       → (work : Work) → work.edge ≡ edge → At work → ChangesEnds plan others me.0 edge (with_end place end edge)
-  unfolding with_end
+  unfolding with_end with_kept
   end_changes place end edge keeps remote tells work is works = record {
     place = refl;
     peering = refl;
@@ -363,7 +361,7 @@ module _ (plan : Plan) (checked : IsChecked plan) (types : HasTypes plan) (other
         ready = ready (ends_at plan me.0 place.peer.0) (withdrawal place.pw_id label content id) fit (sayable.said (ends_at plan me.0 place.peer.0) id low);
         own = withdrawal_names plan (withdrawing place work.edge) place.peer.0 named.place place.pw_id label content id (name_is place (withdrawing place work.edge) (new.place ∙ works.edge.place) end_is named)
             (named_end place (withdrawing place work.edge) label (new.place ∙ works.edge.place) end_is
-            (new.keeps.names place.wire.0 place.peer.0 label (works.edge.owned place.wire.0 place.peer.0 label (owned_is place label content work at))) named);
+            (new.keeps.names place.wire.0 place.peer.0 label None (works.edge.owned place.wire.0 place.peer.0 label (owned_is place label content work at))) named);
         far = withdrawal_far plan (others place.peer.0) me.0 place.pw_id label content id;
         tells = withdrawal_tells plan place.wire end_is.row me.0 place.peer.0 place.pw_id label id content end_is.is end_is.joined end_is.pw_id tells;
       }))
@@ -415,7 +413,7 @@ module _ (plan : Plan) (checked : IsChecked plan) (types : HasTypes plan) (other
 
   down_quiet : (wire : WireId) (down : Option Down) (work : Work) → IsQuietStep work (changes (with_told_down wire down) work)
   unfolding changes with_told_down
-  down_quiet wire down work = record { same = record { me = refl; ends = refl; bits = refl; next = refl }; peering = refl; said = λ place. refl; closed = λ place. refl }
+  down_quiet wire down work = record { same = record { me = refl; ends = refl; bits = refl; next = refl; kept = refl }; peering = refl; said = λ place. refl; closed = λ place. refl }
 
   downs_ruled : (wire : WireId) (down : Option Down) (work : Work) → At work → At (gives (Wire wire down) (changes (with_told_down wire down) work))
   downs_ruled wire down work works =
@@ -426,7 +424,7 @@ module _ (plan : Plan) (checked : IsChecked plan) (types : HasTypes plan) (other
   change_quiet : (change : EdgeState → EdgeState) (work : Work) → KeepsEnds work.edge (change work.edge) → (change work.edge).peering ≡ work.edge.peering → IsQuietStep work (changes change work)
   unfolding changes
   change_quiet change work keeps peering = record {
-    same = record { me = keeps.me; ends = keeps.ends; bits = keeps.bits; next = keeps.next_label };
+    same = record { me = keeps.me; ends = keeps.ends; bits = keeps.bits; next = keeps.next_label; kept = keeps.kept };
     peering = peering;
     said = λ place. refl;
     closed = λ place. refl;
@@ -435,7 +433,7 @@ module _ (plan : Plan) (checked : IsChecked plan) (types : HasTypes plan) (other
   pub rows_ruled : KeptByRows plan me (WorksRuled plan others me.0 first held)
   rows_ruled = record {
     placed = λ work works. works.edge.place;
-    advertises = λ place content work end_is idle wished some works. advertises_ruled place content work end_is idle wished some works;
+    advertises = λ place label content work end_is idle wished given works. advertises_ruled place label content work end_is idle wished given works;
     withdraws = λ place label content work end_is at wished works. withdraws_ruled place label content work end_is at works;
     tells = λ place label content last work end_is at told other works. tells_ruled place label content last (status_to_tell plan work.edge place) work end_is at told (status_small plan work.edge me.0 place (works.edge.bits place.wire.0) works.edge.tells) works;
     clears = clears_ruled;

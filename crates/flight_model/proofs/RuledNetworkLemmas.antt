@@ -4,6 +4,7 @@ use Rattle.std.proofs.lemmas.Bool.{eqb-true}
 use Rattle.net_base.specs.declared.plan.Plan.{Plan}
 use Rattle.net_base.specs.declared.plan.places.EdgeId.{EdgeId}
 use Rattle.ldp_grammar.specs.declared.message.Message.{Message}
+use Rattle.pw_signalling.specs.End.{EndState}
 use Rattle.edge_model.specs.State.{EdgeState, Peering}
 use Rattle.edge_model.specs.Work.{Work}
 use Rattle.network_model.specs.Absorb.{absorb, absorb_all, answer, begin_at, idle}
@@ -13,8 +14,8 @@ use Rattle.flight_model.specs.Ends.{ends_at}
 use Rattle.flight_model.specs.Facts.{Fact, FromBoth, HoldsBut, HoldsOfTwo, LeavesTo, flight}
 use Rattle.flight_model.specs.Meeting.{closes, said_to}
 use Rattle.flight_model.specs.Messages.{octets_of_all}
-use Rattle.flight_model.specs.Rules.{AllMessages, BindsGiven}
-use Rattle.flight_model.proofs.MentionLemmas.{all_kept, all_more, binds_kept, far_kept}
+use Rattle.flight_model.specs.Rules.{AllMessages, BindsGiven, MayCarry}
+use Rattle.flight_model.proofs.MentionLemmas.{KeepsMentions, all_kept, all_more, binds_kept, binds_mentioned, far_kept, far_mentioned, own_mentioned}
 use Rattle.flight_model.proofs.NameLemmas.{KeepsNames, names_same, names_then, split}
 use Rattle.flight_model.proofs.PipeLemmas.{all_edges}
 use Rattle.flight_model.proofs.RuledLemmas.{IsRuled, IsRuledEdge, IsRuledFor, WorksRuled, holds_of, ruled_kept}
@@ -37,16 +38,26 @@ pub record IsRuledNetwork (plan : Plan) (network : NetworkState) : Type 0 where
   pub edges : (a : ℕ) → IsRuledEdge plan a (network.edges a)
   pub two : HoldsOfTwo (FromBoth (OutRules plan)) network
 
--- the rules hold after an event, and whatever label may be named with an end of an edge may be so still
+-- whatever label may be carried by a packet may be so still
+abbrev pub Carries : EdgeState → EdgeState → Type 0
+Carries old new = (wire peer age label : ℕ) → MayCarry old wire peer age label → MayCarry new wire peer age label
+
+pub carries : (old new : EdgeState) → KeepsNames old new → Carries old new
+carries old new keeps wire peer age label may = keeps.names wire peer label (Some age) may
+
+pub carries_same : (edge : EdgeState) → Carries edge edge
+carries_same edge wire peer age label may = may
+
+-- the rules hold after an event, and whatever label a packet may carry to an edge it may carry still
 pub record StaysRuled (plan : Plan) (old new : NetworkState) : Type 0 where
   pub ruled : IsRuledNetwork plan new
-  pub keeps : (k : ℕ) → KeepsNames (old.edges k) (new.edges k)
+  pub keeps : (k : ℕ) → Carries (old.edges k) (new.edges k)
 
 pub stays_ruled : (plan : Plan) (network : NetworkState) → IsRuledNetwork plan network → StaysRuled plan network network
-stays_ruled plan network ruled = record { ruled = ruled; keeps = λ k. names_same (network.edges k) }
+stays_ruled plan network ruled = record { ruled = ruled; keeps = λ k. carries_same (network.edges k) }
 
 pub stays_then : (plan : Plan) (a b c : NetworkState) → StaysRuled plan a b → StaysRuled plan b c → StaysRuled plan a c
-stays_then plan a b c one next = record { ruled = next.ruled; keeps = λ k. names_then (a.edges k) (b.edges k) (c.edges k) (one.keeps k) (next.keeps k) }
+stays_then plan a b c one next = record { ruled = next.ruled; keeps = λ k wire peer age label may. next.keeps k wire peer age label (one.keeps k wire peer age label may) }
 
 -- the sender has worked
 pub rules_from : (plan : Plan) (a b : ℕ) (old new other : EdgeState) (out : List ℕ) → new.me ≡ old.me → KeepsNames old new → RulesTo plan a b old other out → RulesTo plan a b new other out
@@ -55,6 +66,17 @@ rules_from plan a b old new other out same keeps rules = record {
   octets = rules.octets;
   ruled = all_kept (IsRuled plan a b old other) (IsRuled plan a b new other) rules.messages (λ m ruled. ruled_kept plan a b old new other m same keeps ruled) rules.ruled;
   bound = λ wire. binds_kept old new wire b (other.ends wire a).remote keeps (rules.bound wire);
+}
+
+-- the sender is another one, of which the same messages and bindings may name what they did, and the receiver is
+pub rules_mentioned : (plan : Plan) (a b : ℕ) (one new other far : EdgeState) (out : List ℕ) → new.me ≡ one.me → far.me ≡ other.me → far.ends ≡ other.ends → KeepsMentions b one new → KeepsMentions a other far
+    → RulesTo plan a b one other out → RulesTo plan a b new far out
+rules_mentioned plan a b one new other far out same too ends keeps kept rules = record {
+  messages = rules.messages;
+  octets = rules.octets;
+  ruled = all_kept (IsRuled plan a b one other) (IsRuled plan a b new far) rules.messages
+      (λ m ruled. record { fit = ruled.fit; ready = ruled.ready; own = own_mentioned plan one new b m same keeps ruled.own; far = far_mentioned plan other far a m too kept ruled.far; tells = ruled.tells }) rules.ruled;
+  bound = λ wire. binds_mentioned one new wire b (far.ends wire a).remote keeps (subst (λ (f : ℕ → ℕ → EndState). BindsGiven one wire b (f wire a).remote) (sym ends) (rules.bound wire));
 }
 
 -- more is said to an end that stands
@@ -108,12 +130,17 @@ leaves_ruled plan me place first other out more held work go back same keeps lef
 
 -- ---- a work goes into the network
 
-pub ruled_settle : (plan : Plan) (network : NetworkState) (me : EdgeId) (origin hops : ℕ) (first : EdgeState) (held : ℕ → Option (List ℕ)) (work : Work) → HoldsBut (FromBoth (OutRules plan)) me.0 network
+pub record IsSettledIn (plan : Plan) (network after : NetworkState) (me : ℕ) (edge : EdgeState) : Type 0 where
+  pub ruled : IsRuledNetwork plan after
+  pub own : after.edges me ≡ edge
+  pub other : (k : ℕ) → nat_eq k me ≡ false → after.edges k ≡ network.edges k
+
+pub ruled_in : (plan : Plan) (network : NetworkState) (me : EdgeId) (origin hops : ℕ) (first : EdgeState) (held : ℕ → Option (List ℕ)) (work : Work) → HoldsBut (FromBoth (OutRules plan)) me.0 network
     → ((a : ℕ) → nat_eq a me.0 ≡ false → IsRuledEdge plan a (network.edges a)) → first.me ≡ record { 0 = me.0 } → WorksRuled plan network.edges me.0 first held work
     → ((place : ℕ) → nat_eq place me.0 ≡ false → RulesTo plan me.0 place first (network.edges place) (flight network me.0 place))
     → ((place : ℕ) → nat_eq place me.0 ≡ false → RulesTo plan place me.0 (network.edges place) first (octets_held (held place) ++ network.pipes place me.0))
-    → KeepsNames (network.edges me.0) first → StaysRuled plan network (absorb me origin hops work network).state
-ruled_settle plan network me origin hops first held work others ruled at works out back begun = record {
+    → IsSettledIn plan network (absorb me origin hops work network).state me.0 work.edge
+ruled_in plan network me origin hops first held work others ruled at works out back = record {
   ruled = record {
     edges = λ a. split {P = IsRuledEdge plan a (after.edges a)} (nat_eq a me.0)
         (λ is. subst (λ (k : ℕ). IsRuledEdge plan k (after.edges k)) (sym (eqb-true a me.0 is)) (subst (IsRuledEdge plan me.0) (sym own_edge) works.edge))
@@ -121,10 +148,8 @@ ruled_settle plan network me origin hops first held work others ruled at works o
     two = settle (FromBoth (OutRules plan)) network me origin hops work (both_turn (OutRules plan)) others
         (λ place away. leaves_ruled plan me place first (network.edges place) (flight network me.0 place) (network.pipes place me.0) (held place) work (out place away) (back place away) (works.edge.place ∙ sym at) works.keeps (works.left place away));
   };
-  keeps = λ k. split {P = KeepsNames (network.edges k) (after.edges k)} (nat_eq k me.0)
-      (λ is. subst (λ (n : ℕ). KeepsNames (network.edges n) (after.edges n)) (sym (eqb-true k me.0 is))
-      (subst (KeepsNames (network.edges me.0)) (sym own_edge) (names_then (network.edges me.0) first work.edge begun works.keeps)))
-      (λ away. subst (KeepsNames (network.edges k)) (sym (other_edge k away)) (names_same (network.edges k)));
+  own = own_edge;
+  other = other_edge;
 }
   where
     after : NetworkState
@@ -138,6 +163,22 @@ ruled_settle plan network me origin hops first held work others ruled at works o
 
     other_edge : (a : ℕ) → nat_eq a me.0 ≡ false → after.edges a ≡ network.edges a
     other_edge a away = ap (λ (f : ℕ → EdgeState). f a) edges ∙ edge_else me work.edge network a away
+
+pub ruled_settle : (plan : Plan) (network : NetworkState) (me : EdgeId) (origin hops : ℕ) (first : EdgeState) (held : ℕ → Option (List ℕ)) (work : Work) → HoldsBut (FromBoth (OutRules plan)) me.0 network
+    → ((a : ℕ) → nat_eq a me.0 ≡ false → IsRuledEdge plan a (network.edges a)) → first.me ≡ record { 0 = me.0 } → WorksRuled plan network.edges me.0 first held work
+    → ((place : ℕ) → nat_eq place me.0 ≡ false → RulesTo plan me.0 place first (network.edges place) (flight network me.0 place))
+    → ((place : ℕ) → nat_eq place me.0 ≡ false → RulesTo plan place me.0 (network.edges place) first (octets_held (held place) ++ network.pipes place me.0))
+    → KeepsNames (network.edges me.0) first → StaysRuled plan network (absorb me origin hops work network).state
+ruled_settle plan network me origin hops first held work others ruled at works out back begun =
+    let after : NetworkState = (absorb me origin hops work network).state in
+    let settled : IsSettledIn plan network after me.0 work.edge = ruled_in plan network me origin hops first held work others ruled at works out back in
+    record {
+      ruled = settled.ruled;
+      keeps = λ k. split {P = Carries (network.edges k) (after.edges k)} (nat_eq k me.0)
+          (λ is. subst (λ (n : ℕ). Carries (network.edges n) (after.edges n)) (sym (eqb-true k me.0 is))
+          (subst (Carries (network.edges me.0)) (sym settled.own) (carries (network.edges me.0) work.edge (names_then (network.edges me.0) first work.edge begun works.keeps))))
+          (λ away. subst (Carries (network.edges k)) (sym (settled.other k away)) (carries_same (network.edges k)));
+    }
 
 -- ---- an edge begins
 

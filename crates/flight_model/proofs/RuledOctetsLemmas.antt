@@ -10,6 +10,7 @@ use Rattle.session_core.specs.Table as table
 use Rattle.edge_model.specs.Connection.{connects}
 use Rattle.edge_model.specs.declared.effect.Effect.TheVariants as effect
 use Rattle.edge_model.specs.Hear.{hears, holds}
+use Rattle.edge_model.specs.Labels.{meeting}
 use Rattle.edge_model.specs.Mend.{mends}
 use Rattle.edge_model.specs.State.{EdgeState, Peering, with_peering}
 use Rattle.edge_model.specs.Work.{Work, changes, gives}
@@ -44,7 +45,7 @@ module _ (plan : Plan) (others : ℕ → EdgeState) (me : ℕ) (first : EdgeStat
   unfolding changes with_peering
   holds_some peer rest before kept last was at works = steps_keep plan others me first held (held_now peer.0 rest held) last result (record {
     place = refl;
-    keeps = names_still last.edge result.edge refl refl;
+    keeps = names_still last.edge result.edge refl refl refl;
     most = works.edge.most;
     bits = works.edge.bits;
     tells = λ wire k. works.edge.tells wire k;
@@ -136,7 +137,7 @@ stands_ruled : (plan : Plan) (others : ℕ → EdgeState) (me : ℕ) (first : Ed
 unfolding changes with_peering
 stands_ruled plan others me first held peer now work none not_closed fit works = steps_keep plan others me first held (held_now peer.0 [] held) work result (record {
   place = refl;
-  keeps = names_still work.edge result.edge refl refl;
+  keeps = names_still work.edge result.edge refl refl refl;
   most = works.edge.most;
   bits = works.edge.bits;
   tells = λ wire k. works.edge.tells wire k;
@@ -159,13 +160,20 @@ stands_ruled plan others me first held peer now work none not_closed fit works =
     result : Work
     result = changes (with_peering peer (Some now)) work
 
+-- to meet a peer closes nothing
+meets_none : (peer : EdgeId) (work : Work) → closes peer.0 work.effects ≡ false → closes peer.0 (changes (meeting peer) work).effects ≡ false
+unfolding changes
+meets_none peer work none = none
+
+-- it has met the peer before
 pub connects_ruled : (plan : Plan) (checked : IsChecked plan) (types : HasTypes plan) (others : ℕ → EdgeState) (me peer : EdgeId) (first : EdgeState) (held : ℕ → Option (List ℕ)) (now : Peering) (work : Work)
-    → now.held ≡ [] → closes peer.0 work.effects ≡ false → IsFitEnd (ends_at plan me.0 peer.0) now → WorksRuled plan others me.0 first held work
+    → now.held ≡ [] → closes peer.0 work.effects ≡ false → IsFitEnd (ends_at plan me.0 peer.0) now → WorksRuled plan others me.0 first held (changes (meeting peer) work)
     → WorksRuled plan others me.0 first (held_now peer.0 [] held) (mends plan taken_all (connects taken_all peer now work))
 connects_ruled plan checked types others me peer first held now work none not_closed fit works =
-    let stands : Work = changes (with_peering peer (Some now)) work in
+    let began : Work = changes (meeting peer) work in
+    let stands : Work = changes (with_peering peer (Some now)) began in
     let told : Work = gives (effect.Session peer name.Initialized) stands in
     mends_ruled plan checked types others me first (held_now peer.0 [] held) (connects taken_all peer now work)
     (event_ruled plan others me.0 first (held_now peer.0 [] held) peer table.Start told tt
     (quiet_keeps plan others me.0 first (held_now peer.0 [] held) stands told (gives_quiet (effect.Session peer name.Initialized) stands (session_nothing peer name.Initialized))
-    (stands_ruled plan others me.0 first held peer now work none not_closed fit works)))
+    (stands_ruled plan others me.0 first held peer now began none (meets_none peer work not_closed) fit works)))

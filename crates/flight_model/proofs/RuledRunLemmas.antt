@@ -1,5 +1,5 @@
 -- Every run keeps the rules of labels and of told contents.
-use Rattle.std.proofs.Common.{◌≡◌, ◌≤◌, ◌∙◌, ℕ, false, true, nat_eq, List, [], ◌∷◌, Option, Some, None, slice_get, refl, sym, arith}
+use Rattle.std.proofs.Common.{◌≡◌, ◌≤◌, ◌∙◌, ℕ, Bool, false, true, nat_eq, List, [], ◌∷◌, Option, Some, None, slice_get, refl, sym, arith}
 use Rattle.std.proofs.lemmas.List.Elements.{All-head, All-tail}
 use Rattle.std.specs.List.{All}
 use Rattle.net_base.specs.declared.plan.Plan.{Plan}
@@ -29,25 +29,31 @@ use Rattle.flight_model.proofs.ToldLemmas.{fresh_tells, tells_plan}
 
 -- ---- events
 
--- each event keeps the rules, and each label goes on to be named as before
-pub brings_stays : (plan : Plan) (event : Event) (network : NetworkState) → IsChecked plan → HasTypes plan → IsEventOf plan event → IsOrdered plan network → IsRuledNetwork plan network → StaysRuled plan network (brings plan event network).state
-brings_stays plan (Connect from to) network checked types planned ordered ruled = connect_event_ruled plan checked types from to network ruled
-brings_stays plan (Deliver from to count) network checked types planned ordered ruled = deliver_event_ruled plan checked types from to count network ordered ruled
-brings_stays plan (Lose me peer) network checked types planned ordered ruled = lose_ruled plan checked types me peer network ruled
-brings_stays plan (Restart me) network checked types planned ordered ruled = restart_event_ruled plan checked types me network ruled
-brings_stays plan Tick network checked types planned ordered ruled = tick_event_ruled plan checked types network ruled
-brings_stays plan (Frame circuit octets) network checked types planned ordered ruled = frame_event_ruled plan checked types circuit octets (circuit_row plan circuit) network ruled
-brings_stays plan (Circuit circuit on) network checked types planned ordered ruled = circuit_event_ruled plan checked types circuit on (circuit_row plan circuit) network ruled
-brings_stays plan (Wire me wire on) network checked types planned ordered ruled = wire_event_ruled plan checked types me wire on network ruled
-brings_stays plan (Status me wire bits) network checked types planned ordered ruled = status_event_ruled plan checked types me wire bits network planned.2 ruled
-brings_stays plan (Priority me wire priority) network checked types planned ordered ruled = priority_event_ruled plan checked types me wire priority network ruled
-brings_stays plan (Arrive number) network checked types planned ordered ruled = arrive_event_ruled plan checked types (packet_at network number) network ruled
-brings_stays plan (Discard number) network checked types planned ordered ruled = discard_event_ruled plan checked types (packet_at network number) network ruled
-brings_stays plan (Again number) network checked types planned ordered ruled = again_event_ruled plan checked types (packet_at network number) network ruled
-brings_stays plan (Ping me wire) network checked types planned ordered ruled = ping_event_ruled plan checked types me wire network ruled
+-- time passes
+abbrev pub is_tick : Event → Bool
+is_tick Tick = true
+is_tick event = false
+
+-- each event but a tick keeps the rules, and each label goes on to be carried as before
+pub brings_stays : (plan : Plan) (event : Event) (network : NetworkState) → IsChecked plan → HasTypes plan → IsEventOf plan event → IsOrdered plan network → IsRuledNetwork plan network → is_tick event ≡ false → StaysRuled plan network (brings plan event network).state
+brings_stays plan (Connect from to) network checked types planned ordered ruled still = connect_event_ruled plan checked types from to network ordered ruled
+brings_stays plan (Deliver from to count) network checked types planned ordered ruled still = deliver_event_ruled plan checked types from to count network ordered ruled
+brings_stays plan (Lose me peer) network checked types planned ordered ruled still = lose_ruled plan checked types me peer network ruled
+brings_stays plan (Restart me) network checked types planned ordered ruled still = restart_event_ruled plan checked types me network ruled
+brings_stays plan Tick network checked types planned ordered ruled still = absurd (cc (still))
+brings_stays plan (Frame circuit octets) network checked types planned ordered ruled still = frame_event_ruled plan checked types circuit octets (circuit_row plan circuit) network ruled
+brings_stays plan (Circuit circuit on) network checked types planned ordered ruled still = circuit_event_ruled plan checked types circuit on (circuit_row plan circuit) network ruled
+brings_stays plan (Wire me wire on) network checked types planned ordered ruled still = wire_event_ruled plan checked types me wire on network ruled
+brings_stays plan (Status me wire bits) network checked types planned ordered ruled still = status_event_ruled plan checked types me wire bits network planned.2 ruled
+brings_stays plan (Priority me wire priority) network checked types planned ordered ruled still = priority_event_ruled plan checked types me wire priority network ruled
+brings_stays plan (Arrive number) network checked types planned ordered ruled still = arrive_event_ruled plan checked types (packet_at network number) network ruled
+brings_stays plan (Discard number) network checked types planned ordered ruled still = discard_event_ruled plan checked types (packet_at network number) network ruled
+brings_stays plan (Again number) network checked types planned ordered ruled still = again_event_ruled plan checked types (packet_at network number) network ruled
+brings_stays plan (Ping me wire) network checked types planned ordered ruled still = ping_event_ruled plan checked types me wire network ruled
 
 pub brings_ruled : (plan : Plan) (event : Event) (network : NetworkState) → IsChecked plan → HasTypes plan → IsEventOf plan event → IsOrdered plan network → IsRuledNetwork plan network → IsRuledNetwork plan (brings plan event network).state
-brings_ruled plan event network checked types planned ordered ruled = (brings_stays plan event network checked types planned ordered ruled).ruled
+brings_ruled plan Tick network checked types planned ordered ruled = (tick_event_ruled plan checked types network ruled).ruled
+brings_ruled plan event network checked types planned ordered ruled = (brings_stays plan event network checked types planned ordered ruled refl).ruled
 
 -- ---- runs
 
@@ -69,7 +75,8 @@ empty_ruled plan checked = record {
   edges = λ a. record {
     place = refl;
     owned = λ wire peer label owned. nothing_owned owned;
-    least = record { next = (label_least plan (slice_get plan.edges a) a refl checked).0; owned = λ wire peer label owned. nothing_owned owned };
+    rests = record { rising = tt; below = λ label there. absurd (there refl); unowned = λ label there wire peer. refl };
+    least = record { next = (label_least plan (slice_get plan.edges a) a refl checked).0; owned = λ wire peer label owned. nothing_owned owned; kept = λ label there. absurd (there refl) };
     most = (label_least plan (slice_get plan.edges a) a refl checked).1;
     bits = λ wire. omega arith;
     tells = λ wire peer. fresh_tells plan a wire peer;

@@ -19,8 +19,8 @@ use Rattle.session_core.specs.Table.{SessionEvent, Outcome, Stay, Goes, Ends, ou
 use Rattle.edge_model.specs.declared.effect.Effect.{Effect}
 use Rattle.edge_model.specs.declared.effect.Effect.TheVariants as effect
 use Rattle.edge_model.specs.Put.{Spoken, having_spoken, platform_of, put_octets, put_replies, put_reply, with_spoken}
-use Rattle.edge_model.specs.Session.{clears_ends, comes_of, ends, happens, happens_to, happens_with_ends, is_same_phase, says, says_to, tells_change, with_session}
-use Rattle.edge_model.specs.State.{EdgeState, Peering, has_end, with_ends_beside, with_peering}
+use Rattle.edge_model.specs.Session.{clears_ends, comes_of, ends, happens, happens_to, happens_with_ends, is_same_phase, says, says_to, tells_change, with_session, losing_ends}
+use Rattle.edge_model.specs.State.{EdgeState, Peering, has_end, with_ends_beside, with_peering, with_kept}
 use Rattle.edge_model.specs.Work.{Work, changes, gives, puts}
 use Rattle.network_model.specs.Absorb.{taken_all}
 use Rattle.flight_model.specs.Ends.{ends_at}
@@ -28,7 +28,7 @@ use Rattle.flight_model.specs.Meeting.{closes, said_to}
 use Rattle.flight_model.specs.Pair.{AreFit, having_put_all}
 use Rattle.flight_model.specs.Rules.{BindsGiven}
 use Rattle.flight_model.proofs.MentionLemmas.{reply_far, reply_own}
-use Rattle.flight_model.proofs.NameLemmas.{beside_fact, names_beside, names_still, owns_lost, split}
+use Rattle.flight_model.proofs.NameLemmas.{beside_fact, names_losing, names_still, split}
 use Rattle.flight_model.proofs.OutcomeLemmas.{FitEvent, FitOutcome, IsFitReply, outcome_fits}
 use Rattle.flight_model.proofs.RuledLemmas.{ChangesEnds, FitsIf, IsFitEnd, IsInward, IsQuietStep, IsRuled, SameEnds, WorksRuled, changes_keep, quiet_keeps, ruled_kept, says_octets, spoken_fits, steps_keep, still_stands}
 use Rattle.flight_model.proofs.SaidLemmas.{IsReady, ready, ready_reply}
@@ -54,7 +54,7 @@ reply_ruled plan me place one other r id fit is low = record {
 -- ---- quiet steps
 
 same_ends : (edge : EdgeState) → SameEnds edge edge
-same_ends edge = record { me = refl; ends = refl; bits = refl; next = refl }
+same_ends edge = record { me = refl; ends = refl; bits = refl; next = refl; kept = refl }
 
 puts_quiet : (peer : EdgeId) (bytes : List ℕ) (taken : Bool) (work : Work) → IsQuietStep work (puts peer bytes taken work)
 unfolding puts
@@ -111,7 +111,7 @@ module _ (plan : Plan) (others : ℕ → EdgeState) (me : ℕ) (first : EdgeStat
 
   moved_names : (peer : EdgeId) (now : Peering) (work : Work) → Rattle.flight_model.proofs.NameLemmas.KeepsNames work.edge (changes (with_peering peer (Some now)) work).edge
   unfolding changes with_peering
-  moved_names peer now work = names_still work.edge (with_peering peer (Some now) work.edge) refl refl
+  moved_names peer now work = names_still work.edge (with_peering peer (Some now) work.edge) refl refl refl
 
   pub message_put : (peer : EdgeId) (kept : Peering) (m : Message) (work : Work) → work.edge.peering peer.0 ≡ Some kept
       → (nat_eq peer.0 me ≡ false → IsRuled plan me peer.0 work.edge (others peer.0) m) → WorksRuled plan others me first held work
@@ -159,7 +159,7 @@ module _ (plan : Plan) (others : ℕ → EdgeState) (me : ℕ) (first : EdgeStat
   unfolding gives changes with_peering
   end_ruled peer why work works = steps_keep plan others me first held held work (ends peer why work) (record {
     place = refl;
-    keeps = names_still work.edge (ends peer why work).edge refl refl;
+    keeps = names_still work.edge (ends peer why work).edge refl refl refl;
     most = works.edge.most;
     bits = works.edge.bits;
     tells = λ wire k. works.edge.tells wire k;
@@ -217,12 +217,12 @@ module _ (plan : Plan) (others : ℕ → EdgeState) (me : ℕ) (first : EdgeStat
         comes_ruled peer kept (outcome_of kept.session event) work at (outcome_fits (ends_at plan me peer.0) kept.session event fit.fit fit.session is) works
 
   -- the ends beside a peer are lost
-  lost_changes : (peer : EdgeId) (work : Work) → WorksRuled plan others me first held work → ChangesEnds plan others me work.edge (with_ends_beside peer lost work.edge)
-  unfolding with_ends_beside
+  lost_changes : (peer : EdgeId) (work : Work) → WorksRuled plan others me first held work → ChangesEnds plan others me work.edge (losing_ends peer work.edge)
+  unfolding with_ends_beside with_kept
   lost_changes peer work works = record {
     place = refl;
     peering = refl;
-    keeps = names_beside peer lost work.edge owns_lost;
+    keeps = names_losing peer work.edge;
     most = works.edge.most;
     bits = works.edge.bits;
     tells = λ wire k. beside_fact (λ w p e. TellsAt plan me w p e) peer lost work.edge wire k (λ same. fresh_tells plan me wire k) (works.edge.tells wire k);
@@ -231,9 +231,9 @@ module _ (plan : Plan) (others : ℕ → EdgeState) (me : ℕ) (first : EdgeStat
 
   pub clears_ruled : (peer : EdgeId) (work : Work) → WorksRuled plan others me first held work → WorksRuled plan others me first held (clears_ends peer work)
   clears_ruled peer work works = by_end (has_end work.edge peer) where
-    by_end : (stands : Bool) → WorksRuled plan others me first held (cond stands work (changes (with_ends_beside peer lost) work))
+    by_end : (stands : Bool) → WorksRuled plan others me first held (cond stands work (changes (losing_ends peer) work))
     by_end true = works
-    by_end false = changes_keep plan others me first held (with_ends_beside peer lost) work (lost_changes peer work works) works
+    by_end false = changes_keep plan others me first held (losing_ends peer) work (lost_changes peer work works) works
 
   pub event_ruled : (peer : EdgeId) (event : SessionEvent) (work : Work) → FitEvent event → WorksRuled plan others me first held work → WorksRuled plan others me first held (happens_with_ends taken_all peer event work)
   event_ruled peer event work is works = clears_ruled peer (happens taken_all peer event work) (happens_ruled peer event work is works)

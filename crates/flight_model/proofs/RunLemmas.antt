@@ -81,7 +81,7 @@ empty_ordered plan checked = record {
   two = λ a b apart. record { messages = []; answers = []; out_is = refl; back_is = refl; talk = record { said = tt; answered = tt; here = tt; there = tt; steps = refl } };
   alone = λ a. refl;
   placed = λ a. refl;
-  sound = λ a. (let fits = first_fits plan (slice_get plan.edges a) a refl checked in record { least = fits.0; most = fits.1; bits = λ wire. omega arith; ends = λ wire peer. (refl, refl) });
+  sound = λ a. (let fits = first_fits plan (slice_get plan.edges a) a refl checked in record { least = fits.0; most = fits.1; kept = λ label there. absurd (there refl); bits = λ wire. omega arith; ends = λ wire peer. (refl, refl) });
 }
 
 pub run_ordered : (plan : Plan) (events : List Event) → IsRun plan events → IsOrdered plan (network_after plan events)

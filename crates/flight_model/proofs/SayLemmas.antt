@@ -7,8 +7,8 @@ use Rattle.pw_signalling.specs.Rows.{lost}
 use Rattle.session_core.specs.declared.peers.Peers.{Peers}
 use Rattle.session_core.specs.Phase as phase
 use Rattle.edge_model.specs.Put.{having_spoken, message_octets_of, platform_of}
-use Rattle.edge_model.specs.Session.{clears_ends, says}
-use Rattle.edge_model.specs.State.{Peering, has_end, is_there, with_ends_beside}
+use Rattle.edge_model.specs.Session.{clears_ends, says, losing_ends}
+use Rattle.edge_model.specs.State.{Peering, has_end, is_there, with_ends_beside, with_kept}
 use Rattle.edge_model.specs.Work.{Work, changes}
 use Rattle.network_model.specs.Absorb.{taken_all}
 use Rattle.flight_model.specs.Coming.{and_more}
@@ -25,16 +25,16 @@ use Rattle.flight_model.proofs.WorkLemmas.{same_end, wrote, wrote_fine, wrote_sh
 -- ---- ends that are lost touch neither neighbours nor what was said
 
 pub clears_spares : (place : ℕ) (peer : EdgeId) (work : Work) → Spares place work (clears_ends peer work)
-unfolding changes with_ends_beside
+unfolding changes with_ends_beside with_kept
 clears_spares place peer work = by_end (has_end work.edge peer) where
-  by_end : (b : Bool) → Spares place work (cond b work (changes (with_ends_beside peer lost) work))
+  by_end : (b : Bool) → Spares place work (cond b work (changes (losing_ends peer) work))
   by_end true = record { kept = refl; said = refl; closed = refl }
   by_end false = record { kept = refl; said = refl; closed = refl }
 
 pub clears_fine : (me peer : EdgeId) (work : Work) → IsFine me work → IsFine me (clears_ends peer work)
-unfolding changes with_ends_beside
+unfolding changes with_ends_beside with_kept
 clears_fine me peer work fine = by_end (has_end work.edge peer) where
-  by_end : (b : Bool) → IsFine me (cond b work (changes (with_ends_beside peer lost) work))
+  by_end : (b : Bool) → IsFine me (cond b work (changes (losing_ends peer) work))
   by_end true = fine
   by_end false = record { place = fine.place; idle = fine.idle; well = fine.well }
 
@@ -42,7 +42,7 @@ clears_fine me peer work fine = by_end (has_end work.edge peer) where
 
 stays_there : (peer : EdgeId) (work : Work) → has_end work.edge peer ≡ true → clears_ends peer work ≡ work
 stays_there peer work there = by_end (has_end work.edge peer) there where
-  by_end : (b : Bool) → b ≡ true → cond b work (changes (with_ends_beside peer lost) work) ≡ work
+  by_end : (b : Bool) → b ≡ true → cond b work (changes (losing_ends peer) work) ≡ work
   by_end true e = refl
   by_end false e = clash e
 

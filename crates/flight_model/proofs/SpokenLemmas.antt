@@ -18,6 +18,7 @@ pub record HasSpoken (peer : EdgeId) (kept : Peering) (message : ℕ → Message
   pub me : new.edge.me ≡ old.edge.me
   pub ends : new.edge.ends ≡ old.edge.ends
   pub label : new.edge.next_label ≡ old.edge.next_label
+  pub labels : new.edge.kept ≡ old.edge.kept
   pub said : said_to peer.0 new.effects ≡ said_to peer.0 old.effects ++ message_octets_of kept message
   pub said_else : (k : ℕ) → nat_eq k peer.0 ≡ false → said_to k new.effects ≡ said_to k old.effects
   pub closed : (k : ℕ) → closes k new.effects ≡ closes k old.effects
@@ -30,6 +31,7 @@ says_spoken peer kept message work at = rw (at, same_place peer.0, at) (record {
   me = refl;
   ends = refl;
   label = refl;
+  labels = refl;
   said = said-append peer.0 work.effects (effect.Said peer (message_octets_of kept message) ∷ []) ∙ rw (same_place peer.0, same_end (message_octets_of kept message)) refl;
   said_else = λ k apart. said-append k work.effects (effect.Said peer (message_octets_of kept message) ∷ []) ∙ rw apart (same_end (said_to k work.effects));
   closed = λ k. closes-append k work.effects (effect.Said peer (message_octets_of kept message) ∷ []) ∙ or_false (closes k work.effects);

@@ -1,10 +1,11 @@
 -- What stays of labels whatever happens, and what the end of a wire holds and tells, in each state of a run.
-use Rattle.std.proofs.Common.{◌≡◌, ◌<◌, ◌≤◌, ◌∙◌, nat_eq, ℕ, true, false, Some, sym, subst, arith}
+use Rattle.std.proofs.Common.{◌≡◌, ◌<◌, ◌≤◌, ◌+◌, ◌∙◌, nat_eq, ℕ, Bool, refl, true, false, Some, sym, subst, arith}
 use Rattle.net_base.specs.declared.plan.Plan.{Plan}
 use Rattle.net_base.specs.declared.plan.places.EdgeId.{EdgeId}
 use Rattle.net_base.specs.declared.plan.places.WireId.{WireId}
 use Rattle.net_base.specs.declared.plan.wire_plan.WirePlan.{WirePlan}
 use Rattle.net_base.specs.declared.trace.event.Event.{Event}
+use Rattle.net_base.specs.declared.trace.event.Event.TheVariants.{Tick}
 use Rattle.net_base.specs.plan.Accepted.{IsChecked}
 use Rattle.net_base.specs.plan.Paths.{joins}
 use Rattle.net_base.specs.plan.Places.{wire_row}
@@ -19,27 +20,30 @@ use Rattle.edge_model.specs.EndPlaces.{is_terminal}
 use Rattle.network_model.specs.State.{NetworkState}
 use Rattle.network_model.specs.Step.{brings}
 use Rattle.flight_model.specs.Ends.{HasTypes, IsOrdered}
-use Rattle.flight_model.specs.Rules.{BindsGiven, FarTells, MayName, NearTells, TellsExpected, part_owns}
-use Rattle.flight_model.proofs.NameLemmas.{KeepsNames, is_same}
+use Rattle.label_space.specs.Kept.{rest_ticks}
+use Rattle.flight_model.specs.Rules.{BindsGiven, FarTells, MayCarry, MayName, NearTells, TellsExpected, part_owns}
+use Rattle.flight_model.proofs.NameLemmas.{is_same}
 use Rattle.flight_model.proofs.PlaceLemmas.{wire_apart}
 use Rattle.flight_model.proofs.RuledLemmas.{IsRuledEdge}
 use Rattle.flight_model.proofs.RuledMendLemmas.{wire_fits}
 use Rattle.flight_model.proofs.RuledNetworkLemmas.{IsRuledNetwork}
-use Rattle.flight_model.proofs.RuledRunLemmas.{brings_stays}
+use Rattle.flight_model.proofs.RuledEventLemmas.{tick_event_ruled}
+use Rattle.flight_model.proofs.RuledRunLemmas.{brings_stays, is_tick}
 use Rattle.flight_model.proofs.TellLemmas.{TellsOwnOffer, tells_own_offer}
 use Rattle.flight_model.proofs.ToldLemmas.{HeldFits, TellsAt}
 
 -- ---- labels
 
--- each event keeps the labels of every edge
-pub brings_keeps_names : (plan : Plan) (event : Event) (network : NetworkState) → IsChecked plan → HasTypes plan → IsEventOf plan event → IsOrdered plan network → IsRuledNetwork plan network → (k : ℕ)
-    → KeepsNames (network.edges k) ((brings plan event network).state.edges k)
-brings_keeps_names plan event network checked types planned ordered ruled k = (brings_stays plan event network checked types planned ordered ruled).keeps k
+-- the age of a packet after an event
+abbrev pub grown : Bool → ℕ → ℕ
+grown true age = age + 1
+grown false age = age
 
--- a label that may be named with an end may be named with it after every event
-pub brings_may_name : (plan : Plan) (event : Event) (network : NetworkState) → IsChecked plan → HasTypes plan → IsEventOf plan event → IsOrdered plan network → IsRuledNetwork plan network → (k wire peer label : ℕ)
-    → MayName (network.edges k) wire peer label → MayName ((brings plan event network).state.edges k) wire peer label
-brings_may_name plan event network checked types planned ordered ruled k wire peer label may = (brings_keeps_names plan event network checked types planned ordered ruled k).names wire peer label may
+-- a label that a packet may carry to an end it may carry after every event: after a tick it is a tick older
+pub brings_may_carry : (plan : Plan) (event : Event) (network : NetworkState) → IsChecked plan → HasTypes plan → IsEventOf plan event → IsOrdered plan network → IsRuledNetwork plan network → (k wire peer age label : ℕ)
+    → grown (is_tick event) age < rest_ticks → MayCarry (network.edges k) wire peer age label → MayCarry ((brings plan event network).state.edges k) wire peer (grown (is_tick event) age) label
+brings_may_carry plan Tick network checked types planned ordered ruled k wire peer age label young may = (tick_event_ruled plan checked types network ruled).grows k wire peer age label young may
+brings_may_carry plan event network checked types planned ordered ruled k wire peer age label young may = (brings_stays plan event network checked types planned ordered ruled refl).keeps k wire peer age label may
 
 -- ---- ends
 

@@ -1,9 +1,15 @@
 -- What is kept by calm steps of an edge at work is kept by mending, and by what an edge makes of a message: changes of its ends,
 -- effects that say nothing to a neighbour, and messages about pseudowires in sessions that are up.
-use Rattle.std.proofs.Common.{◌≡◌, ◌≤◌, ◌<◌, ◌^◌, ◌==◌, ◌&&◌, ◌||◌, ◌∙◌, ℕ, Bool, true, false, cond, List, [], ◌∷◌, Option, Some, None, slice_get, refl, sym, ap, subst, arith}
+use Rattle.std.proofs.Common.{◌≡◌, ◌≢◌, ◌≤◌, ◌<◌, ◌^◌, ◌==◌, ◌&&◌, ◌||◌, ◌∙◌, ℕ, Bool, true, false, cond, List, [], ◌∷◌, Option, Some, None, slice_get, nat_eq, refl, sym, ap, subst, arith}
+use Rattle.std.proofs.lemmas.Bool.{eq-eqb}
+use Rattle.std.specs.Prelude.{option_map}
+use Rattle.std.specs.List.{find}
 use Rattle.std.specs.Prelude.{option_map, slice_index}
 use Rattle.std.specs.List.{AllByRecursion}
 use Rattle.std.proofs.lemmas.Bool.Decides.{nat_tests}
+use Rattle.label_space.specs.declared.kept.Kept.{Kept}
+use Rattle.label_space.specs.declared.kept.KeptState.{KeptState}
+use Rattle.label_space.specs.Kept.{is_free, kept_at, label_of, least_free}
 use Rattle.label_space.specs.Labels.{numbers_end}
 use Rattle.net_base.specs.declared.plan.Plan.{Plan}
 use Rattle.net_base.specs.declared.plan.edge_plan.EdgePlan.{EdgePlan}
@@ -37,7 +43,7 @@ use Rattle.edge_model.specs.declared.end_place.EndPlace.{EndPlace}
 use Rattle.edge_model.specs.Mend.{advertising, is_up_with, passed_from, passed_wish, status_held, status_offered, telling_status, tells_new_status, tells_status, terminal_wish, wish, wish_by, wish_of, withdrawing, withdraws}
 use Rattle.edge_model.specs.Role.{role_at, status_to_tell}
 use Rattle.edge_model.specs.Session.{says}
-use Rattle.edge_model.specs.State.{EdgeState, end_at, with_end, with_next_label, with_told_down}
+use Rattle.edge_model.specs.State.{EdgeState, end_at, with_end, with_next_label, with_told_down, with_kept}
 use Rattle.edge_model.specs.Work.{Work, changes, gives}
 use Rattle.pw_status.specs.Status.{method_by}
 use Rattle.network_model.specs.Absorb.{taken_all}
@@ -50,7 +56,8 @@ use Rattle.flight_model.proofs.PieceLemmas.{IsPiece}
 use Rattle.flight_model.proofs.PlaceLemmas.{IsEndOf}
 use Rattle.flight_model.proofs.PlanLemmas.{row_holds}
 use Rattle.flight_model.proofs.RowLemmas.{clash}
-use Rattle.flight_model.proofs.SoundLemmas.{sound_next_label, sound_same, sound_with_end}
+use Rattle.flight_model.proofs.SoundLemmas.{sound_giving, sound_same, sound_with_end}
+use Rattle.edge_model.specs.Labels.{label_to_give}
 
 -- an effect that says nothing to a neighbour, and nothing of sessions
 pub record IsSilent (e : Effect) : Type 0 where
@@ -216,28 +223,61 @@ advertised_up limit false e label told sound at = clash (sym (ap Rattle.flight_m
 below_end : (n : ℕ) → n ≤ numbers_end → n == numbers_end ≡ false → n ≤ 1048575
 below_end n most some = grind (arith, nat_tests)
 
-pub next_is_label : {limit : ℕ → ℕ} → (edge : EdgeState) → TellsSoundly limit edge → edge.next_label == numbers_end ≡ false → IsLabel edge.next_label
-next_is_label edge sound some = record { above = sound.least; below = below_end edge.next_label sound.most some }
+-- the least free number is kept
+least_there : (label : ℕ) (kept : List Kept) → least_free kept ≡ Some label → kept_at label kept ≢ None
+least_there label [] found = λ none. nothing found where
+  nothing : None ≡ Some label → ⊥
+  nothing e = cc
+least_there label (k ∷ ks) found = by (is_free k) found (λ rest. least_there label ks rest) where
+  some : (s : KeptState) → Some s ≡ None → ⊥
+  some s e = cc
+
+  one : (a b : ℕ) → Some a ≡ Some b → a ≡ b
+  one a b e = cc
+
+  else : (here : Bool) → (kept_at label ks ≢ None) → cond here (Some k.state) (kept_at label ks) ≢ None
+  else true there none = some k.state none
+  else false there none = there none
+
+  at : (here : Bool) → here ≡ true → cond here (Some k.state) (kept_at label ks) ≢ None
+  at true is none = some k.state none
+  at false is none = clash is
+
+  by : (free : Bool) → option_map label_of (cond free (Some k) (find is_free ks)) ≡ Some label → (least_free ks ≡ Some label → kept_at label ks ≢ None) → cond (nat_eq k.label label) (Some k.state) (kept_at label ks) ≢ None
+  by true found rest = at (nat_eq k.label label) (eq-eqb k.label label (one k.label label found))
+  by false found rest = else (nat_eq k.label label) (rest found)
+
+-- what is given is a label: the next number, or one that was given before
+pub next_is_label : {limit : ℕ → ℕ} → (edge : EdgeState) (label : ℕ) → TellsSoundly limit edge → label_to_give edge ≡ Some label → IsLabel label
+next_is_label edge label sound given = by (edge.next_label == numbers_end) refl where
+  one : (a b : ℕ) → Some a ≡ Some b → a ≡ b
+  one a b e = cc
+
+  by : (last : Bool) → (edge.next_label == numbers_end) ≡ last → IsLabel label
+  by true last = sound.kept label (least_there label edge.kept (rw last at given))
+  by false some =
+      let same : edge.next_label ≡ label = one edge.next_label label (rw some at given) in
+      subst (λ (l : ℕ). IsLabel l) same (record { above = sound.least; below = below_end edge.next_label sound.most some })
 
 -- what an end tells is another part, and what it holds is the same
 local_sound : (limit : ℕ) (up : Bool) (e : EndState) (local : LocalPart) → up ≡ true → IsSoundPart local → IsSoundEnd limit up e → IsSoundEnd limit up (record { local = local; remote = e.remote })
 local_sound limit true e local is part sound = (part, sound.1)
 local_sound limit false e local is part sound = clash is
 
-advertising_sound : {limit : ℕ → ℕ} → (place : EndPlace) (content : Told) (edge : EdgeState) → is_up_with (edge.peering place.peer.0) ≡ true → (end_at edge place).local ≡ Idle false → CanBeTold edge.next_label content → edge.next_label == numbers_end ≡ false
-    → TellsSoundly limit edge → TellsSoundly limit (advertising place edge.next_label content edge)
-unfolding with_end
-advertising_sound {limit} place content edge up at can some sound =
-    sound_next_label (with_end place (advertised edge.next_label content (end_at edge place)) edge) some
-    (sound_with_end place (advertised edge.next_label content (end_at edge place)) edge
-    (local_sound (limit place.wire.0) (is_up_with (edge.peering place.peer.0)) (end_at edge place) (advertised edge.next_label content (end_at edge place)).local up (rw at can) (sound.ends place.wire.0 place.peer.0)) sound)
+advertising_sound : {limit : ℕ → ℕ} → (place : EndPlace) (label : ℕ) (content : Told) (edge : EdgeState) → is_up_with (edge.peering place.peer.0) ≡ true → (end_at edge place).local ≡ Idle false → CanBeTold label content
+    → TellsSoundly limit edge → TellsSoundly limit (advertising place label content edge)
+unfolding with_end with_kept
+advertising_sound {limit} place label content edge up at can sound =
+    sound_giving label (with_end place (advertised label content (end_at edge place)) edge)
+    (sound_with_end place (advertised label content (end_at edge place)) edge
+    (local_sound (limit place.wire.0) (is_up_with (edge.peering place.peer.0)) (end_at edge place) (advertised label content (end_at edge place)).local up (rw at can) (sound.ends place.wire.0 place.peer.0)) sound)
 
 advertising_rest : (place : EndPlace) (content : Told) (label : ℕ) (edge : EdgeState) → ((advertising place label content edge).peering ≡ edge.peering) × ((advertising place label content edge).me ≡ edge.me)
-unfolding with_end with_next_label
+unfolding with_end with_next_label with_kept
 advertising_rest place content label edge = (refl, refl)
 
 with_end_rest : (place : EndPlace) (end : EndState) (edge : EdgeState) → ((with_end place end edge).peering ≡ edge.peering) × ((with_end place end edge).me ≡ edge.me)
-unfolding with_end
+unfolding with_end with_kept
 with_end_rest place end edge = (refl, refl)
 
 changed_up : (change : EdgeState → EdgeState) (work : Work) (peer : EdgeId) → (change work.edge).peering ≡ work.edge.peering → is_up_with (work.edge.peering peer.0) ≡ true → is_up_with ((changes change work).edge.peering peer.0) ≡ true
@@ -247,22 +287,22 @@ changed_up change work peer same up = rw same up
 down_rest : (limit : ℕ → ℕ) (place : EndPlace) (down : Option Down) (edge : EdgeState)
     → ((with_told_down place.wire down edge).peering ≡ edge.peering) × ((with_told_down place.wire down edge).me ≡ edge.me) × (TellsSoundly limit edge → TellsSoundly limit (with_told_down place.wire down edge))
 unfolding with_told_down
-down_rest limit place down edge = (refl, refl, λ sound. sound_same edge _ refl refl refl refl sound)
+down_rest limit place down edge = (refl, refl, λ sound. sound_same edge _ refl refl refl refl refl sound)
 
 -- ---- mending
 
 module _ (plan : Plan) (me : EdgeId) (checked : IsChecked plan) (types : HasTypes plan) (I : Work → Type 0) (steady : IsSteady plan me I) where
-  steady_advertises : (place : EndPlace) (content : Told) (work : Work) → IsEndOf plan me place → (end_at work.edge place).local ≡ Idle false → wish plan work.edge place ≡ Some content
-      → work.edge.next_label == numbers_end ≡ false → I work → I (says taken_all place.peer (mapping place.pw_id work.edge.next_label content) (changes (advertising place work.edge.next_label content) work)).work
-  steady_advertises place content work is at wished some i =
+  steady_advertises : (place : EndPlace) (label : ℕ) (content : Told) (work : Work) → IsEndOf plan me place → (end_at work.edge place).local ≡ Idle false → wish plan work.edge place ≡ Some content
+      → label_to_give work.edge ≡ Some label → I work → I (says taken_all place.peer (mapping place.pw_id label content) (changes (advertising place label content) work)).work
+  steady_advertises place label content work is at wished given i =
       let sound : TellsSoundly (point_limit plan me.0) work.edge = steady.sound work i in
       let told : WishesSoundly work.edge place content = wishes plan me checked types work.edge place content sound is wished in
-      let label : IsLabel work.edge.next_label = next_is_label work.edge sound some in
-      let rest = advertising_rest place content work.edge.next_label work.edge in
-      steady.says place.peer (mapping place.pw_id work.edge.next_label content) (changes (advertising place work.edge.next_label content) work)
-      (changed_up (advertising place work.edge.next_label content) work place.peer rest.0 told.up)
-      (mapping_sound place.pw_id work.edge.next_label content (end_small plan me place checked is) label told.sound)
-      (steady.changes (advertising place work.edge.next_label content) work rest.0 rest.1 (advertising_sound place content work.edge told.up at (sound_can 3 work.edge.next_label content label told.sound) some sound) i)
+      let one : IsLabel label = next_is_label work.edge label sound given in
+      let rest = advertising_rest place content label work.edge in
+      steady.says place.peer (mapping place.pw_id label content) (changes (advertising place label content) work)
+      (changed_up (advertising place label content) work place.peer rest.0 told.up)
+      (mapping_sound place.pw_id label content (end_small plan me place checked is) one told.sound)
+      (steady.changes (advertising place label content) work rest.0 rest.1 (advertising_sound place label content work.edge told.up at (sound_can 3 label content one told.sound) sound) i)
 
   steady_withdraws : (place : EndPlace) (label : ℕ) (content : Told) (work : Work) → IsEndOf plan me place → (end_at work.edge place).local ≡ Advertised label content → I work → I (withdraws taken_all place label content work).work
   steady_withdraws place label content work is at i =
@@ -272,7 +312,7 @@ module _ (plan : Plan) (me : EdgeId) (checked : IsChecked plan) (types : HasType
       steady.says place.peer (withdrawal place.pw_id label content) (changes (withdrawing place) work) (changed_up (withdrawing place) work place.peer rest.0 can.0) (withdrawal_is place.pw_id label content (end_small plan me place checked is) can.1)
       (steady.changes (withdrawing place) work rest.0 rest.1
       (sound_with_end place (withdrawn (end_at work.edge place)) work.edge
-      (local_sound (point_limit plan me.0 place.wire.0) (is_up_with (work.edge.peering place.peer.0)) (end_at work.edge place) (withdrawn (end_at work.edge place)).local can.0 (rw at tt) (sound.ends place.wire.0 place.peer.0)) sound) i)
+      (local_sound (point_limit plan me.0 place.wire.0) (is_up_with (work.edge.peering place.peer.0)) (end_at work.edge place) (withdrawn (end_at work.edge place)).local can.0 (rw at can.1.is_label) (sound.ends place.wire.0 place.peer.0)) sound) i)
 
   steady_tells : (place : EndPlace) (label : ℕ) (content : Told) (work : Work) → IsEndOf plan me place → (end_at work.edge place).local ≡ Advertised label content
       → I work → I (tells_new_status taken_all place content (status_to_tell plan work.edge place) work).work
@@ -309,5 +349,5 @@ module _ (plan : Plan) (me : EdgeId) (checked : IsChecked plan) (types : HasType
     clears = steady_clears;
     tells_down = λ place down work is i. steady_tells_down place down work i;
     others = λ change work keeps peering i.
-        steady.changes change work peering keeps.me (sound_same work.edge (change work.edge) keeps.next_label keeps.bits peering keeps.ends (steady.sound work i)) i;
+        steady.changes change work peering keeps.me (sound_same work.edge (change work.edge) keeps.next_label keeps.kept keeps.bits peering keeps.ends (steady.sound work i)) i;
   }

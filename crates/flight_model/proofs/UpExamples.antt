@@ -29,7 +29,7 @@ use Rattle.session_core.specs.Laws.{IsAddress}
 use Rattle.session_core.specs.Parameters.{proposal}
 use Rattle.edge_model.specs.Content.{content_of, mac_withdrawal, mapping, status_notification}
 use Rattle.edge_model.specs.Put.{with_spoken}
-use Rattle.edge_model.specs.State.{with_addresses, with_chosen, with_end, with_ends_beside, with_next_label, with_peering, with_priority, with_told_down}
+use Rattle.edge_model.specs.State.{with_addresses, with_chosen, with_end, with_ends_beside, with_next_label, with_peering, with_priority, with_told_down, with_kept}
 use Rattle.edge_model.specs.Work.{changes, gives, idles, posts, puts}
 use Rattle.network_model.specs.Calm.{is_calm}
 use Rattle.network_model.specs.State.{NetworkState, empty_network, with_edge, with_frame, with_packet, with_pipe, without_packet}
@@ -197,7 +197,7 @@ comes_up_stands = (
 
 -- what opens for an evaluation
 unfoldable pub evaluated : Unit {0}
-unfolding changes down gives idles posts puts with_addresses with_chosen with_edge with_end with_ends_beside with_frame with_next_label with_packet with_peering with_pipe with_priority with_spoken with_told_down without_packet
+unfolding changes down gives idles posts puts with_addresses with_chosen with_edge with_end with_ends_beside with_frame with_next_label with_packet with_peering with_pipe with_priority with_spoken with_told_down without_packet with_kept
 evaluated = tt
 
 -- the state that a run reaches, by its messages

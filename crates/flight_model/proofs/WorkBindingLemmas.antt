@@ -21,7 +21,7 @@ use Rattle.edge_model.specs.Wire.{turned_wire}
 use Rattle.edge_model.specs.Work.{Work, changes, gives}
 use Rattle.network_model.specs.Absorb.{taken_all}
 use Rattle.network_model.specs.State.{NetworkState, held_by}
-use Rattle.flight_model.specs.Bound.{AreAnswers, AreBound, AreBoundBy, HasSaid, IsBoundBy, LeavesBound}
+use Rattle.flight_model.specs.Bound.{AreAnswers, AreBound, AreBoundBy, given_of, HasSaid, IsBoundBy, LeavesBound}
 use Rattle.flight_model.specs.Coming.{and_more}
 use Rattle.flight_model.specs.Ends.{HasTypes, WorksOn, ends_at}
 use Rattle.flight_model.specs.Facts.{LeavesFor, flight}
@@ -30,6 +30,7 @@ use Rattle.flight_model.specs.Messages.{AreSaid, octets_of_all}
 use Rattle.flight_model.specs.Pair.{AreTalking, IsStanding, StayInStep, having_put_all}
 use Rattle.flight_model.proofs.BindingLemmas.{binding_renews}
 use Rattle.flight_model.proofs.ActBindingLemmas.{spared_leaves}
+use Rattle.flight_model.proofs.GivenLemmas.{given_on}
 use Rattle.flight_model.proofs.EdgeBindingLemmas.{clash}
 use Rattle.flight_model.proofs.EventBindingLemmas.{event_spare, leaves_event, leaves_no_event}
 use Rattle.flight_model.proofs.LeaveLemmas.{leaves_same}
@@ -114,7 +115,7 @@ event_holds me peer place held event work fine unclosed holds = elim (cases_Bool
 
 -- ---- ends that are declined no longer
 
-renewed_bound : (pw_id next : ℕ) (near : LocalPart) (far : Option Binding) (out back : List Message) → IsBoundBy pw_id next near far out back → IsBoundBy pw_id next (renew_part near) far out back
+renewed_bound : (pw_id : ℕ) (next : ℕ → Bool) (near : LocalPart) (far : Option Binding) (out back : List Message) → IsBoundBy pw_id next near far out back → IsBoundBy pw_id next (renew_part near) far out back
 renewed_bound pw_id next (Idle declined) far out back is = binding_renews pw_id next declined false far out back is
 renewed_bound pw_id next (Advertised label told) far out back is = is
 renewed_bound pw_id next (Withdrawing label) far out back is = is
@@ -127,7 +128,7 @@ turned_end wire true edge k place = elim (cases_Bool (nat_eq k wire.0)) [
 ]
 turned_end wire false edge k place = inl refl
 
-turned_label : (wire : WireId) (on : Bool) (edge : EdgeState) → (turned_wire wire on edge).next_label ≡ edge.next_label
+turned_label : (wire : WireId) (on : Bool) (edge : EdgeState) → given_of (turned_wire wire on edge) ≡ given_of edge
 unfolding with_renewed with_wire
 turned_label wire true edge = refl
 turned_label wire false edge = refl
@@ -139,10 +140,10 @@ turned_peering wire false edge = refl
 
 turned_bound : (plan : Plan) (a b : ℕ) (wire : WireId) (on : Bool) (edge other : EdgeState) (out back : List Message) → AreBound plan a b edge other out back → AreBound plan a b (turned_wire wire on edge) other out back
 turned_bound plan a b wire on edge other out back bound = record {
-  near = λ w row is joined. subst (λ (n : ℕ). IsBoundBy row.pw_id n ((turned_wire wire on edge).ends w.0 b).local (other.ends w.0 a).remote out back) (sym (turned_label wire on edge))
-      (either (turned_end wire on edge w.0 b) (λ (e : EndState). IsBoundBy row.pw_id edge.next_label e.local (other.ends w.0 a).remote out back) (bound.near w row is joined)
-      (renewed_bound row.pw_id edge.next_label (edge.ends w.0 b).local (other.ends w.0 a).remote out back (bound.near w row is joined)));
-  far = λ w row is joined. either (turned_end wire on edge w.0 b) (λ (e : EndState). IsBoundBy row.pw_id other.next_label (other.ends w.0 a).local e.remote back out) (bound.far w row is joined) (bound.far w row is joined);
+  near = λ w row is joined. subst (λ (n : ℕ → Bool). IsBoundBy row.pw_id n ((turned_wire wire on edge).ends w.0 b).local (other.ends w.0 a).remote out back) (sym (turned_label wire on edge))
+      (either (turned_end wire on edge w.0 b) (λ (e : EndState). IsBoundBy row.pw_id (given_of edge) e.local (other.ends w.0 a).remote out back) (bound.near w row is joined)
+      (renewed_bound row.pw_id (given_of edge) (edge.ends w.0 b).local (other.ends w.0 a).remote out back (bound.near w row is joined)));
+  far = λ w row is joined. either (turned_end wire on edge w.0 b) (λ (e : EndState). IsBoundBy row.pw_id (given_of other) (other.ends w.0 a).local e.remote back out) (bound.far w row is joined) (bound.far w row is joined);
 }
   where
     either : {x y z : EndState} → (x ≡ y) ⊎ (x ≡ z) → (P : EndState → Type 0) → P y → P z → P x
@@ -257,7 +258,7 @@ module _ (plan : Plan) (network : NetworkState) (me : EdgeId) (checked : IsCheck
         bridges = λ old new bridged all. (
           (base.bridges old new bridged all.0.0, λ place here. subst (HoldsOctets (held place)) (sym (ap (λ (f : ℕ → Option Peering). f place) bridged.peering)) (all.0.1 place here)),
           λ place away. leaves_same plan me place (network.edges place) (flight network me.0 place) (answers place) old new (bridged.said place) (λ near. sym (ap (λ (f : ℕ → Option Peering). is_there (f place)) bridged.peering) ∙ near)
-              (record { label = bridged.keeps.next_label; ends = λ wire. ap (λ (f : ℕ → ℕ → EndState). f wire place) bridged.keeps.ends }) (all.1 place away),
+              (record { label = given_on old.edge new.edge bridged.keeps.next_label bridged.keeps.kept; ends = λ wire. ap (λ (f : ℕ → ℕ → EndState). f wire place) bridged.keeps.ends }) (all.1 place away),
         );
         turned = λ wire on work all. (
           (base.turned wire on work all.0.0, changed_held no_place held (turned_wire wire on) work (turned_peering wire on work.edge) all.0.1),

@@ -15,7 +15,7 @@ use Rattle.edge_model.specs.Frame.{received}
 use Rattle.edge_model.specs.Mend.{mends}
 use Rattle.edge_model.specs.Packet.{packet_input}
 use Rattle.edge_model.specs.Session.{happens_with_ends}
-use Rattle.edge_model.specs.State.{EdgeState, with_addresses, with_bits, with_circuit, with_learned, with_priority, with_ticks}
+use Rattle.edge_model.specs.State.{EdgeState, with_addresses, with_bits, with_circuit, with_learned, with_priority, with_ticks, with_kept}
 use Rattle.edge_model.specs.Tick.{counted, forgetting, tick_input, ticks_sessions}
 use Rattle.edge_model.specs.Wire.{turned_wire}
 use Rattle.edge_model.specs.Work.{Work, Answers, changes}
@@ -38,37 +38,32 @@ pub record KeptByWork (plan : Plan) (me : EdgeId) (I : Work → Type 0) : Type 0
   pub turned : (wire : WireId) (on : Bool) (work : Work) → I work → I (changes (turned_wire wire on) work)
   pub bits : (wire : WireId) (bits : ℕ) (work : Work) → bits ≤ 31 → I work → I (changes (with_bits wire bits) work)
 
-counted_keeps : (edge : EdgeState) → KeepsEnds edge (counted edge) × ((counted edge).peering ≡ edge.peering)
-unfolding with_ticks
-counted_keeps edge = (record { me = refl; wire_on = refl; bits = refl; ends = refl; told_down = refl; next_label = refl }, refl)
-
 forgetting_keeps : (plan : Plan) (edge : EdgeState) → KeepsEnds edge (forgetting plan edge) × ((forgetting plan edge).peering ≡ edge.peering)
 unfolding with_learned
-forgetting_keeps plan edge = (record { me = refl; wire_on = refl; bits = refl; ends = refl; told_down = refl; next_label = refl }, refl)
+forgetting_keeps plan edge = (record { me = refl; wire_on = refl; bits = refl; ends = refl; told_down = refl; next_label = refl; kept = refl }, refl)
 
 turned_keeps : (plan : Plan) (circuit : CircuitId) (row : CircuitPlan) (on : Bool) (edge : EdgeState) → KeepsEnds edge (turned plan circuit row on edge) × ((turned plan circuit row on edge).peering ≡ edge.peering)
 unfolding with_addresses with_circuit
-turned_keeps plan circuit row true edge = (record { me = refl; wire_on = refl; bits = refl; ends = refl; told_down = refl; next_label = refl }, refl)
-turned_keeps plan circuit row false edge = (record { me = refl; wire_on = refl; bits = refl; ends = refl; told_down = refl; next_label = refl }, refl)
+turned_keeps plan circuit row true edge = (record { me = refl; wire_on = refl; bits = refl; ends = refl; told_down = refl; next_label = refl; kept = refl }, refl)
+turned_keeps plan circuit row false edge = (record { me = refl; wire_on = refl; bits = refl; ends = refl; told_down = refl; next_label = refl; kept = refl }, refl)
 
 pub priority_keeps : (wire : WireId) (priority : ℕ) (edge : EdgeState) → KeepsEnds edge (with_priority wire priority edge) × ((with_priority wire priority edge).peering ≡ edge.peering)
 unfolding with_priority
-priority_keeps wire priority edge = (record { me = refl; wire_on = refl; bits = refl; ends = refl; told_down = refl; next_label = refl }, refl)
+priority_keeps wire priority edge = (record { me = refl; wire_on = refl; bits = refl; ends = refl; told_down = refl; next_label = refl; kept = refl }, refl)
 
 module _ (plan : Plan) (me : EdgeId) (I : Work → Type 0) (kept : KeptByWork plan me I) where
-  -- a tick
+  -- a tick, which the edge has counted
   sessions_kept : (place count : ℕ) (work : Work) → I work → I (ticks_sessions taken_all place count work)
   sessions_kept place zero work i = i
   sessions_kept place (suc count) work i = sessions_kept (place + 1) count (happens_with_ends taken_all (record { 0 = place }) Ticked work) (kept.ticked (record { 0 = place }) work i)
 
-  pub tick_kept : (work : Work) → I work → I (tick_input plan taken_all work)
+  pub tick_kept : (work : Work) → I (changes counted work) → I (tick_input plan taken_all work)
   tick_kept work i =
       let began : Work = changes counted work in
       let ticked : Work = ticks_sessions taken_all 0 (length plan.edges) began in
-      let one = counted_keeps work.edge in
       let two = forgetting_keeps plan ticked.edge in
       mends_keep plan me I kept.rows (changes (forgetting plan) ticked)
-      (kept.rows.others (forgetting plan) ticked two.0 two.1 (sessions_kept 0 (length plan.edges) began (kept.rows.others counted work one.0 one.1 i)))
+      (kept.rows.others (forgetting plan) ticked two.0 two.1 (sessions_kept 0 (length plan.edges) began i))
 
   -- a connection is lost
   pub lost_kept : (peer : EdgeId) (work : Work) → I work → I (mends plan taken_all (happens_with_ends taken_all peer (Closed reason.Closed) work))

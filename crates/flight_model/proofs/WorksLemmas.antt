@@ -21,7 +21,7 @@ use Rattle.edge_model.specs.declared.effect.Effect.TheVariants as effect
 use Rattle.edge_model.specs.Mend.{is_up_with}
 use Rattle.edge_model.specs.Put.{Spoken, having_spoken, message_octets_of, put_replies, with_spoken}
 use Rattle.edge_model.specs.Session.{clears_ends, comes_of, ends, happens, happens_with_ends, is_same_phase, says, with_session}
-use Rattle.edge_model.specs.State.{EdgeState, Peering, is_there, with_bits, with_peering, with_renewed, with_wire}
+use Rattle.edge_model.specs.State.{EdgeState, Peering, is_there, with_bits, with_kept, with_peering, with_renewed, with_ticks, with_wire}
 use Rattle.edge_model.specs.Wire.{turned_wire}
 use Rattle.edge_model.specs.Work.{Work, changes, gives, puts}
 use Rattle.network_model.specs.Absorb.{absorb, absorb_all, begin_at, taken_all}
@@ -41,7 +41,9 @@ use Rattle.flight_model.proofs.RowLemmas.{clash}
 use Rattle.flight_model.proofs.SayLemmas.{clears_fine, clears_spares, left_says, says_fine, says_is, says_none, says_spares}
 use Rattle.flight_model.proofs.SettleLemmas.{apart_turned, edge_else, edge_there, settle}
 use Rattle.flight_model.proofs.ReactLemmas.{closed_in_step, ticked_in_step}
-use Rattle.flight_model.proofs.SoundLemmas.{happens_sound, renewed_sound, sound_ends, sound_same, up_is}
+use Rattle.flight_model.proofs.SoundLemmas.{happens_sound, renewed_sound, sound_ends, sound_rekept, sound_same, up_is}
+use Rattle.flight_model.proofs.NameLemmas.{counted_rekept}
+use Rattle.edge_model.specs.Tick.{counted}
 use Rattle.flight_model.proofs.SteadyLemmas.{IsSilent, IsSteady, steady_rows}
 use Rattle.flight_model.proofs.WorkingLemmas.{KeptByWork}
 use Rattle.flight_model.proofs.TalkLemmas.{turned_none, turned_rows}
@@ -316,6 +318,7 @@ unfolding wrote gives changes with_spoken with_peering puts
 wrote_sound peer kept bytes work at sound = record {
   least = sound.least;
   most = sound.most;
+  kept = sound.kept;
   bits = sound.bits;
   ends = λ wire k. elim (cases_Bool (nat_eq k peer.0)) [
     | inl same ↦ rw same (rw (at, eqb-true k peer.0 same) (rw at at (sound.ends wire peer.0)))
@@ -392,8 +395,8 @@ works_steady plan network me = record {
 
 turned_same : (limit : ℕ → ℕ) (wire : WireId) (on : Bool) (edge : EdgeState) → ((turned_wire wire on edge).peering ≡ edge.peering) × ((turned_wire wire on edge).me ≡ edge.me) × (TellsSoundly limit edge → TellsSoundly limit (turned_wire wire on edge))
 unfolding with_renewed with_wire
-turned_same limit wire true edge = (refl, refl, λ sound. sound_ends edge _ refl refl refl (λ w peer is. renewed_sound (limit w) (nat_eq w wire.0) (is_up_with (edge.peering peer)) (edge.ends w peer) is) sound)
-turned_same limit wire false edge = (refl, refl, λ sound. sound_same edge _ refl refl refl refl sound)
+turned_same limit wire true edge = (refl, refl, λ sound. sound_ends edge _ refl refl refl refl (λ w peer is. renewed_sound (limit w) (nat_eq w wire.0) (is_up_with (edge.peering peer)) (edge.ends w peer) is) sound)
+turned_same limit wire false edge = (refl, refl, λ sound. sound_same edge _ refl refl refl refl refl sound)
 
 bits_same : (limit : ℕ → ℕ) (wire : WireId) (bits : ℕ) (edge : EdgeState) → bits ≤ 31 → ((with_bits wire bits edge).peering ≡ edge.peering) × ((with_bits wire bits edge).me ≡ edge.me) × (TellsSoundly limit edge → TellsSoundly limit (with_bits wire bits edge))
 unfolding with_bits
@@ -403,6 +406,7 @@ bits_same limit wire bits edge few = (
   λ sound. record {
     least = sound.least;
     most = sound.most;
+    kept = sound.kept;
     bits = λ w. either (nat_eq w wire.0) (edge.bits w) (sound.bits w);
     ends = sound.ends;
   },
@@ -411,6 +415,10 @@ bits_same limit wire bits edge few = (
     either : (b : Bool) (other : ℕ) → other ≤ 31 → cond b bits other ≤ 31
     either true other is = few
     either false other is = is
+
+counted_same : (limit : ℕ → ℕ) (edge : EdgeState) → ((counted edge).peering ≡ edge.peering) × ((counted edge).me ≡ edge.me) × (TellsSoundly limit edge → TellsSoundly limit (counted edge))
+unfolding with_ticks with_kept
+counted_same limit edge = (refl, refl, λ sound. sound_rekept edge (counted edge) (counted_rekept edge) refl refl sound)
 
 pub works_kept : (plan : Plan) (network : NetworkState) (me : EdgeId) → IsChecked plan → HasTypes plan → KeptByWork plan me (WorksOn plan network me)
 works_kept plan network me checked types =
@@ -421,10 +429,15 @@ works_kept plan network me checked types =
       ticked = λ peer work works. works_happens plan network me peer Ticked work (λ own other kept far messages answers t. ticked_in_step own other kept far messages answers t) works;
       bridges = λ old new bridged works. record {
         fine = bridged_fine me old new bridged works.fine;
-        sound = sound_same old.edge new.edge bridged.keeps.next_label bridged.keeps.bits bridged.peering bridged.keeps.ends works.sound;
+        sound = sound_same old.edge new.edge bridged.keeps.next_label bridged.keeps.kept bridged.keeps.bits bridged.peering bridged.keeps.ends works.sound;
         alone = (bridged_spares me.0 old new bridged).kept ∙ works.alone;
         left = λ k away. left_spared (ends_at plan me.0 k) (ends_at plan k me.0) k ((network.edges k).peering me.0) (flight network me.0 k) (network.pipes k me.0) old new (bridged_spares k old new bridged) (works.left k away);
       };
       turned = λ wire on work works. (let same = turned_same (point_limit plan me.0) wire on work.edge in steady.changes (turned_wire wire on) work same.0 same.1 (same.2 works.sound) works);
       bits = λ wire bits work few works. (let same = bits_same (point_limit plan me.0) wire bits work.edge few in steady.changes (with_bits wire bits) work same.0 same.1 (same.2 works.sound) works);
     }
+
+pub works_counted : (plan : Plan) (network : NetworkState) (me : EdgeId) (work : Work) → WorksOn plan network me work → WorksOn plan network me (changes counted work)
+works_counted plan network me work works =
+    let same = counted_same (point_limit plan me.0) work.edge in
+    (works_steady plan network me).changes counted work same.0 same.1 (same.2 works.sound) works

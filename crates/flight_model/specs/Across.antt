@@ -1,6 +1,5 @@
 -- What a switching point tells on one side of a wire is what it holds on the other side, and it takes whatever comes to it.
-use Rattle.std.specs.Prelude.{◌≡◌, nat_eq, ℕ, true, false, List, Some, option_and_then}
-use Rattle.label_space.specs.Labels.{numbers_end}
+use Rattle.std.specs.Prelude.{◌≡◌, nat_eq, ℕ, true, false, List, Some, None, option_and_then}
 use Rattle.net_base.specs.declared.plan.Plan.{Plan}
 use Rattle.net_base.specs.declared.plan.places.EdgeId.{EdgeId}
 use Rattle.net_base.specs.declared.plan.places.WireId.{WireId}
@@ -17,6 +16,7 @@ use Rattle.pw_stitch.specs.Passing.{own_point, past_point}
 use Rattle.edge_model.specs.Content.{told_with}
 use Rattle.edge_model.specs.declared.end_place.EndPlace.{EndPlace}
 use Rattle.edge_model.specs.EndPlaces.{end_named}
+use Rattle.edge_model.specs.Labels.{label_to_give}
 use Rattle.edge_model.specs.Mend.{is_up_with}
 use Rattle.edge_model.specs.Signal.{takes_content}
 use Rattle.edge_model.specs.State.{EdgeState}
@@ -36,11 +36,11 @@ pub record PassesOn (plan : Plan) (me from to : EdgeId) (wire : WireId) (row : W
   pub up : is_up_with (edge.peering to.0) ≡ true
 
 -- A switching point of a wire, between two neighbours: whatever it advertises to one of them it holds of the other one. And where it
--- holds something, its wire is on, its session is up, and it neither waits for a release nor was declined, it has no label left.
+-- holds something, its wire is on, its session is up, and it neither waits for a release nor was declined, it has no label to give.
 pub record TellsAcross (plan : Plan) (me from to : EdgeId) (wire : WireId) (row : WirePlan) (edge : EdgeState) : Type 0 where
   pub advertised : (label : ℕ) (content : Told) → (edge.ends wire.0 to.0).local ≡ Advertised label content → PassesOn plan me from to wire row edge content
   pub idle : (binding : Binding) → (edge.ends wire.0 from.0).remote ≡ Some binding → edge.wire_on wire.0 ≡ true → is_up_with (edge.peering to.0) ≡ true → (edge.ends wire.0 to.0).local ≡ Idle false
-      → edge.next_label ≡ numbers_end
+      → label_to_give edge ≡ None
 
 -- after every event (RFC 6073 sections 7 and 10)
 abbrev pub RunsTellAcross : Type 0

@@ -1,4 +1,7 @@
 -- What holds of a wire's end at an edge, of what its neighbour holds of it, and of the messages on their way between the two.
+use Rattle.label_space.specs.declared.kept.Kept.{Kept}
+use Rattle.label_space.specs.Kept.{is_free}
+use Rattle.std.specs.List.{list_any}
 use Rattle.std.specs.Prelude.{◌≡◌, ◌++◌, ◌==◌, ◌&&◌, ◌||◌, not, nat_lt, ℕ, Bool, true, false, List, [], ◌∷◌, Option, Some, None, is_some, if◌then◌else◌}
 use Rattle.net_base.specs.declared.plan.Plan.{Plan}
 use Rattle.net_base.specs.declared.plan.places.EdgeId.{EdgeId}
@@ -33,12 +36,19 @@ has_advertised (Idle declined) label = false
 has_advertised (Advertised own told) label = own == label
 has_advertised (Withdrawing own) label = false
 
+-- the label was given, and is not free to be given again
+abbrev pub is_free_one : ℕ → Kept → Bool
+is_free_one label k = k.label == label && is_free k
+
+abbrev pub given_of : EdgeState → ℕ → Bool
+given_of edge label = nat_lt label edge.next_label && not (list_any (is_free_one label) edge.kept)
+
 -- the label was given before, and the end does not advertise it now
-abbrev pub is_old : ℕ → LocalPart → ℕ → Bool
-is_old next near label = nat_lt label next && not (has_advertised near label)
+abbrev pub is_old : (ℕ → Bool) → LocalPart → ℕ → Bool
+is_old next near label = next label && not (has_advertised near label)
 
 -- what is said of a label: it names a PW ID and the label, and where the PW ID is the wire's the label is old
-abbrev pub names_old : ℕ → ℕ → LocalPart → (named label : Option ℕ) → Bool
+abbrev pub names_old : ℕ → (ℕ → Bool) → LocalPart → (named label : Option ℕ) → Bool
 names_old pw_id next near (Some other) (Some label) = not (other == pw_id) || is_old next near label
 names_old pw_id next near named label = false
 
@@ -48,14 +58,14 @@ names_label pw_id own (Some other) (Some label) = other == pw_id && label == own
 names_label pw_id own named label = false
 
 -- each message that an end says names its wire by the PW ID, and each Label Withdraw of the wire is of an old label
-abbrev pub withdraws_old : ℕ → ℕ → LocalPart → Message → Bool
+abbrev pub withdraws_old : ℕ → (ℕ → Bool) → LocalPart → Message → Bool
 withdraws_old pw_id next near (LabelMapping id fec label status points) = is_some fec.pw_id
 withdraws_old pw_id next near (LabelWithdraw id fec label) = names_old pw_id next near fec.pw_id label
 withdraws_old pw_id next near (Notification id code status (Some fec)) = is_some fec.pw_id
 withdraws_old pw_id next near message = true
 
 -- each Label Release that its neighbour says of the wire is of an old label
-abbrev pub releases_old : ℕ → ℕ → LocalPart → Message → Bool
+abbrev pub releases_old : ℕ → (ℕ → Bool) → LocalPart → Message → Bool
 releases_old pw_id next near (LabelRelease id fec label) = names_old pw_id next near fec.pw_id label
 releases_old pw_id next near message = true
 
@@ -68,14 +78,14 @@ is_release_of pw_id own (LabelRelease id fec label) = names_label pw_id own fec.
 is_release_of pw_id own message = false
 
 -- the end's own label was given before; of one that is withdrawn the Label Withdraw or the Label Release is on its way
-abbrev pub is_waited_for : ℕ → ℕ → LocalPart → (out back : List Message) → Bool
+abbrev pub is_waited_for : ℕ → (ℕ → Bool) → LocalPart → (out back : List Message) → Bool
 is_waited_for pw_id next (Idle declined) out back = true
-is_waited_for pw_id next (Advertised label told) out back = nat_lt label next
-is_waited_for pw_id next (Withdrawing label) out back = nat_lt label next && (some_message (is_withdrawal_of pw_id label) out || some_message (is_release_of pw_id label) back)
+is_waited_for pw_id next (Advertised label told) out back = next label
+is_waited_for pw_id next (Withdrawing label) out back = next label && (some_message (is_withdrawal_of pw_id label) out || some_message (is_release_of pw_id label) back)
 
--- the end of the wire with this PW ID at an edge that gives this label next, what its neighbour holds of it, and the messages on
+-- the end of the wire with this PW ID at an edge of which these labels are given, what its neighbour holds of it, and the messages on
 -- their way from the edge and to it
-pub record IsBoundBy (pw_id next : ℕ) (near : LocalPart) (far : Option Binding) (out back : List Message) : Type 0 where
+pub record IsBoundBy (pw_id : ℕ) (next : ℕ → Bool) (near : LocalPart) (far : Option Binding) (out back : List Message) : Type 0 where
   pub agrees : bound_after pw_id out far ≡ advertised_by near
   pub withdrawn : all_messages (withdraws_old pw_id next near) out ≡ true
   pub released : all_messages (releases_old pw_id next near) back ≡ true
@@ -110,9 +120,9 @@ answered_part pw_id message near = near
 -- the ends of each wire between two edges, and the messages on their way from the first to the second and back
 pub record AreBound (plan : Plan) (a b : ℕ) (one other : EdgeState) (out back : List Message) : Type 0 where
   pub near : (wire : WireId) (row : WirePlan) → wire_row plan wire ≡ Some row → joins a b row.path ≡ true
-      → IsBoundBy row.pw_id one.next_label (one.ends wire.0 b).local (other.ends wire.0 a).remote out back
+      → IsBoundBy row.pw_id (given_of one) (one.ends wire.0 b).local (other.ends wire.0 a).remote out back
   pub far : (wire : WireId) (row : WirePlan) → wire_row plan wire ≡ Some row → joins a b row.path ≡ true
-      → IsBoundBy row.pw_id other.next_label (other.ends wire.0 a).local (one.ends wire.0 b).remote back out
+      → IsBoundBy row.pw_id (given_of other) (other.ends wire.0 a).local (one.ends wire.0 b).remote back out
 
 -- ---- an edge at work
 

@@ -1,11 +1,14 @@
 -- What holds of every label and of every content that is told, wherever it is: at the edge that gave it, on its way, and at the
 -- neighbour that holds it.
-use Rattle.std.specs.Prelude.{◌≡◌, ◌<◌, ◌==◌, map, ℕ, Bool, true, false, List, [], ◌∷◌, Option, Some, None, is_some}
+use Rattle.std.specs.Prelude.{◌≡◌, ◌≤◌, ◌<◌, ◌==◌, map, ℕ, Bool, true, false, List, [], ◌∷◌, Option, Some, None, is_some}
 use Rattle.net_base.specs.declared.plan.Plan.{Plan}
 use Rattle.net_base.specs.declared.plan.places.WireId.{WireId}
 use Rattle.net_base.specs.declared.plan.wire_plan.WirePlan.{WirePlan}
 use Rattle.net_base.specs.plan.Paths.{Expected, PassedPoint, expected, joins}
 use Rattle.net_base.specs.plan.Places.{wire_row}
+use Rattle.label_space.specs.declared.kept.KeptState.{KeptState}
+use Rattle.label_space.specs.declared.kept.KeptState.TheVariants.{Waits, Rests, Free}
+use Rattle.label_space.specs.Kept.{kept_at}
 use Rattle.pw_tlvs.specs.declared.point.Point.{Point}
 use Rattle.pw_tlvs.specs.declared.pw_fec.PwFec.{PwFec}
 use Rattle.pw_tlvs.specs.declared.pw_status.PwStatus.{PwStatus}
@@ -32,10 +35,33 @@ part_owns (Idle declined) label = false
 part_owns (Advertised own told) label = own == label
 part_owns (Withdrawing own) label = own == label
 
--- a label of this edge may be named with its end of a wire beside a peer: it was given before, and no other end owns it
-pub record MayName (edge : EdgeState) (wire peer label : ℕ) : Type 0 where
+-- a packet of this age, and nothing else, may have been sent before a number began to rest
+abbrev pub IsAsOld : Option ℕ → ℕ → Type 0
+IsAsOld None ticks = ⊥
+IsAsOld (Some age) ticks = ticks ≤ age
+
+-- what a number that is kept may be named by: while it waits, by what concerns the neighbour that it waits for; while it rests, by a packet
+-- that is as old; once it is free, by nothing
+abbrev pub MayBeKept : ℕ → Option ℕ → Option KeptState → Type 0
+MayBeKept peer age None = Unit {0}
+MayBeKept peer age (Some (Waits k)) = k.0 ≡ peer
+MayBeKept peer age (Some (Rests ticks)) = IsAsOld age ticks
+MayBeKept peer age (Some Free) = ⊥
+
+-- a label of this edge may be named with its end of a wire beside a peer, on a packet of this age or elsewhere: it was given before, no
+-- other end owns it, and it is not free to be given again
+pub record MayBeNamed (edge : EdgeState) (wire peer : ℕ) (age : Option ℕ) (label : ℕ) : Type 0 where
   pub below : label < edge.next_label
   pub owner : (w k : ℕ) → part_owns (edge.ends w k).local label ≡ true → (w ≡ wire) × (k ≡ peer)
+  pub kept : MayBeKept peer age (kept_at label edge.kept)
+
+-- elsewhere than on a packet
+abbrev pub MayName : EdgeState → ℕ → ℕ → ℕ → Type 0
+MayName edge wire peer label = MayBeNamed edge wire peer None label
+
+-- on a packet of this age
+abbrev pub MayCarry : EdgeState → ℕ → ℕ → ℕ → ℕ → Type 0
+MayCarry edge wire peer age label = MayBeNamed edge wire peer (Some age) label
 
 abbrev pub MayNameAt : EdgeState → ℕ → Option EndPlace → ℕ → Type 0
 MayNameAt edge peer None label = ⊥

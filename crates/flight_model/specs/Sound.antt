@@ -1,6 +1,7 @@
 -- What an edge has told of its pseudowires, and what it holds of its peers, so that whatever it tells of them next can be written.
-use Rattle.std.specs.Prelude.{◌≡◌, ◌≤◌, ◌<◌, ◌^◌, ℕ, Bool, true, false, Option, Some, None, IfSome, length, if◌then◌else◌}
+use Rattle.std.specs.Prelude.{◌≡◌, ◌≢◌, ◌≤◌, ◌<◌, ◌^◌, ℕ, Bool, true, false, Option, Some, None, IfSome, length, if◌then◌else◌}
 use Rattle.std.specs.List.{AllByRecursion}
+use Rattle.label_space.specs.Kept.{kept_at}
 use Rattle.label_space.specs.Labels.{numbers_end}
 use Rattle.net_base.specs.declared.plan.Plan.{Plan}
 use Rattle.net_base.specs.declared.plan.places.EdgeId.{EdgeId}
@@ -43,7 +44,7 @@ pub record IsSoundTold (limit : ℕ) (told : Told) : Type 0 where
 abbrev pub IsSoundPart : LocalPart → Type 0
 IsSoundPart (Idle declined) = Unit {0}
 IsSoundPart (Advertised label told) = CanBeTold label told
-IsSoundPart (Withdrawing label) = Unit {0}
+IsSoundPart (Withdrawing label) = IsLabel label
 
 abbrev pub IsSoundHeld : ℕ → Option Binding → Type 0
 IsSoundHeld limit None = Unit {0}
@@ -63,10 +64,11 @@ limit_of me (Some row) = if is_terminal row me then 3 else 2
 abbrev pub point_limit : Plan → ℕ → ℕ → ℕ
 point_limit plan me wire = limit_of (record { 0 = me }) (wire_row plan (record { 0 = wire }))
 
--- the next label is one, or none is left; the failure bits are those of RFC 4446 section 3.5; and the ends are sound, with at most
+-- the next label is one, or none is left; so is each number that is kept; the failure bits are those of RFC 4446 section 3.5; and the ends are sound, with at most
 -- so many points by wire
 pub record TellsSoundly (limit : ℕ → ℕ) (edge : EdgeState) : Type 0 where
   pub least : 16 ≤ edge.next_label
   pub most : edge.next_label ≤ numbers_end
+  pub kept : (label : ℕ) → kept_at label edge.kept ≢ None → IsLabel label
   pub bits : (wire : ℕ) → edge.bits wire ≤ 31
   pub ends : (wire peer : ℕ) → IsSoundEnd (limit wire) (is_up_with (edge.peering peer)) (edge.ends wire peer)

@@ -237,7 +237,7 @@ pub record IsPassed (plan : Plan) (network : NetworkState) (packet : Packet) : T
   pub bytes : List ℕ
   pub edge : (packet_work plan network packet).edge ≡ network.edges packet.to.0
   pub effects : (packet_work plan network packet).effects ≡ effect.Sent to packet.wire (arrival.Wire packet.wire) bytes ∷ []
-  pub carries : (number origin hops : ℕ) → carried plan (record { number = number; wire = packet.wire; from = packet.to; to = to; origin = origin; hops = hops; bytes = bytes }) ≡ carried plan packet
+  pub carries : (number origin hops : ℕ) → carried plan (record { number = number; wire = packet.wire; from = packet.to; to = to; origin = origin; hops = hops; age = 0; bytes = bytes }) ≡ carried plan packet
 
 pub data Arrives (plan : Plan) (network : NetworkState) (packet : Packet) : Type 0 where
   DropsIt : IsDropped plan network packet → Arrives plan network packet

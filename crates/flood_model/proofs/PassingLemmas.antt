@@ -78,7 +78,7 @@ module _ (plan : Plan) (network : NetworkState) (trace : List Entry) (packet : P
 
   -- what is passed on carries the frame
   pub passed_carries : (on : PassedOn) (number origin hops : ℕ)
-      → carried plan (record { number = number; wire = packet.wire; from = packet.to; to = on.to; origin = origin; hops = hops; bytes = relabelled on.binding.label (rule.packed.ttl - 1) packet.bytes }) ≡ carried plan packet
+      → carried plan (record { number = number; wire = packet.wire; from = packet.to; to = on.to; origin = origin; hops = hops; age = 0; bytes = relabelled on.binding.label (rule.packed.ttl - 1) packet.bytes }) ≡ carried plan packet
   passed_carries on number origin hops =
       packed_carried plan (relayed plan network trace packet on.to on.binding number hops checked ruled rule on.mate_is on.bound) rule.row on.binding.label rule.frame checked rule.is
       (relayed_packed plan network trace packet on.to on.binding number hops checked ruled rule on.mate_is on.bound)

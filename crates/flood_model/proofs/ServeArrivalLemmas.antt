@@ -449,6 +449,7 @@ module _ (plan : Plan) (calm network : NetworkState) (trace : List Entry) (servi
             to = on.to;
             origin = n;
             hops = packet.hops + 1;
+            age = 0;
             bytes = relabelled on.binding.label (rule_here.packed.ttl - 1) packet.bytes;
           })) (eqb-true packet.origin origin own) (
             relay_copy plan network trace packet on.to on.binding (sent + 1) checked ruled rule_here on.mate_is on.bound calm service frame quiet settled held copy,

@@ -43,7 +43,7 @@ use Rattle.network_model.specs.Absorb.{absorb, begin_at, idle, taken_all}
 use Rattle.network_model.specs.Frame.{entering, frame_event, frame_work, next_origin}
 use Rattle.network_model.specs.Packet.{again_event, arrive_event, discard_event, packet_at, packet_work, repeating}
 use Rattle.network_model.specs.Reach.{is_row_of, is_row_on, is_site}
-use Rattle.network_model.specs.State.{NetworkState, edge_at, with_edge, with_frame, with_packet, without_number, without_packet}
+use Rattle.network_model.specs.State.{NetworkState, edge_at, with_copy, with_edge, with_frame, without_number, without_packet}
 use Rattle.network_model.specs.Step.{step}
 use Rattle.network_model.specs.Window.{carried, is_row_of_service, is_sourced, packet_teaches, spares, teaches}
 use Rattle.network_model.proofs.AbsorbLemmas.{all_keep}
@@ -82,7 +82,7 @@ unfolding without_packet
 without_each P number network holds = holds
 
 repeated_each : (P : ℕ → EdgeState → Type 0) (packet : Packet) (network : NetworkState) → HoldsOfEach P network → HoldsOfEach P (repeating packet network).state
-unfolding with_packet
+unfolding with_copy
 repeated_each P packet network holds = holds
 
 -- ---- nothing but addresses and packets changes

@@ -1,6 +1,6 @@
 -- In a quiet service what is told along a wire is one chain from terminal edge to terminal edge.
-use Rattle.std.specs.Prelude.{◌≡◌, ℕ, true, Some}
-use Rattle.label_space.specs.Labels.{numbers_end}
+use Rattle.std.specs.Prelude.{◌≡◌, ℕ, true, Some, None}
+use Rattle.edge_model.specs.Labels.{label_to_give}
 use Rattle.net_base.specs.declared.plan.Plan.{Plan}
 use Rattle.net_base.specs.declared.plan.places.EdgeId.{EdgeId}
 use Rattle.net_base.specs.declared.plan.places.WireId.{WireId}
@@ -34,7 +34,7 @@ pub data IsChain (plan : Plan) (network : NetworkState) (wire : WireId) (row : W
 pub data TellsOn (edge : EdgeState) (wire : WireId) (to : EdgeId) (content : Told) : Type 0 where
   Tells : (label : ℕ) → (edge.ends wire.0 to.0).local ≡ Advertised label content → TellsOn edge wire to content
   WasDeclined : (edge.ends wire.0 to.0).local ≡ Idle true → TellsOn edge wire to content
-  HasNoLabel : edge.next_label ≡ numbers_end → TellsOn edge wire to content
+  HasNoLabel : label_to_give edge ≡ None → TellsOn edge wire to content
 
 -- Whatever is advertised along the wire ends such a chain; and the chain goes on at each switching point at which the wire is on and the
 -- session with the next neighbour is up.

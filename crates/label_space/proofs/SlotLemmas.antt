@@ -1,6 +1,6 @@
 -- The slots and their map, before and after the calls.
 use Rattle.std.proofs.Common.{◌≡◌, ◌≢◌, ◌<◌, ◌++◌, ◌∙◌, ◌⊎◌, ℕ, Bool, true, false, not, nat_eq, List, [], ◌∷◌, Option, Some, None, length, take, get_or, suc, zero, cond, refl, ap, sym, subst, inl, inr, arith, true≢false}
-use Rattle.std.specs.Prelude.{filter, IsSome, option_map, slice_index_or}
+use Rattle.std.specs.Prelude.{filter, IsSome, nat_lt, option_map, slice_index_or}
 use Rattle.std.specs.List.{find}
 use Rattle.std.specs.Map.{lookup}
 use Rattle.std.specs.Option.{option_and_then}
@@ -9,7 +9,8 @@ use Rattle.std.proofs.lemmas.Bool.Decides.{nat_tests}
 use Rattle.indexmap.specs.IndexMap as map
 use Rattle.slab.specs.Slab as slab
 use Rattle.label_space.specs.declared.owner.Owner.{Owner}
-use Rattle.label_space.specs.Labels.{AreDistinctLabels, owner_of, owns}
+use Rattle.label_space.specs.Kept.{put_by}
+use Rattle.label_space.specs.Labels.{AreDistinctLabels, owned_label, owner_of, owns}
 use Rattle.label_space.specs.Slots.{AreSlotsOf, AreLabelSlots, IsLabelIndex}
 
 same : (a : ℕ) → nat_eq a a ≡ true
@@ -20,13 +21,6 @@ is_same a b equal = grind (arith, nat_tests)
 
 swap_eq : (a b : ℕ) → nat_eq a b ≡ nat_eq b a
 swap_eq a b = grind (arith, nat_tests)
-
-pub owner_of-find : (label : ℕ) (xs : List Owner) → owner_of label xs ≡ option_map (λ o. (o.key, o.side)) (find (owns label) xs)
-owner_of-find label [] = refl
-owner_of-find label (x ∷ xs) = elim (owns label x) as (λ v. cond v (Some (x.key, x.side)) (owner_of label xs) ≡ option_map (λ o. (o.key, o.side)) (cond v (Some x) (find (owns label) xs))) [
-  | true ↦ refl
-  | false ↦ owner_of-find label xs
-]
 
 something : {X : Type 0} (x : X) → Some x ≡ None → ⊥
 something x is = cc
@@ -121,9 +115,6 @@ module _ {S : Type 0} where
       by : (label : ℕ) (owner : Owner) (r : Option ℕ) → map.get nat_eq m label ≡ r → option_and_then (slab.get s) (map.get nat_eq m label) ≡ Some owner → (slot : ℕ) × (slab.get s slot ≡ Some owner)
       by label owner None is found = absurd (something owner (sym found ∙ ap (option_and_then (slab.get s)) is))
       by label owner (Some slot) is found = (slot, sym (ap (option_and_then (slab.get s)) is) ∙ found)
-
-  pub owner_by : (s : slab.Slab Owner) (m : map.IndexMap ℕ ℕ S) (xs : List Owner) (label : ℕ) → AreLabelSlots s m xs → option_map (λ o. (o.key, o.side)) (option_and_then (slab.get s) (map.get nat_eq m label)) ≡ owner_of label xs
-  owner_by s m xs label step = ap (λ (r : Option Owner). option_map (λ o. (o.key, o.side)) r) (step.finds label) ∙ sym (owner_of-find label xs)
 
   -- one more owner
   pub step_added : (s t : slab.Slab Owner) (m n : map.IndexMap ℕ ℕ S) (xs : List Owner) (o : Owner) (slot : ℕ) → AreLabelSlots s m xs → owner_of o.label xs ≡ None → slab.get s slot ≡ None → slab.Updates s t slot (Some o) → map.Updates nat_eq m n o.label (Some slot) → AreLabelSlots t n (xs ++ o ∷ [])
@@ -271,3 +262,48 @@ module _ {S : Type 0} where
   pub asked_slots : (asked : Bool) (s : slab.Slab Owner) (m : map.IndexMap ℕ ℕ S) (xs : List Owner) → IsLabelIndex asked s m xs → AreSlotsOf s xs ⊎ (s.slots ≡ [])
   asked_slots true s m xs step = inl (slots_are s m xs step)
   asked_slots false s m xs empty = inr empty
+
+-- one more owner, at its place or at the end
+find-put : (label : ℕ) (xs : List Owner) (o : Owner) → find (owns o.label) xs ≡ None → find (owns label) (put_by owned_label o xs) ≡ cond (owns label o) (Some o) (find (owns label) xs)
+find-put label [] o none = refl
+find-put label (x ∷ xs) o none = elim (cases_Bool (owns o.label x)) [
+  | inl here ↦ absurd (something x (rw here at none))
+  | inr other ↦
+      elim (nat_lt x.label o.label) as (λ v. find (owns label) (cond v (x ∷ put_by owned_label o xs) (o ∷ x ∷ xs)) ≡ cond (owns label o) (Some o) (find (owns label) (x ∷ xs))) [
+        | true ↦ by (owns label x) refl other (find-put label xs o (rw other at none))
+        | false ↦ refl
+      ]
+]
+  where
+    differ : {P : Type 0} (a b c : ℕ) → nat_eq a c ≡ true → nat_eq b c ≡ true → nat_eq a b ≡ false → P
+    differ a b c one two other = grind (arith, nat_tests)
+
+    by : (b : Bool) → owns label x ≡ b → owns o.label x ≡ false → find (owns label) (put_by owned_label o xs) ≡ cond (owns label o) (Some o) (find (owns label) xs)
+        → cond b (Some x) (find (owns label) (put_by owned_label o xs)) ≡ cond (owns label o) (Some o) (cond b (Some x) (find (owns label) xs))
+    by true is other rest = elim (cases_Bool (owns label o)) [
+      | inl clash ↦ differ x.label o.label label is clash other
+      | inr unlike ↦ rw unlike refl
+    ]
+    by false is other rest = rest
+
+find-end : (label : ℕ) (xs : List Owner) (o : Owner) → find (owns o.label) xs ≡ None → find (owns label) (xs ++ o ∷ []) ≡ cond (owns label o) (Some o) (find (owns label) xs)
+find-end label xs o none = elim (cases_Bool (owns label o)) [
+  | inl here ↦
+      (let same_label : o.label ≡ label = is_same o.label label here in
+      find-pushed label xs o (subst (λ (l : ℕ). find (owns l) xs ≡ None) same_label none) ∙ chosen (owns label o) (Some o) None here ∙ sym (chosen (owns label o) (Some o) (find (owns label) xs) here))
+  | inr other ↦ find-pushed_other label xs o other ∙ sym (left (owns label o) (Some o) (find (owns label) xs) other)
+]
+
+module _ {S : Type 0} where
+  step_same : (s : slab.Slab Owner) (m : map.IndexMap ℕ ℕ S) (xs ys : List Owner) → ((label : ℕ) → find (owns label) xs ≡ find (owns label) ys) → AreLabelSlots s m xs → AreLabelSlots s m ys
+  step_same s m xs ys same_finds step = record { finds = λ label. step.finds label ∙ same_finds label; filled = step.filled; back = step.back }
+
+  index_same : (asked : Bool) (s : slab.Slab Owner) (m : map.IndexMap ℕ ℕ S) (xs ys : List Owner) → ((label : ℕ) → find (owns label) xs ≡ find (owns label) ys) → IsLabelIndex asked s m xs → IsLabelIndex asked s m ys
+  index_same true s m xs ys same_finds index = step_same s m xs ys same_finds index
+  index_same false s m xs ys same_finds index = index
+
+  -- an owner stands at its place
+  pub index_put : (asked : Bool) (s : slab.Slab Owner) (m : map.IndexMap ℕ ℕ S) (xs : List Owner) (o : Owner) → owner_of o.label xs ≡ None → IsLabelIndex asked s m (xs ++ o ∷ []) → IsLabelIndex asked s m (put_by owned_label o xs)
+  index_put asked s m xs o none index = index_same asked s m (xs ++ o ∷ []) (put_by owned_label o xs) (λ label. find-end label xs o absent ∙ sym (find-put label xs o absent)) index where
+    absent : find (owns o.label) xs ≡ None
+    absent = none_found o.label xs none

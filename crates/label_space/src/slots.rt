@@ -1,11 +1,12 @@
 //! The slots of the owners, and the map from labels to their slots.
 ghost use Rattle.std.specs.Prelude.{◌≡◌, ◌++◌, [], ◌∷◌, None, filter, not};
+ghost use Rattle.std.specs.List.{find};
 ghost use Rattle.label_space.specs.Labels.{AreDistinctLabels, owner_of, owns};
 ghost use Rattle.label_space.specs.Slots.{AreLabelSlots, IsLabelIndex};
 
 use crate::Owner;
 use indexmap::IndexMap;
-use net_base::{Label, SegKey};
+use net_base::Label;
 use slab::Slab;
 
 // The owners of labels in slots, and the map from labels to slots. Its calls are told of which owners, since those stand in a list.
@@ -17,17 +18,14 @@ pub(crate) struct Slots {
 
 impl Slots {
     // The end that owns the label.
-    pub(crate) fn owner(&self, owners: &[Owner], label: Label) -> Option<(SegKey, u8)>
+    pub(crate) fn owner(&self, owners: &[Owner], label: Label) -> Option<Owner>
         requires { AreLabelSlots self.now.slab self.now.index owners.now }
-        ensures { result ≡ owner_of label owners.now }
+        ensures { result ≡ find (owns label) owners.now }
     {
         let Some(slot) = self.index.get(&label.number()).copied() else {
             return None;
         };
-        match self.slab.get(slot).copied() {
-            Some(owner) => Some((owner.key, owner.side)),
-            None => None,
-        }
+        self.slab.get(slot).copied()
     }
 
     // Puts an owner in. Where a map has no room, both are emptied and it answers false.

@@ -4,8 +4,9 @@ use Rattle.edge_model.specs.Content.{binding_in, pw_status_code, release}
 use Rattle.edge_model.specs.EndPlaces.{end_named}
 use Rattle.edge_model.specs.Mend.{is_up_with}
 use Rattle.edge_model.specs.Session.{says}
-use Rattle.edge_model.specs.Signal.{accepts_at, end_of_fec, hears_mapping, hears_release, hears_status, hears_withdraw, maps_to, releases_label, takes_content, with_end_changed, with_named}
-use Rattle.edge_model.specs.State.{EdgeState, end_at, with_end, with_ends_beside}
+use Rattle.edge_model.specs.Signal.{accepts_at, end_of_fec, hears_mapping, hears_release, hears_status, hears_withdraw, maps_to, releases_label, takes_content, with_end_changed, with_named, with_released}
+use Rattle.edge_model.specs.State.{EdgeState, end_at, with_end, with_ends_beside, with_kept}
+use Rattle.edge_model.specs.Labels.{releasing}
 use Rattle.edge_model.specs.Work.{Work, changes}
 use Rattle.edge_model.specs.declared.end_place.EndPlace.{EndPlace}
 use Rattle.flight_model.proofs.NameLemmas.{end_fact, split}
@@ -102,6 +103,12 @@ other_end place end edge wire k other told = end_fact (λ w p e. w ≡ wire → 
 
 same_beside : (peer : ℕ) (edge : EdgeState) → KeepsLocals peer edge edge
 same_beside peer edge = record { changes = record { me = refl; peering = refl; wires = refl; bits = refl; chosen = refl; ends = λ wire k away. refl }; locals = λ wire k. refl }
+
+releasing_beside : (label : Option ℕ) (place : EndPlace) (edge : EdgeState) → ChangesBeside place.peer.0 edge (releasing label place edge)
+unfolding with_kept
+releasing_beside label place edge =
+    let one : ChangesBeside place.peer.0 edge (with_end place (released label (end_at edge place)) edge) = end_beside place (released label (end_at edge place)) edge in
+    record { me = one.me; peering = one.peering; wires = one.wires; bits = one.bits; chosen = one.chosen; ends = one.ends }
 
 changed_locals : (peer : EdgeId) (change : EndState → EndState) (place : Option EndPlace) (edge : EdgeState) → ((end : EndState) → (change end).local ≡ end.local) → ((p : EndPlace) → place ≡ Some p → p.peer ≡ peer) → KeepsLocals peer.0 edge (with_end_changed change place edge)
 changed_locals peer change None edge same beside = same_beside peer.0 edge
@@ -308,20 +315,20 @@ module _ (plan : Plan) (service : ServiceId) (network : NetworkState) (me peer :
 
   pub release_acts : (base : Work) (id : ℕ) (fec : PwFec) (label : Option ℕ) (work : Work) → LeavesMesh plan service me.0 peer.0 (LabelRelease id fec label) → TellsSoundly (point_limit plan me.0) (hears_release plan peer fec label work).edge → At base work
       → Acted base work (hears_release plan peer fec label work)
-  unfolding changes
+  unfolding changes with_kept
   release_acts base id fec label work leaves sound speaks = by (end_of_fec plan work.edge peer fec) refl sound where
-    by : (o : Option EndPlace) → end_of_fec plan work.edge peer fec ≡ o → TellsSoundly (point_limit plan me.0) (with_end_changed (released label) o work.edge) → Acted base work (changes (λ edge. with_end_changed (released label) o edge) work)
+    by : (o : Option EndPlace) → end_of_fec plan work.edge peer fec ≡ o → TellsSoundly (point_limit plan me.0) (with_released label o work.edge) → Acted base work (changes (λ edge. with_released label o edge) work)
     by None is sound = acted_locals base (λ edge. edge) work (same_beside peer.0 work.edge) speaks.sound speaks
     by (Some place) is sound = record {
-      speaks = changed_speaks plan service network me peer.0 base (λ edge. with_end place (released label (end_at edge place)) edge) work beside.peering beside.me sound
+      speaks = changed_speaks plan service network me peer.0 base (releasing label place) work beside.peering beside.me sound
           (mesh_beside plan service me.0 peer.0 work.edge _ beside.wires beside.bits
           (λ wire k away. beside.ends wire k (subst (λ (n : EdgeId). nat_eq k n.0 ≡ false) (sym at_peer) away))
           (λ wire row at of_mesh joined told. other_end place (released label (end_at work.edge place)) work.edge wire.0 peer.0 (not_here wire row at of_mesh joined) told) speaks.mesh) speaks;
       chosen = beside.chosen;
     }
       where
-        beside : ChangesBeside place.peer.0 work.edge (with_end place (released label (end_at work.edge place)) work.edge)
-        beside = end_beside place (released label (end_at work.edge place)) work.edge
+        beside : ChangesBeside place.peer.0 work.edge (releasing label place work.edge)
+        beside = releasing_beside label place work.edge
 
         at_peer : place.peer ≡ peer
         at_peer = fec_beside plan work.edge peer fec place is

@@ -9,9 +9,9 @@ use Rattle.edge_model.specs.Mend.{advertising, forgetting_wire, mends, port_of_w
 use Rattle.edge_model.specs.Put.{put_reply}
 use Rattle.edge_model.specs.Role.{down_at, status_to_tell}
 use Rattle.edge_model.specs.Session.{had_said, happens_with_ends, says}
-use Rattle.edge_model.specs.Signal.{end_of_fec, with_end_changed, with_named}
+use Rattle.edge_model.specs.Signal.{end_of_fec, with_end_changed, with_named, with_released}
 use Rattle.edge_model.specs.Spokes.{choosing}
-use Rattle.edge_model.specs.State.{EdgeState, Peering, end_at, has_end, put_at, with_addresses, with_chosen, with_end, with_ends_beside, with_next_label, with_peering, with_told_down, without_port}
+use Rattle.edge_model.specs.State.{EdgeState, Peering, end_at, has_end, put_at, with_addresses, with_chosen, with_end, with_ends_beside, with_kept, with_next_label, with_peering, with_told_down, without_port}
 use Rattle.edge_model.specs.Work.{Work, changes, gives}
 use Rattle.edge_model.specs.declared.effect.Effect.TheVariants.{Wire}
 use Rattle.edge_model.specs.declared.end_place.EndPlace.{EndPlace}
@@ -110,7 +110,7 @@ module _ (service : ServiceId) where
   changed_forgets change work same = forgets_none work (changes change work) same
 
   advertising_learned : (place : EndPlace) (label : ℕ) (content : Told) (edge : EdgeState) → (advertising place label content edge).learned ≡ edge.learned
-  unfolding with_end with_next_label
+  unfolding with_end with_next_label with_kept
   advertising_learned place label content edge = refl
 
   end_learned : (place : EndPlace) (end : EndState) (edge : EdgeState) → (with_end place end edge).learned ≡ edge.learned
@@ -120,6 +120,11 @@ module _ (service : ServiceId) where
   changed_learned : (change : EndState → EndState) (place : Option EndPlace) (edge : EdgeState) → (with_end_changed change place edge).learned ≡ edge.learned
   changed_learned change None edge = refl
   changed_learned change (Some place) edge = end_learned place (change (end_at edge place)) edge
+
+  released_learned : (label : Option ℕ) (place : Option EndPlace) (edge : EdgeState) → (with_released label place edge).learned ≡ edge.learned
+  unfolding with_end with_kept
+  released_learned label None edge = refl
+  released_learned label (Some place) edge = refl
 
   beside_learned : (to : EdgeId) (change : EndState → EndState) (edge : EdgeState) → (with_ends_beside to change edge).learned ≡ edge.learned
   unfolding with_ends_beside
@@ -145,7 +150,7 @@ module _ (service : ServiceId) where
   mend_steps_forget plan = record {
     same = λ work. forgets_none work work refl;
     joined = forgets_then;
-    advertises = λ place content work here at wished some. changed_says (advertising place work.edge.next_label content) place.peer (mapping place.pw_id work.edge.next_label content) work (advertising_learned place work.edge.next_label content work.edge);
+    advertises = λ place label content work here at wished given. changed_says (advertising place label content) place.peer (mapping place.pw_id label content) work (advertising_learned place label content work.edge);
     withdraws = λ place label content work here at wished. changed_says (withdrawing place) place.peer (withdrawal place.pw_id label content) work (end_learned place (withdrawn (end_at work.edge place)) work.edge);
     chooses = λ work. changed_forgets (choosing plan) work (choosing_learned plan work.edge);
     tells_status = λ place label content last work here at told other. changed_says (telling_status place (status_to_tell plan work.edge place)) place.peer (status_notification place.pw_id (status_to_tell plan work.edge place) content) work
@@ -164,7 +169,7 @@ module _ (service : ServiceId) where
     releases = λ to fec label work. says_forgets to (release fec label) work;
     binds = λ to fec place binding work there is taken. changed_forgets (with_end_changed (bound binding) (Some place)) work (changed_learned (bound binding) (Some place) work.edge);
     unbinds = λ to fec label work there. changed_forgets (with_named plan to fec (unbound label) (group_unbound fec.group) fec.pw_id) work (named_learned plan to fec (unbound label) (group_unbound fec.group) fec.pw_id work.edge);
-    released = λ to fec label work there. changed_forgets (λ edge. with_end_changed (released label) (end_of_fec plan edge to fec) edge) work (changed_learned (released label) (end_of_fec plan work.edge to fec) work.edge);
+    released = λ to fec label work there. changed_forgets (λ edge. with_released label (end_of_fec plan edge to fec) edge) work (released_learned label (end_of_fec plan work.edge to fec) work.edge);
     states = λ to fec status work there. changed_forgets (with_named plan to fec (stated status) (group_stated fec.group status) fec.pw_id) work (named_learned plan to fec (stated status) (group_stated fec.group status) fec.pw_id work.edge);
     clears = λ of addresses from work. clears_forgets of addresses from work;
   }

@@ -73,7 +73,7 @@ module _ (plan : Plan) (service : ServiceId) (site : Sites) (calm network : Netw
   priority_rest : (wire : WireId) (priority : ℕ) (edge : EdgeState) → ((with_priority wire priority edge).peering ≡ edge.peering) × ((with_priority wire priority edge).me ≡ edge.me) × ((with_priority wire priority edge).chosen ≡ edge.chosen)
       × ((with_priority wire priority edge).learned ≡ edge.learned) × (TellsSoundly (point_limit plan me.0) edge → TellsSoundly (point_limit plan me.0) (with_priority wire priority edge)) × (KeepsMesh plan service me.0 edge → KeepsMesh plan service me.0 (with_priority wire priority edge))
   unfolding with_priority
-  priority_rest wire priority edge = (refl, refl, refl, refl, λ sound. sound_same edge _ refl refl refl refl sound, λ mesh. record { told = mesh.told; on = mesh.on; whole = mesh.whole })
+  priority_rest wire priority edge = (refl, refl, refl, refl, λ sound. sound_same edge _ refl refl refl refl refl sound, λ mesh. record { told = mesh.told; on = mesh.on; whole = mesh.whole })
 
   bits_rest : (wire : WireId) (bits : ℕ) (edge : EdgeState) → ((with_bits wire bits edge).peering ≡ edge.peering) × ((with_bits wire bits edge).me ≡ edge.me) × ((with_bits wire bits edge).chosen ≡ edge.chosen) × ((with_bits wire bits edge).learned ≡ edge.learned)
   unfolding with_bits
@@ -81,7 +81,7 @@ module _ (plan : Plan) (service : ServiceId) (site : Sites) (calm network : Netw
 
   bits_sound : (wire : WireId) (bits : ℕ) (edge : EdgeState) → bits ≤ 31 → TellsSoundly (point_limit plan me.0) edge → TellsSoundly (point_limit plan me.0) (with_bits wire bits edge)
   unfolding with_bits
-  bits_sound wire bits edge few sound = record { least = sound.least; most = sound.most; bits = λ w. either (nat_eq w wire.0) (edge.bits w) (sound.bits w); ends = sound.ends } where
+  bits_sound wire bits edge few sound = record { least = sound.least; most = sound.most; kept = sound.kept; bits = λ w. either (nat_eq w wire.0) (edge.bits w) (sound.bits w); ends = sound.ends } where
     either : (b : Bool) (other : ℕ) → other ≤ 31 → cond b bits other ≤ 31
     either true other is = few
     either false other is = is

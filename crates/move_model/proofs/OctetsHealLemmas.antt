@@ -131,6 +131,7 @@ unfolding changes with_peering
 held_sound limit peer rest kept work at sound = record {
   least = sound.least;
   most = sound.most;
+  kept = sound.kept;
   bits = sound.bits;
   ends = λ wire k. elim (cases_Bool (nat_eq k peer.0)) [
     | inl same ↦ rw same (rw (eqb-true k peer.0 same) (rw at at (sound.ends wire peer.0)))

@@ -5,7 +5,7 @@ use Rattle.edge_model.specs.Mend.{advertising, is_up_with, mends, passed_wish, s
 use Rattle.edge_model.specs.Put.{stays}
 use Rattle.edge_model.specs.Role.{status_to_tell}
 use Rattle.edge_model.specs.Session.{says}
-use Rattle.edge_model.specs.State.{EdgeState, end_at, with_end, with_next_label, with_told_down}
+use Rattle.edge_model.specs.State.{EdgeState, end_at, with_end, with_kept, with_next_label, with_told_down}
 use Rattle.edge_model.specs.Work.{Work, changes}
 use Rattle.edge_model.specs.declared.effect.Effect.TheVariants.{Wire}
 use Rattle.edge_model.specs.declared.end_place.EndPlace.{EndPlace}
@@ -15,12 +15,12 @@ use Rattle.flight_model.proofs.OfferLemmas.{IsOfWires, clearance_is, mapping_sou
 use Rattle.flight_model.proofs.PieceLemmas.{IsPiece}
 use Rattle.flight_model.proofs.PlaceLemmas.{IsEndOf, member_by_pw_id}
 use Rattle.flight_model.proofs.RowLemmas.{clash}
-use Rattle.flight_model.proofs.SoundLemmas.{sound_next_label, sound_same, sound_with_end}
+use Rattle.flight_model.proofs.SoundLemmas.{sound_giving, sound_same, sound_with_end}
 use Rattle.flight_model.proofs.SteadyLemmas.{IsSilent, WishesSoundly, advertised_up, end_small, next_is_label, status_small, wishes}
 use Rattle.flight_model.specs.Ends.{HasTypes}
 use Rattle.flight_model.specs.Sound.{CanBeTold, IsSoundEnd, IsSoundPart, TellsSoundly, point_limit}
 use Rattle.move_model.specs.Moves.{has_short_paths}
-use Rattle.label_space.specs.Labels.{numbers_end}
+use Rattle.edge_model.specs.Labels.{giving, label_to_give}
 use Rattle.ldp_grammar.specs.declared.message.Message.{Message}
 use Rattle.move_model.proofs.ForgetLemmas.{Forgets, left_then, mends_forget}
 use Rattle.move_model.proofs.SpeakLemmas.{Speaks, changed_speaks, gives_speaks, mesh_same, says_speaks, speaks_first}
@@ -157,19 +157,19 @@ module _ (plan : Plan) (service : ServiceId) (me : EdgeId) (checked : IsChecked 
     whole = mesh.whole;
   }
 
-  mesh_label : (label : ℕ) (edge : EdgeState) → KeepsMesh plan service me.0 edge → KeepsMesh plan service me.0 (with_next_label label edge)
-  unfolding with_next_label
+  mesh_label : (label : ℕ) (edge : EdgeState) → KeepsMesh plan service me.0 edge → KeepsMesh plan service me.0 (giving label edge)
+  unfolding with_next_label with_kept
   mesh_label label edge mesh = record { told = mesh.told; on = mesh.on; whole = mesh.whole }
 
-  advertising_sound : (place : EndPlace) (content : Told) (edge : EdgeState) → is_up_with (edge.peering place.peer.0) ≡ true → (end_at edge place).local ≡ Idle false → CanBeTold edge.next_label content → edge.next_label == numbers_end ≡ false
-      → TellsSoundly (point_limit plan me.0) edge → TellsSoundly (point_limit plan me.0) (advertising place edge.next_label content edge)
+  advertising_sound : (place : EndPlace) (label : ℕ) (content : Told) (edge : EdgeState) → is_up_with (edge.peering place.peer.0) ≡ true → (end_at edge place).local ≡ Idle false → CanBeTold label content
+      → TellsSoundly (point_limit plan me.0) edge → TellsSoundly (point_limit plan me.0) (advertising place label content edge)
   unfolding with_end
-  advertising_sound place content edge up at can some sound =
-      sound_next_label (with_end place (advertised edge.next_label content (end_at edge place)) edge) some
-      (sound_with_end place (advertised edge.next_label content (end_at edge place)) edge (local_sound (point_limit plan me.0 place.wire.0) (is_up_with (edge.peering place.peer.0)) (end_at edge place) (advertised edge.next_label content (end_at edge place)).local up (rw at can) (sound.ends place.wire.0 place.peer.0)) sound)
+  advertising_sound place label content edge up at can sound =
+      sound_giving label (with_end place (advertised label content (end_at edge place)) edge)
+      (sound_with_end place (advertised label content (end_at edge place)) edge (local_sound (point_limit plan me.0 place.wire.0) (is_up_with (edge.peering place.peer.0)) (end_at edge place) (advertised label content (end_at edge place)).local up (rw at can) (sound.ends place.wire.0 place.peer.0)) sound)
 
   advertising_rest : (place : EndPlace) (content : Told) (label : ℕ) (edge : EdgeState) → ((advertising place label content edge).peering ≡ edge.peering) × ((advertising place label content edge).me ≡ edge.me)
-  unfolding with_end with_next_label
+  unfolding with_end with_next_label with_kept
   advertising_rest place content label edge = (refl, refl)
 
   with_end_rest : (place : EndPlace) (end : EndState) (edge : EdgeState) → ((with_end place end edge).peering ≡ edge.peering) × ((with_end place end edge).me ≡ edge.me)
@@ -179,7 +179,7 @@ module _ (plan : Plan) (service : ServiceId) (me : EdgeId) (checked : IsChecked 
   down_rest : (place : EndPlace) (down : Option Down) (edge : EdgeState)
       → ((with_told_down place.wire down edge).peering ≡ edge.peering) × ((with_told_down place.wire down edge).me ≡ edge.me) × (TellsSoundly (point_limit plan me.0) edge → TellsSoundly (point_limit plan me.0) (with_told_down place.wire down edge)) × (KeepsMesh plan service me.0 edge → KeepsMesh plan service me.0 (with_told_down place.wire down edge))
   unfolding with_told_down
-  down_rest place down edge = (refl, refl, λ sound. sound_same edge _ refl refl refl refl sound, λ mesh. record { told = mesh.told; on = mesh.on; whole = mesh.whole })
+  down_rest place down edge = (refl, refl, λ sound. sound_same edge _ refl refl refl refl refl sound, λ mesh. record { told = mesh.told; on = mesh.on; whole = mesh.whole })
 
   silent_wire : (place : EndPlace) (down : Option Down) → IsSilent (Wire place.wire down)
   silent_wire place down = record { says = λ k. refl; closed = λ k. refl; well = tt }
@@ -188,19 +188,19 @@ module _ (plan : Plan) (service : ServiceId) (me : EdgeId) (checked : IsChecked 
     abbrev At : Work → Type 0
     At work = Speaks plan service network me peer base work
 
-    row_advertises : (place : EndPlace) (content : Told) (work : Work) → IsEndOf plan me place → (end_at work.edge place).local ≡ Idle false → wish plan work.edge place ≡ Some content
-        → work.edge.next_label == numbers_end ≡ false → At work → At (says taken_all place.peer (mapping place.pw_id work.edge.next_label content) (changes (advertising place work.edge.next_label content) work)).work
-    row_advertises place content work is at wished some i =
+    row_advertises : (place : EndPlace) (label : ℕ) (content : Told) (work : Work) → IsEndOf plan me place → (end_at work.edge place).local ≡ Idle false → wish plan work.edge place ≡ Some content
+        → label_to_give work.edge ≡ Some label → At work → At (says taken_all place.peer (mapping place.pw_id label content) (changes (advertising place label content) work)).work
+    row_advertises place label content work is at wished give i =
         let told : WishesSoundly work.edge place content = wishes plan me checked types work.edge place content i.sound is wished in
-        let label : IsLabel work.edge.next_label = next_is_label work.edge i.sound some in
-        let can : CanBeTold work.edge.next_label content = sound_can 3 work.edge.next_label content label told.sound in
-        let rest = advertising_rest place content work.edge.next_label work.edge in
-        let message : IsOfWires (mapping place.pw_id work.edge.next_label content) = mapping_sound place.pw_id work.edge.next_label content (end_small plan me place checked is) label told.sound in
-        says_speaks plan service network me peer base place.peer (mapping place.pw_id work.edge.next_label content) (changes (advertising place work.edge.next_label content) work) message
-        (λ joined there id. mild_message plan service me.0 place.peer.0 (mapping place.pw_id work.edge.next_label content id) refl (λ pw_id. refl))
-        (changed_speaks plan service network me peer base (advertising place work.edge.next_label content) work rest.0 rest.1 (advertising_sound place content work.edge told.up at can some i.sound)
-        (mesh_label (work.edge.next_label + 1) _ (mesh_end work.edge place (advertised work.edge.next_label content (end_at work.edge place))
-        (is_advertised work.edge.next_label content _ (advertised_end_is (end_at work.edge place) work.edge.next_label content at)) i.mesh)) i)
+        let one : IsLabel label = next_is_label work.edge label i.sound give in
+        let can : CanBeTold label content = sound_can 3 label content one told.sound in
+        let rest = advertising_rest place content label work.edge in
+        let message : IsOfWires (mapping place.pw_id label content) = mapping_sound place.pw_id label content (end_small plan me place checked is) one told.sound in
+        says_speaks plan service network me peer base place.peer (mapping place.pw_id label content) (changes (advertising place label content) work) message
+        (λ joined there id. mild_message plan service me.0 place.peer.0 (mapping place.pw_id label content id) refl (λ pw_id. refl))
+        (changed_speaks plan service network me peer base (advertising place label content) work rest.0 rest.1 (advertising_sound place label content work.edge told.up at can i.sound)
+        (mesh_label label _ (mesh_end work.edge place (advertised label content (end_at work.edge place))
+        (is_advertised label content _ (advertised_end_is (end_at work.edge place) label content at)) i.mesh)) i)
 
     row_withdraws : (place : EndPlace) (label : ℕ) (content : Told) (work : Work) → IsEndOf plan me place → (end_at work.edge place).local ≡ Advertised label content → stands place content (wish plan work.edge place) ≡ false
         → At work → At (withdraws taken_all place label content work).work
@@ -210,7 +210,7 @@ module _ (plan : Plan) (service : ServiceId) (me : EdgeId) (checked : IsChecked 
         says_speaks plan service network me peer base place.peer (withdrawal place.pw_id label content) (changes (withdrawing place) work) (withdrawal_is place.pw_id label content (end_small plan me place checked is) can.1)
         (λ joined there id. mild_withdrawal work.edge place label content i.place i.sound i.mesh is at changed id)
         (changed_speaks plan service network me peer base (withdrawing place) work rest.0 rest.1
-        (sound_with_end place (withdrawn (end_at work.edge place)) work.edge (local_sound (point_limit plan me.0 place.wire.0) (is_up_with (work.edge.peering place.peer.0)) (end_at work.edge place) (withdrawn (end_at work.edge place)).local can.0 (rw at tt) (i.sound.ends place.wire.0 place.peer.0)) i.sound)
+        (sound_with_end place (withdrawn (end_at work.edge place)) work.edge (local_sound (point_limit plan me.0 place.wire.0) (is_up_with (work.edge.peering place.peer.0)) (end_at work.edge place) (withdrawn (end_at work.edge place)).local can.0 (rw at can.1.is_label) (i.sound.ends place.wire.0 place.peer.0)) i.sound)
         (withdrawing_mesh work.edge place label content i.place i.sound i.mesh is at changed) i)
 
     row_tells : (place : EndPlace) (label : ℕ) (content : Told) (last : PwStatus) (work : Work) → IsEndOf plan me place → (end_at work.edge place).local ≡ Advertised label content → content.status ≡ Some last
@@ -249,7 +249,7 @@ module _ (plan : Plan) (service : ServiceId) (me : EdgeId) (checked : IsChecked 
           gives_speaks plan service network me peer base (Wire place.wire down) (changes (with_told_down place.wire down) work) (silent_wire place down)
           (changed_speaks plan service network me peer base (with_told_down place.wire down) work rest.0 rest.1 (rest.2 i.sound) (rest.3 i.mesh) i);
       others = λ change work keeps peering i.
-          changed_speaks plan service network me peer base change work peering keeps.me (sound_same work.edge (change work.edge) keeps.next_label keeps.bits peering keeps.ends i.sound)
+          changed_speaks plan service network me peer base change work peering keeps.me (sound_same work.edge (change work.edge) keeps.next_label keeps.kept keeps.bits peering keeps.ends i.sound)
           (mesh_same plan service me.0 work.edge (change work.edge) keeps.ends keeps.wire_on keeps.bits i.mesh) i;
     }
 

@@ -14,7 +14,7 @@ use Rattle.net_base.specs.declared.trace.state_name.Reason.TheVariants as reason
 use Rattle.net_base.specs.declared.trace.state_name.StateName.TheVariants as name
 use Rattle.pw_signalling.specs.Down.{down}
 use Rattle.edge_model.specs.Put.{with_spoken}
-use Rattle.edge_model.specs.State.{with_addresses, with_bits, with_chosen, with_end, with_ends_beside, with_learned, with_next_label, with_peering, with_told_down, with_wire, without_ends, without_peerings}
+use Rattle.edge_model.specs.State.{with_addresses, with_bits, with_chosen, with_end, with_ends_beside, with_learned, with_next_label, with_peering, with_told_down, with_wire, without_ends, without_peerings, with_kept}
 use Rattle.edge_model.specs.Work.{changes, gives, idles, puts}
 use Rattle.network_model.specs.Delivery.{next_delivery}
 use Rattle.network_model.specs.Run.{run}
@@ -54,31 +54,31 @@ connected = (step plan (empty_network plan) (Connect a b)).state
 -- both ends stand before the active one speaks
 connects : (step plan (empty_network plan) (Connect a b)).entries
     ≡ Did (Connect a b) ∷ Session a b name.Initialized ∷ Session b a name.Initialized ∷ Said b a initialization_of_b ∷ Session b a name.OpenSent ∷ []
-unfolding changes down gives idles puts with_addresses with_chosen with_edge with_end with_ends_beside with_next_label with_peering with_pipe with_spoken with_told_down
+unfolding changes down gives idles puts with_addresses with_chosen with_edge with_end with_ends_beside with_next_label with_peering with_pipe with_spoken with_told_down with_kept
 connects = refl
 
 -- whichever edge is named first
 connects_back : (step plan (empty_network plan) (Connect b a)).entries
     ≡ Did (Connect b a) ∷ Session b a name.Initialized ∷ Said b a initialization_of_b ∷ Session b a name.OpenSent ∷ Session a b name.Initialized ∷ []
-unfolding changes down gives idles puts with_addresses with_chosen with_edge with_end with_ends_beside with_next_label with_peering with_pipe with_spoken with_told_down
+unfolding changes down gives idles puts with_addresses with_chosen with_edge with_end with_ends_beside with_next_label with_peering with_pipe with_spoken with_told_down with_kept
 connects_back = refl
 
 -- a connection that stands does not come up again, and edges that no wire joins have none
 connects_once : (step plan connected (Connect b a)).entries ≡ Did (Connect b a) ∷ Idle ∷ []
-unfolding changes down gives idles puts with_addresses with_chosen with_edge with_end with_ends_beside with_next_label with_peering with_pipe with_spoken with_told_down
+unfolding changes down gives idles puts with_addresses with_chosen with_edge with_end with_ends_beside with_next_label with_peering with_pipe with_spoken with_told_down with_kept
 connects_once = refl
 
 connects_joined : (step plan (empty_network plan) (Connect a (record { 0 = 2 }))).entries ≡ Did (Connect a (record { 0 = 2 })) ∷ Idle ∷ []
-unfolding changes down gives idles puts with_addresses with_chosen with_edge with_end with_ends_beside with_next_label with_peering with_pipe with_spoken with_told_down
+unfolding changes down gives idles puts with_addresses with_chosen with_edge with_end with_ends_beside with_next_label with_peering with_pipe with_spoken with_told_down with_kept
 connects_joined = refl
 
 -- what b put is on its way to a, and so is delivered next
 on_its_way : connected.pipes 1 0 ≡ initialization_of_b
-unfolding changes down gives idles puts with_addresses with_chosen with_edge with_end with_ends_beside with_next_label with_peering with_pipe with_spoken with_told_down
+unfolding changes down gives idles puts with_addresses with_chosen with_edge with_end with_ends_beside with_next_label with_peering with_pipe with_spoken with_told_down with_kept
 on_its_way = refl
 
 delivers_next : next_delivery plan connected ≡ Some (Deliver b a 65535)
-unfolding changes down gives idles puts with_addresses with_chosen with_edge with_end with_ends_beside with_next_label with_peering with_pipe with_spoken with_told_down
+unfolding changes down gives idles puts with_addresses with_chosen with_edge with_end with_ends_beside with_next_label with_peering with_pipe with_spoken with_told_down with_kept
 delivers_next = refl
 
 nothing_next : next_delivery plan (empty_network plan) ≡ None
@@ -86,11 +86,11 @@ nothing_next = refl
 
 -- an end that is lost empties the pipe towards it; the other end hears of it once nothing is on its way
 lost : (step plan connected (Lose a b)).entries ≡ Did (Lose a b) ∷ Session a b (name.Ended reason.Closed) ∷ []
-unfolding changes down gives idles puts with_addresses with_chosen with_edge with_end with_ends_beside with_next_label with_peering with_pipe with_spoken with_told_down
+unfolding changes down gives idles puts with_addresses with_chosen with_edge with_end with_ends_beside with_next_label with_peering with_pipe with_spoken with_told_down with_kept
 lost = refl
 
 lost_pipe : (step plan connected (Lose a b)).state.pipes 1 0 ≡ []
-unfolding changes down gives idles puts with_addresses with_chosen with_edge with_end with_ends_beside with_next_label with_peering with_pipe with_spoken with_told_down
+unfolding changes down gives idles puts with_addresses with_chosen with_edge with_end with_ends_beside with_next_label with_peering with_pipe with_spoken with_told_down with_kept
 lost_pipe = refl
 
 hears_of_it : (run plan (Connect a b ∷ Lose a b ∷ Deliver a b 1 ∷ Deliver a b 1 ∷ [])).entries
@@ -98,25 +98,25 @@ hears_of_it : (run plan (Connect a b ∷ Lose a b ∷ Deliver a b 1 ∷ Deliver 
     ∷ Did (Lose a b) ∷ Session a b (name.Ended reason.Closed)
     ∷ Did (Deliver a b 1) ∷ Session b a (name.Ended reason.Closed)
     ∷ Did (Deliver a b 1) ∷ Idle ∷ []
-unfolding changes down gives idles puts with_addresses with_chosen with_edge with_end with_ends_beside with_next_label with_peering with_pipe with_spoken with_told_down
+unfolding changes down gives idles puts with_addresses with_chosen with_edge with_end with_ends_beside with_next_label with_peering with_pipe with_spoken with_told_down with_kept
 hears_of_it = refl
 
 -- an edge that restarts tells nothing; no end of it stands, and nothing is on its way to it
 restarts : (step plan connected (Restart a)).entries ≡ Did (Restart a) ∷ []
-unfolding changes down gives idles puts with_addresses with_chosen with_edge with_end with_ends_beside with_learned with_next_label with_peering with_pipe with_spoken with_told_down without_ends without_octets_to without_peerings
+unfolding changes down gives idles puts with_addresses with_chosen with_edge with_end with_ends_beside with_learned with_next_label with_peering with_pipe with_spoken with_told_down without_ends without_octets_to without_peerings with_kept
 restarts = refl
 
 no_end_after : stands (step plan connected (Restart a)).state 0 1 ≡ false
-unfolding changes down gives idles puts with_addresses with_chosen with_edge with_end with_ends_beside with_learned with_next_label with_peering with_pipe with_spoken with_told_down without_ends without_octets_to without_peerings
+unfolding changes down gives idles puts with_addresses with_chosen with_edge with_end with_ends_beside with_learned with_next_label with_peering with_pipe with_spoken with_told_down without_ends without_octets_to without_peerings with_kept
 no_end_after = refl
 
 no_octets_after : (step plan connected (Restart a)).state.pipes 1 0 ≡ []
-unfolding changes down gives idles puts with_addresses with_chosen with_edge with_end with_ends_beside with_learned with_next_label with_peering with_pipe with_spoken with_told_down without_ends without_octets_to without_peerings
+unfolding changes down gives idles puts with_addresses with_chosen with_edge with_end with_ends_beside with_learned with_next_label with_peering with_pipe with_spoken with_told_down without_ends without_octets_to without_peerings with_kept
 no_octets_after = refl
 
 -- what the edge put itself stays on its way
 own_octets_stay : (step plan connected (Restart b)).state.pipes 1 0 ≡ initialization_of_b
-unfolding changes down gives idles puts with_addresses with_chosen with_edge with_end with_ends_beside with_learned with_next_label with_peering with_pipe with_spoken with_told_down without_ends without_octets_to without_peerings
+unfolding changes down gives idles puts with_addresses with_chosen with_edge with_end with_ends_beside with_learned with_next_label with_peering with_pipe with_spoken with_told_down without_ends without_octets_to without_peerings with_kept
 own_octets_stay = refl
 
 -- ---- a wire is put off at an edge that it passes, once

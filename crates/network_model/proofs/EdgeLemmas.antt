@@ -27,7 +27,7 @@ use Rattle.network_model.specs.declared.packet.Packet.{Packet}
 use Rattle.network_model.specs.Packet.{again_event, arrive_event, discard_event, packet_at, packet_work}
 use Rattle.network_model.specs.Ping.{ping_event, ping_work}
 use Rattle.network_model.specs.Run.{state_after}
-use Rattle.network_model.specs.State.{NetworkState, edge_at, empty_network, stands, with_edge, with_frame, with_packet, with_pipe, without_octets_to, without_packet}
+use Rattle.network_model.specs.State.{NetworkState, edge_at, empty_network, stands, with_copy, with_edge, with_frame, with_older, with_pipe, without_octets_to, without_packet}
 use Rattle.network_model.specs.Step.{step}
 use Rattle.network_model.specs.Tick.{tick_at, ticks_from}
 use Rattle.network_model.specs.Wire.{priority_event, status_event, wire_event}
@@ -128,6 +128,10 @@ module _ (plan : Plan) (P : ℕ → EdgeState → Type 0) (R : Work → Work →
       let work : Work = tick_input plan taken_all (begin_at network me) in
       ticks_hold (place + 1) count (tick_at plan me network).state (absorb_holds me 0 0 work network holds (worked me work network holds (tick_holds plan taken_all R steps (begin_at network me))))
 
+  older_holds : (network : NetworkState) → HoldsOfEach P network → HoldsOfEach P (with_older network)
+  unfolding with_older
+  older_holds network holds = holds
+
   entered_holds : (network : NetworkState) → HoldsOfEach P network → HoldsOfEach P (with_frame network)
   unfolding with_frame
   entered_holds network holds = holds
@@ -181,7 +185,7 @@ module _ (plan : Plan) (P : ℕ → EdgeState → Type 0) (R : Work → Work →
   discard_holds (Some packet) network holds = without_holds packet.number network holds
 
   again_holds : (found : Option Packet) (network : NetworkState) → HoldsOfEach P network → HoldsOfEach P (again_event found network).state
-  unfolding with_packet
+  unfolding with_copy
   again_holds None network holds = holds
   again_holds (Some packet) network holds = holds
 
@@ -197,7 +201,7 @@ module _ (plan : Plan) (P : ℕ → EdgeState → Type 0) (R : Work → Work →
   event_holds (Deliver from to count) network holds = deliver_holds from to count network holds
   event_holds (Lose me peer) network holds = lose_holds me peer network holds
   event_holds (Restart me) network holds = restart_holds me network holds
-  event_holds Tick network holds = ticks_hold 0 (length plan.edges) network holds
+  event_holds Tick network holds = ticks_hold 0 (length plan.edges) (with_older network) (older_holds network holds)
   event_holds (Frame circuit octets) network holds = frame_keeps circuit octets (circuit_row plan circuit) network holds
   event_holds (Circuit circuit on) network holds = circuit_keeps circuit on (circuit_row plan circuit) network holds
   event_holds (Wire me wire on) network holds = wire_keeps me wire on network holds

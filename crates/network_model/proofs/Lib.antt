@@ -1,4 +1,5 @@
 pub mod AbsorbLemmas
+pub mod AgeLemmas
 pub mod CalmLemmas
 mod ConnectionExamples
 pub mod EdgeLemmas

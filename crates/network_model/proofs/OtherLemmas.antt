@@ -1,6 +1,6 @@
 -- Steps in which a frame does not enter, and in which no copy of it arrives: they tell nothing of it, and leave its copies under
 -- way.
-use Rattle.std.proofs.Common.{◌≡◌, ◌<◌, ◌≤◌, ◌+◌, ◌++◌, ◌&&◌, ◌∙◌, ℕ, Bool, true, false, List, [], ◌∷◌, Option, Some, None, cond, refl, ap, nat_eq, arith}
+use Rattle.std.proofs.Common.{◌≡◌, ◌<◌, ◌≤◌, ◌+◌, ◌++◌, ◌&&◌, ◌∙◌, ℕ, Bool, true, false, List, [], ◌∷◌, Option, Some, None, cond, refl, ap, sym, nat_eq, length, arith}
 use Rattle.std.proofs.lemmas.Bool.{eq-eqb, ne_eqb}
 use Rattle.std.proofs.lemmas.Bool.Decides.{nat_tests}
 use Rattle.std.specs.List.{find}
@@ -12,7 +12,7 @@ use Rattle.net_base.specs.declared.plan.places.WireId.{WireId}
 use Rattle.net_base.specs.declared.trace.entry.Entry.{Entry}
 use Rattle.net_base.specs.declared.trace.entry.Entry.TheVariants.{Left, Sent}
 use Rattle.net_base.specs.declared.trace.event.Event.{Event}
-use Rattle.net_base.specs.declared.trace.event.Event.TheVariants.{Frame, Arrive, Discard, Again, Ping}
+use Rattle.net_base.specs.declared.trace.event.Event.TheVariants.{Tick, Frame, Arrive, Discard, Again, Ping}
 use Rattle.net_base.specs.plan.Places.{circuit_row}
 use Rattle.edge_model.specs.Work.{Work}
 use Rattle.network_model.specs.declared.packet.Packet.{Packet}
@@ -22,11 +22,12 @@ use Rattle.network_model.specs.OnceEach.{LeftWithin, times_left}
 use Rattle.network_model.specs.Packet.{again_event, arrive_event, discard_event, packet_at, packet_work}
 use Rattle.network_model.specs.Ping.{ping_event, ping_work}
 use Rattle.network_model.specs.Run.{entries_along, state_after}
-use Rattle.network_model.specs.State.{NetworkState, with_edge, with_frame, with_packet, without_number, without_packet}
+use Rattle.network_model.specs.State.{NetworkState, all_older, lives_on, older, with_copy, with_edge, with_frame, with_older, without_number, without_packet}
 use Rattle.network_model.specs.Step.{step}
+use Rattle.network_model.specs.Tick.{tick_event}
 use Rattle.network_model.proofs.AbsorbLemmas.{all_keep, all_leave, of_origin, of_origin-other, others_tell, own_within, times_left-append}
 use Rattle.network_model.proofs.PacketListLemmas.{packet_number}
-use Rattle.network_model.proofs.QuietLemmas.{IsSignalStep, NoneGoesOut, step_signals}
+use Rattle.network_model.proofs.QuietLemmas.{IsSignalStep, NoneGoesOut, step_signals, tick_tells, ticks_quiet}
 
 -- ---- numbers
 
@@ -155,7 +156,7 @@ discard_apart origin circuit number network None is apart = idle_apart origin ci
 discard_apart origin circuit number network (Some packet) is apart = record { left = refl; under_way = goes_by origin number network packet is apart }
 
 again_apart : (origin : ℕ) (circuit : CircuitId) (network : NetworkState) (found : Option Packet) → is_of origin found ≡ false → IsApart origin circuit network (again_event found network)
-unfolding with_packet
+unfolding with_copy
 again_apart origin circuit network None apart = idle_apart origin circuit network
 again_apart origin circuit network (Some packet) apart = record { left = refl; under_way = of_origin-other origin _ network.under_way apart }
 
@@ -167,13 +168,46 @@ ping_apart plan origin circuit me wire network some = by (ping_work plan network
   by true = idle_apart origin circuit network
   by false = absorb_apart origin circuit me 0 0 (ping_work plan network me wire) network some
 
+-- ---- a tick
+
+-- where no copy of the frame is under way, none is once the others are older
+none_older : (origin : ℕ) (packets : List Packet) → of_origin origin packets ≡ [] → of_origin origin (all_older packets) ≡ []
+none_older origin [] none = refl
+none_older origin (p ∷ ps) none = by (nat_eq p.origin origin) (lives_on p) refl none (λ rest. none_older origin ps rest) where
+  by : (same lives : Bool) → nat_eq p.origin origin ≡ same → cond same (p ∷ of_origin origin ps) (of_origin origin ps) ≡ [] → (of_origin origin ps ≡ [] → of_origin origin (all_older ps) ≡ [])
+      → of_origin origin (cond lives (older p ∷ all_older ps) (all_older ps)) ≡ []
+  by true lives same none rest = absurd (cc (none))
+  by false true same none rest = rw same (rest none)
+  by false false same none rest = rest none
+
+-- some packet is in a list
+abbrev pub is_any : List Packet → Bool
+is_any [] = false
+is_any (p ∷ ps) = true
+
+none_any : (packets : List Packet) → is_any packets ≡ false → packets ≡ []
+none_any [] none = refl
+none_any (p ∷ ps) none = absurd (cc (none))
+
+tick_apart : (plan : Plan) (origin : ℕ) (circuit : CircuitId) (network : NetworkState) → is_any (of_origin origin network.under_way) ≡ false → IsApart origin circuit network (step plan network Tick)
+unfolding with_older
+tick_apart plan origin circuit network none =
+    let gone = none_any (of_origin origin network.under_way) none in
+    record {
+      left = none_left origin circuit (tick_event plan network).entries (tick_tells plan network);
+      under_way =
+          ap (of_origin origin) (ticks_quiet plan 0 (length plan.edges) (with_older network)).under_way
+          ∙ (none_older origin network.under_way gone ∙ sym gone);
+    }
+
 -- ---- one event
 
--- a packet that carries a copy of the frame arrives, is lost or is repeated
+-- a packet that carries a copy of the frame arrives, is lost, is repeated or gets older
 abbrev pub moves_copy : NetworkState → ℕ → Event → Bool
 moves_copy network origin (Arrive number) = is_of origin (packet_at network number)
 moves_copy network origin (Discard number) = is_of origin (packet_at network number)
 moves_copy network origin (Again number) = is_of origin (packet_at network number)
+moves_copy network origin Tick = is_any (of_origin origin network.under_way)
 moves_copy network origin event = false
 
 pub step_apart : (plan : Plan) (origin : ℕ) (circuit : CircuitId) (network : NetworkState) (event : Event) → nat_eq 0 origin ≡ false
@@ -193,6 +227,7 @@ step_apart plan origin circuit network (Again number) some other apart =
 step_apart plan origin circuit network (Ping me wire) some other apart =
     let same = ping_apart plan origin circuit me wire network some in
     record { left = same.left; under_way = same.under_way }
+step_apart plan origin circuit network Tick some other apart = tick_apart plan origin circuit network other
 step_apart plan origin circuit network event some other apart = signals_apart origin circuit network (step plan network event) (step_signals plan network event refl)
 
 -- where no copy of the frame is under way, none is moved
@@ -200,6 +235,7 @@ none_moved : (network : NetworkState) (origin : ℕ) (event : Event) → of_orig
 none_moved network origin (Arrive number) none = none_is_of origin (λ packet. nat_eq packet.number number) network.under_way none
 none_moved network origin (Discard number) none = none_is_of origin (λ packet. nat_eq packet.number number) network.under_way none
 none_moved network origin (Again number) none = none_is_of origin (λ packet. nat_eq packet.number number) network.under_way none
+none_moved network origin Tick none = ap is_any none
 none_moved network origin event none = refl
 
 -- ---- the count of frames never falls
@@ -226,7 +262,7 @@ discard_counts None network = refl
 discard_counts (Some packet) network = refl
 
 again_counts : (found : Option Packet) (network : NetworkState) → (again_event found network).state.entered ≡ network.entered
-unfolding with_packet
+unfolding with_copy
 again_counts None network = refl
 again_counts (Some packet) network = refl
 
@@ -236,12 +272,17 @@ ping_counts plan me wire network = by (ping_work plan network me wire).idle wher
   by true = refl
   by false = absorb_counts me 0 0 (ping_work plan network me wire) network
 
+tick_counts : (plan : Plan) (network : NetworkState) → (tick_event plan network).state.entered ≡ network.entered
+unfolding with_older
+tick_counts plan network = (ticks_quiet plan 0 (length plan.edges) (with_older network)).entered
+
 pub step_counts : (plan : Plan) (network : NetworkState) (event : Event) → network.entered ≤ (step plan network event).state.entered
 step_counts plan network (Frame at octets) = frame_counts plan at octets (circuit_row plan at) network
 step_counts plan network (Arrive number) = omega (arith, arrive_counts plan (packet_at network number) network)
 step_counts plan network (Discard number) = omega (arith, discard_counts (packet_at network number) network)
 step_counts plan network (Again number) = omega (arith, again_counts (packet_at network number) network)
 step_counts plan network (Ping me wire) = omega (arith, ping_counts plan me wire network)
+step_counts plan network Tick = omega (arith, tick_counts plan network)
 step_counts plan network event = omega (arith, (step_signals plan network event refl).quiet.entered)
 
 pub counts_rise : (plan : Plan) (network : NetworkState) (events : List Event) → network.entered ≤ (state_after plan network events).entered

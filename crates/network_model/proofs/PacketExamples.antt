@@ -1,5 +1,5 @@
 -- Packets under way at work on a network of two edges that a wire joins. Each equation below is found by evaluation alone.
-use Rattle.std.proofs.Common.{◌≡◌, ℕ, true, false, [], ◌∷◌, Some, None, refl}
+use Rattle.std.proofs.Common.{◌≡◌, ℕ, zero, suc, List, true, false, [], ◌∷◌, Some, None, refl}
 use Rattle.std.specs.Prelude.{codes}
 use Rattle.net_base.specs.declared.plan.Plan.{Plan}
 use Rattle.net_base.specs.declared.plan.edge_plan.EdgePlan.{EdgePlan}
@@ -8,13 +8,16 @@ use Rattle.net_base.specs.declared.plan.places.EdgeId.{EdgeId}
 use Rattle.net_base.specs.declared.plan.wire_plan.WirePlan.{WirePlan}
 use Rattle.net_base.specs.declared.plan.wire_plan.Class.TheVariants.{Mesh}
 use Rattle.net_base.specs.declared.trace.drop_cause.DropCause.TheVariants.{NoLabel}
-use Rattle.net_base.specs.declared.trace.entry.Entry.TheVariants.{Copied, Did, Dropped, Idle}
-use Rattle.net_base.specs.declared.trace.event.Event.TheVariants.{Again, Arrive, Discard}
-use Rattle.edge_model.specs.Work.{gives}
+use Rattle.net_base.specs.declared.trace.entry.Entry.TheVariants.{Aged, Copied, Did, Dropped, Idle}
+use Rattle.net_base.specs.declared.trace.event.Event.{Event}
+use Rattle.net_base.specs.declared.trace.event.Event.TheVariants.{Again, Arrive, Discard, Tick}
+use Rattle.pw_signalling.specs.Down.{down}
+use Rattle.edge_model.specs.State.{with_addresses, with_chosen, with_ends_beside, with_kept, with_learned, with_ticks}
+use Rattle.edge_model.specs.Work.{changes, gives}
 use Rattle.network_model.specs.declared.packet.Packet.{Packet}
 use Rattle.network_model.specs.Packet.{next_arrival}
-use Rattle.network_model.specs.Run.{entries_along}
-use Rattle.network_model.specs.State.{NetworkState, empty_network, with_edge, with_packet, without_packet}
+use Rattle.network_model.specs.Run.{entries_along, state_after}
+use Rattle.network_model.specs.State.{NetworkState, empty_network, with_copy, with_edge, with_older, without_packet}
 use Rattle.network_model.specs.Step.{step}
 
 abbrev an_edge : ℕ → EdgePlan
@@ -39,7 +42,7 @@ edge place = record { 0 = place }
 
 -- a packet from the first edge to the second one, under a label that the second one has not given
 abbrev a_packet : ℕ → ℕ → Packet
-a_packet number origin = record { number = number; wire = record { 0 = 0 }; from = edge 0; to = edge 1; origin = origin; hops = 1; bytes = 0 ∷ 1 ∷ 1 ∷ 255 ∷ 0 ∷ [] }
+a_packet number origin = record { number = number; wire = record { 0 = 0 }; from = edge 0; to = edge 1; origin = origin; hops = 1; age = 0; bytes = 0 ∷ 1 ∷ 1 ∷ 255 ∷ 0 ∷ [] }
 
 -- two frames have entered, and a packet of each is under way
 abbrev network : NetworkState
@@ -73,15 +76,47 @@ is_lost = refl
 
 -- a copy has the next number, and is told with the number of the packet that it repeats
 repeats : (step plan network (Again 5)).entries ≡ Did (Again 5) ∷ Copied 6 5 ∷ []
-unfolding with_packet
+unfolding with_copy
 repeats = refl
 
 -- it carries the same frame to the same edge, and both are under way
 repeated : (step plan network (Again 5)).state.under_way ≡ a_packet 3 1 ∷ a_packet 5 2 ∷ a_packet 6 2 ∷ []
-unfolding with_packet
+unfolding with_copy
 repeated = refl
 
 -- each of them arrives
 both_arrive : entries_along plan network (Again 5 ∷ Arrive 6 ∷ Arrive 5 ∷ []) ≡ Did (Again 5) ∷ Copied 6 5 ∷ Did (Arrive 6) ∷ Dropped (edge 1) 2 NoLabel ∷ Did (Arrive 5) ∷ Dropped (edge 1) 2 NoLabel ∷ []
-unfolding gives with_edge with_packet without_packet
+unfolding gives with_edge with_copy without_packet
 both_arrive = refl
+
+-- ---- ticks
+
+-- a packet of an age
+abbrev aged_packet : ℕ → ℕ → Packet
+aged_packet number age = record (a_packet number 1) { age = age }
+
+abbrev ticks : ℕ → List Event
+ticks zero = []
+ticks (suc n) = Tick ∷ ticks n
+
+-- a tick makes each packet under way older
+gets_older : (step plan network Tick).state.under_way ≡ record (a_packet 3 1) { age = 1 } ∷ record (a_packet 5 2) { age = 1 } ∷ []
+unfolding changes down gives with_addresses with_chosen with_edge with_ends_beside with_kept with_learned with_older with_ticks
+gets_older = refl
+
+-- a copy is as old as the packet that it repeats
+copies_age : (state_after plan network (Tick ∷ Again 5 ∷ Tick ∷ [])).under_way ≡ record (a_packet 3 1) { age = 2 } ∷ record (a_packet 5 2) { age = 2 } ∷ record (a_packet 6 2) { age = 2 } ∷ []
+unfolding changes down gives with_addresses with_chosen with_copy with_edge with_ends_beside with_kept with_learned with_older with_ticks
+copies_age = refl
+
+-- with the 64th tick it is under way no more, and this is told before the edges tick
+abbrev old_network : NetworkState
+old_network = record network { under_way = aged_packet 3 62 ∷ aged_packet 4 63 ∷ aged_packet 5 63 ∷ [] }
+
+goes_in_age : entries_along plan old_network (Tick ∷ Arrive 4 ∷ Arrive 3 ∷ []) ≡ Did Tick ∷ Aged 4 ∷ Aged 5 ∷ Did (Arrive 4) ∷ Idle ∷ Did (Arrive 3) ∷ Dropped (edge 1) 1 NoLabel ∷ []
+unfolding changes down gives with_addresses with_chosen with_edge with_ends_beside with_kept with_learned with_older with_ticks without_packet
+goes_in_age = refl
+
+lives_63_ticks : (state_after plan network (ticks 63)).under_way ≡ record (a_packet 3 1) { age = 63 } ∷ record (a_packet 5 2) { age = 63 } ∷ []
+unfolding changes down gives with_addresses with_chosen with_edge with_ends_beside with_kept with_learned with_older with_ticks
+lives_63_ticks = refl

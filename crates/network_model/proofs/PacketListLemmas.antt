@@ -11,7 +11,7 @@ use Rattle.net_base.specs.declared.plan.places.EdgeId.{EdgeId}
 use Rattle.net_base.specs.declared.plan.places.WireId.{WireId}
 use Rattle.net_base.specs.declared.trace.arrival.Arrival.{Arrival}
 use Rattle.net_base.specs.declared.trace.event.Event.{Event}
-use Rattle.net_base.specs.declared.trace.event.Event.TheVariants.{Frame, Arrive, Discard, Again, Ping}
+use Rattle.net_base.specs.declared.trace.event.Event.TheVariants.{Tick, Frame, Arrive, Discard, Again, Ping}
 use Rattle.net_base.specs.plan.Places.{circuit_row}
 use Rattle.edge_model.specs.declared.effect.Effect.{Effect}
 use Rattle.edge_model.specs.declared.effect.Effect.TheVariants as effect
@@ -23,9 +23,9 @@ use Rattle.network_model.specs.Frame.{entering, frame_event, frame_work, next_or
 use Rattle.network_model.specs.Packet.{again_event, arrive_event, arriving, discard_event, packet_at, packet_work, repeating}
 use Rattle.network_model.specs.Ping.{ping_event, ping_work}
 use Rattle.network_model.specs.Run.{state_after}
-use Rattle.network_model.specs.State.{NetworkState, empty_network, stands, with_edge, with_frame, with_packet, with_pipe, without_number, without_packet}
+use Rattle.network_model.specs.State.{NetworkState, all_older, empty_network, lives_on, older, stands, with_copy, with_edge, with_frame, with_older, with_packet, with_pipe, without_number, without_packet}
 use Rattle.network_model.specs.Step.{step}
-use Rattle.network_model.proofs.QuietLemmas.{IsQuiet, step_signals}
+use Rattle.network_model.proofs.QuietLemmas.{IsQuiet, step_signals, ticks_quiet}
 
 -- ---- what holds of each packet of a list
 
@@ -64,7 +64,7 @@ both_hold P Q (p ∷ ps) all too = ((all.0, too.0), both_hold P Q ps all.1 too.1
 
 -- a packet of an edge
 abbrev pub packet_from : EdgeId → ℕ → ℕ → ℕ → EdgeId → WireId → List ℕ → Packet
-packet_from me origin hops sent peer wire octets = record { number = sent + 1; wire = wire; from = me; to = peer; origin = origin; hops = hops + 1; bytes = octets }
+packet_from me origin hops sent peer wire octets = record { number = sent + 1; wire = wire; from = me; to = peer; origin = origin; hops = hops + 1; age = 0; bytes = octets }
 
 -- those of its effects, where so many were sent before
 abbrev pub packets_of : EdgeId → ℕ → ℕ → ℕ → List Effect → List Packet
@@ -94,7 +94,7 @@ pipe_sends from to octets network true = record { under_way = sym (append-nil ne
 pipe_sends from to octets network false = sent_none network
 
 pub packet_sends : (wire : WireId) (from to : EdgeId) (origin hops : ℕ) (octets : List ℕ) (network : NetworkState)
-    → HasSent network (record { number = network.sent + 1; wire = wire; from = from; to = to; origin = origin; hops = hops; bytes = octets } ∷ []) (with_packet wire from to origin hops octets network)
+    → HasSent network (record { number = network.sent + 1; wire = wire; from = from; to = to; origin = origin; hops = hops; age = 0; bytes = octets } ∷ []) (with_packet wire from to origin hops octets network)
 unfolding with_packet
 packet_sends wire from to origin hops octets network = record { under_way = refl; sent = refl; entered = refl }
 
@@ -152,7 +152,8 @@ abbrev pub copy_of : ℕ → Packet → Packet
 copy_of sent packet = record packet { number = sent + 1 }
 
 pub repeating_sends : (packet : Packet) (network : NetworkState) → HasSent network (copy_of network.sent packet ∷ []) (repeating packet network).state
-repeating_sends packet network = packet_sends packet.wire packet.from packet.to packet.origin packet.hops packet.bytes network
+unfolding with_copy
+repeating_sends packet network = record { under_way = refl; sent = refl; entered = refl }
 
 -- ---- the numbers of packets under way rise
 
@@ -323,12 +324,38 @@ ping_numbered plan me wire network numbered = by (ping_work plan network me wire
   by true = numbered
   by false = absorb_numbered me 0 0 (ping_work plan network me wire) network (omega arith) numbered
 
+-- a tick keeps the numbers of those that stay
+older_rise : (least : ℕ) (packets : List Packet) → NumbersRise least packets → NumbersRise least (all_older packets)
+older_rise least [] rise = tt
+older_rise least (p ∷ ps) rise = by (lives_on p) (older_rise p.number ps rise.1) where
+  by : (b : Bool) → NumbersRise p.number (all_older ps) → NumbersRise least (cond b (older p ∷ all_older ps) (all_older ps))
+  by true rest = (rise.0, rest)
+  by false rest =
+      let first : least < p.number = rise.0 in
+      rise_from p.number least (all_older ps) (omega (arith, first)) rest
+
+-- what holds of each packet whatever its age is holds of those that a tick leaves
+pub older_hold : (P : Packet → Type 0) (packets : List Packet) → ((packet : Packet) → P packet → P (older packet)) → AllByRecursion P packets → AllByRecursion P (all_older packets)
+older_hold P [] ages all = tt
+older_hold P (p ∷ ps) ages all = by (lives_on p) (older_hold P ps ages all.1) where
+  by : (b : Bool) → AllByRecursion P (all_older ps) → AllByRecursion P (cond b (older p ∷ all_older ps) (all_older ps))
+  by true rest = (ages p all.0, rest)
+  by false rest = rest
+
+pub older_numbered : (network : NetworkState) → AreNumbered network → AreNumbered (with_older network)
+unfolding with_older
+older_numbered network numbered = record {
+  rise = older_rise 0 network.under_way numbered.rise;
+  counted = older_hold (IsCounted network.sent network.entered) network.under_way (λ packet is. record { number = is.number; origin = is.origin }) numbered.counted;
+}
+
 pub step_numbered : (plan : Plan) (network : NetworkState) (event : Event) → AreNumbered network → AreNumbered (step plan network event).state
 step_numbered plan network (Frame circuit octets) numbered = frame_numbered plan network circuit octets (circuit_row plan circuit) numbered
 step_numbered plan network (Arrive number) numbered = arrive_numbered plan network number (packet_at network number) refl numbered
 step_numbered plan network (Discard number) numbered = discard_numbered network (packet_at network number) numbered
 step_numbered plan network (Again number) numbered = again_numbered network number (packet_at network number) refl numbered
 step_numbered plan network (Ping me wire) numbered = ping_numbered plan me wire network numbered
+step_numbered plan network Tick numbered = quiet_numbered (with_older network) (step plan network Tick).state (older_numbered network numbered) (ticks_quiet plan 0 (length plan.edges) (with_older network))
 step_numbered plan network event numbered = quiet_numbered network (step plan network event).state numbered (step_signals plan network event refl).quiet
 
 pub after_numbered : (plan : Plan) (network : NetworkState) (events : List Event) → AreNumbered network → AreNumbered (state_after plan network events)

@@ -27,7 +27,7 @@ use Rattle.network_model.specs.declared.packet.Packet.{Packet}
 use Rattle.network_model.specs.Packet.{again_event, arrive_event, discard_event, packet_at, packet_work}
 use Rattle.network_model.specs.Ping.{ping_event, ping_work}
 use Rattle.network_model.specs.Run.{state_after}
-use Rattle.network_model.specs.State.{NetworkState, edge_at, empty_network, stands, with_edge, with_frame, with_packet, with_pipe, without_octets_to, without_packet}
+use Rattle.network_model.specs.State.{NetworkState, edge_at, empty_network, stands, with_copy, with_edge, with_frame, with_older, with_pipe, without_octets_to, without_packet}
 use Rattle.network_model.specs.Step.{step}
 use Rattle.network_model.specs.Tick.{tick_at, ticks_from}
 use Rattle.network_model.specs.Wire.{priority_event, status_event, wire_event}
@@ -92,6 +92,10 @@ status_placed plan me wire bits network placed =
 priority_placed : (plan : Plan) (me : EdgeId) (wire : WireId) (priority : ℕ) (network : NetworkState) → IsPlaced network → IsPlaced (priority_event plan me wire priority network).state
 priority_placed plan me wire priority network placed =
     answer_placed me 0 0 (priority_input plan taken_all wire priority (begin_at network me)) network placed (priority_signals plan taken_all wire priority (begin_at network me)).me
+
+older_placed : (network : NetworkState) → IsPlaced network → IsPlaced (with_older network)
+unfolding with_older
+older_placed network placed = record { me = placed.me }
 
 ticks_placed : (plan : Plan) (place count : ℕ) (network : NetworkState) → IsPlaced network → IsPlaced (ticks_from plan place count network).state
 ticks_placed plan place zero network placed = placed
@@ -173,7 +177,7 @@ discard_placed None network placed = placed
 discard_placed (Some packet) network placed = without_placed packet.number network placed
 
 again_placed : (found : Option Packet) (network : NetworkState) → IsPlaced network → IsPlaced (again_event found network).state
-unfolding with_packet
+unfolding with_copy
 again_placed None network placed = placed
 again_placed (Some packet) network placed = record { me = placed.me }
 
@@ -186,7 +190,7 @@ step_placed plan network (Connect from to) placed = connect_placed plan from to 
 step_placed plan network (Deliver from to count) placed = deliver_placed plan from to count network placed
 step_placed plan network (Lose me peer) placed = lose_placed plan me peer network placed
 step_placed plan network (Restart me) placed = restart_placed me network placed
-step_placed plan network Tick placed = ticks_placed plan 0 (length plan.edges) network placed
+step_placed plan network Tick placed = ticks_placed plan 0 (length plan.edges) (with_older network) (older_placed network placed)
 step_placed plan network (Frame circuit octets) placed = frame_placed plan network circuit octets (circuit_row plan circuit) placed
 step_placed plan network (Circuit circuit on) placed = circuit_placed plan network circuit on (circuit_row plan circuit) placed
 step_placed plan network (Wire me wire on) placed = wire_placed plan me wire on network placed

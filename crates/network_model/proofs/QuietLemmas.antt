@@ -1,5 +1,5 @@
--- Events that tell of no frame: connections come and go, octets are delivered, edges restart, ticks pass, circuits and wires go
--- on and off, and failures of wires are set.
+-- Events that tell of no frame: connections come and go, octets are delivered, edges restart, circuits and wires go on and
+-- off, and failures of wires are set. A tick tells of none either, and makes the packets under way older.
 use Rattle.std.proofs.Common.{◌≡◌, ◌+◌, ◌++◌, ◌∙◌, ℕ, zero, suc, Bool, true, false, List, [], ◌∷◌, Option, Some, None, cond, refl, length, take, drop}
 use Rattle.net_base.specs.declared.plan.Plan.{Plan}
 use Rattle.net_base.specs.declared.plan.circuit_plan.CircuitPlan.{CircuitPlan}
@@ -22,10 +22,13 @@ use Rattle.edge_model.specs.Work.{Work, changes}
 use Rattle.edge_model.proofs.LocalLemmas.{and_left, and_right}
 use Rattle.edge_model.proofs.SessionLemmas.{are_all, own_effects}
 use Rattle.edge_model.proofs.SignalLemmas.{circuit_signals, connected_signals, is_of_signalling, lost_signals, octets_signal, priority_signals, status_signals, tick_works, wire_signals}
+use Rattle.network_model.specs.declared.packet.Packet.{Packet}
+use Rattle.network_model.specs.Age.{aged_entries}
+use Rattle.net_base.specs.declared.trace.entry.Entry.TheVariants.{Aged}
 use Rattle.network_model.specs.Absorb.{Stepped, absorb, absorb_all, absorb_one, all_entries_of, answer, begin_at, idle, taken_all}
 use Rattle.network_model.specs.Circuit.{circuit_event}
 use Rattle.network_model.specs.Connection.{can_connect, connect_event, connected_work, connecting, deliver_event, delivering, given_out, hearing_work, is_deliverable, is_drained_pipe, lose_event, losing, losing_work, restart_event}
-use Rattle.network_model.specs.State.{NetworkState, edge_at, stands, with_edge, with_pipe, without_octets_to}
+use Rattle.network_model.specs.State.{NetworkState, edge_at, lives_on, stands, with_edge, with_older, with_pipe, without_octets_to}
 use Rattle.network_model.specs.Step.{step}
 use Rattle.network_model.specs.Tick.{tick_at, tick_event, ticks_from}
 use Rattle.network_model.specs.Wire.{priority_event, status_event, wire_event}
@@ -186,8 +189,17 @@ ticks_tell plan place (suc count) network =
     none-append first.entries (ticks_from plan (place + 1) count first.state).entries (signals_tell me 0 0 work.effects (with_edge me work.edge network) (ticking_own plan network me))
     (ticks_tell plan (place + 1) count first.state)
 
+aged_tell : (packets : List Packet) → NoneGoesOut (aged_entries packets)
+aged_tell [] = tt
+aged_tell (p ∷ ps) = by (lives_on p) (aged_tell ps) where
+  by : (b : Bool) → NoneGoesOut (aged_entries ps) → NoneGoesOut (cond b (aged_entries ps) (Aged p.number ∷ aged_entries ps))
+  by true rest = rest
+  by false rest = rest
+
 pub tick_tells : (plan : Plan) (network : NetworkState) → NoneGoesOut (tick_event plan network).entries
-tick_tells plan network = ticks_tell plan 0 (length plan.edges) network
+tick_tells plan network =
+    none-append (aged_entries network.under_way) (ticks_from plan 0 (length plan.edges) (with_older network)).entries (aged_tell network.under_way)
+    (ticks_tell plan 0 (length plan.edges) (with_older network))
 
 -- ---- and leave the packets under way, and the counts, as they are
 
@@ -263,7 +275,7 @@ restart_quiet me network =
     quiet_then network (without_octets_to me network) (restart_event me network).state (emptied_quiet me network)
     (absorb_quiet me work (without_octets_to me network) (restarting_own network me))
 
-ticks_quiet : (plan : Plan) (place count : ℕ) (network : NetworkState) → IsQuiet network (ticks_from plan place count network).state
+pub ticks_quiet : (plan : Plan) (place count : ℕ) (network : NetworkState) → IsQuiet network (ticks_from plan place count network).state
 ticks_quiet plan place zero network = record { under_way = refl; sent = refl; entered = refl }
 ticks_quiet plan place (suc count) network =
     let me : EdgeId = record { 0 = place } in
@@ -276,9 +288,10 @@ circuit_quiet plan network circuit on None = record { under_way = refl; sent = r
 circuit_quiet plan network circuit on (Some row) =
     answer_quiet row.edge (circuit_input plan taken_all circuit on (Some row) (begin_at network row.edge)) network (circuit_own plan network circuit on row)
 
--- ---- every event but five: frames enter, packets arrive, are lost or are repeated, and edges ping
+-- ---- every event but six: ticks pass, frames enter, packets arrive, are lost or are repeated, and edges ping
 
 abbrev pub moves_packets : Event → Bool
+moves_packets Tick = true
 moves_packets (Frame circuit octets) = true
 moves_packets (Arrive number) = true
 moves_packets (Discard number) = true
@@ -295,7 +308,7 @@ step_signals plan network (Connect from to) other = record { tells = connect_tel
 step_signals plan network (Deliver from to count) other = record { tells = deliver_tells plan from to count network; quiet = deliver_quiet plan from to count network }
 step_signals plan network (Lose me peer) other = record { tells = lose_tells plan me peer network; quiet = lose_quiet plan me peer network }
 step_signals plan network (Restart me) other = record { tells = restart_tells me network; quiet = restart_quiet me network }
-step_signals plan network Tick other = record { tells = tick_tells plan network; quiet = ticks_quiet plan 0 (length plan.edges) network }
+step_signals plan network Tick other = absurd (cc (other))
 step_signals plan network (Circuit circuit on) other = record {
   tells = circuit_tells plan network circuit on (circuit_row plan circuit);
   quiet = circuit_quiet plan network circuit on (circuit_row plan circuit);

@@ -9,7 +9,7 @@ use Rattle.net_base.specs.declared.trace.arrival.Arrival.{Arrival}
 use Rattle.net_base.specs.declared.trace.entry.Entry.{Entry}
 use Rattle.net_base.specs.declared.trace.entry.Entry.TheVariants.{Left, Sent}
 use Rattle.net_base.specs.declared.trace.event.Event.{Event}
-use Rattle.net_base.specs.declared.trace.event.Event.TheVariants.{Frame, Arrive, Discard, Again, Ping}
+use Rattle.net_base.specs.declared.trace.event.Event.TheVariants.{Tick, Frame, Arrive, Discard, Again, Ping}
 use Rattle.net_base.specs.plan.Places.{circuit_row, is_mesh_class, is_mesh_row, is_mesh_wire}
 use Rattle.net_base.specs.plan.Paths.{mate_on}
 use Rattle.net_base.specs.trace.Split.{Split, SplitSent, is_before_last, is_inside, is_inside_row, is_switching_point}
@@ -30,8 +30,9 @@ use Rattle.network_model.specs.Ping.{ping_event, ping_work}
 use Rattle.network_model.specs.Run.{entries_along}
 use Rattle.network_model.specs.State.{NetworkState, edge_at, empty_network}
 use Rattle.network_model.specs.Step.{step}
+use Rattle.network_model.specs.Tick.{tick_event}
 use Rattle.network_model.proofs.PlaceLemmas.{IsPlaced, step_placed}
-use Rattle.network_model.proofs.QuietLemmas.{NoneGoesOut, step_signals}
+use Rattle.network_model.proofs.QuietLemmas.{NoneGoesOut, step_signals, tick_tells}
 
 -- what an edge sends on an input came by a circuit, or by another wire that is not a mesh wire as it is
 abbrev AllSplit : Plan → EdgeId → List Effect → Type 0
@@ -147,6 +148,7 @@ step_split plan network (Arrive number) placed = (tt, arrive_split plan network 
 step_split plan network (Discard number) placed = (tt, discard_split plan network (packet_at network number))
 step_split plan network (Again number) placed = (tt, again_split plan network (packet_at network number))
 step_split plan network (Ping me wire) placed = (tt, ping_split plan me wire network)
+step_split plan network Tick placed = (tt, none_split plan (tick_event plan network).entries (tick_tells plan network))
 step_split plan network event placed = none_split plan (step plan network event).entries (step_signals plan network event refl).tells
 
 pub along_split : (plan : Plan) (network : NetworkState) (events : List Event) → IsPlaced network → Split plan (entries_along plan network events)

@@ -1,4 +1,5 @@
 pub mod Absorb
+pub mod Age
 pub mod Calm
 pub mod Circuit
 pub mod Connection

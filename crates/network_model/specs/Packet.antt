@@ -9,7 +9,7 @@ use Rattle.edge_model.specs.Packet.{packet_input}
 use Rattle.edge_model.specs.Work.{Work}
 use Rattle.network_model.specs.declared.packet.Packet.{Packet}
 use Rattle.network_model.specs.Absorb.{Stepped, absorb, begin_at, idle, network_stays, taken_all}
-use Rattle.network_model.specs.State.{NetworkState, with_packet, without_packet}
+use Rattle.network_model.specs.State.{NetworkState, with_copy, without_packet}
 
 -- the packet under way with a number
 abbrev pub packet_at : NetworkState → ℕ → Option Packet
@@ -32,10 +32,10 @@ abbrev pub discard_event : Option Packet → NetworkState → Stepped
 discard_event None network = idle network
 discard_event (Some packet) network = network_stays (without_packet packet.number network)
 
--- a copy of a packet is under way under the next number, with the same origin and hops
+-- a copy of a packet is under way under the next number, with the same origin, hops and age
 abbrev pub repeating : Packet → NetworkState → Stepped
 repeating packet network = record {
-  state = with_packet packet.wire packet.from packet.to packet.origin packet.hops packet.bytes network;
+  state = with_copy packet network;
   entries = Copied (network.sent + 1) packet.number ∷ [];
 }
 

@@ -1,5 +1,5 @@
 -- The network at one moment: the edges by their places, and what is on its way between them.
-use Rattle.std.specs.Prelude.{◌++◌, ◌+◌, ◌==◌, ℕ, Bool, List, [], ◌∷◌, Option, Some, None, if◌then◌else◌}
+use Rattle.std.specs.Prelude.{◌++◌, ◌+◌, ◌==◌, nat_lt, ℕ, Bool, List, [], ◌∷◌, Option, Some, None, if◌then◌else◌}
 use Rattle.net_base.specs.declared.plan.Plan.{Plan}
 use Rattle.net_base.specs.declared.plan.places.EdgeId.{EdgeId}
 use Rattle.net_base.specs.declared.plan.places.WireId.{WireId}
@@ -61,7 +61,7 @@ without_octets_to me network = record network { pipes = λ from to. if to == me.
 -- one more packet under way, with the next number
 unfoldable pub with_packet : WireId → EdgeId → EdgeId → ℕ → ℕ → List ℕ → NetworkState → NetworkState
 with_packet wire from to origin hops octets network = record network {
-  under_way = network.under_way ++ record { number = network.sent + 1; wire = wire; from = from; to = to; origin = origin; hops = hops; bytes = octets } ∷ [];
+  under_way = network.under_way ++ record { number = network.sent + 1; wire = wire; from = from; to = to; origin = origin; hops = hops; age = 0; bytes = octets } ∷ [];
   sent = network.sent + 1;
 }
 
@@ -73,6 +73,32 @@ without_number number (packet ∷ packets) = if packet.number == number then pac
 -- a packet is under way no more
 unfoldable pub without_packet : ℕ → NetworkState → NetworkState
 without_packet number network = record network { under_way = without_number number network.under_way }
+
+-- one more packet under way, with the next number, that is in all else as another one
+unfoldable pub with_copy : Packet → NetworkState → NetworkState
+with_copy packet network = record network {
+  under_way = network.under_way ++ record packet { number = network.sent + 1 } ∷ [];
+  sent = network.sent + 1;
+}
+
+-- a packet lives fewer ticks than this
+abbrev pub life_ticks : ℕ
+life_ticks = 64
+
+-- a tick passes for a packet: it is older, and where it is too old then it goes
+abbrev pub older : Packet → Packet
+older packet = record packet { age = packet.age + 1 }
+
+abbrev pub lives_on : Packet → Bool
+lives_on packet = nat_lt (older packet).age life_ticks
+
+abbrev pub all_older : List Packet → List Packet
+all_older [] = []
+all_older (p ∷ ps) = if lives_on p then older p ∷ all_older ps else all_older ps
+
+-- a tick passes for the packets under way
+unfoldable pub with_older : NetworkState → NetworkState
+with_older network = record network { under_way = all_older network.under_way }
 
 -- one more frame has entered
 unfoldable pub with_frame : NetworkState → NetworkState

@@ -1,9 +1,10 @@
--- A tick passes at each edge of the plan, in the plan's order, and nowhere else.
+-- A tick passes for the packets under way, and then at each edge of the plan, in the plan's order, and nowhere else.
 use Rattle.std.specs.Prelude.{◌+◌, ℕ, zero, suc, length}
 use Rattle.net_base.specs.declared.plan.Plan.{Plan}
 use Rattle.net_base.specs.declared.plan.places.EdgeId.{EdgeId}
 use Rattle.edge_model.specs.Tick.{tick_input}
 use Rattle.network_model.specs.Absorb.{Stepped, absorb, and_then, begin_at, network_stays, taken_all}
+use Rattle.network_model.specs.Age.{ageing}
 use Rattle.network_model.specs.State.{NetworkState}
 
 -- the tick of one edge
@@ -16,4 +17,4 @@ ticks_from plan place zero network = network_stays network
 ticks_from plan place (suc count) network = and_then (tick_at plan (record { 0 = place }) network) (ticks_from plan (place + 1) count)
 
 abbrev pub tick_event : Plan → NetworkState → Stepped
-tick_event plan network = ticks_from plan 0 (length plan.edges) network
+tick_event plan network = and_then (ageing network) (ticks_from plan 0 (length plan.edges))

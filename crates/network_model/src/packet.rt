@@ -17,6 +17,8 @@ pub struct Packet {
     pub origin: u64,
     /// The segments that the copy will have passed when it arrives.
     pub hops: u64,
+    /// The ticks that have passed since it was sent, or since the packet was that it is a copy of.
+    pub age: u8,
     /// The label stack, the control word where there is one, and the frame (RFC 3032, RFC 4448).
     pub bytes: Octets,
 }

@@ -33,6 +33,7 @@ use Rattle.flight_model.proofs.PlanLemmas.{row_holds}
 use Rattle.flight_model.proofs.RuledNetworkLemmas.{IsRuledNetwork}
 use Rattle.flight_model.proofs.StableLemmas.{IsPlannedBinding, end_is_planned, terminal_offer}
 use Rattle.flight_model.proofs.TellLemmas.{TellsOwnOffer}
+use Rattle.packet_model.proofs.AgeLemmas.{may_sent}
 use Rattle.packet_model.specs.Channel.{IsBoundEnd}
 use Rattle.packet_model.specs.Echoed.{Asks, CountsTtl, IsEchoMessage, IsEchoed, echo_stack}
 use Rattle.packet_model.proofs.ChannelLemmas.{picks_planned, told_points}
@@ -111,7 +112,7 @@ module _ (plan : Plan) (network : NetworkState) (me : EdgeId) (place : EndPlace)
     ttl = first_ttl kind (length binding.told.points);
     left = counts_first kind;
     bytes = first_stack kind binding.label (length binding.told.points) ip;
-    named = told.may;
+    named = may_sent _ _ _ _ _ told.may;
   }
 
 -- ---- addresses

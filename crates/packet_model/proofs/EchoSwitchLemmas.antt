@@ -30,6 +30,7 @@ use Rattle.network_model.specs.State.{NetworkState}
 use Rattle.network_model.proofs.PointLemmas.{passes_offer, passes_points, point_at}
 use Rattle.flight_model.proofs.RuledNetworkLemmas.{IsRuledNetwork}
 use Rattle.flight_model.proofs.StableLemmas.{IsPlannedBinding, end_is_planned}
+use Rattle.packet_model.proofs.AgeLemmas.{may_sent}
 use Rattle.packet_model.specs.Echoed.{CountsTtl, IsEchoed, channels_told, echo_stack, planned_channel, points_in_all, source_address}
 use Rattle.packet_model.proofs.ArriveLemmas.{IsAlive, IsOwner, few_left, owner_is}
 use Rattle.packet_model.proofs.PackLemmas.{few_points, wire_checked}
@@ -135,7 +136,7 @@ module _ (plan : Plan) (network : NetworkState) (packet : Packet) (to : EdgeId) 
   bytes_on Expiry other is = ap (relabelled binding.label (echo.ttl - 1)) is ∙ relabelled_entry binding.label (echo.ttl - 1) echo.label echo.ttl (payload Expiry echo.ip) echo.is_label.below alive.most
 
   pub relay_echoed : (echo.kind ≡ Alert → ⊥)
-      → IsEchoed plan network (record { number = number; wire = packet.wire; from = packet.to; to = to; origin = packet.origin; hops = hops; bytes = relabelled binding.label (echo.ttl - 1) packet.bytes })
+      → IsEchoed plan network (record { number = number; wire = packet.wire; from = packet.to; to = to; origin = packet.origin; hops = hops; age = 0; bytes = relabelled binding.label (echo.ttl - 1) packet.bytes })
   relay_echoed other = record {
     unnumbered = echo.unnumbered;
     row = echo.row;
@@ -154,7 +155,7 @@ module _ (plan : Plan) (network : NetworkState) (packet : Packet) (to : EdgeId) 
     ttl = echo.ttl - 1;
     left = counts_on echo.kind echo.left;
     bytes = bytes_on echo.kind other echo.bytes;
-    named = planned.may;
+    named = may_sent (network.edges to.0) packet.wire.0 packet.to.0 0 binding.label planned.may;
   }
 
 -- ---- what comes of a packet that is passed on
@@ -203,10 +204,10 @@ module _ (plan : Plan) (network : NetworkState) (packet : Packet) (effects : Lis
   goes_there = ap (λ (n : ℕ). record { 0 = n }) places.0
 
   pub echo_goes_on : (number hops : ℕ)
-      → IsEchoed plan network (record { number = number; wire = out.place.wire; from = packet.to; to = out.to; origin = packet.origin; hops = hops; bytes = relabelled out.binding.label (out.entry.ttl - 1) packet.bytes })
+      → IsEchoed plan network (record { number = number; wire = out.place.wire; from = packet.to; to = out.to; origin = packet.origin; hops = hops; age = 0; bytes = relabelled out.binding.label (out.entry.ttl - 1) packet.bytes })
   echo_goes_on number hops =
-      subst (λ (w : WireId). IsEchoed plan network (record { number = number; wire = w; from = packet.to; to = out.to; origin = packet.origin; hops = hops; bytes = relabelled out.binding.label (out.entry.ttl - 1) packet.bytes })) (same_wire out.place.wire packet.wire places.0)
-      (subst (λ (t : ℕ). IsEchoed plan network (record { number = number; wire = packet.wire; from = packet.to; to = out.to; origin = packet.origin; hops = hops; bytes = relabelled out.binding.label (t - 1) packet.bytes })) (ap (λ (e : StackEntry). e.ttl) (sym same_entry))
+      subst (λ (w : WireId). IsEchoed plan network (record { number = number; wire = w; from = packet.to; to = out.to; origin = packet.origin; hops = hops; age = 0; bytes = relabelled out.binding.label (out.entry.ttl - 1) packet.bytes })) (same_wire out.place.wire packet.wire places.0)
+      (subst (λ (t : ℕ). IsEchoed plan network (record { number = number; wire = packet.wire; from = packet.to; to = out.to; origin = packet.origin; hops = hops; age = 0; bytes = relabelled out.binding.label (t - 1) packet.bytes })) (ap (λ (e : StackEntry). e.ttl) (sym same_entry))
       (relay_echoed plan network packet out.to out.binding number hops checked ruled echo mate_here bound_there no_alert))
     where
       same_wire : (one other : WireId) → one.0 ≡ other.0 → other ≡ one

@@ -1,3 +1,4 @@
+pub mod AgeLemmas
 pub mod ApartLemmas
 pub mod ArriveLemmas
 pub mod ChannelLemmas

@@ -34,6 +34,7 @@ use Rattle.network_model.proofs.PacketListLemmas.{packet_from, packets_of}
 use Rattle.flight_model.proofs.RuledNetworkLemmas.{IsRuledNetwork}
 use Rattle.flight_model.proofs.StableLemmas.{IsPlannedBinding, IsPlannedEnd, end_is_planned, terminal_offer}
 use Rattle.flight_model.proofs.TellLemmas.{TellsOwnOffer}
+use Rattle.packet_model.proofs.AgeLemmas.{may_sent}
 use Rattle.packet_model.specs.Carried.{HasEnteredService, IsCarried, IsPacked}
 use Rattle.packet_model.proofs.PackLemmas.{HaveSameMode, expected_offer, forwarding_agrees, pushed_fits, pushed_mode, pushed_same, told_vlan, wire_checked}
 
@@ -158,7 +159,7 @@ module _ (plan : Plan) (network : NetworkState) (me : EdgeId) (place : EndPlace)
     label = binding.label;
     is_label = told.is_label;
     packed = sender_packs origin hops sent frame;
-    named = told.may;
+    named = may_sent _ _ _ _ _ told.may;
   }
 
 -- ---- the packets of copies

@@ -1,5 +1,5 @@
 -- One event keeps the packet rule, and what leaves at a circuit came in before.
-use Rattle.std.proofs.Common.{◌≡◌, inl, inr, ◌==◌, ◌+◌, ◌++◌, ◌∙◌, ℕ, Bool, true, false, List, [], ◌∷◌, Option, Some, None, cond, option_map, refl, ap, sym, subst, append_assoc}
+use Rattle.std.proofs.Common.{◌≡◌, ◌<◌, nat_lt, length, arith, inl, inr, ◌==◌, ◌+◌, ◌++◌, ◌∙◌, ℕ, Bool, true, false, List, [], ◌∷◌, Option, Some, None, cond, option_map, refl, ap, sym, subst, append_assoc}
 use Rattle.std.specs.List.{AllByRecursion}
 use Rattle.net_base.specs.declared.plan.Plan.{Plan}
 use Rattle.net_base.specs.declared.plan.circuit_plan.CircuitPlan.{CircuitPlan}
@@ -13,7 +13,7 @@ use Rattle.net_base.specs.declared.trace.drop_cause.DropCause.{DropCause}
 use Rattle.net_base.specs.declared.trace.entry.Entry.{Entry}
 use Rattle.net_base.specs.declared.trace.entry.Entry.TheVariants.{Did, In, Left, Sent}
 use Rattle.net_base.specs.declared.trace.event.Event.{Event}
-use Rattle.net_base.specs.declared.trace.event.Event.TheVariants.{Frame, Arrive, Discard, Again, Ping}
+use Rattle.net_base.specs.declared.trace.event.Event.TheVariants.{Tick, Frame, Arrive, Discard, Again, Ping}
 use Rattle.net_base.specs.plan.Accepted.{IsChecked}
 use Rattle.net_base.specs.plan.Places.{circuit_row}
 use Rattle.net_base.specs.plan.Planned.{IsEventOf}
@@ -34,16 +34,21 @@ use Rattle.network_model.specs.Absorb.{Stepped, absorb, absorb_one, all_entries_
 use Rattle.network_model.specs.Frame.{entering, frame_event, frame_work, next_origin}
 use Rattle.network_model.specs.Packet.{again_event, arrive_event, arriving, discard_event, packet_at, packet_work, repeating}
 use Rattle.network_model.specs.Ping.{ping_event, ping_work}
-use Rattle.network_model.specs.State.{NetworkState, edge_at, with_edge, with_frame, without_number, without_packet}
+use Rattle.network_model.specs.State.{NetworkState, all_older, edge_at, lives_on, older, with_edge, with_frame, with_older, without_number, without_packet}
 use Rattle.network_model.specs.Step.{brings, step}
 use Rattle.network_model.proofs.InnerLemmas.{has_row, inner_there}
-use Rattle.network_model.proofs.PacketListLemmas.{append_holds, absorb_sends, holds_by, packet_holds, packet_sends, packets_of, without_hold}
-use Rattle.network_model.proofs.QuietLemmas.{IsSignalStep, NoneGoesOut, step_signals}
+use Rattle.network_model.proofs.PacketListLemmas.{append_holds, absorb_sends, holds_by, packet_holds, packets_of, repeating_sends, without_hold}
+use Rattle.network_model.proofs.QuietLemmas.{IsSignalStep, NoneGoesOut, step_signals, tick_tells, ticks_quiet}
 use Rattle.network_model.proofs.OtherLemmas.{numbered_from}
 use Rattle.flight_model.specs.Ends.{HasTypes, IsOrdered}
-use Rattle.flight_model.specs.Rules.{MayName}
+use Rattle.flight_model.specs.Rules.{MayCarry}
 use Rattle.flight_model.proofs.RuledNetworkLemmas.{IsRuledNetwork}
-use Rattle.flight_model.proofs.StableLemmas.{brings_may_name}
+use Rattle.flight_model.proofs.RuledRunLemmas.{brings_stays}
+use Rattle.flight_model.proofs.RuledEventLemmas.{Grows, tick_event_ruled}
+use Rattle.packet_model.proofs.AgeLemmas.{may_grow}
+use Rattle.label_space.specs.Kept.{rest_ticks}
+use Rattle.std.proofs.lemmas.Bool.Decides.{nat_tests}
+use Rattle.network_model.specs.Tick.{tick_event}
 use Rattle.packet_model.specs.Carried.{IsCarried, FollowsPacketRule, KeepsPacketRule}
 use Rattle.packet_model.specs.Echoed.{IsEchoed}
 use Rattle.packet_model.proofs.ArriveLemmas.{arrives_come}
@@ -73,7 +78,7 @@ carried_on plan network trace more packet carried = record {
 
 -- in a network in which labels go on to be named
 pub carried_in : (plan : Plan) (network next : NetworkState) (trace : List Entry) (packet : Packet)
-    → ((k wire peer label : ℕ) → MayName (network.edges k) wire peer label → MayName (next.edges k) wire peer label) → IsCarried plan network trace packet → IsCarried plan next trace packet
+    → ((k wire peer age label : ℕ) → MayCarry (network.edges k) wire peer age label → MayCarry (next.edges k) wire peer age label) → IsCarried plan network trace packet → IsCarried plan next trace packet
 carried_in plan network next trace packet names carried = record {
   row = carried.row;
   is = carried.is;
@@ -83,12 +88,12 @@ carried_in plan network next trace packet names carried = record {
   label = carried.label;
   is_label = carried.is_label;
   packed = carried.packed;
-  named = names packet.to.0 packet.wire.0 packet.from.0 carried.label carried.named;
+  named = names packet.to.0 packet.wire.0 packet.from.0 packet.age carried.label carried.named;
 }
 
 -- under another number, and after other hops
 pub carried_again : (plan : Plan) (network : NetworkState) (trace : List Entry) (packet : Packet) (number hops : ℕ) → IsCarried plan network trace packet
-    → IsCarried plan network trace (record { number = number; wire = packet.wire; from = packet.from; to = packet.to; origin = packet.origin; hops = hops; bytes = packet.bytes })
+    → IsCarried plan network trace (record { number = number; wire = packet.wire; from = packet.from; to = packet.to; origin = packet.origin; hops = hops; age = packet.age; bytes = packet.bytes })
 carried_again plan network trace packet number hops carried = record {
   row = carried.row;
   is = carried.is;
@@ -112,7 +117,7 @@ carried_again plan network trace packet number hops carried = record {
 }
 
 -- a ping or an answer is one whatever was told, in a network in which labels go on to be named
-echoed_in : (plan : Plan) (network next : NetworkState) (packet : Packet) → ((k wire peer label : ℕ) → MayName (network.edges k) wire peer label → MayName (next.edges k) wire peer label) → IsEchoed plan network packet → IsEchoed plan next packet
+echoed_in : (plan : Plan) (network next : NetworkState) (packet : Packet) → ((k wire peer age label : ℕ) → MayCarry (network.edges k) wire peer age label → MayCarry (next.edges k) wire peer age label) → IsEchoed plan network packet → IsEchoed plan next packet
 echoed_in plan network next packet names echo = record {
   unnumbered = echo.unnumbered;
   row = echo.row;
@@ -131,12 +136,12 @@ echoed_in plan network next packet names echo = record {
   ttl = echo.ttl;
   left = echo.left;
   bytes = echo.bytes;
-  named = names packet.to.0 packet.wire.0 packet.from.0 echo.label echo.named;
+  named = names packet.to.0 packet.wire.0 packet.from.0 packet.age echo.label echo.named;
 }
 
 -- and under another number, and after other hops
 echoed_again : (plan : Plan) (network : NetworkState) (packet : Packet) (number hops : ℕ) → IsEchoed plan network packet
-    → IsEchoed plan network (record { number = number; wire = packet.wire; from = packet.from; to = packet.to; origin = packet.origin; hops = hops; bytes = packet.bytes })
+    → IsEchoed plan network (record { number = number; wire = packet.wire; from = packet.from; to = packet.to; origin = packet.origin; hops = hops; age = packet.age; bytes = packet.bytes })
 echoed_again plan network packet number hops echo = record {
   unnumbered = echo.unnumbered;
   row = echo.row;
@@ -164,15 +169,79 @@ right_on : (plan : Plan) (network : NetworkState) (trace more : List Entry) (pac
 right_on plan network trace more packet (inl carried) = inl (carried_on plan network trace more packet carried)
 right_on plan network trace more packet (inr echo) = inr echo
 
-right_in : (plan : Plan) (network next : NetworkState) (trace : List Entry) (packet : Packet) → ((k wire peer label : ℕ) → MayName (network.edges k) wire peer label → MayName (next.edges k) wire peer label)
+right_in : (plan : Plan) (network next : NetworkState) (trace : List Entry) (packet : Packet) → ((k wire peer age label : ℕ) → MayCarry (network.edges k) wire peer age label → MayCarry (next.edges k) wire peer age label)
     → FollowsPacketRule plan network trace packet → FollowsPacketRule plan next trace packet
 right_in plan network next trace packet names (inl carried) = inl (carried_in plan network next trace packet names carried)
 right_in plan network next trace packet names (inr echo) = inr (echoed_in plan network next packet names echo)
 
 right_again : (plan : Plan) (network : NetworkState) (trace : List Entry) (packet : Packet) (number hops : ℕ) → FollowsPacketRule plan network trace packet
-    → FollowsPacketRule plan network trace (record { number = number; wire = packet.wire; from = packet.from; to = packet.to; origin = packet.origin; hops = hops; bytes = packet.bytes })
+    → FollowsPacketRule plan network trace (record { number = number; wire = packet.wire; from = packet.from; to = packet.to; origin = packet.origin; hops = hops; age = packet.age; bytes = packet.bytes })
 right_again plan network trace packet number hops (inl carried) = inl (carried_again plan network trace packet number hops carried)
 right_again plan network trace packet number hops (inr echo) = inr (echoed_again plan network packet number hops echo)
+
+-- a tick older, in a network in which labels go on to be carried by older packets
+abbrev pub GrowsAll : NetworkState → NetworkState → Type 0
+GrowsAll network next = (k : ℕ) → Grows (network.edges k) (next.edges k)
+
+carried_older : (plan : Plan) (network next : NetworkState) (trace : List Entry) (packet : Packet) → packet.age + 1 < rest_ticks → GrowsAll network next → IsCarried plan network trace packet → IsCarried plan next trace (older packet)
+carried_older plan network next trace packet young grows carried = record {
+  row = carried.row;
+  is = carried.is;
+  joined = carried.joined;
+  frame = carried.frame;
+  entered = carried.entered;
+  label = carried.label;
+  is_label = carried.is_label;
+  packed = record {
+    ttl = carried.packed.ttl;
+    vlan = carried.packed.vlan;
+    left = carried.packed.left;
+    fits = carried.packed.fits;
+    mode = carried.packed.mode;
+    requested = carried.packed.requested;
+    bytes = carried.packed.bytes;
+    same_word = carried.packed.same_word;
+    same_mode = carried.packed.same_mode;
+  };
+  named = grows packet.to.0 packet.wire.0 packet.from.0 packet.age carried.label young carried.named;
+}
+
+echoed_older : (plan : Plan) (network next : NetworkState) (packet : Packet) → packet.age + 1 < rest_ticks → GrowsAll network next → IsEchoed plan network packet → IsEchoed plan next (older packet)
+echoed_older plan network next packet young grows echo = record {
+  unnumbered = echo.unnumbered;
+  row = echo.row;
+  is = echo.is;
+  joined = echo.joined;
+  kind = echo.kind;
+  channel = echo.channel;
+  source = echo.source;
+  comes_from = echo.comes_from;
+  target = echo.target;
+  goes_to = echo.goes_to;
+  ip = echo.ip;
+  message = echo.message;
+  label = echo.label;
+  is_label = echo.is_label;
+  ttl = echo.ttl;
+  left = echo.left;
+  bytes = echo.bytes;
+  named = grows packet.to.0 packet.wire.0 packet.from.0 packet.age echo.label young echo.named;
+}
+
+right_older : (plan : Plan) (network next : NetworkState) (trace : List Entry) (packet : Packet) → packet.age + 1 < rest_ticks → GrowsAll network next → FollowsPacketRule plan network trace packet → FollowsPacketRule plan next trace (older packet)
+right_older plan network next trace packet young grows (inl carried) = inl (carried_older plan network next trace packet young grows carried)
+right_older plan network next trace packet young grows (inr echo) = inr (echoed_older plan network next packet young grows echo)
+
+all_right_older : (plan : Plan) (network next : NetworkState) (trace : List Entry) (packets : List Packet) → GrowsAll network next → AllByRecursion (FollowsPacketRule plan network trace) packets
+    → AllByRecursion (FollowsPacketRule plan next trace) (all_older packets)
+all_right_older plan network next trace [] grows all = tt
+all_right_older plan network next trace (p ∷ ps) grows all = by (lives_on p) refl (all_right_older plan network next trace ps grows all.1) where
+  low : (a : ℕ) → nat_lt (a + 1) 64 ≡ true → a + 1 < 64
+  low a is = grind (arith, nat_tests)
+
+  by : (b : Bool) → lives_on p ≡ b → AllByRecursion (FollowsPacketRule plan next trace) (all_older ps) → AllByRecursion (FollowsPacketRule plan next trace) (cond b (older p ∷ all_older ps) (all_older ps))
+  by true lives rest = (right_older plan network next trace p (low p.age lives) grows all.0, rest)
+  by false lives rest = rest
 
 -- a packet with the number of a frame carries that frame
 pub carried_of : (plan : Plan) (network : NetworkState) (trace : List Entry) (packet : Packet) → FollowsPacketRule plan network trace packet → (packet.origin == 0) ≡ false → IsCarried plan network trace packet
@@ -420,8 +489,8 @@ discard_right plan network trace (Some packet) rule =
 repeating_right : (plan : Plan) (network : NetworkState) (trace : List Entry) (packet : Packet) → KeepsPacketRule plan network trace → FollowsPacketRule plan network trace packet → StepsRight plan network trace (repeating packet network)
 repeating_right plan network trace packet rule carried =
     let stepped : Stepped = repeating packet network in
-    let copy : Packet = record { number = network.sent + 1; wire = packet.wire; from = packet.from; to = packet.to; origin = packet.origin; hops = packet.hops; bytes = packet.bytes } in
-    let sends = packet_sends packet.wire packet.from packet.to packet.origin packet.hops packet.bytes network in
+    let copy : Packet = record { number = network.sent + 1; wire = packet.wire; from = packet.from; to = packet.to; origin = packet.origin; hops = packet.hops; age = packet.age; bytes = packet.bytes } in
+    let sends = repeating_sends packet network in
     record {
       carried = subst (AllByRecursion (FollowsPacketRule plan network (trace ++ stepped.entries))) (sym sends.under_way)
           (all_on plan network trace stepped.entries (network.under_way ++ copy ∷ [])
@@ -447,6 +516,10 @@ ping_event_right plan network trace me wire checked ruled rule = by (ping_work p
 
 -- ---- every event
 
+tick_under_way : (plan : Plan) (network : NetworkState) → (step plan network Tick).state.under_way ≡ all_older network.under_way
+unfolding with_older
+tick_under_way plan network = (ticks_quiet plan 0 (length plan.edges) (with_older network)).under_way
+
 signal_right : (plan : Plan) (network : NetworkState) (trace : List Entry) (event : Event) → KeepsPacketRule plan network trace → IsSignalStep network (step plan network event) → StepsRight plan network trace (step plan network event)
 signal_right plan network trace event rule signals = same_right plan network trace (step plan network event) rule signals.quiet.under_way (none_isolated plan trace (step plan network event).entries signals.tells)
 
@@ -467,14 +540,30 @@ step_right plan network trace (Again number) checked types ruled rule =
 step_right plan network trace (Ping me wire) checked types ruled rule =
     then_right plan network trace (Did (Ping me wire)) (brings plan (Ping me wire) network) tt
     (ping_event_right plan network (trace ++ Did (Ping me wire) ∷ []) me wire checked ruled (all_on plan network trace (Did (Ping me wire) ∷ []) network.under_way rule))
+step_right plan network trace Tick checked types ruled rule =
+    let stepped : Stepped = step plan network Tick in
+    record {
+      carried = subst (AllByRecursion (FollowsPacketRule plan network (trace ++ stepped.entries))) (sym (tick_under_way plan network))
+          (all_on plan network trace stepped.entries (all_older network.under_way)
+          (all_right_older plan network network trace network.under_way (λ k wire peer age label young may. may_grow (network.edges k) wire peer age label may) rule));
+      isolated = none_isolated plan trace stepped.entries (tick_tells plan network);
+    }
 step_right plan network trace event checked types ruled rule = signal_right plan network trace event rule (step_signals plan network event refl)
 
 -- and the labels that packets carry go on to be named
-pub step_keeps_rule : (plan : Plan) (network : NetworkState) (trace : List Entry) (event : Event) → IsChecked plan → HasTypes plan → IsEventOf plan event → IsOrdered plan network → IsRuledNetwork plan network
-    → KeepsPacketRule plan network trace → KeepsPacketRule plan (step plan network event).state (trace ++ (step plan network event).entries)
-step_keeps_rule plan network trace event checked types planned ordered ruled rule =
+still_carried : (plan : Plan) (network : NetworkState) (trace : List Entry) (event : Event) → ((k wire peer age label : ℕ) → MayCarry (network.edges k) wire peer age label → MayCarry ((step plan network event).state.edges k) wire peer age label)
+    → StepsRight plan network trace (step plan network event) → KeepsPacketRule plan (step plan network event).state (trace ++ (step plan network event).entries)
+still_carried plan network trace event names right =
     let next : NetworkState = (step plan network event).state in
     let told : List Entry = trace ++ (step plan network event).entries in
-    holds_by (FollowsPacketRule plan network told) (FollowsPacketRule plan next told) next.under_way
-    (λ packet right. right_in plan network next told packet (λ k wire peer label may. brings_may_name plan event network checked types planned ordered ruled k wire peer label may) right)
-    (step_right plan network trace event checked types ruled rule).carried
+    holds_by (FollowsPacketRule plan network told) (FollowsPacketRule plan next told) next.under_way (λ packet follows. right_in plan network next told packet names follows) right.carried
+
+pub step_keeps_rule : (plan : Plan) (network : NetworkState) (trace : List Entry) (event : Event) → IsChecked plan → HasTypes plan → IsEventOf plan event → IsOrdered plan network → IsRuledNetwork plan network
+    → KeepsPacketRule plan network trace → KeepsPacketRule plan (step plan network event).state (trace ++ (step plan network event).entries)
+step_keeps_rule plan network trace Tick checked types planned ordered ruled rule =
+    let stepped : Stepped = step plan network Tick in
+    subst (AllByRecursion (FollowsPacketRule plan stepped.state (trace ++ stepped.entries))) (sym (tick_under_way plan network))
+    (all_right_older plan network stepped.state (trace ++ stepped.entries) network.under_way (tick_event_ruled plan checked types network ruled).grows
+    (all_on plan network trace stepped.entries network.under_way rule))
+step_keeps_rule plan network trace event checked types planned ordered ruled rule =
+    still_carried plan network trace event (brings_stays plan event network checked types planned ordered ruled refl).keeps (step_right plan network trace event checked types ruled rule)

@@ -27,6 +27,7 @@ use Rattle.network_model.specs.declared.packet.Packet.{Packet}
 use Rattle.network_model.specs.State.{NetworkState}
 use Rattle.flight_model.proofs.RuledNetworkLemmas.{IsRuledNetwork}
 use Rattle.flight_model.proofs.StableLemmas.{IsPlannedBinding, end_is_planned}
+use Rattle.packet_model.proofs.AgeLemmas.{may_sent}
 use Rattle.packet_model.specs.Carried.{IsCarried, IsPacked}
 use Rattle.packet_model.proofs.ArriveLemmas.{IsOwner, owner_is}
 use Rattle.packet_model.proofs.PackLemmas.{few_points, wire_checked}
@@ -64,7 +65,7 @@ module _ (plan : Plan) (network : NetworkState) (trace : List Entry) (packet : P
     (mate_is : mate_on rule.row.path packet.to.0 packet.from.0 ≡ Some to) (bound : ((network.edges packet.to.0).ends packet.wire.0 to.0).remote ≡ Some binding) where
   -- what is sent on
   abbrev pub relayed : Packet
-  relayed = record { number = number; wire = packet.wire; from = packet.to; to = to; origin = packet.origin; hops = hops; bytes = relabelled binding.label (rule.packed.ttl - 1) packet.bytes }
+  relayed = record { number = number; wire = packet.wire; from = packet.to; to = to; origin = packet.origin; hops = hops; age = 0; bytes = relabelled binding.label (rule.packed.ttl - 1) packet.bytes }
 
   pub wire_of : IsWireOf plan rule.row
   wire_of = wire_checked plan packet.wire rule.row checked rule.is
@@ -129,7 +130,7 @@ module _ (plan : Plan) (network : NetworkState) (trace : List Entry) (packet : P
     label = binding.label;
     is_label = planned.is_label;
     packed = relayed_packed;
-    named = planned.may;
+    named = may_sent (network.edges to.0) packet.wire.0 packet.to.0 0 binding.label planned.may;
   }
 
   -- its TTL does not end at a switching point
@@ -182,10 +183,10 @@ module _ (plan : Plan) (network : NetworkState) (trace : List Entry) (packet : P
 
   -- what is sent on, under a number and after hops
   pub goes_on : (number hops : ℕ)
-      → IsCarried plan network trace (record { number = number; wire = out.place.wire; from = packet.to; to = out.to; origin = packet.origin; hops = hops; bytes = relabelled out.binding.label (out.entry.ttl - 1) packet.bytes })
+      → IsCarried plan network trace (record { number = number; wire = out.place.wire; from = packet.to; to = out.to; origin = packet.origin; hops = hops; age = 0; bytes = relabelled out.binding.label (out.entry.ttl - 1) packet.bytes })
   goes_on number hops =
-      subst (λ (w : WireId). IsCarried plan network trace (record { number = number; wire = w; from = packet.to; to = out.to; origin = packet.origin; hops = hops; bytes = relabelled out.binding.label (out.entry.ttl - 1) packet.bytes })) (same_wire out.place.wire packet.wire places.0)
-      (subst (λ (t : ℕ). IsCarried plan network trace (record { number = number; wire = packet.wire; from = packet.to; to = out.to; origin = packet.origin; hops = hops; bytes = relabelled out.binding.label (t - 1) packet.bytes })) (ap (λ (e : StackEntry). e.ttl) (sym same_entry))
+      subst (λ (w : WireId). IsCarried plan network trace (record { number = number; wire = w; from = packet.to; to = out.to; origin = packet.origin; hops = hops; age = 0; bytes = relabelled out.binding.label (out.entry.ttl - 1) packet.bytes })) (same_wire out.place.wire packet.wire places.0)
+      (subst (λ (t : ℕ). IsCarried plan network trace (record { number = number; wire = packet.wire; from = packet.to; to = out.to; origin = packet.origin; hops = hops; age = 0; bytes = relabelled out.binding.label (t - 1) packet.bytes })) (ap (λ (e : StackEntry). e.ttl) (sym same_entry))
       (relay_carried plan network trace packet out.to out.binding number hops checked ruled carried mate_is bound))
     where
       same_wire : (one other : WireId) → one.0 ≡ other.0 → other ≡ one

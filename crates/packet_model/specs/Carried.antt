@@ -13,7 +13,7 @@ use Rattle.net_base.specs.trace.Isolated.{Among, inner_at}
 use Rattle.net_values.specs.Label.{IsLabel}
 use Rattle.eth_encap.specs.Packet.{IsVlan, packed}
 use Rattle.edge_model.specs.Send.{pushed_vlan}
-use Rattle.flight_model.specs.Rules.{MayName}
+use Rattle.flight_model.specs.Rules.{MayCarry}
 use Rattle.network_model.specs.declared.packet.Packet.{Packet}
 use Rattle.network_model.specs.State.{NetworkState}
 use Rattle.packet_model.specs.Echoed.{IsEchoed}
@@ -51,8 +51,8 @@ pub record IsCarried (plan : Plan) (network : NetworkState) (trace : List Entry)
   pub label : ℕ
   pub is_label : IsLabel label
   pub packed : IsPacked plan row packet label frame
-  -- the label was given before, and whoever owns it is the end of that wire beside the sender
-  pub named : MayName (network.edges packet.to.0) packet.wire.0 packet.from.0 label
+  -- the label was given before, whoever owns it is the end of that wire beside the sender, and it has not rested for longer than the packet is old
+  pub named : MayCarry (network.edges packet.to.0) packet.wire.0 packet.from.0 packet.age label
 
 -- it carries a frame, or it is a ping or an answer
 abbrev pub FollowsPacketRule : Plan → NetworkState → List Entry → Packet → Type 0

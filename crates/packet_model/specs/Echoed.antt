@@ -17,7 +17,7 @@ use Rattle.vccv_channel.specs.LabelStack.{stack_entry}
 use Rattle.vccv_channel.specs.Pick.{picked}
 use Rattle.edge_model.specs.Content.{icmp_ping}
 use Rattle.edge_model.specs.Ping.{ping_between}
-use Rattle.flight_model.specs.Rules.{MayName}
+use Rattle.flight_model.specs.Rules.{MayCarry}
 use Rattle.network_model.specs.declared.packet.Packet.{Packet}
 use Rattle.network_model.specs.State.{NetworkState}
 
@@ -88,5 +88,5 @@ pub record IsEchoed (plan : Plan) (network : NetworkState) (packet : Packet) : T
   pub ttl : ℕ
   pub left : CountsTtl plan row packet.from.0 packet.to.0 kind ttl
   pub bytes : packet.bytes ≡ echo_stack kind label ttl ++ payload kind ip
-  -- the label was given before, and whoever owns it is the end of that wire beside the sender
-  pub named : MayName (network.edges packet.to.0) packet.wire.0 packet.from.0 label
+  -- the label was given before, whoever owns it is the end of that wire beside the sender, and it has not rested for longer than the packet is old
+  pub named : MayCarry (network.edges packet.to.0) packet.wire.0 packet.from.0 packet.age label

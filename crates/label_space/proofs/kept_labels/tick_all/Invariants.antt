@@ -1,0 +1,6 @@
+use Rattle.std.proofs.Common.{◌≡◌, ◌++◌, map, take, drop}
+use Rattle.label_space.specs.Kept.{ticked_one}
+use Rattle.label_space.proofs.kept_labels.tick_all.Given as goal
+
+abbrev pub invariant-loop-one : goal.invariant-loop-one
+invariant-loop-one l = l.one-items ≡ map (ticked_one) (take l.one-index l.fn.kept.items) ++ drop l.one-index l.fn.kept.items
