@@ -1,5 +1,7 @@
 -- Rows are added one by one.
 use Rattle.std.proofs.Common.{◌≡◌, ◌<◌, ◌+◌, ◌-◌, ◌++◌, ◌∙◌, ℕ, suc, List, [], ◌∷◌, refl, sym, ap, append_assoc, arith}
+use Rattle.std.specs.Prelude.{codes}
+use Rattle.std.specs.Fmt.{decimal}
 use Rattle.net_base.specs.declared.plan.edge_plan.EdgePlan.{EdgePlan}
 use Rattle.net_base.specs.declared.plan.circuit_plan.CircuitPlan.{CircuitPlan}
 use Rattle.net_base.specs.declared.plan.wire_plan.WirePlan.{WirePlan}
@@ -32,6 +34,13 @@ pub frames_next : (count done number : ℕ) → done < count → frames_from (co
 frames_next count done number within = let e : count - done ≡ suc (count - (done + 1)) = omega arith in rw e refl
 
 -- a row is added, and those behind it are still to come
+-- the row of an edge with a name
+abbrev named_edge : ℕ → List ℕ → EdgePlan
+named_edge number name = record { name = name; address = record { 0 = 10 ∷ 0 ∷ 0 ∷ number ∷ [] }; first_label = 16; keepalive = 180; max_pdu = 4096 }
+
+pub edge_named : (name : List ℕ) (number : ℕ) → name ≡ codes "e" ++ decimal number → named_edge number name ≡ edge_row number
+edge_named name number is = ap (named_edge number) is
+
 pub edges_more : (old new all : List EdgePlan) (row : EdgePlan) (number : ℕ) → number < 17 → row ≡ edge_row number → new ≡ old ++ row ∷ [] → old ++ edges_from (17 - number) number ≡ all → new ++ edges_from (17 - (number + 1)) (number + 1) ≡ all
 edges_more old new all row number within is pushed e =
     added old new (edge_row number ∷ []) (edges_from (17 - (number + 1)) (number + 1)) (edges_from (17 - number) number) all (pushed ∙ ap (λ (r : EdgePlan). old ++ r ∷ []) is) (edges_next number within) e

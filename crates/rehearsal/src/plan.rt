@@ -9,24 +9,18 @@ use net_base::{
 };
 use std::alloc::Global;
 
-fn edge(alloc: Global, number: u8) -> Result<EdgePlan, NoMemory>
-    ensures { IfOk result (λ row. row ≡ edge_row number) }
-{
-    Ok(EdgePlan {
-        name: numbered(alloc, "e", number as u16)?,
-        address: Addr([10, 0, 0, number]),
-        first_label: 16,
-        keepalive: 180,
-        max_pdu: 4096,
-    })
-}
-
 fn edges(alloc: Global) -> Result<List<EdgePlan>, NoMemory>
     ensures { IfOk result (λ rows. rows ≡ edges_from 16 1) }
 {
     let mut rows = List::new(alloc);
     for number in 1..17u8 {
-        rows.push(edge(alloc, number)?)?;
+        rows.push(EdgePlan {
+            name: numbered(alloc, "e", number as u16)?,
+            address: Addr([10, 0, 0, number]),
+            first_label: 16,
+            keepalive: 180,
+            max_pdu: 4096,
+        })?;
     }
     Ok(rows)
 }

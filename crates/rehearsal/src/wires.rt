@@ -105,41 +105,27 @@ fn mesh_wires(alloc: Global) -> Result<List<WirePlan>, NoMemory>
     Ok(rows)
 }
 
-fn spoke_to_first(alloc: Global, place: u16) -> Result<WirePlan, NoMemory>
+// Adds the two spokes of a spoke edge.
+fn add_spokes(alloc: Global, wires: &mut List<WirePlan>, place: u16) -> Result<(), NoMemory>
     requires { place < 8 }
-    ensures { IfOk result (λ row. row ≡ first_spoke place) }
+    ensures { OnOk result (wires.new ≡ (wires.old ++ first_spoke place ∷ []) ++ second_spoke place ∷ []) }
 {
-    let link = Link {
+    let first = Link {
         class: Class::Spoke,
         from: place + 9,
         to: place + 1,
         pw_id: 201 + 2 * place as u32,
         priority: 10,
     };
-    wire(alloc, "p", place + 9, link)
-}
-
-fn spoke_to_second(alloc: Global, place: u16) -> Result<WirePlan, NoMemory>
-    requires { place < 8 }
-    ensures { IfOk result (λ row. row ≡ second_spoke place) }
-{
-    let link = Link {
+    wires.push(wire(alloc, "p", place + 9, first)?)?;
+    let second = Link {
         class: Class::Spoke,
         from: place + 9,
         to: (place + 1) % 8 + 1,
         pw_id: 202 + 2 * place as u32,
         priority: 20,
     };
-    wire(alloc, "q", place + 9, link)
-}
-
-// Adds the two spokes of a spoke edge.
-fn add_spokes(alloc: Global, wires: &mut List<WirePlan>, place: u16) -> Result<(), NoMemory>
-    requires { place < 8 }
-    ensures { OnOk result (wires.new ≡ (wires.old ++ first_spoke place ∷ []) ++ second_spoke place ∷ []) }
-{
-    wires.push(spoke_to_first(alloc, place)?)?;
-    wires.push(spoke_to_second(alloc, place)?)
+    wires.push(wire(alloc, "q", place + 9, second)?)
 }
 
 /// The full mesh of the core edges, and behind it the spokes, edge by edge.
