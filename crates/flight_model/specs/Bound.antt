@@ -45,12 +45,12 @@ given_of edge label = nat_lt label edge.next_label && not (list_any (is_free_one
 
 -- the label was given before, and the end does not advertise it now
 abbrev pub is_old : (ℕ → Bool) → LocalPart → ℕ → Bool
-is_old next near label = next label && not (has_advertised near label)
+is_old given near label = given label && not (has_advertised near label)
 
 -- what is said of a label: it names a PW ID and the label, and where the PW ID is the wire's the label is old
 abbrev pub names_old : ℕ → (ℕ → Bool) → LocalPart → (named label : Option ℕ) → Bool
-names_old pw_id next near (Some other) (Some label) = not (other == pw_id) || is_old next near label
-names_old pw_id next near named label = false
+names_old pw_id given near (Some other) (Some label) = not (other == pw_id) || is_old given near label
+names_old pw_id given near named label = false
 
 -- it names this wire and this label
 abbrev pub names_label : ℕ → ℕ → (named label : Option ℕ) → Bool
@@ -59,15 +59,15 @@ names_label pw_id own named label = false
 
 -- each message that an end says names its wire by the PW ID, and each Label Withdraw of the wire is of an old label
 abbrev pub withdraws_old : ℕ → (ℕ → Bool) → LocalPart → Message → Bool
-withdraws_old pw_id next near (LabelMapping id fec label status points) = is_some fec.pw_id
-withdraws_old pw_id next near (LabelWithdraw id fec label) = names_old pw_id next near fec.pw_id label
-withdraws_old pw_id next near (Notification id code status (Some fec)) = is_some fec.pw_id
-withdraws_old pw_id next near message = true
+withdraws_old pw_id given near (LabelMapping id fec label status points) = is_some fec.pw_id
+withdraws_old pw_id given near (LabelWithdraw id fec label) = names_old pw_id given near fec.pw_id label
+withdraws_old pw_id given near (Notification id code status (Some fec)) = is_some fec.pw_id
+withdraws_old pw_id given near message = true
 
 -- each Label Release that its neighbour says of the wire is of an old label
 abbrev pub releases_old : ℕ → (ℕ → Bool) → LocalPart → Message → Bool
-releases_old pw_id next near (LabelRelease id fec label) = names_old pw_id next near fec.pw_id label
-releases_old pw_id next near message = true
+releases_old pw_id given near (LabelRelease id fec label) = names_old pw_id given near fec.pw_id label
+releases_old pw_id given near message = true
 
 abbrev pub is_withdrawal_of : ℕ → ℕ → Message → Bool
 is_withdrawal_of pw_id own (LabelWithdraw id fec label) = names_label pw_id own fec.pw_id label
@@ -79,17 +79,17 @@ is_release_of pw_id own message = false
 
 -- the end's own label was given before; of one that is withdrawn the Label Withdraw or the Label Release is on its way
 abbrev pub is_waited_for : ℕ → (ℕ → Bool) → LocalPart → (out back : List Message) → Bool
-is_waited_for pw_id next (Idle declined) out back = true
-is_waited_for pw_id next (Advertised label told) out back = next label
-is_waited_for pw_id next (Withdrawing label) out back = next label && (some_message (is_withdrawal_of pw_id label) out || some_message (is_release_of pw_id label) back)
+is_waited_for pw_id given (Idle declined) out back = true
+is_waited_for pw_id given (Advertised label told) out back = given label
+is_waited_for pw_id given (Withdrawing label) out back = given label && (some_message (is_withdrawal_of pw_id label) out || some_message (is_release_of pw_id label) back)
 
 -- the end of the wire with this PW ID at an edge of which these labels are given, what its neighbour holds of it, and the messages on
 -- their way from the edge and to it
-pub record IsBoundBy (pw_id : ℕ) (next : ℕ → Bool) (near : LocalPart) (far : Option Binding) (out back : List Message) : Type 0 where
+pub record IsBoundBy (pw_id : ℕ) (given : ℕ → Bool) (near : LocalPart) (far : Option Binding) (out back : List Message) : Type 0 where
   pub agrees : bound_after pw_id out far ≡ advertised_by near
-  pub withdrawn : all_messages (withdraws_old pw_id next near) out ≡ true
-  pub released : all_messages (releases_old pw_id next near) back ≡ true
-  pub waits : is_waited_for pw_id next near out back ≡ true
+  pub withdrawn : all_messages (withdraws_old pw_id given near) out ≡ true
+  pub released : all_messages (releases_old pw_id given near) back ≡ true
+  pub waits : is_waited_for pw_id given near out back ≡ true
 
 -- ---- messages that say nothing of the wire
 

@@ -20,28 +20,6 @@ pub enum ReadStop {
     NoMemory,
 }
 
-impl From<NoMemory> for ReadStop {
-    ghost use Rattle.std.specs.Prelude.{◌≡◌};
-    ghost use Rattle.vplsnet.specs.declared.files.ReadStop.TheVariants as stop;
-
-    ghost from_gives = { λ _ e. e ≡ stop.NoMemory };
-
-    fn from(_: NoMemory) -> ReadStop {
-        ReadStop::NoMemory
-    }
-}
-
-impl From<Failed> for ReadStop {
-    ghost use Rattle.std.specs.Prelude.{◌≡◌};
-    ghost use Rattle.vplsnet.specs.declared.files.ReadStop.TheVariants as stop;
-
-    ghost from_gives = { λ _ e. e ≡ stop.Fault };
-
-    fn from(_: Failed) -> ReadStop {
-        ReadStop::Fault
-    }
-}
-
 /// Reads a file from its front on, to its end or until one octet more than the limit is read: of a file that
 /// the shelf tells, exactly the first `min(length, limit + 1)` octets. It asks for no octet beyond those.
 ///
@@ -65,11 +43,15 @@ pub fn read_front<F: Shelf>(
     'reading: while octets.len() <= limit {
         // One octet beyond the limit tells a file that is too long from one that just fits.
         let room = (limit + 1 - octets.len()).min(PIECE);
-        let count = shelf.read_at(name, octets.len() as u64, &mut piece[..room])?;
-        if count == 0 {
-            return Ok(octets);
+        let count = match shelf.read_at(name, octets.len() as u64, &mut piece[..room]) {
+            Ok(0) => return Ok(octets),
+            Ok(count) => count,
+            Err(Failed) => return Err(ReadStop::Fault),
+        };
+        match octets.extend_from_slice(&piece[..count]) {
+            Ok(()) => {}
+            Err(NoMemory) => return Err(ReadStop::NoMemory),
         }
-        octets.extend_from_slice(&piece[..count])?;
     }
     Ok(octets)
 }
