@@ -2,6 +2,7 @@
 
 mod given_frames;
 mod hierarchy;
+mod labels;
 mod largest;
 mod lent_maps;
 mod limit;

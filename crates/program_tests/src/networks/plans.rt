@@ -29,6 +29,33 @@ wire = [{ name = "w0", service = "s", class = "mesh", path = ["e0", "e1"], pw_id
 "#,
 ];
 
+/// The same, where the first edge has one label left.
+pub const LAST_LABEL: [&str; 1] = [
+    r#"
+version = 1
+edge = [{ name = "e0", address = "10.0.0.1", first_label = 1048575 }, { name = "e1", address = "10.0.0.2" }]
+service = [{ name = "s" }]
+wire = [{ name = "w0", service = "s", class = "mesh", path = ["e0", "e1"], pw_id = 100 }]
+"#,
+];
+
+/// An edge that has one label left, with a wire to each of two others; the first wire goes to the last edge.
+pub const LAST_LABEL_OF_TWO: [&str; 1] = [
+    r#"
+version = 1
+edge = [
+  { name = "e0", address = "10.0.0.1", first_label = 1048575 },
+  { name = "e1", address = "10.0.0.2" },
+  { name = "e2", address = "10.0.0.3" },
+]
+service = [{ name = "s" }, { name = "r" }]
+wire = [
+  { name = "w0", service = "s", class = "mesh", path = ["e0", "e2"], pw_id = 100 },
+  { name = "w1", service = "r", class = "mesh", path = ["e0", "e1"], pw_id = 200 },
+]
+"#,
+];
+
 /// Two edges with a circuit each, and a wire between them that carries frames of 9,216 octets.
 pub const LARGEST: [&str; 1] = [
     r#"

@@ -5,7 +5,7 @@ ghost use Rattle.net_base.specs.plan.Planned.{IsEventOf, IsInPlan};
 use crate::networks::lent_maps::have_all;
 use crate::networks::plans::network_of;
 use crate::networks::traces::{
-    bound_label, hops_of, is_idle, kinds_of, next_label, says, ticks_of,
+    bound_label, hops_of, is_idle, kinds_of, mappings_of, next_label, says, ticks_of,
 };
 use net_base::{CircuitId, EdgeId, Event, List, Octets, ServiceId, Trace, WireId};
 use psn_net::Network;
@@ -22,6 +22,11 @@ pub enum Step {
     /// An edge restarts, and time goes on.
     Restart(u16),
     Tick,
+    /// So many ticks pass.
+    Ticks(u32),
+    /// A packet arrives, or a second copy of it is under way, by its number.
+    Arrive(u64),
+    Again(u64),
     /// At an edge the first wire is put on or off, gets failure bits, and the seventh one a priority.
     Wire(u16, bool),
     Status(u16, u8),
@@ -39,8 +44,12 @@ pub enum Step {
     /// The trace has entries of these kinds, a letter each; one says these octets, from this edge; the last is of an event that
     /// did not apply, or is not.
     Kinds(&'static str),
+    /// The last entries are of these kinds.
+    Ends(&'static str),
     Says(usize, u16, &'static str),
     Idle(bool),
+    /// An edge has said so many Label Mappings to another one.
+    Mappings(u16, u16, u32),
     /// The two ends of the first wire are bound to these labels, or to none for 0; an edge gives this label next.
     Bound(u32, u32),
     NextLabel(u16, u32),
@@ -91,6 +100,8 @@ fn event_in(
             edge: EdgeId(place_in(rt, edges, me)),
         }),
         Step::Tick => Some(Event::Tick),
+        Step::Arrive(packet) => Some(Event::Arrive { packet }),
+        Step::Again(packet) => Some(Event::Again { packet }),
         Step::Wire(me, on) => Some(Event::Wire {
             edge: EdgeId(place_in(rt, edges, me)),
             wire: WireId(place_in(rt, wires, 0)),
@@ -163,6 +174,13 @@ fn settle(rt: &impl Abort, alloc: Global, network: &mut Network) {
     }
 }
 
+// So many ticks pass.
+fn passes(rt: &impl Abort, alloc: Global, network: &mut Network, count: u32) {
+    for _tick in 0..count {
+        apply(rt, alloc, network, &Event::Tick);
+    }
+}
+
 // Whether an event is the arrival of a packet.
 fn is_arrival(event: &Event) -> bool {
     matches!(event, Event::Arrive { .. })
@@ -206,6 +224,7 @@ fn did(rt: &impl Abort, alloc: Global, network: &mut Network, step: Step) -> boo
         Step::Frame(place, text) => enters(rt, alloc, network, place, text),
         Step::Settle => settle(rt, alloc, network),
         Step::Flow(count) => flows(rt, alloc, network, count),
+        Step::Ticks(count) => passes(rt, alloc, network, count),
         _ => return did_event(rt, alloc, network, step),
     }
     true
@@ -215,6 +234,12 @@ fn did(rt: &impl Abort, alloc: Global, network: &mut Network, step: Step) -> boo
 fn has_kinds(rt: &impl Abort, alloc: Global, trace: &Trace, kinds: &str) -> bool {
     let found = kinds_of(rt, alloc, trace);
     found.as_str() == kinds
+}
+
+// Whether the kinds of the last entries are these.
+fn ends_with(rt: &impl Abort, alloc: Global, trace: &Trace, kinds: &str) -> bool {
+    let found = kinds_of(rt, alloc, trace);
+    found.as_str().ends_with(kinds)
 }
 
 // Whether the entry at a place says these octets.
@@ -243,7 +268,9 @@ fn agrees_in_trace(rt: &impl Abort, alloc: Global, trace: &Trace, step: Step) ->
         Step::Over(count) => Some(trace.len() > count),
         Step::Kinds(kinds) => Some(has_kinds(rt, alloc, trace, kinds)),
         Step::Says(place, me, text) => Some(has_said(rt, alloc, trace, place, me, text)),
+        Step::Ends(kinds) => Some(ends_with(rt, alloc, trace, kinds)),
         Step::Idle(idle) => Some(is_idle(trace) == idle),
+        Step::Mappings(me, peer, count) => Some(mappings_of(trace, me, peer) == count),
         Step::Left(frame, hops) => Some(has_left(rt, alloc, trace, frame, hops)),
         _ => None,
     }

@@ -27,6 +27,7 @@ fn kind_of(entry: &Entry) -> char {
         Entry::In { .. } => 'n',
         Entry::Left { .. } => 'l',
         Entry::Dropped { .. } => 'd',
+        Entry::Aged { .. } => 'a',
         Entry::Wire { down: None, .. } => 'u',
         Entry::Wire { down: Some(_), .. } => 'w',
         _ => '?',
@@ -48,6 +49,27 @@ pub fn says(trace: &Trace, place: usize, edge: u16, octets: &[u8]) -> bool {
         Some(Entry::Said { from, bytes, .. }) => from.0 == edge && bytes.as_slice() == octets,
         _ => false,
     }
+}
+
+// Whether these octets are a PDU that begins with a Label Mapping: its type stands behind the ten octets of the PDU header (RFC 5036
+// section 3.5.7).
+fn is_mapping(octets: &[u8]) -> bool {
+    matches!(octets.split_at_checked(10), Some((_, [0x04, 0x00, ..])))
+}
+
+/// How many Label Mappings an edge has said to another one, each in a PDU of its own.
+pub fn mappings_of(trace: &Trace, me: u16, peer: u16) -> u32 {
+    let mut count: u32 = 0;
+    for entry in trace.as_slice() {
+        if let Entry::Said { from, to, bytes } = entry
+            && from.0 == me
+            && to.0 == peer
+            && is_mapping(bytes.as_slice())
+        {
+            count = count.saturating_add(1);
+        }
+    }
+    count
 }
 
 /// Whether the last event did not apply.
