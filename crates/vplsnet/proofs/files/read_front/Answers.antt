@@ -5,9 +5,9 @@ use Rattle.vplsnet.proofs.files.read_front.Goals as goal
 
 pub reading-preserved : goal.reading-preserved
 reading-preserved g c = record {
-  front = read_next _ _ _ _ _ _ _ _ _ c.reading.invariant.files c.len-in-reading-2.ensures c.reading.invariant.front c.in_ok-count.ensures.octets c.in_ok-count.ensures.bound c.in_ok-extend_from_slice.ensures.ok;
+  front = read_next _ _ _ _ _ _ _ _ _ c.reading.invariant.files c.len-in-reading-2.ensures c.reading.invariant.front c.in-Ok.ensures.octets c.in-Ok.ensures.bound c.in-Ok-extend_from_slice.ensures.ok;
   files = grind (arith, common_steps);
-  faults = λ name. grind (arith, common_steps, c.reading.invariant.faults name, c.in_ok-count.ensures.never_fall name);
+  faults = λ name. grind (arith, common_steps, c.reading.invariant.faults name, c.in-Ok.ensures.never_fall name);
   within = grind (arith, common_steps);
   size = grind (arith, common_steps);
 }
@@ -15,20 +15,20 @@ reading-preserved g c = record {
 pub returns-clause-front : goal.returns-clause-front
 returns-clause-front g c = read_beyond _ _ _ _ c.reading.invariant.front (grind arith)
 
-pub returns-in_err-count-clause-never_fall : goal.returns-in_err-count-clause-never_fall
-returns-in_err-count-clause-never_fall g c = λ name. grind (arith, c.reading.invariant.faults name, c.read_at.ensures.never_fall name)
+pub returns-in-Err-clause-never_fall : goal.returns-in-Err-clause-never_fall
+returns-in-Err-clause-never_fall g c = λ name. grind (arith, c.reading.invariant.faults name, c.in-Err.ensures.never_fall name)
 
-pub returns-then-count-eq0-clause-never_fall : goal.returns-then-count-eq0-clause-never_fall
-returns-then-count-eq0-clause-never_fall g c = λ name. grind (arith, c.reading.invariant.faults name, c.read_at.ensures.never_fall name)
+pub returns-in-Ok-eq0-clause-never_fall : goal.returns-in-Ok-eq0-clause-never_fall
+returns-in-Ok-eq0-clause-never_fall g c = λ name. grind (arith, c.reading.invariant.faults name, c.in-Ok-eq0.ensures.never_fall name)
 
-pub returns-in_err-extend_from_slice-clause-never_fall : goal.returns-in_err-extend_from_slice-clause-never_fall
-returns-in_err-extend_from_slice-clause-never_fall g c = λ name. grind (arith, c.reading.invariant.faults name, c.read_at.ensures.never_fall name)
+pub returns-in-Err-extend_from_slice-clause-never_fall : goal.returns-in-Err-extend_from_slice-clause-never_fall
+returns-in-Err-extend_from_slice-clause-never_fall g c = λ name. grind (arith, c.reading.invariant.faults name, c.in-Ok.ensures.never_fall name)
 
 pub returns-clause-never_fall : goal.returns-clause-never_fall
 returns-clause-never_fall g c = c.reading.invariant.faults
 
-pub returns-then-count-eq0-clause-within : goal.returns-then-count-eq0-clause-within
-returns-then-count-eq0-clause-within g c = c.reading.invariant.within
+pub returns-in-Ok-eq0-clause-within : goal.returns-in-Ok-eq0-clause-within
+returns-in-Ok-eq0-clause-within g c = c.reading.invariant.within
 
 pub returns-clause-within : goal.returns-clause-within
 returns-clause-within g c = c.reading.invariant.within
@@ -36,5 +36,5 @@ returns-clause-within g c = c.reading.invariant.within
 pub reading-smaller : goal.reading-smaller
 reading-smaller g c = grind (arith, common_steps)
 
-pub returns-in_err-count-clause-fault : goal.returns-in_err-count-clause-fault
-returns-in_err-count-clause-fault g c = λ is. grind (arith, c.reading.invariant.faults c.args.name.now, c.in_err-count.ensures.cause.failed)
+pub returns-in-Err-clause-fault : goal.returns-in-Err-clause-fault
+returns-in-Err-clause-fault g c = λ is. grind (arith, c.reading.invariant.faults c.args.name.now, c.in-Err.ensures.cause.failed)
