@@ -84,6 +84,8 @@ class Capture:
             self.mpls(words[1], words[2], octets, words[1], pcapng.OUTBOUND)
         elif entry.kind == "copied":
             self.packets[words[0]] = self.packets[words[1]]
+        elif entry.kind == "aged":
+            self.packets.pop(words[0], None)
 
     def kind_of(self, wire, origin):
         """What Wireshark is told of a packet's label: whether a control word follows, or nothing of a ping that has none, which its

@@ -22,7 +22,7 @@ class Frame:
         self.calm = network.is_calm(self.service)
         self.sites = [site for site in network.plan.circuits_of(self.service) if network.on[site] and site != circuit]
         self.heard = False
-        self.left, self.dropped, self.lost, self.repeated = Counter(), [], [], []
+        self.left, self.dropped, self.lost, self.aged, self.repeated = Counter(), [], [], [], []
         self.hops = 0
         self.under_way = set()
         self.disturbed = None
@@ -53,6 +53,7 @@ class Frame:
         if self.disturbed is not None:
             reasons.append(f"event {self.disturbed.number} ({self.disturbed.text}) came while copies were under way")
         reasons += [f"packet {packet} was lost" for packet in self.lost]
+        reasons += [f"packet {packet} was under way for 64 ticks" for packet in self.aged]
         reasons += [f"packet {packet} was repeated" for packet in self.repeated]
         if self.under_way:
             reasons.append("copies are still under way")
@@ -128,8 +129,8 @@ class Run:
 
     def origin_of(self, entry):
         """The number of the frame that an entry is of: 0 where it is of none, as what is of a ping."""
-        if entry.kind == "copied":
-            return self.network.packets[entry.words[1]][4]
+        if entry.kind in ("copied", "aged"):
+            return self.network.packets[entry.words[-1]][4]
         return entry.words[ORIGIN[entry.kind]] if entry.kind in ORIGIN else 0
 
     @staticmethod
@@ -140,6 +141,9 @@ class Run:
         elif kind == "copied":
             frame.under_way.add(words[0])
             frame.repeated.append(words[1])
+        elif kind == "aged":
+            frame.under_way.discard(words[0])
+            frame.aged.append(words[0])
         elif kind == "left":
             frame.left[words[0]] += 1
             frame.hops = max(frame.hops, words[2])

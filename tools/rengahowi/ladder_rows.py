@@ -110,6 +110,11 @@ class Rows:
         start, end, _wire, _arrival, origin = self.network.packets[old]
         return self.row("copied", f"packet {packet} repeats {old}", [("edge", start), ("edge", end)], **frame_of(origin))
 
+    def aged(self, packet):
+        """A packet that was under way for 64 ticks."""
+        _start, end, _wire, _arrival, origin = self.network.packets[packet]
+        return self.row("aged", f"packet {packet} aged, {carried(origin)}", [("edge", end)], **frame_of(origin))
+
     def dropped(self, edge, origin, cause):
         """A copy that was dropped."""
         return self.row("dropped", f"dropped: {cause}, {carried(origin)}", [("edge", edge)], **frame_of(origin))

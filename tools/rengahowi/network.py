@@ -95,6 +95,8 @@ class Network:
             self.packets[words[0]] = words[1:6]
         elif kind == "copied" and words[1] in self.packets:
             self.packets[words[0]] = self.packets[words[1]]
+        elif kind == "aged":
+            self.packets.pop(words[0], None)
         if kind in ("said", "session", "wire"):
             self.calm.clear()
 

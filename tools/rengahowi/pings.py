@@ -7,7 +7,7 @@ class Ping:
     def __init__(self, event):
         self.event = event
         self.edge, self.wire = event.words
-        self.answers, self.dropped, self.lost = 0, [], []
+        self.answers, self.dropped, self.lost, self.aged = 0, [], [], []
 
 
 class Pings:
@@ -17,7 +17,8 @@ class Pings:
         self.all, self.of_packet = [], {}
 
     def follow(self, event):
-        """What an event tells of the ping that it makes, or whose packet it moves."""
+        """What an event tells of the ping that it makes, or whose packet it moves, and of packets that it finds too old."""
+        self.age([entry.words[0] for entry in event.entries if entry.kind == "aged"])
         ping = self.of_event(event)
         if ping is None:
             return
@@ -30,6 +31,12 @@ class Pings:
                 ping.dropped.append((event, entry.words[0], entry.words[2]))
             elif entry.kind == "pong":
                 ping.answers += 1
+
+    def age(self, packets):
+        """These packets were under way for 64 ticks."""
+        for packet in packets:
+            if packet in self.of_packet:
+                self.of_packet.pop(packet).aged.append(packet)
 
     def of_event(self, event):
         """The ping of an event; None where it has none."""

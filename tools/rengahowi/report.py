@@ -11,6 +11,7 @@ ENTRIES = {
     "in": ("circuit", "number", "octets"),
     "sent": ("number", "edge", "edge", "wire", "arrival", "number", "number", "octets"),
     "copied": ("number", "number"),
+    "aged": ("number",),
     "left": ("circuit", "number", "number", "octets"),
     "dropped": ("edge", "number", "word"),
     "session": ("edge", "edge", "word"),

@@ -112,9 +112,10 @@ def nowhere_line(row):
 
 
 def why_nowhere(row):
-    """Where what was sent was dropped, and which of its packets were lost."""
+    """Where what was sent was dropped, and which of its packets were lost, or were under way too long."""
     dropped = [f"dropped at {drop['edge']}: {drop['cause']}" for drop in row["dropped"]]
-    return ", ".join(dropped + [f"packet {number} lost" for number in row["lost"]])
+    lost = [f"packet {number} lost" for number in row["lost"]]
+    return ", ".join(dropped + lost + [f"packet {number} aged" for number in row["aged"]])
 
 
 def pings(rows):

@@ -96,6 +96,7 @@ def frame_row(frame):
         "segments": frame.hops,
         "dropped": dropped(frame),
         "lost": frame.lost,
+        "aged": frame.aged,
         "repeated": frame.repeated,
         "under_way": sorted(frame.under_way),
         "nowhere": not frame.left and not frame.under_way,
@@ -117,6 +118,7 @@ def ping_row(run, ping):
         "answers": ping.answers,
         "dropped": dropped(ping),
         "lost": ping.lost,
+        "aged": ping.aged,
         "under_way": run.pings.under_way(ping),
     }
 
