@@ -1,5 +1,5 @@
 //! The numbers that are kept to be given again.
-ghost use Rattle.std.specs.Prelude.{◌≡◌, ◌≤◌, ◌<◌, [], Some, None, false, length, take, slice_get, vec_capacity, IfOk, IfSome};
+ghost use Rattle.std.specs.Prelude.{◌≡◌, ◌≤◌, ◌<◌, [], Some, None, false, is_some, length, take, slice_get, vec_capacity, IfOk, IfSome};
 ghost use Rattle.std.specs.List.{find, insert, list_any};
 ghost use Rattle.label_space.specs.declared.kept.Kept.{Kept};
 ghost use Rattle.label_space.specs.Kept.{AreRisingBy, is_free, kept_at, keeps, label_of, least_free, met, met_one, put_in, rests, ticked, ticked_one, ticked_state, without_one};
@@ -79,6 +79,13 @@ impl KeptLabels {
             self.first = 0;
             self.may_rest = any_rests(self.kept.as_slice());
         }
+    }
+
+    // Whether a number is free.
+    pub(crate) fn has_free(&self) -> bool
+        ensures { result ≡ is_some (least_free self.now) }
+    {
+        first_free(self.kept.as_slice(), self.first).is_some()
     }
 
     // The least number that is free is kept no longer.

@@ -1,5 +1,5 @@
 //! The label space of an edge.
-ghost use Rattle.std.specs.Prelude.{◌≡◌, ◌≤◌, ◌<◌, ◌≢◌, ◌↔◌, ◌⊎◌, ℕ, [], Some, None, length, IfOk, IfSome, OnErr, IsErr};
+ghost use Rattle.std.specs.Prelude.{◌≡◌, ◌≤◌, ◌<◌, ◌≢◌, ◌↔◌, ◌⊎◌, ℕ, [], Some, None, is_some, length, IfOk, IfSome, OnErr, IsErr};
 ghost use Rattle.std.specs.List.{find};
 ghost use Rattle.label_space.specs.Kept.{kept_at, put_by};
 ghost use Rattle.label_space.specs.Labels.{AreBelow, AreDistinctLabels, AreUnkept, emptied, freed, freed_of, issued, keeps_each, meeting, number_to_give, numbers_end, opened_space, owned_label, owner_of, owns, ticking, with_number_taken, with_owner};
@@ -211,6 +211,13 @@ impl LabelSpace {
         ensures below { result ≤ numbers_end }
     {
         self.next
+    }
+
+    /// Whether there is a number to be given: the next one, or where that is 1048576 one that is free.
+    pub fn has_number(&self) -> bool
+        ensures { result ≡ is_some (number_to_give self.now.next self.now.kept) }
+    {
+        Label::new(self.next).is_some() || self.kept.has_free()
     }
 
     /// The owned labels with their owners, each in one slot; or an empty slab, where there was no room for a label. This takes no
