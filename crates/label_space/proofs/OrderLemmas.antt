@@ -24,7 +24,7 @@ is_less a b less = grind (arith, nat_tests)
 not_less : (a b : ℕ) → nat_lt a b ≡ false → b ≤ a
 not_less a b other = grind (arith, nat_tests)
 
-less_is : (a b : ℕ) → a < b → nat_lt a b ≡ true
+pub less_is : (a b : ℕ) → a < b → nat_lt a b ≡ true
 less_is a b less = grind (arith, nat_tests)
 
 module _ {X : Type 0} (number : X → ℕ) where
@@ -114,19 +114,6 @@ module _ {X : Type 0} (number : X → ℕ) where
     | false ↦ omega (arith, long_filtered p xs)
   ]
 
-  -- the one that is removed is the one of its number
-  pub removed_is : (from : ℕ) (xs : List X) (i : ℕ) (d : X) → AreRisingBy number from xs → i < length xs → remove xs i ≡ filter (λ x. not (number x == number (get_or xs i d))) xs
-  removed_is from [] i d rising within = absurd (omega (arith, within))
-  removed_is from (x ∷ xs) zero d rising within = rw (same (number x)) (sym (unlike_below (number x + 1) (number x) xs (omega arith) rising.1))
-  removed_is from (x ∷ xs) (suc i) d rising within =
-      let more : number x + 1 ≤ number (get_or xs i d) = least (number x + 1) xs i d rising.1 (omega (arith, within)) in
-      rw (below_apart (number x) (number (get_or xs i d)) (omega (arith, more))) (ap (λ (l : List X). x ∷ l) (removed_is (number x + 1) xs i d rising.1 (omega (arith, within))))
-    where
-      least : (from : ℕ) (xs : List X) (j : ℕ) (d : X) → AreRisingBy number from xs → j < length xs → from ≤ number (get_or xs j d)
-      least from [] j d rising within = absurd (omega (arith, within))
-      least from (x ∷ xs) zero d rising within = rising.0
-      least from (x ∷ xs) (suc j) d rising within = omega (arith, rising.0, least (number x + 1) xs j d rising.1 (omega (arith, within)))
-
   pub all_weaker : (P Q : X → Type 0) (xs : List X) → ((x : X) → P x → Q x) → AllByRecursion P xs → AllByRecursion Q xs
   all_weaker P Q [] f all = tt
   all_weaker P Q (x ∷ xs) f all = (f x all.0, all_weaker P Q xs f all.1)
@@ -147,22 +134,3 @@ module _ {X : Type 0} (number : X → ℕ) where
     | true ↦ ap (λ (l : List X). f x ∷ l) (map_put f keep new xs)
     | false ↦ refl
   ])
-
--- what changes nothing changes nothing of fewer
-heads : {X : Type 0} (x y : X) (xs ys : List X) → x ∷ xs ≡ y ∷ ys → x ≡ y
-heads x y xs ys is = cc
-
-tails : {X : Type 0} (x y : X) (xs ys : List X) → x ∷ xs ≡ y ∷ ys → xs ≡ ys
-tails x y xs ys is = cc
-
-pub map_filtered : {X : Type 0} (f : X → X) (p : X → Bool) (xs : List X) → map f xs ≡ xs → map f (filter p xs) ≡ filter p xs
-map_filtered f p [] still = refl
-map_filtered {X = X} f p (x ∷ xs) still = elim (p x) as (λ v. map f (cond v (x ∷ filter p xs) (filter p xs)) ≡ cond v (x ∷ filter p xs) (filter p xs)) [
-  | true ↦ ap (λ (y : X). y ∷ map f (filter p xs)) (heads (f x) x (map f xs) xs still) ∙ ap (λ (l : List X). x ∷ l) (map_filtered f p xs (tails (f x) x (map f xs) xs still))
-  | false ↦ map_filtered f p xs (tails (f x) x (map f xs) xs still)
-]
-
-pub take_removed : {X : Type 0} (xs : List X) (i : ℕ) → i < length xs → take i (remove xs i) ≡ take i xs
-take_removed [] i within = absurd (omega (arith, within))
-take_removed (x ∷ xs) zero within = refl
-take_removed {X = X} (x ∷ xs) (suc i) within = ap (λ (l : List X). x ∷ l) (take_removed xs i (omega (arith, within)))

@@ -1,7 +1,7 @@
 -- Numbers that were freed and are kept to be given again. Such a number may still be named by a message on its way, by a binding of the
 -- neighbour, or on a packet under way. After a new connection with the neighbour that it was given for no message and no binding names
 -- it, and no packet is under way for longer than 64 ticks; so then it may be given again.
-use Rattle.std.specs.Prelude.{◌≡◌, ◌≤◌, ◌+◌, ◌==◌, nat_lt, not, map, filter, ℕ, Bool, true, false, List, [], ◌∷◌, length, take, Option, Some, None, option_map, if◌then◌else◌}
+use Rattle.std.specs.Prelude.{◌≤◌, ◌+◌, ◌==◌, nat_lt, not, map, filter, ℕ, Bool, true, false, List, [], ◌∷◌, length, Option, Some, None, option_map, if◌then◌else◌}
 use Rattle.std.specs.List.{find}
 use Rattle.net_base.specs.declared.plan.places.EdgeId.{EdgeId}
 use Rattle.label_space.specs.declared.kept.Kept.{Kept}
@@ -106,13 +106,3 @@ without label kept = filter (λ k. not (k.label == label)) kept
 abbrev pub without_one : Option ℕ → List Kept → List Kept
 without_one None kept = kept
 without_one (Some label) kept = without label kept
-
--- ---- what is so of the kept numbers of every label space
-
--- what a label space holds of them: they rise, none of the first so many is free, and where none may rest a tick changes nothing
-pub record IsHeldKept (reserved first : ℕ) (may_rest : Bool) (kept : List Kept) : Type 0 where
-  pub few : length kept ≤ most_kept
-  pub room : most_kept ≤ reserved
-  pub rising : AreRisingBy label_of 0 kept
-  pub before : find is_free (take first kept) ≡ None
-  pub still : may_rest ≡ false → ticked kept ≡ kept

@@ -1,13 +1,17 @@
 //! The numbers that are kept to be given again.
-ghost use Rattle.std.specs.Prelude.{◌≡◌, ◌≤◌, ◌<◌, [], Some, None, false, is_some, length, take, slice_get, vec_capacity, IfOk, IfSome};
-ghost use Rattle.std.specs.List.{find, insert, list_any};
-ghost use Rattle.label_space.specs.declared.kept.Kept.{Kept};
-ghost use Rattle.label_space.specs.Kept.{AreRisingBy, is_free, kept_at, keeps, label_of, least_free, met, met_one, put_in, rests, ticked, ticked_one, ticked_state, without_one};
+ghost use Rattle.std.specs.Prelude.{◌≡◌, ◌≤◌, ◌+◌, ◌++◌, not, map, filter, [], Some, None, is_some, length, All, vec_capacity, IfOk, IfSome, IsPermutation};
+ghost use Rattle.std.specs.BinaryHeap.{IsHeap, heap_capacity, heap_items, heap_len};
+ghost use Rattle.std.specs.Ordering.{nat_cmp};
+ghost use Rattle.net_values.specs.Label.{IsLabel};
 ghost use Rattle.label_space.specs.declared.kept.KeptState.TheVariants as state;
+ghost use Rattle.label_space.specs.Kept.{is_free, kept_at, keeps, least_free, met, met_one, rests, ticked, ticked_one, ticked_state, without_one};
+ghost use Rattle.label_space.specs.Stored.{freed_number};
 
 use crate::{Kept, KeptState};
 use net_base::{EdgeId, Label, NoMemory};
 use std::alloc::Global;
+use std::cmp::Reverse;
+use std::collections::BinaryHeap;
 use std::marker::Model;
 
 // How many numbers are kept at most, and for how many ticks a number rests.
@@ -15,26 +19,27 @@ const MOST_KEPT: usize = 4096;
 
 const REST_TICKS: u8 = 64;
 
-/// The numbers that were freed and are kept to be given again, in rising order. Contracts see them as a list.
+/// The numbers that were freed and are kept to be given again. A tick looks at those alone that rest, and the least that is free
+/// is at hand. Contracts see all of them as one list in rising order.
 #[derive(Drop)]
 pub(crate) struct KeptLabels {
-    kept: Vec<Kept>,
-    // None before this place is free.
-    first: usize,
-    // Whether one may rest; else none does.
-    may_rest: bool,
+    waiting: Vec<Kept>,
+    resting: Vec<Kept>,
+    // The numbers that are free, the least on top.
+    free: BinaryHeap<Reverse<u32>>,
 }
 
 impl Model for KeptLabels {
     ghost use Rattle.std.specs.Prelude.{List, vec_capacity};
+    ghost use Rattle.std.specs.BinaryHeap.{heap_capacity, heap_items};
     ghost use Rattle.label_space.specs.declared.kept.Kept.{Kept};
-    ghost use Rattle.label_space.specs.Kept.{IsHeldKept};
+    ghost use Rattle.label_space.specs.Stored.{IsHeldKept, kept_of};
 
     ghost Value = { List Kept };
 
-    ghost view = { λ s. s.kept.items };
+    ghost view = { λ s. kept_of s.waiting.items s.resting.items (heap_items s.free) };
 
-    ghost invariant = { λ s. IsHeldKept (vec_capacity s.kept) s.first s.may_rest s.kept.items };
+    ghost invariant = { λ s. IsHeldKept (vec_capacity s.waiting) (vec_capacity s.resting) (heap_capacity s.free) s.waiting.items s.resting.items (heap_items s.free) };
 }
 
 impl KeptLabels {
@@ -43,10 +48,17 @@ impl KeptLabels {
         ensures { IfOk result (λ kept. kept ≡ []) }
     {
         Ok(KeptLabels {
-            kept: Vec::with_capacity(alloc, MOST_KEPT)?,
-            first: 0,
-            may_rest: false,
+            waiting: Vec::with_capacity(alloc, MOST_KEPT)?,
+            resting: Vec::with_capacity(alloc, MOST_KEPT)?,
+            free: BinaryHeap::with_capacity(alloc, MOST_KEPT)?,
         })
+    }
+
+    // How many numbers are kept.
+    fn len(&self) -> usize
+        ensures { result ≡ length self.now }
+    {
+        self.waiting.len() + self.resting.len() + self.free.len()
     }
 
     // A number waits for the neighbour that it was given for, as long as there is room.
@@ -54,11 +66,10 @@ impl KeptLabels {
         requires { kept_at label self.old ≡ None }
         ensures { self.new ≡ keeps label peer self.old }
     {
-        if self.kept.len() < MOST_KEPT {
-            let place = place_of(self.kept.as_slice(), label);
+        if self.len() < MOST_KEPT {
             let state = KeptState::Waits(peer);
             // The memory for it was taken where this was opened.
-            self.kept.insert(place, Kept { label, state }).unwrap();
+            self.waiting.push(Kept { label, state }).unwrap();
         }
     }
 
@@ -66,74 +77,38 @@ impl KeptLabels {
     pub(crate) fn met(&mut self, peer: EdgeId)
         ensures { self.new ≡ met peer self.old }
     {
-        self.may_rest = true;
-        meet_all(&mut self.kept, peer);
+        meet_all(&mut self.waiting, peer);
+        add_resting(&mut self.resting, self.waiting.as_slice());
+        drop_resting(&mut self.waiting);
     }
 
-    // A tick passes. Where none may rest it takes no walk.
+    // A tick passes.
     pub(crate) fn tick(&mut self)
         ensures { self.new ≡ ticked self.old }
     {
-        if self.may_rest {
-            tick_all(&mut self.kept);
-            self.first = 0;
-            self.may_rest = any_rests(self.kept.as_slice());
-        }
+        tick_all(&mut self.resting);
+        add_free(&mut self.free, self.resting.as_slice());
+        drop_free(&mut self.resting);
     }
 
     // Whether a number is free.
     pub(crate) fn has_free(&self) -> bool
         ensures { result ≡ is_some (least_free self.now) }
     {
-        first_free(self.kept.as_slice(), self.first).is_some()
+        !self.free.is_empty()
     }
 
     // The least number that is free is kept no longer.
-    #[tactic(auto, using(crate::proofs::KeptLemmas::least_taken))]
     pub(crate) fn take_least(&mut self) -> Option<Label>
         ensures label { result ≡ least_free self.old }
         ensures rest { self.new ≡ without_one result self.old }
         ensures free { IfSome result (λ label. kept_at label self.old ≡ Some state.Free) }
     {
-        let Some(place) = first_free(self.kept.as_slice(), self.first) else {
+        let Some(Reverse(number)) = self.free.pop() else {
             return None;
         };
-        self.first = place;
-        Some(self.kept.remove(place).label)
+        Label::new(number)
     }
-}
-
-// The place of a number among those in rising order.
-fn place_of(kept: &[Kept], label: Label) -> usize
-    requires { AreRisingBy label_of 0 kept.now }
-    ensures within { result ≤ length kept.now }
-    ensures place { (new : Kept) → new.label ≡ label → insert kept.now result new ≡ put_in new kept.now }
-{
-    kept.partition_point(|k| k.label.number() < label.number())
-}
-
-// The first place from one on, before which none is free, whose number is free.
-#[tactic(auto, using(crate::proofs::KeptLemmas::free_rules))]
-fn first_free(kept: &[Kept], from: usize) -> Option<usize>
-    requires { find is_free (take from kept.now) ≡ None }
-    ensures none { result ≡ None → find is_free kept.now ≡ None }
-    ensures within { IfSome result (λ i. i < length kept.now) }
-    ensures before { IfSome result (λ i. find is_free (take i kept.now) ≡ None) }
-    ensures found { IfSome result (λ i. slice_get kept.now i ≡ find is_free kept.now) }
-{
-    for place in from..kept.len() {
-        if is_free(&kept[place]) {
-            return Some(place);
-        }
-    }
-    None
-}
-
-// Whether a number may be given again.
-fn is_free(one: &Kept) -> bool
-    ensures { result ≡ is_free one.now }
-{
-    matches!(one.state, KeptState::Free)
 }
 
 // What waits for a neighbour begins to rest.
@@ -157,6 +132,34 @@ fn meet(one: &mut Kept, peer: EdgeId)
     }
 }
 
+// Whether a number rests.
+fn rests(one: &Kept) -> bool
+    ensures { result ≡ rests one.now }
+{
+    matches!(one.state, KeptState::Rests(_))
+}
+
+// Those of these numbers that rest stand among what rests. There is room for them.
+fn add_resting(resting: &mut Vec<Kept>, kept: &[Kept])
+    requires { length resting.old.items + length kept.now ≤ vec_capacity resting.old }
+    ensures items { resting.new.items ≡ resting.old.items ++ filter rests kept.now }
+    ensures room { vec_capacity resting.old ≤ vec_capacity resting.new }
+{
+    for one in kept {
+        if rests(one) {
+            resting.push(*one).unwrap();
+        }
+    }
+}
+
+// What rests does not stand here any more.
+fn drop_resting(kept: &mut Vec<Kept>)
+    ensures items { kept.new.items ≡ filter (λ k. not (rests k)) kept.old.items }
+    ensures room { vec_capacity kept.new ≡ vec_capacity kept.old }
+{
+    kept.retain(|one| !rests(one));
+}
+
 // Each rest is longer by a tick.
 #[tactic(auto, using(crate::proofs::EachLemmas::each_next))]
 fn tick_all(kept: &mut Vec<Kept>)
@@ -177,25 +180,6 @@ fn tick(one: &mut Kept)
     }
 }
 
-// Whether a number rests.
-fn rests(one: &Kept) -> bool
-    ensures { result ≡ rests one.now }
-{
-    matches!(one.state, KeptState::Rests(_))
-}
-
-// Whether one of the numbers rests.
-fn any_rests(kept: &[Kept]) -> bool
-    ensures { result ≡ list_any rests kept.now }
-{
-    for one in kept {
-        if rests(one) {
-            return true;
-        }
-    }
-    false
-}
-
 // What a number does that has rested for one tick more than so many.
 fn rested(ticks: u8) -> KeptState
     ensures { result ≡ ticked_state (state.Rests ticks) }
@@ -205,4 +189,36 @@ fn rested(ticks: u8) -> KeptState
     } else {
         KeptState::Free
     }
+}
+
+// Whether a number may be given again.
+fn is_free(one: &Kept) -> bool
+    ensures { result ≡ is_free one.now }
+{
+    matches!(one.state, KeptState::Free)
+}
+
+// Those of these numbers that are free stand on the heap. There is room for them.
+fn add_free(free: &mut BinaryHeap<Reverse<u32>>, kept: &[Kept])
+    requires heap { IsHeap (λ x y. nat_cmp y.0 x.0) (heap_items free.old) }
+    requires labels { All (λ n. IsLabel n.0) (heap_items free.old) }
+    requires room { heap_len free.old + length kept.now ≤ heap_capacity free.old }
+    ensures heap { IsHeap (λ x y. nat_cmp y.0 x.0) (heap_items free.new) }
+    ensures labels { All (λ n. IsLabel n.0) (heap_items free.new) }
+    ensures numbers { IsPermutation (map freed_number (heap_items free.old) ++ filter is_free kept.now) (map freed_number (heap_items free.new)) }
+    ensures room { heap_capacity free.old ≤ heap_capacity free.new }
+{
+    for one in kept {
+        if is_free(one) {
+            free.push(Reverse(one.label.number())).unwrap();
+        }
+    }
+}
+
+// What is free does not stand here any more.
+fn drop_free(kept: &mut Vec<Kept>)
+    ensures items { kept.new.items ≡ filter (λ k. not (is_free k)) kept.old.items }
+    ensures room { vec_capacity kept.new ≡ vec_capacity kept.old }
+{
+    kept.retain(|one| !is_free(one));
 }

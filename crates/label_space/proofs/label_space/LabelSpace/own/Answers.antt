@@ -16,7 +16,7 @@ invariant_of-self c =
     let none : owner_of c.args.label c.self.inside.owners.items ≡ None = ap (λ (s : LabelNumbers). owner_of c.args.label s.owners) c.self.view_is ∙ c.requires.unowned in
     let unkept : kept_at c.args.label c.self.inside.kept ≡ None = ap (λ (s : LabelNumbers). kept_at c.args.label s.kept) c.self.view_is ∙ c.requires.unkept in (
       held_owned o _ _ _ _ c.self.inside.owners.items c.insert.new.self.items c.self.inside.kept c.self.invariant.0 (search rules) none unkept (search rules) items (search rules),
-      subst (λ (l : List Owner). IsLabelIndex c.add-self-inside.result c.add-self-inside.new.slots c.add-self-inside.new.index l) (sym items)
-          (index_put c.add-self-inside.result c.add-self-inside.new.slots c.add-self-inside.new.index c.self.inside.owners.items o none
-          (subst (λ (l : List Owner). IsLabelIndex c.add-self-inside.result c.add-self-inside.new.slots c.add-self-inside.new.index (l ++ o ∷ [])) c.as_slice.ensures.value c.add-self-inside.ensures)),
+      subst (λ (l : List Owner). IsLabelIndex c.add-self-inside.result c.add-self-inside.new.self.slab c.add-self-inside.new.self.index l) (sym items)
+          (index_put c.add-self-inside.result c.add-self-inside.new.self.slab c.add-self-inside.new.self.index c.self.inside.owners.items o none
+          (subst (λ (l : List Owner). IsLabelIndex c.add-self-inside.result c.add-self-inside.new.self.slab c.add-self-inside.new.self.index (l ++ o ∷ [])) c.as_slice.ensures.value c.add-self-inside.ensures)),
     )
