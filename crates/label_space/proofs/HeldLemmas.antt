@@ -1,20 +1,18 @@
 -- What always holds of a label space, before and after the calls.
-use Rattle.std.proofs.Common.{◌≡◌, ◌≢◌, ◌<◌, ◌≤◌, ◌+◌, ◌∙◌, ◌==◌, ℕ, Bool, true, false, not, List, [], ◌∷◌, Option, Some, None, length, cond, drop, get_or, zero, suc, refl, ap, sym, subst, inl, inr, arith}
-use Rattle.std.specs.Prelude.{IfSome, filter, option_map, nat_lt}
-use Rattle.std.specs.List.{AllByRecursion, find}
+use Rattle.std.proofs.Common.{◌≡◌, ◌≢◌, ◌<◌, ◌≤◌, ◌+◌, ◌∙◌, ◌==◌, ℕ, false, not, List, [], ◌∷◌, Option, Some, None, length, drop, get_or, zero, suc, refl, ap, sym, subst, inl, inr, arith}
+use Rattle.std.specs.Prelude.{IfSome, filter, option_map}
+use Rattle.std.specs.List.{find}
 use Rattle.std.proofs.lemmas.Bool.{cases_Bool}
 use Rattle.std.proofs.lemmas.Bool.Decides.{nat_tests}
 use Rattle.std.proofs.lemmas.List.Elements.{All-head, All-tail}
 use Rattle.net_base.specs.declared.plan.places.EdgeId.{EdgeId}
-use Rattle.net_base.specs.declared.plan.places.SegKey.{SegKey}
 use Rattle.label_space.specs.declared.kept.Kept.{Kept}
-use Rattle.label_space.specs.declared.kept.KeptState.{KeptState}
-use Rattle.label_space.specs.declared.kept.KeptState.TheVariants.{Waits, Rests, Free}
+use Rattle.label_space.specs.declared.kept.KeptState.TheVariants.{Free}
 use Rattle.label_space.specs.declared.owner.Owner.{Owner}
-use Rattle.label_space.specs.Kept.{AreRisingBy, kept_at, keeps, label_of, least_free, met, put_by, ticked, without, without_one}
-use Rattle.label_space.specs.Labels.{LabelNumbers, AreBelow, AreDistinctLabels, AreLeft, AreUnkept, IsHeldSpace, freed, freed_of, keeps_each, next_after, number_to_give, numbers_end, owned_label, owner_of, owns, with_number_taken}
+use Rattle.label_space.specs.Kept.{kept_at, keeps, met, put_by, ticked, without, without_one}
+use Rattle.label_space.specs.Labels.{LabelNumbers, AreBelow, AreDistinctLabels, AreLeft, AreUnkept, IsHeldSpace, freed, freed_of, keeps_each, numbers_end, owned_label, owner_of, owns, with_number_taken}
 use Rattle.label_space.proofs.KeptLemmas.{kept_without}
-use Rattle.label_space.proofs.LabelLemmas.{apart_owners, below_filtered, below_later, below_none, below_put, distinct_filtered, distinct_put, left_at, left_each, left_filtered, left_kept, left_later, left_met, left_none, left_owned, left_ticked, left_without, owner_of-above, owner_of-find, owner_of-freed, owner_of-kept, owner_of-put, unkept_all, unkept_more, unkept_next, unkept_owned, without_next}
+use Rattle.label_space.proofs.LabelLemmas.{apart_owners, below_filtered, below_later, below_none, below_put, distinct_filtered, distinct_put, left_at, left_each, left_filtered, left_kept, left_later, left_met, left_none, left_owned, left_ticked, left_without, owner_of-find, owner_of-freed, owner_of-kept, owner_of-put, unkept_more, unkept_owned, without_next}
 use Rattle.label_space.proofs.OrderLemmas.{below_apart, is_same, long_filtered, long_put, rising_filtered, rising_put, same}
 
 something : {X : Type 0} (x : X) → Some x ≡ None → ⊥

@@ -1,15 +1,15 @@
 -- The kept numbers, before and after the calls.
-use Rattle.std.proofs.Common.{◌≡◌, ◌≢◌, ◌<◌, ◌≤◌, ◌+◌, ◌++◌, ◌∙◌, ◌==◌, ℕ, zero, suc, Bool, true, false, not, List, [], ◌∷◌, Option, Some, None, length, take, drop, get_or, cond, map, refl, ap, sym, subst, inl, inr, arith, true≢false}
-use Rattle.std.specs.Prelude.{filter, option_map, slice_get, nat_lt}
-use Rattle.std.specs.List.{AllByRecursion, find, insert, list_any, remove}
+use Rattle.std.proofs.Common.{◌≡◌, ◌<◌, ◌+◌, ◌∙◌, ◌==◌, ℕ, suc, Bool, true, false, List, [], ◌∷◌, Option, Some, None, length, cond, map, refl, ap, sym, subst, inl, inr, arith}
+use Rattle.std.specs.Prelude.{option_map, nat_lt}
+use Rattle.std.specs.List.{AllByRecursion}
 use Rattle.std.proofs.lemmas.Bool.{cases_Bool}
 use Rattle.std.proofs.lemmas.Bool.Decides.{nat_tests}
 use Rattle.net_base.specs.declared.plan.places.EdgeId.{EdgeId}
 use Rattle.label_space.specs.declared.kept.Kept.{Kept}
 use Rattle.label_space.specs.declared.kept.KeptState.{KeptState}
 use Rattle.label_space.specs.declared.kept.KeptState.TheVariants.{Waits, Rests, Free}
-use Rattle.label_space.specs.Kept.{AreRisingBy, is_free, is_free_state, kept_at, keeps, label_of, least_free, met, met_one, met_state, most_kept, put_by, put_in, rest_ticks, rests, rests_state, ticked, ticked_one, ticked_state, waiting, without, without_one}
-use Rattle.label_space.proofs.OrderLemmas.{above_apart, below_apart, is_same, insert_put, long_filtered, long_put, map_put, rising_filtered, rising_lower, rising_map, rising_put, same}
+use Rattle.label_space.specs.Kept.{AreRisingBy, is_free, is_free_state, kept_at, keeps, label_of, least_free, most_kept, put_by, put_in, waiting, without}
+use Rattle.label_space.proofs.OrderLemmas.{above_apart, is_same, same}
 
 something : {X : Type 0} (x : X) → Some x ≡ None → ⊥
 something x is = cc

@@ -1,6 +1,6 @@
 -- The slots and their map, before and after the calls.
 use Rattle.std.proofs.Common.{◌≡◌, ◌≢◌, ◌<◌, ◌++◌, ◌∙◌, ◌⊎◌, ℕ, Bool, true, false, not, nat_eq, List, [], ◌∷◌, Option, Some, None, length, take, get_or, suc, zero, cond, refl, ap, sym, subst, inl, inr, arith, true≢false}
-use Rattle.std.specs.Prelude.{filter, IsSome, nat_lt, option_map, slice_index_or}
+use Rattle.std.specs.Prelude.{filter, IsSome, nat_lt, slice_index_or}
 use Rattle.std.specs.List.{find}
 use Rattle.std.specs.Map.{lookup}
 use Rattle.std.specs.Option.{option_and_then}

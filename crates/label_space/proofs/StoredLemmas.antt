@@ -1,5 +1,5 @@
 -- The kept numbers as they are stored: an order of them is no part of what is kept.
-use Rattle.std.proofs.Common.{◌≡◌, ◌≢◌, ◌<◌, ◌≤◌, ◌+◌, ◌++◌, ◌∙◌, ◌==◌, ℕ, suc, Bool, true, false, not, nat_lt, ◌||◌, List, [], ◌∷◌, Option, Some, None, length, cond, get_or, map, take, refl, ap, sym, subst, inl, inr, arith, true≢false}
+use Rattle.std.proofs.Common.{◌≡◌, ◌<◌, ◌≤◌, ◌+◌, ◌++◌, ◌∙◌, ◌==◌, ℕ, suc, Bool, true, false, not, nat_lt, ◌||◌, List, [], ◌∷◌, Option, Some, None, length, cond, get_or, map, take, refl, ap, sym, subst, inl, inr, arith, true≢false}
 use Rattle.std.specs.Prelude.{◌↔◌, IfSome, IsSome, filter, option_map, is_some}
 use Rattle.std.specs.List.{All, AllByRecursion, find, list_any, sum_by}
 use Rattle.std.specs.List.Sorted.{IsPermutation}
@@ -20,7 +20,7 @@ use Rattle.label_space.specs.declared.kept.KeptState.TheVariants.{Waits, Rests, 
 use Rattle.label_space.specs.Kept.{AreRisingBy, is_free, is_free_state, kept_at, keeps, label_of, least_free, met, met_one, met_state, most_kept, put_by, put_in, rest_ticks, rests, rests_state, ticked, ticked_one, ticked_state, waiting, without}
 use Rattle.label_space.specs.Stored.{IsHeldKept, freed_number, in_order, kept_of, stored, waits, waits_state}
 use Rattle.label_space.proofs.KeptLemmas.{apart_all, long_map}
-use Rattle.label_space.proofs.OrderLemmas.{above_apart, all_put, below_apart, less_is, long_put, map_put, rising_filtered, rising_map, rising_put, same, unlike_below}
+use Rattle.label_space.proofs.OrderLemmas.{above_apart, all_put, less_is, long_put, map_put, rising_filtered, rising_map, rising_put, same, unlike_below}
 
 -- ---- no number twice
 

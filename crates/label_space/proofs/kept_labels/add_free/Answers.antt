@@ -1,5 +1,5 @@
 -- One number more was looked at.
-use Rattle.std.proofs.Common.{rules, ◌≡◌, ◌≤◌, ◌+◌, ◌∷◌, ℕ, All, map, heap_items, heap_len, length, nat_cmp, IsPermutation, arith, true, false}
+use Rattle.std.proofs.Common.{rules, ◌≡◌, ◌≤◌, ◌+◌, ◌∷◌, ℕ, All, map, heap_items, heap_len, nat_cmp, IsPermutation, arith, true, false}
 use Rattle.std.specs.BinaryHeap.{IsHeap, heap_capacity}
 use Rattle.std.specs.declared.cmp.Reverse.{Reverse}
 use Rattle.net_values.specs.Label.{IsLabel}

@@ -1,6 +1,6 @@
 -- One more waits.
-use Rattle.std.proofs.Common.{rules, ◌≡◌, ◌<◌, ◌≤◌, ◌+◌, ◌++◌, ◌∷◌, ◌∙◌, [], None, ap, sym, refl, length, heap_items, vec_capacity, arith}
-use Rattle.label_space.specs.Kept.{kept_at, put_in, waiting}
+use Rattle.std.proofs.Common.{rules, ◌≡◌, ◌<◌, ◌++◌, ◌∷◌, ◌∙◌, [], ap, refl, length, heap_items, vec_capacity, arith}
+use Rattle.label_space.specs.Kept.{kept_at, waiting}
 use Rattle.label_space.specs.Stored.{kept_of}
 use Rattle.label_space.proofs.StoredLemmas.{held_more, kept_more, long_kept}
 use Rattle.label_space.proofs.kept_labels.KeptLabels.keep.Goals as goal

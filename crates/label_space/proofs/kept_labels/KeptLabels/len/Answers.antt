@@ -1,5 +1,5 @@
 -- Each that is stored is kept.
-use Rattle.std.proofs.Common.{rules, ◌≡◌, ◌+◌, ◌∙◌, ap, sym, length, heap_items, arith}
+use Rattle.std.proofs.Common.{rules, ◌≡◌, ap, length, heap_items, arith}
 use Rattle.label_space.proofs.StoredLemmas.{long_kept}
 use Rattle.label_space.proofs.kept_labels.KeptLabels.len.Goals as goal
 

@@ -1,8 +1,7 @@
 -- The top of the heap is the least that is free.
-use Rattle.std.proofs.Common.{rules, ◌≡◌, ◌∙◌, ◌∷◌, None, Some, ap, sym, length, heap_items, nat_cmp, IsPermutation, subst}
+use Rattle.std.proofs.Common.{rules, ◌≡◌, ◌∙◌, ◌∷◌, Some, ap, sym, length, heap_items, nat_cmp, IsPermutation, subst}
 use Rattle.std.specs.Prelude.{IfSome}
 use Rattle.std.specs.BinaryHeap.{IsHeap, IsUpperBound}
-use Rattle.net_values.specs.Label.{IsLabel}
 use Rattle.label_space.specs.Kept.{kept_at, least_free, without_one}
 use Rattle.label_space.specs.declared.kept.KeptState.TheVariants as state
 use Rattle.label_space.specs.Stored.{kept_of}

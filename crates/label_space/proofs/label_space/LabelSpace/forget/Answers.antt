@@ -1,5 +1,5 @@
 -- What was owned is not kept yet.
-use Rattle.std.proofs.Common.{rules, ◌≡◌, ◌∙◌, Some, ap}
+use Rattle.std.proofs.Common.{rules, ◌∙◌, ap}
 use Rattle.std.specs.List.{find}
 use Rattle.label_space.specs.Labels.{LabelNumbers, owns}
 use Rattle.label_space.proofs.HeldLemmas.{held_freed, unkept_found}

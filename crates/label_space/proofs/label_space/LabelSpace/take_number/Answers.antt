@@ -1,5 +1,5 @@
 -- The next number was not given yet; one that is taken of the kept ones is owned by none.
-use Rattle.std.proofs.Common.{rules, ◌≡◌, ◌<◌, ◌∙◌, ap, vec_capacity, Some}
+use Rattle.std.proofs.Common.{rules, ◌≡◌, ◌<◌, ◌∙◌, ap, Some}
 use Rattle.label_space.specs.Labels.{LabelNumbers, owner_of, with_number_taken}
 use Rattle.label_space.specs.Kept.{kept_at}
 use Rattle.label_space.proofs.HeldLemmas.{held_next, held_without, taken_next, taken_out, taken_unowned}
