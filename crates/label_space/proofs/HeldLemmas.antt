@@ -6,11 +6,12 @@ use Rattle.std.proofs.lemmas.Bool.{cases_Bool}
 use Rattle.std.proofs.lemmas.Bool.Decides.{nat_tests}
 use Rattle.std.proofs.lemmas.List.Elements.{All-head, All-tail}
 use Rattle.net_base.specs.declared.plan.places.EdgeId.{EdgeId}
+use Rattle.net_base.specs.declared.plan.places.SegKey.{SegKey}
 use Rattle.label_space.specs.declared.kept.Kept.{Kept}
 use Rattle.label_space.specs.declared.kept.KeptState.TheVariants.{Free}
 use Rattle.label_space.specs.declared.owner.Owner.{Owner}
 use Rattle.label_space.specs.Kept.{kept_at, keeps, met, put_by, ticked, without, without_one}
-use Rattle.label_space.specs.Labels.{LabelNumbers, AreBelow, AreDistinctLabels, AreLeft, AreUnkept, IsHeldSpace, freed, freed_of, keeps_each, numbers_end, owned_label, owner_of, owns, with_number_taken}
+use Rattle.label_space.specs.Labels.{LabelNumbers, AreBelow, AreDistinctLabels, AreLeft, AreUnkept, IsHeldSpace, freed, freed_of, given_to, issued, keeps_each, numbers_end, owned_label, owner_of, owns, with_number_taken}
 use Rattle.label_space.proofs.KeptLemmas.{kept_without}
 use Rattle.label_space.proofs.LabelLemmas.{apart_owners, below_filtered, below_later, below_none, below_put, distinct_filtered, distinct_put, left_at, left_each, left_filtered, left_kept, left_later, left_met, left_none, left_owned, left_ticked, left_without, owner_of-find, owner_of-freed, owner_of-kept, owner_of-put, unkept_more, unkept_owned, without_next}
 use Rattle.label_space.proofs.OrderLemmas.{below_apart, is_same, long_filtered, long_put, rising_filtered, rising_put, same}
@@ -185,3 +186,17 @@ each_step owners i o start kept more within is so_far kept_is =
     let now : (keeps_each (o ∷ drop (i + 1) owners) kept ≡ keeps_each owners start) × AreDistinctLabels (o ∷ drop (i + 1) owners) × AreUnkept kept (o ∷ drop (i + 1) owners) =
     subst (λ (l : List Owner). (keeps_each l kept ≡ keeps_each owners start) × AreDistinctLabels l × AreUnkept kept l) whole so_far in
     rw kept_is (now.0, now.1.1, unkept_more o (drop (i + 1) owners) kept now.1.0 now.2.0 now.2.1)
+
+-- ---- how many labels are owned
+
+pub long_issued : (key : SegKey) (side : ℕ) (peer : EdgeId) (space now : LabelNumbers) → now ≡ issued key side peer space → length now.owners ≤ length space.owners + 1
+long_issued key side peer space now is = subst (λ (s : LabelNumbers). length s.owners ≤ length space.owners + 1) (sym is) (by (number_to_give space.next space.kept)) where
+  by : (r : Option ℕ) → length (given_to key side peer r space).owners ≤ length space.owners + 1
+  by None = omega arith
+  by (Some label) = omega (arith, long_put owned_label (record { label = label; key = key; side = side; peer = peer }) space.owners)
+
+pub long_freed : (label : ℕ) (space now : LabelNumbers) → now ≡ freed label space → length now.owners ≤ length space.owners
+long_freed label space now is = subst (λ (s : LabelNumbers). length s.owners ≤ length space.owners) (sym is) (by (find (owns label) space.owners)) where
+  by : (r : Option Owner) → length (freed_of label r space).owners ≤ length space.owners
+  by None = omega arith
+  by (Some owner) = long_filtered owned_label (λ o. not (owns label o)) space.owners

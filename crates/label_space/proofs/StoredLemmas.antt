@@ -8,7 +8,7 @@ use Rattle.std.specs.Ordering.{nat_cmp, is_lt}
 use Rattle.std.specs.declared.cmp.Reverse.{Reverse}
 use Rattle.std.proofs.lemmas.Bool.{cases_Bool}
 use Rattle.std.proofs.lemmas.Bool.Decides.{nat_tests}
-use Rattle.std.proofs.lemmas.List.{append_assoc, append-nil, length-append, take_more}
+use Rattle.std.proofs.lemmas.List.{append_assoc, append-nil, length-append, map-append, take_more}
 use Rattle.std.proofs.lemmas.List.Elements.{All-cons, All-head, All-nil, All-tail, All-weaker, filter-append}
 use Rattle.std.proofs.lemmas.List.Sorted.{All-permutation, IsPermutation-append_comm, IsPermutation-append_left, IsPermutation-append_right, IsPermutation-cons, IsPermutation-filter_both, IsPermutation-map, IsPermutation-middle, IsPermutation-push_more, IsPermutation-refl, IsPermutation-sym, IsPermutation-trans, length_permutation, list_any-IsPermutation, sum_by-IsPermutation}
 use Rattle.std.proofs.lemmas.List.Sums.{sum_by-cons}
@@ -74,9 +74,9 @@ rising_in_order [] one = tt
 rising_in_order (k ∷ ks) one =
     let here : has k.label k ≡ 1 = rw (same k.label) refl in
     rising_put label_of k 0 (in_order ks)
-        (all_in_order (λ o. (o.label == k.label) ≡ false) ks (apart_none k.label ks (omega (arith, here, one k.label, sum_by-cons (has k.label) k ks))))
-        (omega arith)
-        (rising_in_order ks (λ label. omega (arith, one label, sum_by-cons (has label) k ks)))
+    (all_in_order (λ o. (o.label == k.label) ≡ false) ks (apart_none k.label ks (omega (arith, here, one k.label, sum_by-cons (has k.label) k ks))))
+    (omega arith)
+    (rising_in_order ks (λ label. omega (arith, one label, sum_by-cons (has label) k ks)))
 
 put_moves : (k : Kept) (ks : List Kept) → IsPermutation (k ∷ ks) (put_in k ks)
 put_moves k [] = IsPermutation-refl (k ∷ [])
@@ -95,14 +95,14 @@ least_all : (from : ℕ) (ks : List Kept) → AreRisingBy label_of from ks → A
 least_all from [] rising = All-nil (λ k. from ≤ k.label)
 least_all from (x ∷ xs) rising =
     All-cons (λ k. from ≤ k.label) x xs rising.0
-        (All-weaker (λ k. x.label + 1 ≤ k.label) (λ k. from ≤ k.label) (λ k more. omega (arith, more, rising.0)) xs (least_all (x.label + 1) xs rising.1))
+    (All-weaker (λ k. x.label + 1 ≤ k.label) (λ k. from ≤ k.label) (λ k more. omega (arith, more, rising.0)) xs (least_all (x.label + 1) xs rising.1))
 
 rest_all : (x y : Kept) (xs ys : List Kept) → ((P : Kept → Type 0) → All P (x ∷ xs) → All P (y ∷ ys)) → x.label ≡ y.label → AreRisingBy label_of (y.label + 1) ys → (P : Kept → Type 0) → All P xs → All P ys
 rest_all x y xs ys there is rising P all =
     let past : All (λ k. x.label < k.label → P k) ys =
     All-tail (λ k. x.label < k.label → P k) y ys
-        (there (λ k. x.label < k.label → P k)
-        (All-cons (λ k. x.label < k.label → P k) x xs (λ less. absurd (omega (arith, less))) (All-weaker P (λ k. x.label < k.label → P k) (λ k p less. p) xs all))) in
+    (there (λ k. x.label < k.label → P k)
+    (All-cons (λ k. x.label < k.label → P k) x xs (λ less. absurd (omega (arith, less))) (All-weaker P (λ k. x.label < k.label → P k) (λ k p less. p) xs all))) in
     let least : All (λ k. y.label + 1 ≤ k.label) ys = least_all (y.label + 1) ys rising in
     λ i d within. past i d within (omega (arith, least i d within, is))
 
@@ -116,9 +116,9 @@ rising_same from to (x ∷ xs) (y ∷ ys) there back first second =
     let level : x.label ≡ y.label = omega (arith, low, high) in
     let head : y ≡ x =
     All-head (λ k. k.label ≡ x.label → k ≡ x) y ys
-        (there (λ k. k.label ≡ x.label → k ≡ x)
-        (All-cons (λ k. k.label ≡ x.label → k ≡ x) x xs (λ is. refl)
-        (All-weaker (λ k. x.label + 1 ≤ k.label) (λ k. k.label ≡ x.label → k ≡ x) (λ k more is. absurd (omega (arith, more, is))) xs (least_all (x.label + 1) xs first.1)))) (sym level) in
+    (there (λ k. k.label ≡ x.label → k ≡ x)
+    (All-cons (λ k. k.label ≡ x.label → k ≡ x) x xs (λ is. refl)
+    (All-weaker (λ k. x.label + 1 ≤ k.label) (λ k. k.label ≡ x.label → k ≡ x) (λ k more is. absurd (omega (arith, more, is))) xs (least_all (x.label + 1) xs first.1)))) (sym level) in
     let rest : xs ≡ ys = rising_same (x.label + 1) (y.label + 1) xs ys (rest_all x y xs ys there level second.1) (rest_all y x ys xs back (sym level) first.1) first.1 second.1 in
     ap (λ (k : Kept). k ∷ xs) (sym head) ∙ ap (λ (l : List Kept). y ∷ l) rest
   where
@@ -152,10 +152,6 @@ one_more new ws rs fs none rising =
 
 -- ---- each changed, and some moved
 
-map_append : (f : Kept → Kept) (xs ys : List Kept) → map f (xs ++ ys) ≡ map f xs ++ map f ys
-map_append f [] ys = refl
-map_append f (x ∷ xs) ys = ap (λ (l : List Kept). f x ∷ l) (map_append f xs ys)
-
 both_ways : (p : Kept → Bool) (ks : List Kept) → IsPermutation ks (filter (λ k. not (p k)) ks ++ filter p ks)
 both_ways p ks = IsPermutation-filter_both (λ k. not (p k)) p (λ k. twice (p k)) ks where
   twice : (b : Bool) → b ≡ not (not b)
@@ -171,7 +167,7 @@ some_move p ws rs fs =
     let behind : IsPermutation (go ++ (rs ++ fs)) ((rs ++ go) ++ fs) =
     subst (λ (l : List Kept). IsPermutation l ((rs ++ go) ++ fs)) (append_assoc go rs fs) (IsPermutation-append_left fs (go ++ rs) (rs ++ go) (IsPermutation-append_comm go rs)) in
     IsPermutation-trans (ws ++ (rs ++ fs)) ((stay ++ go) ++ (rs ++ fs)) (stay ++ ((rs ++ go) ++ fs)) parted
-        (subst (λ (l : List Kept). IsPermutation l (stay ++ ((rs ++ go) ++ fs))) (sym (append_assoc stay go (rs ++ fs))) (IsPermutation-append_right stay (go ++ (rs ++ fs)) ((rs ++ go) ++ fs) behind))
+    (subst (λ (l : List Kept). IsPermutation l (stay ++ ((rs ++ go) ++ fs))) (sym (append_assoc stay go (rs ++ fs))) (IsPermutation-append_right stay (go ++ (rs ++ fs)) ((rs ++ go) ++ fs) behind))
 
 -- a connection lets only what waits rest
 met_rests : (peer : EdgeId) (ks : List Kept) → AllByRecursion (λ k. rests k ≡ true) ks → met peer ks ≡ ks
@@ -190,8 +186,8 @@ pub met_kept : (peer : EdgeId) (ws rs : List Kept) (fs : List (Reverse ℕ)) →
     → kept_of (filter (λ k. not (rests k)) (met peer ws)) (rs ++ filter rests (met peer ws)) fs ≡ met peer (kept_of ws rs fs)
 met_kept peer ws rs fs rest rising =
     let each : met peer (stored ws rs fs) ≡ stored (met peer ws) rs fs =
-    map_append (met_one peer) ws (rs ++ map freed_number fs)
-    ∙ ap (λ (l : List Kept). met peer ws ++ l) (map_append (met_one peer) rs (map freed_number fs) ∙ ap (λ (l : List Kept). l ++ met peer (map freed_number fs)) (met_rests peer rs rest) ∙ ap (λ (l : List Kept). rs ++ l) (met_free peer fs)) in
+    map-append (met_one peer) ws (rs ++ map freed_number fs)
+    ∙ ap (λ (l : List Kept). met peer ws ++ l) (map-append (met_one peer) rs (map freed_number fs) ∙ ap (λ (l : List Kept). l ++ met peer (map freed_number fs)) (met_rests peer rs rest) ∙ ap (λ (l : List Kept). rs ++ l) (met_free peer fs)) in
     let whole : met peer (kept_of ws rs fs) ≡ kept_of (met peer ws) rs fs = map_in_order (met_one peer) (λ k. refl) (stored ws rs fs) ∙ ap in_order each in
     let rises : AreRisingBy label_of 0 (kept_of (met peer ws) rs fs) = subst (AreRisingBy label_of 0) whole (rising_map label_of (met_one peer) (λ k. refl) 0 (kept_of ws rs fs) rising) in
     same_kept (stored (met peer ws) rs fs) (stored (filter (λ k. not (rests k)) (met peer ws)) (rs ++ filter rests (met peer ws)) fs) rises (some_move rests (met peer ws) rs (map freed_number fs)) ∙ sym whole
@@ -238,18 +234,18 @@ pub ticked_kept : (ws rs : List Kept) (fs gs : List (Reverse ℕ)) → AllByRecu
     → kept_of ws (filter (λ k. not (is_free k)) (ticked rs)) gs ≡ ticked (kept_of ws rs fs)
 ticked_kept ws rs fs gs wait rising freed =
     let each : ticked (stored ws rs fs) ≡ stored ws (ticked rs) fs =
-    map_append ticked_one ws (rs ++ map freed_number fs)
+    map-append ticked_one ws (rs ++ map freed_number fs)
     ∙ ap (λ (l : List Kept). l ++ ticked (rs ++ map freed_number fs)) (ticked_waits ws wait)
-    ∙ ap (λ (l : List Kept). ws ++ l) (map_append ticked_one rs (map freed_number fs) ∙ ap (λ (l : List Kept). ticked rs ++ l) (ticked_free fs)) in
+    ∙ ap (λ (l : List Kept). ws ++ l) (map-append ticked_one rs (map freed_number fs) ∙ ap (λ (l : List Kept). ticked rs ++ l) (ticked_free fs)) in
     let whole : ticked (kept_of ws rs fs) ≡ kept_of ws (ticked rs) fs = map_in_order ticked_one (λ k. refl) (stored ws rs fs) ∙ ap in_order each in
     let rises : AreRisingBy label_of 0 (kept_of ws (ticked rs) fs) = subst (AreRisingBy label_of 0) whole (rising_map label_of ticked_one (λ k. refl) 0 (kept_of ws rs fs) rising) in
     let stay : List Kept = filter (λ k. not (is_free k)) (ticked rs) in
     let go : List Kept = filter is_free (ticked rs) in
     let moved : IsPermutation (ticked rs ++ map freed_number fs) (stay ++ map freed_number gs) =
     IsPermutation-trans (ticked rs ++ map freed_number fs) (stay ++ (map freed_number fs ++ go)) (stay ++ map freed_number gs)
-        (subst (λ (l : List Kept). IsPermutation (ticked rs ++ map freed_number fs) (stay ++ l)) (append-nil (map freed_number fs ++ go))
-        (subst (λ (l : List Kept). IsPermutation (ticked rs ++ l) (stay ++ ((map freed_number fs ++ go) ++ []))) (append-nil (map freed_number fs)) (some_move is_free (ticked rs) (map freed_number fs) [])))
-        (IsPermutation-append_right stay (map freed_number fs ++ go) (map freed_number gs) freed) in
+    (subst (λ (l : List Kept). IsPermutation (ticked rs ++ map freed_number fs) (stay ++ l)) (append-nil (map freed_number fs ++ go))
+    (subst (λ (l : List Kept). IsPermutation (ticked rs ++ l) (stay ++ ((map freed_number fs ++ go) ++ []))) (append-nil (map freed_number fs)) (some_move is_free (ticked rs) (map freed_number fs) [])))
+    (IsPermutation-append_right stay (map freed_number fs ++ go) (map freed_number gs) freed) in
     same_kept (stored ws (ticked rs) fs) (stored ws stay gs) rises (IsPermutation-append_right ws (ticked rs ++ map freed_number fs) (stay ++ map freed_number gs) moved) ∙ sym whole
 
 pub still_rest : (ks : List Kept) → AllByRecursion (λ k. rests k ≡ true) ks → AllByRecursion (λ k. rests k ≡ true) (filter (λ k. not (is_free k)) (ticked ks))
@@ -493,7 +489,7 @@ freed_more old ks i k n gs hs within is free number so_far pushed =
     let next : old ++ filter is_free (take (i + 1) ks) ≡ (old ++ filter is_free (take i ks)) ++ k ∷ [] =
     ap (λ (l : List Kept). old ++ l) (next_filtered ks i k within is ∙ rw free refl) ∙ sym (append_assoc old (filter is_free (take i ks)) (k ∷ [])) in
     subst (λ (l : List Kept). IsPermutation l (map freed_number hs)) (sym next)
-        (IsPermutation-push_more (old ++ filter is_free (take i ks)) (map freed_number gs) (map freed_number hs) k so_far (subst (λ (x : Kept). IsPermutation (x ∷ map freed_number gs) (map freed_number hs)) one (IsPermutation-map freed_number (n ∷ gs) hs pushed)))
+    (IsPermutation-push_more (old ++ filter is_free (take i ks)) (map freed_number gs) (map freed_number hs) k so_far (subst (λ (x : Kept). IsPermutation (x ∷ map freed_number gs) (map freed_number hs)) one (IsPermutation-map freed_number (n ∷ gs) hs pushed)))
   where
     state_free : (s : KeptState) → is_free_state s ≡ true → s ≡ Free
     state_free (Waits peer) is = absurd (true≢false (sym is))

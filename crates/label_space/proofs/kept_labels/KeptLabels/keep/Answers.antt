@@ -16,7 +16,7 @@ pub invariant_of-self : goal.invariant_of-self
 invariant_of-self c =
     let few : length (kept_of c.self.inside.waiting.items c.self.inside.resting.items (heap_items c.self.inside.free)) < 4096 = rw c.self.view_is (search rules) in
     held_more (waiting c.args.label c.args.peer) (vec_capacity c.self.inside.waiting) (vec_capacity c.push.new.self) (vec_capacity c.self.inside.resting) _ c.self.inside.waiting.items c.push.new.self.items c.self.inside.resting.items (heap_items c.self.inside.free)
-        c.self.invariant (ap (kept_at c.args.label) c.self.view_is ∙ c.requires) refl few (search rules) (search rules)
+    c.self.invariant (ap (kept_at c.args.label) c.self.view_is ∙ c.requires) refl few (search rules) (search rules)
 
 pub returns-then-len-lt-MOST_KEPT : goal.returns-then-len-lt-MOST_KEPT
 returns-then-len-lt-MOST_KEPT c =
