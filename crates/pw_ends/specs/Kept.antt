@@ -1,14 +1,16 @@
 -- What always holds of the pseudowire ends of an edge.
 use Rattle.std.specs.Prelude.{◌≡◌, ◌≢◌, ◌≤◌, ◌+◌, ℕ, Bool, false, List, [], ◌∷◌, Option, Some, None, length, map, position}
-use Rattle.std.specs.List.{AllByRecursion}
+use Rattle.std.specs.List.{AllByRecursion, find}
 use Rattle.net_base.specs.declared.plan.places.SegKey.{SegKey}
 use Rattle.label_space.specs.declared.owner.Owner.{Owner}
-use Rattle.label_space.specs.Labels.{AreBelow, LabelNumbers, freed, owner_of}
+use Rattle.label_space.specs.Labels.{LabelNumbers, freed, owner_of, owns}
+use Rattle.label_space.specs.Laws.{AreApart as AreNumbersApart}
 use Rattle.pw_signalling.specs.End.{EndState, fresh}
 use Rattle.pw_signalling.specs.Laws.{own_label}
 use Rattle.edge_model.specs.declared.end_place.EndPlace.{EndPlace}
-use Rattle.pw_ends.specs.Ends.{HasKind, Holds, is_label}
 use Rattle.edge_model.specs.EndPlaces.{is_at}
+use Rattle.edge_model.specs.Labels.{owner_at}
+use Rattle.pw_ends.specs.Ends.{HasKind, Holds, is_label}
 use Rattle.pw_ends.specs.Owned.{OwnedList, slot_of}
 
 -- no two places are of one wire and beside one neighbour
@@ -29,10 +31,10 @@ IsOwned owners (Some label) = owner_of label owners ≢ None
 abbrev pub segment_of : EndPlace → SegKey
 segment_of place = record { wire = place.wire; segment = place.segment }
 
--- the label space says that the end at a place owns the label: the end at that side of that segment
+-- the label space says that the end at a place owns the label: the end at that side of that segment, for the neighbour beside it
 abbrev pub IsOwner : List Owner → EndPlace → Option ℕ → Type 0
 IsOwner owners place None = Unit {0}
-IsOwner owners place (Some label) = owner_of label owners ≡ Some (segment_of place, place.side)
+IsOwner owners place (Some label) = find (owns label) owners ≡ Some (owner_at place label)
 
 abbrev pub AreOwners : List Owner → List EndPlace → List (Option ℕ) → Type 0
 AreOwners owners [] owns = Unit {0}
@@ -64,12 +66,13 @@ abbrev pub count_owned : List (Option ℕ) → ℕ
 count_owned [] = 0
 count_owned (own ∷ others) = one_owned own + count_owned others
 
--- what the ends own is owned in the label space, each label by one end, and nothing else is
+-- what the ends own is owned in the label space, each label by one end, and nothing else is; no label that is owned is kept to be given
+-- again
 pub record OwnTheirs (owns : List (Option ℕ)) (labels : LabelNumbers) : Type 0 where
   pub owned : AllByRecursion (IsOwned labels.owners) owns
   pub apart : OwnApart owns
   pub few : length labels.owners ≤ count_owned owns
-  pub given : AreBelow labels.next labels.owners
+  pub numbers : AreNumbersApart labels
 
 -- the labels of the label space, each with the slot of the end that owns it
 pub record IsIndex (owns : List (Option ℕ)) (labels : LabelNumbers) (index : OwnedList) : Type 0 where
@@ -100,12 +103,7 @@ pub record AreMarked (places : List EndPlace) (ends : List EndState) (labels : L
   pub kept : AreKept places ends labels index
   pub untold : AreUntold marks places ends
 
--- the label that was owned, and is not any more
-abbrev pub left_label : Option ℕ → Option ℕ → Option ℕ
-left_label None after = None
-left_label (Some label) None = Some label
-left_label (Some label) (Some other) = None
-
+-- the label that an end has left is freed
 abbrev pub freed_one : Option ℕ → LabelNumbers → LabelNumbers
 freed_one None labels = labels
 freed_one (Some label) labels = freed label labels

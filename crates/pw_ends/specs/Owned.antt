@@ -1,6 +1,7 @@
 -- The labels that are owned, each with the slot of its end.
-use Rattle.std.specs.Prelude.{◌≤◌, ◌<◌, ◌==◌, ◌++◌, not, nat_lt, ℕ, Bool, List, [], ◌∷◌, length, filter, All, AllPairs, Option, Some, None, option_map}
+use Rattle.std.specs.Prelude.{◌≤◌, ◌==◌, not, nat_lt, ℕ, Bool, List, length, filter, Option, Some, None, option_map}
 use Rattle.std.specs.List.{find}
+use Rattle.label_space.specs.Kept.{AreRisingBy, put_by}
 use Rattle.pw_ends.specs.declared.owned_labels.OwnedLabel.{OwnedLabel}
 
 -- the most labels that are owned at once, and those that are, in rising order
@@ -11,7 +12,10 @@ pub record OwnedList : Type 0 where
 abbrev pub has_label : ℕ → OwnedLabel → Bool
 has_label label owned = owned.label == label
 
--- the label was given before the number
+abbrev pub label_in : OwnedLabel → ℕ
+label_in owned = owned.label
+
+-- the label is smaller than the number
 abbrev pub is_earlier : ℕ → OwnedLabel → Bool
 is_earlier number owned = nat_lt owned.label number
 
@@ -19,9 +23,9 @@ is_earlier number owned = nat_lt owned.label number
 abbrev pub slot_of : ℕ → List OwnedLabel → Option ℕ
 slot_of label labels = option_map (λ owned. owned.slot) (find (has_label label) labels)
 
--- a label that is larger than all others is owned by the end of a slot
+-- a label is owned by the end of a slot; it stands at its place among the others
 abbrev pub with_owner : ℕ → ℕ → OwnedList → OwnedList
-with_owner label slot owned = record owned { labels = owned.labels ++ record { label = label; slot = slot } ∷ [] }
+with_owner label slot owned = record owned { labels = put_by label_in (record { label = label; slot = slot }) owned.labels }
 
 -- a label is owned no longer
 abbrev pub without : ℕ → OwnedList → OwnedList
@@ -31,12 +35,8 @@ abbrev pub without_one : Option ℕ → OwnedList → OwnedList
 without_one None owned = owned
 without_one (Some label) owned = without label owned
 
--- every label was given before the number
-abbrev pub AreEarlier : ℕ → List OwnedLabel → Type 0
-AreEarlier number labels = All (λ o. o.label < number) labels
-
 abbrev pub AreRising : List OwnedLabel → Type 0
-AreRising labels = AllPairs (λ first second. first.label < second.label) labels
+AreRising labels = AreRisingBy label_in 0 labels
 
 -- the labels rise, and keep within the room that was reserved
 pub record IsOwnedList (room reserved : ℕ) (labels : List OwnedLabel) : Type 0 where

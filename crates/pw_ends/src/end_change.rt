@@ -22,8 +22,8 @@ pub enum EndChange {
     /// absent or its own.
     Unbound(Option<Label>),
     /// A Label Release came (RFC 5036 section 3.5.11), with this label or without one: where the label is absent or the end's
-    /// own, what was withdrawn is released and what is advertised is declined; the end is idle, and its label is free. A release
-    /// of another label changes nothing.
+    /// own, what was withdrawn is released and what is advertised is declined; the end is idle, and the number of its label waits
+    /// for the peer. A release of another label changes nothing.
     Released(Option<Label>),
     /// A Notification with this status came (RFC 8077 section 6.3.2): it is that of the binding, where one is held.
     Stated(PwStatus),
@@ -31,8 +31,8 @@ pub enum EndChange {
     GroupUnbound(u32),
     /// A Notification of this whole group with this status came (RFC 8077 section 6.5): it is that of a binding of the group.
     GroupStated(u32, PwStatus),
-    /// The session with its peer is lost: the end is idle, not declined, and holds no binding, and its label is free (RFC 5036
-    /// section 3.5.1.1).
+    /// The session with its peer is lost: the end is idle, not declined, and holds no binding (RFC 5036 section 3.5.1.1), and the
+    /// number of its label waits for the peer.
     Lost,
 }
 

@@ -23,6 +23,15 @@ pub(crate) fn idle_ends(alloc: Global, count: usize) -> Result<Vec<PwEnd>, NoMem
     Ok(ends)
 }
 
+/// Each end is as it was where nothing was told of it.
+pub(crate) fn make_idle(ends: &mut Vec<PwEnd>)
+    ensures { map end_of ends.new.items ≡ replicate (length ends.old.items) fresh }
+{
+    for slot in 0..ends.len() {
+        ends[slot] = PwEnd::Idle(PwIdle::new());
+    }
+}
+
 /// The label that the end of a slot owns: from its advertisement until it is idle.
 #[tactic(auto, using(pw_signalling::proofs::EndsLemmas::moves, crate::proofs::SlotLemmas::look_at))]
 pub(crate) fn own_label_at(ends: &[PwEnd], slot: usize) -> Option<Label>

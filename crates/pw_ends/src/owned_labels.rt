@@ -1,8 +1,10 @@
 //! Slots by the labels that their ends own.
-ghost use Rattle.std.specs.Prelude.{◌≡◌, ◌<◌, [], not, filter, length, slice_get, vec_capacity, IfOk};
-ghost use Rattle.std.specs.List.{find};
+ghost use Rattle.std.specs.Prelude.{◌≡◌, ◌≤◌, ◌<◌, [], None, not, filter, length, slice_get, vec_capacity, IfOk};
+ghost use Rattle.std.specs.List.{find, insert};
 ghost use Rattle.hvpls_spokes.specs.Search.{kept_if};
-ghost use Rattle.pw_ends.specs.Owned.{AreEarlier, AreRising, has_label, slot_of, with_owner, without};
+ghost use Rattle.label_space.specs.Kept.{put_by};
+ghost use Rattle.pw_ends.specs.declared.owned_labels.OwnedLabel.{OwnedLabel};
+ghost use Rattle.pw_ends.specs.Owned.{AreRising, has_label, label_in, slot_of, with_owner, without};
 
 use net_base::{Label, NoMemory};
 use std::alloc::Global;
@@ -36,7 +38,6 @@ impl Model for OwnedLabels {
 
 impl OwnedLabels {
     /// No label is owned, and memory for so many is taken.
-    #[tactic(auto, using(crate::proofs::OwnedLemmas::rising_none))]
     pub(crate) fn open(alloc: Global, room: usize) -> Result<OwnedLabels, NoMemory>
         ensures { IfOk result (λ owned. owned ≡ record { room = room; labels = [] }) }
     {
@@ -46,14 +47,17 @@ impl OwnedLabels {
         })
     }
 
-    /// The end of a slot owns a label that is larger than all others.
-    #[tactic(auto, using(crate::proofs::OwnedLemmas::rising_pushed))]
+    /// The end of a slot owns a label that no end owned.
     pub(crate) fn add(&mut self, label: Label, slot: usize)
         requires room { length self.old.labels < self.old.room }
-        requires larger { AreEarlier label self.old.labels }
+        requires unowned { slot_of label self.old.labels ≡ None }
         ensures { self.new ≡ with_owner label slot self.old }
     {
-        self.labels.push(OwnedLabel { label, slot }).unwrap();
+        let place = count_before(self.labels.as_slice(), label.number());
+        // The memory for it was taken where this was opened.
+        self.labels
+            .insert(place, OwnedLabel { label, slot })
+            .unwrap();
     }
 
     /// No end owns the label any more.
@@ -61,6 +65,13 @@ impl OwnedLabels {
         ensures { self.new ≡ without label self.old }
     {
         forget(&mut self.labels, label);
+    }
+
+    /// No label is owned any more.
+    pub(crate) fn clear(&mut self)
+        ensures { self.new ≡ record { room = self.old.room; labels = [] } }
+    {
+        self.labels.clear();
     }
 
     /// The slot of the end that owns the label with this number.
@@ -90,10 +101,13 @@ fn is_same(owned: &OwnedLabel, number: u32) -> bool
     owned.label.number() == number
 }
 
-// How many labels are smaller than a number. A search by a closure is proved where it stands alone.
+// How many labels are smaller than a number: where its label stands, or would. A search by a closure is proved where it stands
+// alone.
 fn count_before(labels: &[OwnedLabel], number: u32) -> usize
     requires { AreRising labels.now }
-    ensures { find (has_label number) labels.now ≡ kept_if (has_label number) (slice_get labels.now result) }
+    ensures within { result ≤ length labels.now }
+    ensures place { (new : OwnedLabel) → new.label ≡ number → insert labels.now result new ≡ put_by label_in new labels.now }
+    ensures found { find (has_label number) labels.now ≡ kept_if (has_label number) (slice_get labels.now result) }
 {
     labels.partition_point(|owned| owned.label.number() < number)
 }

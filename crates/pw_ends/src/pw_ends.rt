@@ -1,22 +1,25 @@
 //! The pseudowire ends of an edge.
-ghost use Rattle.std.specs.Prelude.{◌≡◌, ◌≤◌, ◌<◌, ◌+◌, ◌==◌, ◌↔◌, ℕ, Some, None, [], true, length, map, position, replicate, slice_get, option_and_then, option_map, IfOk, IfSome};
+ghost use Rattle.std.specs.Prelude.{◌≡◌, ◌≤◌, ◌<◌, ◌==◌, ◌↔◌, ℕ, List, Some, None, [], true, length, map, position, replicate, slice_get, is_some, option_and_then, option_map, IfOk, IfSome};
 ghost use Rattle.std.specs.List.{find, list_any};
 ghost use Rattle.net_base.specs.plan.Accepted.{IsChecked};
-ghost use Rattle.label_space.specs.Labels.{numbers_end, opened_space, owner_of};
+ghost use Rattle.label_space.specs.declared.kept.Kept.{Kept};
+ghost use Rattle.label_space.specs.Kept.{without};
+ghost use Rattle.label_space.specs.Labels.{meeting, next_after, number_to_give, numbers_end, opened_space, owner_of, ticking};
 ghost use Rattle.pw_signalling.specs.AnyEnd.{end_of};
 ghost use Rattle.pw_signalling.specs.End.{fresh};
 ghost use Rattle.pw_signalling.specs.Laws.{own_label};
 ghost use Rattle.pw_signalling.specs.Rows.{advertised, bound, group_unbound, lost, withdrawn};
 ghost use Rattle.edge_model.specs.EndPlaces.{end_places, is_at, is_end_of_wire, is_named, is_of_wire};
+ghost use Rattle.edge_model.specs.Labels.{keeps_lost, keeps_one, keeps_owned, left_label, owners_of};
 ghost use Rattle.edge_model.specs.Packet.{advertises_label};
 ghost use Rattle.edge_model.specs.State.{first_label};
-ghost use Rattle.pw_ends.specs.Changes.{changed, changed_each, changed_in};
-ghost use Rattle.pw_ends.specs.Kept.{AreApart, IsOwner, freed_one, left_label, segment_of};
+ghost use Rattle.pw_ends.specs.Changes.{changed, changed_each, changed_in, keeps_changed, keeps_meant};
+ghost use Rattle.pw_ends.specs.Kept.{AreApart, IsOwner, freed_one, segment_of};
 ghost use Rattle.pw_ends.specs.Owned.{without_one};
 ghost use Rattle.pw_ends.specs.Ends.{CanHold, HasKind, Holds, IsIdle, changed_at, changed_beside, end_in, end_there, owns_label, place_of, renewed_of, seen_ends};
 
 use crate::end_change::EndChange;
-use crate::end_slots::{advertise_at, bind_at, change_at, idle_ends, own_label_at};
+use crate::end_slots::{advertise_at, bind_at, change_at, idle_ends, make_idle, own_label_at};
 use crate::owned_labels::OwnedLabels;
 use crate::peer_marks::PeerMarks;
 use crate::place_list::PlaceList;
@@ -63,6 +66,7 @@ impl PwEnds {
         ensures places { IfOk result (λ ends. ends.places ≡ end_places plan.now me) }
         ensures seen { IfOk result (λ ends. seen_ends ends ≡ (λ wire peer. fresh)) }
         ensures next { IfOk result (λ ends. ends.labels.next ≡ first_label plan.now me) }
+        ensures kept { IfOk result (λ ends. ends.labels.kept ≡ []) }
     {
         // What is made first is dropped on every later way, so the places go by value to what makes the rest.
         match PlaceList::open(alloc, plan, me) {
@@ -81,6 +85,7 @@ impl PwEnds {
         ensures places { IfOk result (λ ends. ends.places ≡ places) }
         ensures seen { IfOk result (λ ends. seen_ends ends ≡ (λ wire peer. fresh)) }
         ensures next { IfOk result (λ ends. ends.labels.next ≡ first) }
+        ensures kept { IfOk result (λ ends. ends.labels.kept ≡ []) }
     {
         match idle_slots(alloc, first, places.len()) {
             Ok(slots) => Ok(PwEnds {
@@ -178,7 +183,7 @@ impl PwEnds {
     }
 
     /// The end of a slot. Where it advertises, its PW type has 15 bits. A label that it owns is that of its segment and side
-    /// in the label space. What it holds can be told on.
+    /// in the label space, given for its peer. What it holds can be told on.
     #[tactic(auto, using(crate::proofs::SlotLemmas::seen_at, crate::proofs::KeptLemmas::slot_within, crate::proofs::KeptLemmas::ends_at, pw_signalling::proofs::EndsLemmas::moves))]
     pub fn end(&self, slot: usize) -> &PwEnd
         requires slot { slot < length self.now.places }
@@ -190,7 +195,7 @@ impl PwEnds {
         &self.ends[slot]
     }
 
-    /// The label that is given next, 16 to 1048576; at 1048576 no label is left.
+    /// The number that is given next, 16 to 1048576; at 1048576 only numbers that are free again are given.
     pub fn next_label(&self) -> u32
         ensures label { result ≡ self.now.labels.next }
         ensures above { 16 ≤ result }
@@ -199,8 +204,15 @@ impl PwEnds {
         self.labels.next_number()
     }
 
-    /// The labels that the ends own, each with the segment and the side of its end, and the number that is given next (RFC 5036
-    /// section 2.6.3).
+    /// Whether a label is left to be given: the next number, or one that is free again.
+    pub fn has_label(&self) -> bool
+        ensures left { result ≡ is_some (number_to_give self.now.labels.next self.now.labels.kept) }
+    {
+        self.labels.has_number()
+    }
+
+    /// The labels that the ends own, each with the segment and the side of its end, the number that is given next, and the numbers
+    /// that are kept to be given again (RFC 5036 section 2.6.3).
     pub fn labels(&self) -> &LabelSpace
         ensures labels { result.now ≡ self.now.labels }
         ensures owners { (label : ℕ) → owner_of label result.now.owners ≡ option_map (λ place. (segment_of place, place.side)) (find (λ place. owns_label label (end_there self.now place)) self.now.places) }
@@ -248,20 +260,21 @@ impl PwEnds {
         self.owned.slot(number)
     }
 
-    /// A Label Mapping with the next label and this content is put for an idle end, which then owns the label (RFC 5036
-    /// section 3.5.7): the label space has it as the label of the end's segment and side. `None` exactly where no label is
-    /// left, and then nothing has changed.
-    #[tactic(auto, using(crate::proofs::KeptLemmas::room_for, crate::proofs::KeptLemmas::index_room, crate::proofs::KeptLemmas::index_larger, crate::proofs::KeptLemmas::slot_within, crate::proofs::KeptLemmas::next_issued, crate::proofs::SlotLemmas::seen_at))]
+    /// A Label Mapping with a label and this content is put for an idle end, which then owns the label (RFC 5036 section 3.5.7):
+    /// the next number, or, where that is past the largest label, the least that is free again. The label space has it as the
+    /// label of the end's segment and side. `None` exactly where no label is left, and then nothing has changed.
+    #[tactic(auto, using(crate::proofs::KeptLemmas::room_for, crate::proofs::KeptLemmas::index_room, crate::proofs::KeptLemmas::index_unowned, crate::proofs::KeptLemmas::slot_within, crate::proofs::KeptLemmas::given_steps, crate::proofs::SlotLemmas::seen_at))]
     pub fn advertise(&mut self, slot: usize, told: &Told) -> Option<Label>
         requires slot { slot < length self.old.places }
         requires idle { IsIdle (end_in self.old slot).local }
         requires kind { told.now.kind ≤ 0x7FFF }
         ensures places { self.new.places ≡ self.old.places }
-        ensures none { (result ≡ None) ↔ (self.old.labels.next ≡ numbers_end) }
+        ensures none { (result ≡ None) ↔ (number_to_give self.old.labels.next self.old.labels.kept ≡ None) }
         ensures unchanged { result ≡ None → self.new ≡ self.old }
-        ensures label { IfSome result (λ label. label ≡ self.old.labels.next) }
+        ensures label { IfSome result (λ label. number_to_give self.old.labels.next self.old.labels.kept ≡ Some label) }
         ensures owner { IfSome result (λ label. owner_of label self.new.labels.owners ≡ Some (segment_of (place_of self.old slot), (place_of self.old slot).side)) }
-        ensures next { IfSome result (λ label. self.new.labels.next ≡ self.old.labels.next + 1) }
+        ensures next { IfSome result (λ label. self.new.labels.next ≡ next_after self.old.labels.next) }
+        ensures kept { IfSome result (λ label. self.new.labels.kept ≡ without label self.old.labels.kept) }
         ensures seen { IfSome result (λ label. seen_ends self.new ≡ changed_at (place_of self.old slot) (advertised label told.now) (seen_ends self.old)) }
     {
         let place = self.places.place(slot);
@@ -269,7 +282,7 @@ impl PwEnds {
             wire: place.wire,
             segment: place.segment,
         };
-        let Ok(label) = self.labels.issue(key, place.side) else {
+        let Ok(label) = self.labels.issue(key, place.side, place.peer) else {
             return None;
         };
         advertise_at(&mut self.ends, slot, label, told);
@@ -284,6 +297,7 @@ impl PwEnds {
         requires slot { slot < length self.old.places }
         ensures places { self.new.places ≡ self.old.places }
         ensures next { self.new.labels.next ≡ self.old.labels.next }
+        ensures kept { self.new.labels.kept ≡ self.old.labels.kept }
         ensures seen { seen_ends self.new ≡ changed_at (place_of self.old slot) withdrawn (seen_ends self.old) }
     {
         self.change(slot, &EndChange::Withdrawn);
@@ -294,6 +308,7 @@ impl PwEnds {
     pub fn renew(&mut self, wire: WireId)
         ensures places { self.new.places ≡ self.old.places }
         ensures next { self.new.labels.next ≡ self.old.labels.next }
+        ensures kept { self.new.labels.kept ≡ self.old.labels.kept }
         ensures seen { seen_ends self.new ≡ renewed_of wire (seen_ends self.old) }
     {
         self.change_each(WhichEnds::OfWire(wire), &EndChange::Renewed);
@@ -307,6 +322,7 @@ impl PwEnds {
         requires holds { CanHold (place_of self.old slot) binding.now.told }
         ensures places { self.new.places ≡ self.old.places }
         ensures next { self.new.labels.next ≡ self.old.labels.next }
+        ensures kept { self.new.labels.kept ≡ self.old.labels.kept }
         ensures seen { seen_ends self.new ≡ changed_at (place_of self.old slot) (bound binding.now) (seen_ends self.old) }
     {
         let peer = self.places.place(slot).peer;
@@ -318,27 +334,32 @@ impl PwEnds {
     pub fn on_group_withdraw(&mut self, peer: EdgeId, group: u32)
         ensures places { self.new.places ≡ self.old.places }
         ensures next { self.new.labels.next ≡ self.old.labels.next }
+        ensures kept { self.new.labels.kept ≡ self.old.labels.kept }
         ensures seen { seen_ends self.new ≡ changed_beside peer (group_unbound group) (seen_ends self.old) }
     {
         self.change_beside(peer, &EndChange::GroupUnbound(group));
     }
 
-    /// Each end beside a peer is changed: by what it tells of a whole group, for one. The next label stays.
+    /// Each end beside a peer is changed: by what it tells of a whole group, for one. The number of a label that an end owns no
+    /// longer waits for the peer, in the order of the ends; the next number stays.
     #[tactic(auto, using(crate::proofs::SlotLemmas::seen_steps, crate::proofs::SlotLemmas::fresh_stays))]
     pub fn change_beside(&mut self, peer: EdgeId, change: &EndChange)
         ensures places { self.new.places ≡ self.old.places }
         ensures next { self.new.labels.next ≡ self.old.labels.next }
+        ensures kept { self.new.labels.kept ≡ keeps_changed peer (changed change.now) (seen_ends self.old) self.old.places self.old.labels.kept }
         ensures seen { seen_ends self.new ≡ changed_beside peer (changed change.now) (seen_ends self.old) }
     {
         self.change_each(WhichEnds::Beside(peer), change);
     }
 
-    /// The session with a peer is lost: each end beside it is idle, not declined, and holds no binding, and its label is free
-    /// (RFC 5036 section 3.5.1.1). Where nothing was told since then it takes no walk over the ends.
+    /// The session with a peer is lost: each end beside it is idle, not declined, and holds no binding (RFC 5036 section 3.5.1.1),
+    /// and the number of its label waits for the peer, in the order of the ends. Where nothing was told since then it takes no walk
+    /// over the ends.
     #[tactic(auto, using(crate::proofs::SlotLemmas::seen_steps))]
     pub fn lose(&mut self, peer: EdgeId)
         ensures places { self.new.places ≡ self.old.places }
         ensures next { self.new.labels.next ≡ self.old.labels.next }
+        ensures kept { self.new.labels.kept ≡ keeps_lost peer (seen_ends self.old) self.old.places self.old.labels.kept }
         ensures seen { seen_ends self.new ≡ changed_beside peer lost (seen_ends self.old) }
     {
         if self.is_untold(peer) {
@@ -349,10 +370,12 @@ impl PwEnds {
     }
 
     /// Whether it is known, without a walk over the ends, that nothing was told of any end beside a peer: to lose its session
-    /// changes none of them. So it is before the first change of such an end, and after each loss until the next one.
+    /// changes none of them, and none of them owns a label whose number would wait. So it is before the first change of such an end,
+    /// and after each loss until the next one.
     #[tactic(auto, using(crate::proofs::MarkLemmas::seen_untold))]
     pub fn is_untold(&self, peer: EdgeId) -> bool
         ensures untold { result ≡ true → changed_beside peer lost (seen_ends self.now) ≡ seen_ends self.now }
+        ensures kept { result ≡ true → (kept : List Kept) → keeps_lost peer (seen_ends self.now) self.now.places kept ≡ kept }
     {
         // Named so that what always holds of the fields is at hand for the proof.
         let _ = &self.places;
@@ -363,21 +386,39 @@ impl PwEnds {
     #[tactic(auto, using(crate::proofs::MarkLemmas::seen_untold))]
     pub fn are_untold(&self) -> bool
         ensures untold { result ≡ true → (peer : EdgeId) → peer.0 < 64 → changed_beside peer lost (seen_ends self.now) ≡ seen_ends self.now }
+        ensures kept { result ≡ true → (peer : EdgeId) → peer.0 < 64 → (kept : List Kept) → keeps_lost peer (seen_ends self.now) self.now.places kept ≡ kept }
     {
         // Named so that what always holds of the fields is at hand for the proof.
         let _ = &self.places;
         self.marks.is_empty()
     }
 
-    /// The edge restarts: each end is as it was opened, and every label is free. The next label stays, so no label is given
-    /// again.
-    #[tactic(auto, using(crate::proofs::SlotLemmas::seen_steps))]
+    /// A connection with a peer begins: each number that waits for it begins to rest.
+    pub fn met(&mut self, peer: EdgeId)
+        ensures ends { self.new ≡ record self.old { labels = meeting peer self.old.labels } }
+    {
+        self.labels.met(peer);
+    }
+
+    /// A tick passes: each number that rests does so for a tick more, and at 64 it is free to be given again.
+    pub fn tick(&mut self)
+        ensures ends { self.new ≡ record self.old { labels = ticking self.old.labels } }
+    {
+        self.labels.tick();
+    }
+
+    /// The edge restarts: each end is as it was opened, and the number of each label that one owned waits for its peer, the least
+    /// first where not all can be kept. The next number and those that are kept already stay, so no number is given too early.
     pub fn restarted(&mut self)
         ensures places { self.new.places ≡ self.old.places }
         ensures next { self.new.labels.next ≡ self.old.labels.next }
+        ensures kept { self.new.labels.kept ≡ keeps_owned (owners_of (seen_ends self.old) self.old.places) self.old.labels.kept }
         ensures seen { seen_ends self.new ≡ (λ wire peer. fresh) }
     {
-        self.change_each(WhichEnds::All, &EndChange::Lost);
+        self.labels.restarted();
+        self.owned.clear();
+        make_idle(&mut self.ends);
+        self.marks = PeerMarks::new();
     }
 
     // Each end that is meant is changed.
@@ -386,6 +427,7 @@ impl PwEnds {
         ensures count { length self.old.ends ≡ length self.old.places }
         ensures places { self.new.places ≡ self.old.places }
         ensures next { self.new.labels.next ≡ self.old.labels.next }
+        ensures kept { self.new.labels.kept ≡ keeps_meant which (changed change.now) self.old.places self.old.ends self.old.labels.kept }
         ensures ends { self.new.ends ≡ changed_each which (changed change.now) self.old.places self.old.ends }
     {
         // Named so that what always holds of the fields is at hand for the proof.
@@ -397,13 +439,14 @@ impl PwEnds {
         }
     }
 
-    /// The end of a slot is changed: by what it tells itself, or by what its peer tells. A label that it owns no longer is free, and
-    /// the next label stays.
+    /// The end of a slot is changed: by what it tells itself, or by what its peer tells. The number of a label that it owns no longer
+    /// waits for its peer, and the next number stays.
     #[tactic(auto, using(crate::proofs::KeptLemmas::freed_next, crate::proofs::KeptLemmas::slot_within))]
     pub fn change(&mut self, slot: usize, change: &EndChange)
         requires slot { slot < length self.old.places }
         ensures places { self.new.places ≡ self.old.places }
         ensures next { self.new.labels.next ≡ self.old.labels.next }
+        ensures kept { self.new.labels.kept ≡ keeps_one (left_label (own_label (end_in self.old slot).local) (own_label (changed change.now (end_in self.old slot)).local)) (place_of self.old slot).peer self.old.labels.kept }
         ensures seen { seen_ends self.new ≡ changed_at (place_of self.old slot) (changed change.now) (seen_ends self.old) }
         ensures ends { self.new.ends ≡ changed_in (changed change.now) slot self.old.ends }
     {
