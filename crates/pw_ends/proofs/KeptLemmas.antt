@@ -1,14 +1,20 @@
 -- What the ends own, and what their label space has.
 use Rattle.std.proofs.Common.{◌≡◌, ◌≢◌, ◌<◌, ◌≤◌, ◌+◌, ◌++◌, ◌∙◌, ◌==◌, ◌⊎◌, ℕ, zero, suc, Bool, true, false, not, cond, List, [], ◌∷◌, Option, Some, None, length, get_or, set, map, replicate, refl, ap, sym, subst, arith, inl, inr}
 use Rattle.std.specs.Prelude.{filter}
-use Rattle.std.specs.List.{AllByRecursion}
+use Rattle.std.specs.List.{AllByRecursion, find}
 use Rattle.std.proofs.lemmas.Bool.{cases_Bool}
 use Rattle.std.proofs.lemmas.Bool.Decides.{nat_tests}
 use Rattle.std.proofs.lemmas.List.{map-set, length-set}
+use Rattle.net_base.specs.declared.plan.places.EdgeId.{EdgeId}
 use Rattle.net_base.specs.declared.plan.places.SegKey.{SegKey}
+use Rattle.label_space.specs.declared.kept.Kept.{Kept}
 use Rattle.label_space.specs.declared.owner.Owner.{Owner}
-use Rattle.label_space.specs.Labels.{AreBelow, LabelNumbers, freed, issued, numbers_end, owner_of, owns}
-use Rattle.label_space.proofs.LabelLemmas.{below_filtered, below_pushed, below_none, owner_of-above, owner_of-kept, owner_of-next}
+use Rattle.label_space.specs.Kept.{met, put_by, ticked, without}
+use Rattle.label_space.specs.Labels.{LabelNumbers, freed, freed_of, given_to, issued, meeting, next_after, number_to_give, numbers_end, opened_space, owned_label, owner_of, owns, ticking}
+use Rattle.label_space.specs.Laws.{Among, AreApart as AreNumbersApart, Free, Issue, Met, Tick, listed}
+use Rattle.label_space.proofs.LabelLemmas.{owner_of-find, owner_of-kept, owner_of-put}
+use Rattle.label_space.proofs.LawLemmas.{labels_are_used_again}
+use Rattle.label_space.proofs.OrderLemmas.{long_filtered, long_put}
 use Rattle.pw_signalling.specs.AnyEnd.{end_of}
 use Rattle.pw_signalling.specs.declared.binding.Binding.{Binding}
 use Rattle.pw_signalling.specs.declared.pw_end.PwEnd.{PwEnd}
@@ -17,15 +23,16 @@ use Rattle.pw_signalling.specs.End.{EndState, LocalPart, Idle, Advertised, Withd
 use Rattle.pw_signalling.specs.Laws.{own_label}
 use Rattle.pw_signalling.specs.Rows.{advertised, advertise_part, bound, tell_part, withdraw_part, renew_part, release_part, names, is_in_group, unbound, stated}
 use Rattle.edge_model.specs.declared.end_place.EndPlace.{EndPlace}
+use Rattle.edge_model.specs.Labels.{left_label, owner_at}
 use Rattle.pw_ends.specs.declared.end_change.EndChange.{EndChange}
 use Rattle.pw_ends.specs.declared.end_change.EndChange.TheVariants as change
 use Rattle.pw_ends.specs.Changes.{changed, changed_in}
 use Rattle.pw_ends.specs.Ends.{CanHold, EndLists, HasKind, Holds, IsIdle, end_in, no_place, place_of}
-use Rattle.pw_ends.specs.Kept.{AreApart, AreKept, Differ, IsOwned, IsOwner, OwnApart, OwnTheirs, count_owned, freed_one, left_label, one_owned, own_of, segment_of}
-use Rattle.pw_ends.specs.Owned.{AreEarlier, OwnedList, with_owner, without_one}
+use Rattle.pw_ends.specs.Kept.{AreApart, AreKept, Differ, IsOwned, IsOwner, OwnApart, OwnTheirs, count_owned, freed_one, one_owned, own_of, segment_of}
+use Rattle.pw_ends.specs.Owned.{OwnedList, slot_of, with_owner, without_one}
 use Rattle.pw_ends.proofs.HoldLemmas.{holding_at, holding_none, holding_set, holds_stay}
-use Rattle.pw_ends.proofs.OwnerLemmas.{all_at, differ_sym, index_changed, index_count, index_earlier, index_issued, index_opened, set_same}
-use Rattle.pw_ends.proofs.SegmentLemmas.{owner_at, owners_changed, owners_issued, owners_none}
+use Rattle.pw_ends.proofs.OwnerLemmas.{all_at, differ_sym, index_changed, index_count, index_issued, index_opened, set_same, unindexed}
+use Rattle.pw_ends.proofs.SegmentLemmas.{owner_in, owners_changed, owners_issued, owners_none}
 use Rattle.pw_ends.proofs.SlotLemmas.{seen_at}
 
 -- ---- counting
@@ -54,35 +61,29 @@ count_less (o ∷ os) (suc slot) within none = omega (arith, one_most o, count_l
 something : {X : Type 0} (x : X) → Some x ≡ None → ⊥
 something x is = cc
 
-filter_most : (p : Owner → Bool) (xs : List Owner) → length (filter p xs) ≤ length xs
-filter_most p [] = omega arith
-filter_most p (x ∷ xs) =
-    let rest : length (filter p xs) ≤ length xs = filter_most p xs in
-    elim (p x) as (λ v. length (cond v (x ∷ filter p xs) (filter p xs)) ≤ length (x ∷ xs)) [
-      | true ↦ omega (arith, rest)
-      | false ↦ omega (arith, rest)
-    ]
-
 -- the owner of a label goes
 filter_less : (label : ℕ) (xs : List Owner) → owner_of label xs ≢ None → length (filter (λ o. not (owns label o)) xs) < length xs
 filter_less label [] some = absurd (some refl)
 filter_less label (x ∷ xs) some = elim (cases_Bool (owns label x)) [
-  | inl found ↦ rw found (omega (arith, filter_most (λ o. not (owns label o)) xs))
+  | inl found ↦ rw found (omega (arith, long_filtered owned_label (λ o. not (owns label o)) xs))
   | inr other ↦
       (let rest : length (filter (λ o. not (owns label o)) xs) < length xs = filter_less label xs (rw other at some) in
       rw other (omega (arith, rest)))
 ]
 
--- a label that is owned was given before
-owned_below : (next label : ℕ) (xs : List Owner) → AreBelow next xs → owner_of label xs ≢ None → label ≢ next
-owned_below next label xs below some = λ same. some (ap (λ (l : ℕ). owner_of l xs) same ∙ owner_of-above next xs below)
-
 -- a label that is owned stays so where another owner comes
-pushed_some : (label : ℕ) (xs : List Owner) (owner : Owner) → owner_of label xs ≢ None → owner_of label (xs ++ owner ∷ []) ≢ None
-pushed_some label [] owner some = absurd (some refl)
-pushed_some label (x ∷ xs) owner some = elim (cases_Bool (owns label x)) [
-  | inl found ↦ rw found (λ none. something {X = SegKey × ℕ} (x.key, x.side) none)
-  | inr other ↦ rw other (pushed_some label xs owner (rw other at some))
+put_some : (label : ℕ) (xs : List Owner) (owner : Owner) → owner_of owner.label xs ≡ None → owner_of label xs ≢ None → owner_of label (put_by owned_label owner xs) ≢ None
+put_some label xs owner none some = λ gone. by (owns label owner) (sym (owner_of-put owner xs none label) ∙ gone) where
+  by : (b : Bool) → cond b (Some (owner.key, owner.side)) (owner_of label xs) ≡ None → ⊥
+  by true is = something {X = SegKey × ℕ} (owner.key, owner.side) is
+  by false is = some is
+
+-- a label without an owner is found nowhere
+pub found_none : (label : ℕ) (xs : List Owner) → owner_of label xs ≡ None → find (owns label) xs ≡ None
+found_none label [] none = refl
+found_none label (x ∷ xs) none = elim (cases_Bool (owns label x)) [
+  | inl here ↦ absurd (something {X = SegKey × ℕ} (x.key, x.side) (rw here at none))
+  | inr other ↦ rw other (found_none label xs (rw other at none))
 ]
 
 -- ---- a label is freed
@@ -126,55 +127,70 @@ theirs_freed : (own_list : List (Option ℕ)) (labels : LabelNumbers) (slot : �
 theirs_freed own_list labels slot label theirs within at =
     let some : owner_of label labels.owners ≢ None = rw at at (all_at (IsOwned labels.owners) own_list slot theirs.owned within) in
     let count : count_owned (set own_list slot None) + 1 ≡ count_owned own_list + 0 = rw at at (count_set own_list slot None within) in
-    record {
+    let numbers : AreNumbersApart (freed label labels) = labels_are_used_again.apart labels (Free label ∷ []) theirs.numbers in
+    by some count (find (owns label) labels.owners) refl numbers
+  where
+    by : owner_of label labels.owners ≢ None → count_owned (set own_list slot None) + 1 ≡ count_owned own_list + 0 → (r : Option Owner) → find (owns label) labels.owners ≡ r → AreNumbersApart (freed_of label r labels) → OwnTheirs (set own_list slot None) (freed_of label r labels)
+    by some count None none numbers = absurd (some (owner_of-find label labels.owners ∙ rw none refl))
+    by some count (Some owner) found numbers = record {
       owned = set_freed labels.owners label own_list slot theirs.apart theirs.owned within at;
       apart = apart_none own_list slot theirs.apart;
       few = omega (arith, theirs.few, count, filter_less label labels.owners some);
-      given = below_filtered (λ o. not (owns label o)) labels.next labels.owners theirs.given;
+      numbers = numbers;
     }
 
 -- ---- a label is given
 
-issued_owned : (owners : List Owner) (owner : Owner) (own : Option ℕ) → IsOwned owners own → IsOwned (owners ++ owner ∷ []) own
-issued_owned owners owner None owned = tt
-issued_owned owners owner (Some label) owned = pushed_some label owners owner owned
+issued_owned : (owners : List Owner) (owner : Owner) (own : Option ℕ) → owner_of owner.label owners ≡ None → IsOwned owners own → IsOwned (put_by owned_label owner owners) own
+issued_owned owners owner None none owned = tt
+issued_owned owners owner (Some label) none owned = put_some label owners owner none owned
 
-all_issued : (owners : List Owner) (owner : Owner) (own_list : List (Option ℕ)) → AllByRecursion (IsOwned owners) own_list → AllByRecursion (IsOwned (owners ++ owner ∷ [])) own_list
-all_issued owners owner [] owned = tt
-all_issued owners owner (o ∷ os) owned = (issued_owned owners owner o owned.0, all_issued owners owner os owned.1)
+all_issued : (owners : List Owner) (owner : Owner) (own_list : List (Option ℕ)) → owner_of owner.label owners ≡ None → AllByRecursion (IsOwned owners) own_list → AllByRecursion (IsOwned (put_by owned_label owner owners)) own_list
+all_issued owners owner [] none owned = tt
+all_issued owners owner (o ∷ os) none owned = (issued_owned owners owner o none owned.0, all_issued owners owner os none owned.1)
 
-differ_next : (owners : List Owner) (next : ℕ) (own : Option ℕ) → AreBelow next owners → IsOwned owners own → Differ own (Some next)
-differ_next owners next None below owned = tt
-differ_next owners next (Some label) below owned = owned_below next label owners below owned
+-- a label that nobody owns is another one than that of each end
+differ_new : (owners : List Owner) (label : ℕ) (own : Option ℕ) → owner_of label owners ≡ None → IsOwned owners own → Differ own (Some label)
+differ_new owners label None none owned = tt
+differ_new owners label (Some other) none owned = λ same. owned (ap (λ (l : ℕ). owner_of l owners) same ∙ none)
 
-all_next : (owners : List Owner) (next : ℕ) (own_list : List (Option ℕ)) → AreBelow next owners → AllByRecursion (IsOwned owners) own_list → AllByRecursion (Differ (Some next)) own_list
-all_next owners next [] below owned = tt
-all_next owners next (o ∷ os) below owned = (differ_sym o (Some next) (differ_next owners next o below owned.0), all_next owners next os below owned.1)
+all_new : (owners : List Owner) (label : ℕ) (own_list : List (Option ℕ)) → owner_of label owners ≡ None → AllByRecursion (IsOwned owners) own_list → AllByRecursion (Differ (Some label)) own_list
+all_new owners label [] none owned = tt
+all_new owners label (o ∷ os) none owned = (differ_sym o (Some label) (differ_new owners label o none owned.0), all_new owners label os none owned.1)
 
-apart_next : (owners : List Owner) (next : ℕ) (own_list : List (Option ℕ)) (slot : ℕ) → AreBelow next owners → AllByRecursion (IsOwned owners) own_list → OwnApart own_list → OwnApart (set own_list slot (Some next))
-apart_next owners next [] slot below owned apart = tt
-apart_next owners next (o ∷ os) zero below owned apart = (all_next owners next os below owned.1, apart.1)
-apart_next owners next (o ∷ os) (suc slot) below owned apart = (all_set (Differ o) os slot (Some next) apart.0 (differ_next owners next o below owned.0), apart_next owners next os slot below owned.1 apart.1)
+apart_new : (owners : List Owner) (label : ℕ) (own_list : List (Option ℕ)) (slot : ℕ) → owner_of label owners ≡ None → AllByRecursion (IsOwned owners) own_list → OwnApart own_list → OwnApart (set own_list slot (Some label))
+apart_new owners label [] slot none owned apart = tt
+apart_new owners label (o ∷ os) zero none owned apart = (all_new owners label os none owned.1, apart.1)
+apart_new owners label (o ∷ os) (suc slot) none owned apart = (all_set (Differ o) os slot (Some label) apart.0 (differ_new owners label o none owned.0), apart_new owners label os slot none owned.1 apart.1)
 
--- an end that owned none owns the next label
-theirs_issued : (own_list : List (Option ℕ)) (labels : LabelNumbers) (slot : ℕ) (key : SegKey) (side : ℕ) → OwnTheirs own_list labels → slot < length own_list → get_or own_list slot None ≡ None → (labels.next == numbers_end) ≡ false → OwnTheirs (set own_list slot (Some labels.next)) (issued key side labels)
-theirs_issued own_list labels slot key side theirs within at left =
-    let owner : Owner = record { label = labels.next; key = key; side = side } in
-    let count : count_owned (set own_list slot (Some labels.next)) + 0 ≡ count_owned own_list + 1 = rw at at (count_set own_list slot (Some labels.next) within) in
-    let is : owner_of labels.next (labels.owners ++ owner ∷ []) ≡ Some (key, side) = owner_of-next labels.next labels.next key side labels.owners (labels.owners ++ owner ∷ []) theirs.given refl refl in
-    rw left (record {
-      owned = all_set (IsOwned (labels.owners ++ owner ∷ [])) own_list slot (Some labels.next) (all_issued labels.owners owner own_list theirs.owned) (λ none. something {X = SegKey × ℕ} (key, side) (sym is ∙ none));
-      apart = apart_next labels.owners labels.next own_list slot theirs.given theirs.owned theirs.apart;
-      few = more labels.owners owner (count_owned own_list) (count_owned (set own_list slot (Some labels.next))) theirs.few count;
-      given = below_pushed labels.next labels.owners key side theirs.given;
-    })
+-- a label that is given is nobody's
+given_unowned : (labels : LabelNumbers) (label : ℕ) → AreNumbersApart labels → number_to_give labels.next labels.kept ≡ Some label → owner_of label labels.owners ≡ None
+given_unowned labels label apart given =
+    (labels_are_used_again.may labels (Issue no_key 0 no_peer) label apart (subst (λ (r : Option ℕ). Among label (listed r)) (sym given) (inl refl))).unowned
   where
-    longer : (xs : List Owner) (x : Owner) → length (xs ++ x ∷ []) ≡ length xs + 1
-    longer [] x = refl
-    longer (y ∷ ys) x = omega (arith, longer ys x)
+    no_key : SegKey
+    no_key = record { wire = record { 0 = 0 }; segment = 0 }
 
-    more : (xs : List Owner) (x : Owner) (before now : ℕ) → length xs ≤ before → now + 0 ≡ before + 1 → length (xs ++ x ∷ []) ≤ now
-    more xs x before now few count = omega (arith, longer xs x, few, count)
+    no_peer : EdgeId
+    no_peer = record { 0 = 0 }
+
+-- an end that owned none owns the label
+theirs_issued : (own_list : List (Option ℕ)) (labels : LabelNumbers) (slot label : ℕ) (key : SegKey) (side : ℕ) (peer : EdgeId) → OwnTheirs own_list labels → slot < length own_list → get_or own_list slot None ≡ None → number_to_give labels.next labels.kept ≡ Some label
+    → OwnTheirs (set own_list slot (Some label)) (given_to key side peer (Some label) labels)
+theirs_issued own_list labels slot label key side peer theirs within at given =
+    let owner : Owner = record { label = label; key = key; side = side; peer = peer } in
+    let none : owner_of label labels.owners ≡ None = given_unowned labels label theirs.numbers given in
+    let count : count_owned (set own_list slot (Some label)) + 0 ≡ count_owned own_list + 1 = rw at at (count_set own_list slot (Some label) within) in
+    let is : owner_of label (put_by owned_label owner labels.owners) ≡ Some (key, side) = owner_of-put owner labels.owners none label ∙ rw (equal label) refl in
+    record {
+      owned = all_set (IsOwned (put_by owned_label owner labels.owners)) own_list slot (Some label) (all_issued labels.owners owner own_list none theirs.owned) (λ gone. something {X = SegKey × ℕ} (key, side) (sym is ∙ gone));
+      apart = apart_new labels.owners label own_list slot none theirs.owned theirs.apart;
+      few = omega (arith, theirs.few, count, long_put owned_label owner labels.owners);
+      numbers = subst (λ (r : Option ℕ). AreNumbersApart (given_to key side peer r labels)) given (labels_are_used_again.apart labels (Issue key side peer ∷ []) theirs.numbers);
+    }
+  where
+    equal : (n : ℕ) → (n == n) ≡ true
+    equal n = grind (arith, nat_tests)
 
 -- ---- an end is changed
 
@@ -287,7 +303,7 @@ pub owner_seen : (lists : EndLists) (index : OwnedList) (slot : ℕ) → AreKept
 owner_seen lists index slot kept within =
     let short : slot < length (map own_of lists.ends) = subst (λ (n : ℕ). slot < n) (sym (own_count lists.ends ∙ kept.count)) within in
     let own : get_or (map own_of lists.ends) slot None ≡ own_label (end_in lists slot).local = own_at lists.ends slot ∙ ap own_of (sym (seen_at lists slot kept.apart kept.count within)) in
-    subst (IsOwner lists.labels.owners (place_of lists slot)) own (owner_at lists.labels.owners lists.places (map own_of lists.ends) slot kept.owners within short)
+    subst (IsOwner lists.labels.owners (place_of lists slot)) own (owner_in lists.labels.owners lists.places (map own_of lists.ends) slot kept.owners within short)
 
 -- what the end of a slot holds can be told on
 pub holding_seen : (lists : EndLists) (index : OwnedList) (slot : ℕ) → AreKept lists.places lists.ends lists.labels index → slot < length lists.places → Holds (place_of lists slot) (end_in lists slot).remote
@@ -304,21 +320,31 @@ theirs_changed own_list labels slot (Some label) None theirs within at either = 
 theirs_changed own_list labels slot (Some label) (Some other) theirs within at (inl same) = rw (set_same own_list slot None (Some other) within (same ∙ sym at)) theirs
 theirs_changed own_list labels slot (Some label) (Some other) theirs within at (inr none) = absurd (something {X = ℕ} other none)
 
+all_seen : (es : List PwEnd) → length (map end_of es) ≡ length es
+all_seen [] = refl
+all_seen (e ∷ es) = ap suc (all_seen es)
+
+-- there are as many ends as places
+pub seen_count : (ends : List PwEnd) (places : List EndPlace) → length (map end_of ends) ≡ length places → length ends ≡ length places
+seen_count ends places count = sym (all_seen ends) ∙ count
+
 -- a slot is one of the ends
 pub slot_within : (places : List EndPlace) (ends : List PwEnd) (labels : LabelNumbers) (index : OwnedList) (slot : ℕ) → AreKept places (map end_of ends) labels index → slot < length places → slot < length ends
-slot_within places ends labels index slot kept within = omega (arith, within, kept.count, all_seen ends)
-  where
-    all_seen : (es : List PwEnd) → length (map end_of es) ≡ length es
-    all_seen [] = refl
-    all_seen (e ∷ es) = ap suc (all_seen es)
+slot_within places ends labels index slot kept within = subst (λ (n : ℕ). slot < n) (sym (seen_count ends places kept.count)) within
 
 freed_room : (left : Option ℕ) (labels : LabelNumbers) → (freed_one left labels).room ≡ labels.room
 freed_room None labels = refl
-freed_room (Some label) labels = refl
+freed_room (Some label) labels = by (find (owns label) labels.owners) where
+  by : (r : Option Owner) → (freed_of label r labels).room ≡ labels.room
+  by None = refl
+  by (Some owner) = refl
 
 pub freed_next : (left : Option ℕ) (labels : LabelNumbers) → (freed_one left labels).next ≡ labels.next
 freed_next None labels = refl
-freed_next (Some label) labels = refl
+freed_next (Some label) labels = by (find (owns label) labels.owners) where
+  by : (r : Option Owner) → (freed_of label r labels).next ≡ labels.next
+  by None = refl
+  by (Some owner) = refl
 
 pub kept_changed : (c : EndChange) (places : List EndPlace) (ends : List EndState) (labels : LabelNumbers) (index : OwnedList) (slot : ℕ) → AreKept places ends labels index → slot < length places →
     AreKept places (changed_in (changed c) slot ends) (freed_one (left_label (own_of (get_or ends slot fresh)) (own_of (get_or (changed_in (changed c) slot ends) slot fresh))) labels)
@@ -330,7 +356,7 @@ kept_changed c places ends labels index slot kept within =
     let now : get_or (changed_in (changed c) slot ends) slot fresh ≡ changed c old = set_at ends slot (changed c old) short in
     let theirs = theirs_changed (map own_of ends) labels slot (own_of old) (own_of (changed c old)) kept.owns short_own (own_at ends slot) (stays_or_none c old) in
     let owners = owners_changed (map own_of ends) labels places slot (own_of old) (own_of (changed c old)) kept.owns.apart kept.owners short_own (own_at ends slot) (stays_or_none c old) in
-    let slots = index_changed (map own_of ends) labels index slot (own_of old) (own_of (changed c old)) kept.slots kept.owns.apart short_own (own_at ends slot) (stays_or_none c old) in
+    let slots = index_changed (map own_of ends) labels index slot (own_of old) (own_of (changed c old)) kept.slots kept.owns.apart (subst (IsOwned labels.owners) (own_at ends slot) (all_at (IsOwned labels.owners) (map own_of ends) slot kept.owns.owned short_own)) short_own (own_at ends slot) (stays_or_none c old) in
     let owned : map own_of (changed_in (changed c) slot ends) ≡ set (map own_of ends) slot (own_of (changed c old)) = map-set own_of ends slot (changed c old) in
     rw now (record {
       count = length-set ends slot (changed c old) ∙ kept.count;
@@ -387,12 +413,13 @@ room_for places ends labels index slot kept within idle =
     let less : count_owned (map own_of ends) < length (map own_of ends) = count_less (map own_of ends) slot short none in
     omega (arith, kept.owns.few, less, own_count ends, kept.count, kept.room)
 
--- and room among the labels with their slots, where it is larger than all others
+-- and room among the labels with their slots
 pub index_room : (places : List EndPlace) (ends : List EndState) (labels : LabelNumbers) (index : OwnedList) (slot : ℕ) → AreKept places ends labels index → slot < length places → IsIdle (get_or ends slot fresh).local → length index.labels < index.room
 index_room places ends labels index slot kept within idle = omega (arith, room_for places ends labels index slot kept within idle, index_count (map own_of ends) labels index kept.slots, kept.slots.room)
 
-pub index_larger : (places : List EndPlace) (ends : List EndState) (labels : LabelNumbers) (index : OwnedList) → AreKept places ends labels index → AreEarlier labels.next index.labels
-index_larger places ends labels index kept = index_earlier labels.next index.labels labels.owners kept.slots.same kept.owns.given
+-- a label that is given has no slot yet
+pub index_unowned : (places : List EndPlace) (ends : List EndState) (labels : LabelNumbers) (index : OwnedList) (label : ℕ) → AreKept places ends labels index → number_to_give labels.next labels.kept ≡ Some label → slot_of label index.labels ≡ None
+index_unowned places ends labels index label kept given = unindexed label index.labels labels.owners kept.slots.same (given_unowned labels label kept.owns.numbers given)
 
 advertised_own : (label : ℕ) (told : Told) (local : LocalPart) → IsIdle local → own_label (advertise_part label told local) ≡ Some label
 advertised_own label told (Idle declined) idle = refl
@@ -404,57 +431,79 @@ advertised_kind label told (Idle declined) idle kind = kind
 advertised_kind label told (Advertised own t) idle kind = absurd idle
 advertised_kind label told (Withdrawing own) idle kind = absurd idle
 
-issued_room : (key : SegKey) (side : ℕ) (labels : LabelNumbers) → (issued key side labels).room ≡ labels.room
-issued_room key side labels = elim (cases_Bool (labels.next == numbers_end)) [
-  | inl last ↦ rw last refl
-  | inr other ↦ rw other refl
-]
-
-pub kept_issued : (key : SegKey) (side : ℕ) (told : Told) (places : List EndPlace) (ends : List EndState) (labels : LabelNumbers) (index : OwnedList) (slot : ℕ) → AreKept places ends labels index → slot < length places → IsIdle (get_or ends slot fresh).local → told.kind ≤ 0x7FFF → (labels.next == numbers_end) ≡ false →
-    key ≡ segment_of (get_or places slot no_place) → side ≡ (get_or places slot no_place).side → AreKept places (changed_in (advertised labels.next told) slot ends) (issued key side labels) (with_owner labels.next slot index)
-kept_issued key side told places ends labels index slot kept within idle kind left of_segment of_side =
+pub kept_issued : (key : SegKey) (side : ℕ) (peer : EdgeId) (label : ℕ) (told : Told) (places : List EndPlace) (ends : List EndState) (labels : LabelNumbers) (index : OwnedList) (slot : ℕ) → AreKept places ends labels index → slot < length places → IsIdle (get_or ends slot fresh).local → told.kind ≤ 0x7FFF → number_to_give labels.next labels.kept ≡ Some label
+    → key ≡ segment_of (get_or places slot no_place) → side ≡ (get_or places slot no_place).side → peer ≡ (get_or places slot no_place).peer → AreKept places (changed_in (advertised label told) slot ends) (given_to key side peer (Some label) labels) (with_owner label slot index)
+kept_issued key side peer label told places ends labels index slot kept within idle kind given of_segment of_side of_peer =
     let old : EndState = get_or ends slot fresh in
-    let new : EndState = advertised labels.next told old in
+    let new : EndState = advertised label told old in
     let short : slot < length ends = subst (λ (n : ℕ). slot < n) (sym kept.count) within in
     let short_own : slot < length (map own_of ends) = subst (λ (n : ℕ). slot < n) (sym (own_count ends)) short in
     let none : get_or (map own_of ends) slot None ≡ None = own_at ends slot ∙ idle_none old.local idle in
-    let owned : map own_of (changed_in (advertised labels.next told) slot ends) ≡ set (map own_of ends) slot (Some labels.next) =
-    map-set own_of ends slot new ∙ ap (λ (o : Option ℕ). set (map own_of ends) slot o) (advertised_own labels.next told old.local idle) in
+    let nobody : owner_of label labels.owners ≡ None = given_unowned labels label kept.owns.numbers given in
+    let owned : map own_of (changed_in (advertised label told) slot ends) ≡ set (map own_of ends) slot (Some label) =
+    map-set own_of ends slot new ∙ ap (λ (o : Option ℕ). set (map own_of ends) slot o) (advertised_own label told old.local idle) in
     record {
       count = length-set ends slot new ∙ kept.count;
       apart = kept.apart;
-      room = issued_room key side labels ∙ kept.room;
-      owns = rw owned (theirs_issued (map own_of ends) labels slot key side kept.owns short_own none left);
-      owners = rw (owned, of_segment, of_side) (owners_issued (map own_of ends) labels places slot kept.owners kept.owns.given left);
-      kinds = all_set (λ (end : EndState). HasKind end.local) ends slot new kept.kinds (advertised_kind labels.next told old.local idle kind);
-      slots = rw owned (index_issued (map own_of ends) labels index slot key side kept.slots (all_next labels.owners labels.next (map own_of ends) kept.owns.given kept.owns.owned) (index_larger places ends labels index kept) short_own none left);
+      room = kept.room;
+      owns = rw owned (theirs_issued (map own_of ends) labels slot label key side peer kept.owns short_own none given);
+      owners = rw (owned, of_segment, of_side, of_peer) (owners_issued (map own_of ends) labels places slot label kept.owners (found_none label labels.owners nobody));
+      kinds = all_set (λ (end : EndState). HasKind end.local) ends slot new kept.kinds (advertised_kind label told old.local idle kind);
+      slots = rw owned (index_issued (map own_of ends) labels index slot label key side peer kept.slots (all_new labels.owners label (map own_of ends) nobody kept.owns.owned) (index_unowned places ends labels index label kept given) short_own none);
       holds = holding_set places ends slot new kept.holds (holding_at places ends slot kept.holds within short);
     }
 
--- the same of what the code has
-pub kept_advertised : (key : SegKey) (side : ℕ) (told : Told) (places : List EndPlace) (ends now : List EndState) (labels left : LabelNumbers) (index more : OwnedList) (slot label : ℕ) → AreKept places ends labels index → slot < length places → IsIdle (get_or ends slot fresh).local → told.kind ≤ 0x7FFF → labels.next ≢ numbers_end → label ≡ labels.next
-    → now ≡ changed_in (advertised label told) slot ends → left ≡ issued key side labels → more ≡ with_owner label slot index → key ≡ segment_of (get_or places slot no_place) → side ≡ (get_or places slot no_place).side
-    → AreKept places now left more
-kept_advertised key side told places ends now labels left index more slot label kept within idle kind some same is issued_is with_is of_segment of_side =
-    let on : (labels.next == numbers_end) ≡ false = grind (arith, nat_tests, some) in
-    rw (issued_is, with_is, is, same) (kept_issued key side told places ends labels index slot kept within idle kind on of_segment of_side)
+issued_is : (key : SegKey) (side : ℕ) (peer : EdgeId) (labels : LabelNumbers) (label : ℕ) → number_to_give labels.next labels.kept ≡ Some label → issued key side peer labels ≡ given_to key side peer (Some label) labels
+issued_is key side peer labels label given = ap (λ (r : Option ℕ). given_to key side peer r labels) given
 
-pub next_issued : (key : SegKey) (side : ℕ) (labels left : LabelNumbers) → labels.next ≢ numbers_end → left ≡ issued key side labels → left.next ≡ labels.next + 1
-next_issued key side labels left some is =
-    let more : (labels.next == numbers_end) ≡ false = grind (arith, nat_tests, some) in
-    rw (is, more) refl
+-- the same of what the code has
+pub kept_advertised : (key : SegKey) (side : ℕ) (peer : EdgeId) (told : Told) (places : List EndPlace) (ends now : List EndState) (labels left : LabelNumbers) (index more : OwnedList) (slot label : ℕ) → AreKept places ends labels index → slot < length places → IsIdle (get_or ends slot fresh).local → told.kind ≤ 0x7FFF → number_to_give labels.next labels.kept ≡ Some label
+    → now ≡ changed_in (advertised label told) slot ends → left ≡ issued key side peer labels → more ≡ with_owner label slot index → key ≡ segment_of (get_or places slot no_place) → side ≡ (get_or places slot no_place).side → peer ≡ (get_or places slot no_place).peer
+    → AreKept places now left more
+kept_advertised key side peer told places ends now labels left index more slot label kept within idle kind given is left_is with_is of_segment of_side of_peer =
+    rw (left_is ∙ issued_is key side peer labels label given, with_is, is) (kept_issued key side peer label told places ends labels index slot kept within idle kind given of_segment of_side of_peer)
+
+-- what is given next after that, and what is kept
+pub given_next : (key : SegKey) (side : ℕ) (peer : EdgeId) (labels left : LabelNumbers) (label : ℕ) → number_to_give labels.next labels.kept ≡ Some label → left ≡ issued key side peer labels → left.next ≡ next_after labels.next
+given_next key side peer labels left label given is = ap (λ (l : LabelNumbers). l.next) (is ∙ issued_is key side peer labels label given)
+
+pub given_kept : (key : SegKey) (side : ℕ) (peer : EdgeId) (labels left : LabelNumbers) (label : ℕ) → number_to_give labels.next labels.kept ≡ Some label → left ≡ issued key side peer labels → left.kept ≡ without label labels.kept
+given_kept key side peer labels left label given is = ap (λ (l : LabelNumbers). l.kept) (is ∙ issued_is key side peer labels label given)
+
+pub ruleset given_steps = (given_next, given_kept)
+
+-- ---- connections and ticks
+
+-- other numbers are kept, of the same owners
+kept_numbers : (places : List EndPlace) (ends : List EndState) (labels : LabelNumbers) (more : List Kept) (index : OwnedList) → AreKept places ends labels index → AreNumbersApart (record labels { kept = more }) → AreKept places ends (record labels { kept = more }) index
+kept_numbers places ends labels more index kept numbers = record {
+  count = kept.count;
+  apart = kept.apart;
+  room = kept.room;
+  owns = record { owned = kept.owns.owned; apart = kept.owns.apart; few = kept.owns.few; numbers = numbers };
+  owners = kept.owners;
+  kinds = kept.kinds;
+  slots = record { room = kept.slots.room; same = kept.slots.same; slot = kept.slots.slot };
+  holds = kept.holds;
+}
+
+pub kept_met : (peer : EdgeId) (places : List EndPlace) (ends : List EndState) (labels now : LabelNumbers) (index : OwnedList) → AreKept places ends labels index → now ≡ meeting peer labels → AreKept places ends now index
+kept_met peer places ends labels now index kept is = rw is (kept_numbers places ends labels (met peer labels.kept) index kept (labels_are_used_again.apart labels (Met peer ∷ []) kept.owns.numbers))
+
+pub kept_ticked : (places : List EndPlace) (ends : List EndState) (labels now : LabelNumbers) (index : OwnedList) → AreKept places ends labels index → now ≡ ticking labels → AreKept places ends now index
+kept_ticked places ends labels now index kept is = rw is (kept_numbers places ends labels (ticked labels.kept) index kept (labels_are_used_again.apart labels (Tick ∷ []) kept.owns.numbers))
 
 -- ---- opened
 
-none_own : (count : ℕ) → map own_of (replicate count fresh) ≡ replicate count None
+pub none_own : (count : ℕ) → map own_of (replicate count fresh) ≡ replicate count None
 none_own zero = refl
 none_own (suc count) = ap (λ (l : List (Option ℕ)). None ∷ l) (none_own count)
 
-none_owned : (count : ℕ) (owners : List Owner) → AllByRecursion (IsOwned owners) (replicate count None)
+pub none_owned : (count : ℕ) (owners : List Owner) → AllByRecursion (IsOwned owners) (replicate count None)
 none_owned zero owners = tt
 none_owned (suc count) owners = (tt, none_owned count owners)
 
-none_apart : (count : ℕ) → OwnApart (replicate count None)
+pub none_apart : (count : ℕ) → OwnApart (replicate count None)
 none_apart zero = tt
 none_apart (suc count) = (all_none count, none_apart count)
   where
@@ -462,16 +511,16 @@ none_apart (suc count) = (all_none count, none_apart count)
     all_none zero = tt
     all_none (suc n) = (tt, all_none n)
 
-none_kind : (count : ℕ) → AllByRecursion (λ (end : EndState). HasKind end.local) (replicate count fresh)
+pub none_kind : (count : ℕ) → AllByRecursion (λ (end : EndState). HasKind end.local) (replicate count fresh)
 none_kind zero = tt
 none_kind (suc count) = (tt, none_kind count)
 
-count_fresh : (count : ℕ) → length (replicate count fresh) ≡ count
+pub count_fresh : (count : ℕ) → length (replicate count fresh) ≡ count
 count_fresh zero = refl
 count_fresh (suc count) = ap suc (count_fresh count)
 
-pub kept_opened : (places : List EndPlace) (first : ℕ) → AreApart places → AreKept places (replicate (length places) fresh) (record { next = first; room = length places; owners = [] }) (record { room = length places; labels = [] })
-kept_opened places first apart = record {
+pub kept_opened : (places : List EndPlace) (first : ℕ) → first ≤ numbers_end → AreApart places → AreKept places (replicate (length places) fresh) (opened_space first (length places)) (record { room = length places; labels = [] })
+kept_opened places first below apart = record {
   count = count_fresh (length places);
   apart = apart;
   room = refl;
@@ -479,7 +528,7 @@ kept_opened places first apart = record {
     owned = none_owned (length places) [];
     apart = none_apart (length places);
     few = omega arith;
-    given = below_none first;
+    numbers = labels_are_used_again.opened first (length places) below;
   });
   owners = rw (none_own (length places)) (owners_none [] places (length places));
   kinds = none_kind (length places);

@@ -7,6 +7,7 @@ use Rattle.hvpls_spokes.proofs.SearchLemmas.{find_is, find_none}
 use Rattle.net_base.specs.declared.plan.places.SegKey.{SegKey}
 use Rattle.label_space.specs.declared.owner.Owner.{Owner}
 use Rattle.label_space.specs.Labels.{owner_of, owns}
+use Rattle.label_space.proofs.LabelLemmas.{owner_of-find}
 use Rattle.pw_signalling.specs.End.{fresh}
 use Rattle.pw_signalling.specs.Laws.{own_label}
 use Rattle.edge_model.specs.declared.end_place.EndPlace.{EndPlace}
@@ -22,12 +23,12 @@ use Rattle.pw_ends.proofs.SlotLemmas.{seen_at}
 something : {X : Type 0} (x : X) → Some x ≡ None → ⊥
 something x is = cc
 
-label_is : (label : ℕ) (own : Option ℕ) → is_label label own ≡ true → own ≡ Some label
+pub label_is : (label : ℕ) (own : Option ℕ) → is_label label own ≡ true → own ≡ Some label
 label_is label None is = absurd (cc (is))
 label_is label (Some own) is = ap Some (eqb-true own label is)
 
 -- a label that is not in the index has no owner
-unowned : (label : ℕ) (xs : List OwnedLabel) (owners : List Owner) → map (λ o. o.label) xs ≡ map (λ o. o.label) owners → slot_of label xs ≡ None → owner_of label owners ≡ None
+pub unowned : (label : ℕ) (xs : List OwnedLabel) (owners : List Owner) → map (λ o. o.label) xs ≡ map (λ o. o.label) owners → slot_of label xs ≡ None → owner_of label owners ≡ None
 unowned label [] [] same none = refl
 unowned label [] (o ∷ owners) same none = absurd (cc (same))
 unowned label (x ∷ xs) [] same none = absurd (cc (same))
@@ -66,4 +67,4 @@ module _ (lists : EndLists) (index : OwnedList) (kept : AreKept lists.places lis
           let here : owning (get_or lists.places slot no_place) ≡ true = seen slot within ∙ found.1 in
           let own : own_label (end_in lists slot).local ≡ Some label = label_is label (own_label (end_in lists slot).local) here in
           let owner : IsOwner lists.labels.owners (place_of lists slot) (Some label) = subst (IsOwner lists.labels.owners (place_of lists slot)) own (owner_seen lists index slot kept within) in
-          owner ∙ ap (option_map named) (sym (find_is owning lists.places slot no_place within here (λ i below. seen i (omega (arith, below, within)) ∙ found.2 i below)))
+          owner_of-find label lists.labels.owners ∙ ap (option_map (λ o. (o.key, o.side))) owner ∙ ap (option_map named) (sym (find_is owning lists.places slot no_place within here (λ i below. seen i (omega (arith, below, within)) ∙ found.2 i below)))

@@ -1,7 +1,9 @@
 pub mod AdvertiserLemmas
 pub mod BesideLemmas
 pub mod BitLemmas
+pub mod FindLemmas
 pub mod HoldLemmas
+pub mod IdleLemmas
 pub mod IndexLemmas
 pub mod KeptLemmas
 pub mod LabelLemmas
@@ -11,5 +13,7 @@ pub mod OrderLemmas
 pub mod OwnedLemmas
 pub mod OwnerLemmas
 pub mod PlaceLemmas
+pub mod RestartLemmas
 pub mod SegmentLemmas
 pub mod SlotLemmas
+pub mod WaitLemmas

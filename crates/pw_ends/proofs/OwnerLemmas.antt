@@ -4,17 +4,21 @@ use Rattle.std.specs.List.{AllByRecursion, find, position_or_len}
 use Rattle.std.proofs.lemmas.Bool.{cases_Bool, eqb-true, ne_eqb, lt-ltb}
 use Rattle.std.proofs.lemmas.Bool.Decides.{nat_tests}
 use Rattle.std.proofs.lemmas.List.{length-set}
-use Rattle.std.proofs.lemmas.List.Elements.{All-cons, All-head, All-nil, All-tail}
 use Rattle.std.proofs.lemmas.List.Quantifiers.{position-Some}
+use Rattle.net_base.specs.declared.plan.places.EdgeId.{EdgeId}
 use Rattle.net_base.specs.declared.plan.places.SegKey.{SegKey}
 use Rattle.label_space.specs.declared.owner.Owner.{Owner}
-use Rattle.label_space.specs.Labels.{AreBelow, LabelNumbers, freed, issued, numbers_end, owns}
+use Rattle.label_space.specs.Kept.{put_by}
+use Rattle.label_space.specs.Labels.{LabelNumbers, freed, freed_of, given_to, opened_space, owned_label, owner_of, owns}
+use Rattle.label_space.proofs.LabelLemmas.{owner_of-find}
 use Rattle.pw_signalling.specs.End.{EndState, fresh}
 use Rattle.edge_model.specs.declared.end_place.EndPlace.{EndPlace}
+use Rattle.edge_model.specs.Labels.{left_label}
 use Rattle.pw_ends.specs.declared.owned_labels.OwnedLabel.{OwnedLabel}
 use Rattle.pw_ends.specs.Ends.{is_label, owns_label}
-use Rattle.pw_ends.specs.Kept.{Differ, IsIndex, OwnApart, freed_one, left_label, own_of}
-use Rattle.pw_ends.specs.Owned.{AreEarlier, OwnedList, has_label, slot_of, with_owner, without, without_one}
+use Rattle.pw_ends.specs.Kept.{Differ, IsIndex, IsOwned, OwnApart, freed_one, own_of}
+use Rattle.pw_ends.specs.Owned.{OwnedList, has_label, label_in, slot_of, with_owner, without, without_one}
+use Rattle.pw_ends.proofs.FindLemmas.{find_left, find_left_other, find_put, numbers_left, numbers_put}
 
 -- ---- small facts
 
@@ -45,38 +49,19 @@ set_same {X} (y ∷ ys) (suc slot) d x within is = ap (λ (l : List X). y ∷ l)
 
 -- ---- the labels with their slots
 
--- a label that is larger than all others has the slot that it comes with
-find_pushed : (label slot : ℕ) (xs : List OwnedLabel) → AreEarlier label xs → find (has_label label) (xs ++ record { label = label; slot = slot } ∷ []) ≡ Some (record { label = label; slot = slot })
-find_pushed label slot [] earlier = rw (same label) refl
-find_pushed label slot (x ∷ xs) earlier =
-    let less : x.label < label = All-head (λ (o : OwnedLabel). o.label < label) x xs earlier in
-    let away : has_label label x ≡ false = grind (arith, nat_tests, less) in
-    rw away (find_pushed label slot xs (All-tail (λ (o : OwnedLabel). o.label < label) x xs earlier))
+found_none : (o : Option OwnedLabel) → option_map (λ x. x.slot) o ≡ None → o ≡ None
+found_none None none = refl
+found_none (Some x) none = absurd (something x.slot none)
 
--- all other labels keep their slots
-find_pushed_other : (label other slot : ℕ) (xs : List OwnedLabel) → (label == other) ≡ false → find (has_label other) (xs ++ record { label = label; slot = slot } ∷ []) ≡ find (has_label other) xs
-find_pushed_other label other slot [] away = rw away refl
-find_pushed_other label other slot (x ∷ xs) away = ap (λ (o : Option OwnedLabel). cond (has_label other x) (Some x) o) (find_pushed_other label other slot xs away)
-
--- a label that is taken out has no slot
-find_without : (label : ℕ) (xs : List OwnedLabel) → find (has_label label) (filter (λ o. not (has_label label o)) xs) ≡ None
-find_without label [] = refl
-find_without label (x ∷ xs) = elim (cases_Bool (has_label label x)) [
-  | inl found ↦ rw found (find_without label xs)
-  | inr other ↦ rw (other, other) (find_without label xs)
-]
-
-find_without_other : (label other : ℕ) (xs : List OwnedLabel) → (label == other) ≡ false → find (has_label other) (filter (λ o. not (has_label label o)) xs) ≡ find (has_label other) xs
-find_without_other label other [] away = refl
-find_without_other label other (x ∷ xs) away = elim (cases_Bool (has_label label x)) [
-  | inl found ↦
-      (let unlike : has_label other x ≡ false = elsewhere x.label found in
-      rw (found, unlike) (find_without_other label other xs away))
-  | inr kept ↦ rw kept (ap (λ (o : Option OwnedLabel). cond (has_label other x) (Some x) o) (find_without_other label other xs away))
-]
+-- a label has the slot that it comes with, and all others keep theirs
+slot_put : (label slot : ℕ) (xs : List OwnedLabel) → slot_of label xs ≡ None → (other : ℕ) → slot_of other (put_by label_in (record { label = label; slot = slot }) xs) ≡ cond (label == other) (Some slot) (slot_of other xs)
+slot_put label slot xs none other =
+    let new : OwnedLabel = record { label = label; slot = slot } in
+    ap (option_map (λ (o : OwnedLabel). o.slot)) (find_put label_in new xs (found_none (find (has_label label) xs) none) other) ∙ by (label == other)
   where
-    elsewhere : (n : ℕ) → (n == label) ≡ true → (n == other) ≡ false
-    elsewhere n found = grind (arith, nat_tests, found, away)
+    by : (b : Bool) → option_map (λ (o : OwnedLabel). o.slot) (cond b (Some (record { label = label; slot = slot })) (find (has_label other) xs)) ≡ cond b (Some slot) (option_map (λ (o : OwnedLabel). o.slot) (find (has_label other) xs))
+    by true = refl
+    by false = refl
 
 -- ---- the labels that the ends own
 
@@ -111,6 +96,16 @@ number_none label (o ∷ os) differ =
     let rest : position_or_len (is_label label) os ≡ length os = number_none label os differ.1 in
     rw (away label o differ.0) (omega (arith, rest))
 
+number_away : (label : ℕ) (owns : List (Option ℕ)) → AllByRecursion (λ own. is_label label own ≡ false) owns → position_or_len (is_label label) owns ≡ length owns
+number_away label [] away = refl
+number_away label (o ∷ os) away =
+    let rest : position_or_len (is_label label) os ≡ length os = number_away label os away.1 in
+    rw away.0 (omega (arith, rest))
+
+-- where none owns the label it is found at no slot
+pub position_away : (label : ℕ) (owns : List (Option ℕ)) → AllByRecursion (λ own. is_label label own ≡ false) owns → position (is_label label) owns ≡ None
+position_away label owns away = rw (number_away label owns away, not_below (length owns)) refl
+
 number_left : (label : ℕ) (owns : List (Option ℕ)) (slot : ℕ) → OwnApart owns → slot < length owns → get_or owns slot None ≡ Some label → position_or_len (is_label label) (set owns slot None) ≡ length owns
 number_left label [] slot apart within at = absurd (omega (arith, within))
 number_left label (o ∷ os) zero apart within at =
@@ -135,7 +130,7 @@ number_opened label (suc count) = omega (arith, number_opened label count)
 
 -- ---- opened
 
-pub index_opened : (room count first : ℕ) → IsIndex (replicate count None) (record { next = first; room = room; owners = [] }) (record { room = room; labels = [] })
+pub index_opened : (room count first : ℕ) → IsIndex (replicate count None) (opened_space first room) (record { room = room; labels = [] })
 index_opened room count first = record {
   room = refl;
   same = refl;
@@ -144,75 +139,69 @@ index_opened room count first = record {
 
 -- ---- a label is given
 
-map_pushed : {X : Type 0} (f : X → ℕ) (xs : List X) (x : X) → map f (xs ++ x ∷ []) ≡ map f xs ++ f x ∷ []
-map_pushed f [] x = refl
-map_pushed f (y ∷ ys) x = ap (λ (l : List ℕ). f y ∷ l) (map_pushed f ys x)
+-- a label that has no owner has no slot
+pub unindexed : (label : ℕ) (xs : List OwnedLabel) (owners : List Owner) → map (λ o. o.label) xs ≡ map (λ o. o.label) owners → owner_of label owners ≡ None → slot_of label xs ≡ None
+unindexed label [] owners same none = refl
+unindexed label (x ∷ xs) [] same none = absurd (cc (same))
+unindexed label (x ∷ xs) (o ∷ owners) same none =
+    let head : x.label ≡ o.label = cc (same) in
+    let tail : map (λ (o : OwnedLabel). o.label) xs ≡ map (λ (o : Owner). o.label) owners = cc (same) in
+    elim (cases_Bool (owns label o)) [
+      | inl here ↦ absurd (something {X = SegKey × ℕ} (o.key, o.side) (rw here at none))
+      | inr other ↦
+          (let away : has_label label x ≡ false = subst (λ (n : ℕ). (n == label) ≡ false) (sym head) other in
+          rw away (unindexed label xs owners tail (rw other at none)))
+    ]
 
-pub index_issued : (own_list : List (Option ℕ)) (labels : LabelNumbers) (index : OwnedList) (slot : ℕ) (key : SegKey) (side : ℕ) → IsIndex own_list labels index → AllByRecursion (Differ (Some labels.next)) own_list → AreEarlier labels.next index.labels → slot < length own_list → get_or own_list slot None ≡ None → (labels.next == numbers_end) ≡ false
-    → IsIndex (set own_list slot (Some labels.next)) (issued key side labels) (with_owner labels.next slot index)
-index_issued own_list labels index slot key side is differ earlier within at left = rw left (record {
+pub index_issued : (own_list : List (Option ℕ)) (labels : LabelNumbers) (index : OwnedList) (slot label : ℕ) (key : SegKey) (side : ℕ) (peer : EdgeId) → IsIndex own_list labels index → AllByRecursion (Differ (Some label)) own_list → slot_of label index.labels ≡ None → slot < length own_list → get_or own_list slot None ≡ None
+    → IsIndex (set own_list slot (Some label)) (given_to key side peer (Some label) labels) (with_owner label slot index)
+index_issued own_list labels index slot label key side peer is differ unowned within at = record {
   room = is.room;
-  same = map_pushed (λ (o : OwnedLabel). o.label) index.labels (record { label = labels.next; slot = slot }) ∙ (ap (λ (l : List ℕ). l ++ labels.next ∷ []) is.same ∙ sym (map_pushed (λ (o : Owner). o.label) labels.owners (record { label = labels.next; key = key; side = side })));
-  slot = λ label. by label (cases_Bool (labels.next == label));
-})
+  same =
+      numbers_put label_in (record { label = label; slot = slot }) index.labels
+      ∙ (ap (put_by (λ (n : ℕ). n) label) is.same ∙ sym (numbers_put owned_label (record { label = label; key = key; side = side; peer = peer }) labels.owners));
+  slot = λ other. slot_put label slot index.labels unowned other ∙ by other (label == other) refl;
+}
   where
-    by : (label : ℕ) → ((labels.next == label) ≡ true) ⊎ ((labels.next == label) ≡ false) → slot_of label (index.labels ++ record { label = labels.next; slot = slot } ∷ []) ≡ position (is_label label) (set own_list slot (Some labels.next))
-    by label (inl here) =
-        let one : labels.next ≡ label = eqb-true labels.next label here in
-        subst (λ (n : ℕ). slot_of n (index.labels ++ record { label = labels.next; slot = slot } ∷ []) ≡ position (is_label n) (set own_list slot (Some labels.next))) one
-        (ap (option_map (λ (o : OwnedLabel). o.slot)) (find_pushed labels.next slot index.labels earlier) ∙ sym (position_put labels.next own_list slot differ within))
-    by label (inr other) =
-        ap (option_map (λ (o : OwnedLabel). o.slot)) (find_pushed_other labels.next label slot index.labels other)
-        ∙ (is.slot label ∙ sym (position_set label own_list slot (Some labels.next) within (other ∙ sym (ap (is_label label) at))))
+    by : (other : ℕ) (b : Bool) → (label == other) ≡ b → cond b (Some slot) (slot_of other index.labels) ≡ position (is_label other) (set own_list slot (Some label))
+    by other true here =
+        let one : label ≡ other = eqb-true label other here in
+        subst (λ (n : ℕ). Some slot ≡ position (is_label n) (set own_list slot (Some label))) one (sym (position_put label own_list slot differ within))
+    by other false away = is.slot other ∙ sym (position_set other own_list slot (Some label) within (away ∙ sym (ap (is_label other) at)))
 
 -- ---- a label is freed
 
-map_filtered : {X : Type 0} (f : X → ℕ) (p : ℕ → Bool) (xs : List X) → map f (filter (λ x. p (f x)) xs) ≡ filter p (map f xs)
-map_filtered f p [] = refl
-map_filtered {X} f p (x ∷ xs) = elim (p (f x)) as (λ b. map f (cond b (x ∷ filter (λ y. p (f y)) xs) (filter (λ y. p (f y)) xs)) ≡ cond b (f x ∷ filter p (map f xs)) (filter p (map f xs))) [
-  | true ↦ ap (λ (l : List ℕ). f x ∷ l) (map_filtered f p xs)
-  | false ↦ map_filtered f p xs
-]
+index_freed : (own_list : List (Option ℕ)) (labels : LabelNumbers) (index : OwnedList) (slot label : ℕ) → IsIndex own_list labels index → OwnApart own_list → IsOwned labels.owners (Some label) → slot < length own_list → get_or own_list slot None ≡ Some label → IsIndex (set own_list slot None) (freed label labels) (without label index)
+index_freed own_list labels index slot label is apart owned within at = of_found (find (owns label) labels.owners) refl where
+  same_left : map (λ o. o.label) (filter (λ o. not (has_label label o)) index.labels) ≡ map (λ o. o.label) (filter (λ o. not (owns label o)) labels.owners)
+  same_left =
+      numbers_left label_in (λ n. not (n == label)) index.labels
+      ∙ (ap (λ (l : List ℕ). filter (λ n. not (n == label)) l) is.same ∙ sym (numbers_left owned_label (λ n. not (n == label)) labels.owners))
 
-index_freed : (own_list : List (Option ℕ)) (labels : LabelNumbers) (index : OwnedList) (slot label : ℕ) → IsIndex own_list labels index → OwnApart own_list → slot < length own_list → get_or own_list slot None ≡ Some label → IsIndex (set own_list slot None) (freed label labels) (without label index)
-index_freed own_list labels index slot label is apart within at = record {
-  room = is.room;
-  same =
-      map_filtered (λ (o : OwnedLabel). o.label) (λ n. not (n == label)) index.labels
-      ∙ (ap (λ (l : List ℕ). filter (λ n. not (n == label)) l) is.same ∙ sym (map_filtered (λ (o : Owner). o.label) (λ n. not (n == label)) labels.owners));
-  slot = λ other. by other (cases_Bool (label == other));
-}
-  where
-    by : (other : ℕ) → ((label == other) ≡ true) ⊎ ((label == other) ≡ false) → slot_of other (filter (λ o. not (has_label label o)) index.labels) ≡ position (is_label other) (set own_list slot None)
-    by other (inl here) =
-        let one : label ≡ other = eqb-true label other here in
-        subst (λ (n : ℕ). slot_of n (filter (λ o. not (has_label label o)) index.labels) ≡ position (is_label n) (set own_list slot None)) one
-        (ap (option_map (λ (o : OwnedLabel). o.slot)) (find_without label index.labels) ∙ sym (position_left label own_list slot apart within at))
-    by other (inr differ) =
-        ap (option_map (λ (o : OwnedLabel). o.slot)) (find_without_other label other index.labels differ)
-        ∙ (is.slot other ∙ sym (position_set other own_list slot None within (sym (ap (is_label other) at ∙ differ))))
+  by : (other : ℕ) → ((label == other) ≡ true) ⊎ ((label == other) ≡ false) → slot_of other (filter (λ o. not (has_label label o)) index.labels) ≡ position (is_label other) (set own_list slot None)
+  by other (inl here) =
+      let one : label ≡ other = eqb-true label other here in
+      subst (λ (n : ℕ). slot_of n (filter (λ o. not (has_label label o)) index.labels) ≡ position (is_label n) (set own_list slot None)) one
+      (ap (option_map (λ (o : OwnedLabel). o.slot)) (find_left label_in label index.labels) ∙ sym (position_left label own_list slot apart within at))
+  by other (inr differ) =
+      ap (option_map (λ (o : OwnedLabel). o.slot)) (find_left_other label_in label other index.labels differ)
+      ∙ (is.slot other ∙ sym (position_set other own_list slot None within (sym (ap (is_label other) at ∙ differ))))
+
+  of_found : (r : Option Owner) → find (owns label) labels.owners ≡ r → IsIndex (set own_list slot None) (freed_of label r labels) (without label index)
+  of_found None none = absurd (owned (owner_of-find label labels.owners ∙ ap (option_map (λ o. (o.key, o.side))) none))
+  of_found (Some owner) found = record { room = is.room; same = same_left; slot = λ other. by other (cases_Bool (label == other)) }
 
 -- after a change each label that is left has its slot
-pub index_changed : (own_list : List (Option ℕ)) (labels : LabelNumbers) (index : OwnedList) (slot : ℕ) (before after : Option ℕ) → IsIndex own_list labels index → OwnApart own_list → slot < length own_list → get_or own_list slot None ≡ before → (after ≡ before) ⊎ (after ≡ None)
+pub index_changed : (own_list : List (Option ℕ)) (labels : LabelNumbers) (index : OwnedList) (slot : ℕ) (before after : Option ℕ) → IsIndex own_list labels index → OwnApart own_list → IsOwned labels.owners before → slot < length own_list → get_or own_list slot None ≡ before → (after ≡ before) ⊎ (after ≡ None)
     → IsIndex (set own_list slot after) (freed_one (left_label before after) labels) (without_one (left_label before after) index)
-index_changed own_list labels index slot None None is apart within at either = rw (set_same own_list slot None None within (sym at)) is
-index_changed own_list labels index slot None (Some label) is apart within at (inl same) = absurd (something {X = ℕ} label same)
-index_changed own_list labels index slot None (Some label) is apart within at (inr none) = absurd (something {X = ℕ} label none)
-index_changed own_list labels index slot (Some label) None is apart within at either = index_freed own_list labels index slot label is apart within at
-index_changed own_list labels index slot (Some label) (Some other) is apart within at (inl same) = rw (set_same own_list slot None (Some other) within (same ∙ sym at)) is
-index_changed own_list labels index slot (Some label) (Some other) is apart within at (inr none) = absurd (something {X = ℕ} other none)
+index_changed own_list labels index slot None None is apart owned within at either = rw (set_same own_list slot None None within (sym at)) is
+index_changed own_list labels index slot None (Some label) is apart owned within at (inl same) = absurd (something {X = ℕ} label same)
+index_changed own_list labels index slot None (Some label) is apart owned within at (inr none) = absurd (something {X = ℕ} label none)
+index_changed own_list labels index slot (Some label) None is apart owned within at either = index_freed own_list labels index slot label is apart owned within at
+index_changed own_list labels index slot (Some label) (Some other) is apart owned within at (inl same) = rw (set_same own_list slot None (Some other) within (same ∙ sym at)) is
+index_changed own_list labels index slot (Some label) (Some other) is apart owned within at (inr none) = absurd (something {X = ℕ} other none)
 
 -- ---- what the index says
-
--- the labels that are owned were given before the number, as those of the label space were
-pub index_earlier : (number : ℕ) (xs : List OwnedLabel) (owners : List Owner) → map (λ o. o.label) xs ≡ map (λ o. o.label) owners → AreBelow number owners → AreEarlier number xs
-index_earlier number [] owners same below = All-nil (λ (o : OwnedLabel). o.label < number)
-index_earlier number (x ∷ xs) [] same below = absurd (cc (same))
-index_earlier number (x ∷ xs) (o ∷ owners) same below =
-    let head : x.label ≡ o.label = cc (same) in
-    let tail : map (λ (o : OwnedLabel). o.label) xs ≡ map (λ (o : Owner). o.label) owners = cc (same) in
-    let less : o.label < number = All-head (λ (o : Owner). o.label < number) o owners below in
-    All-cons (λ (o : OwnedLabel). o.label < number) x xs (omega (arith, head, less)) (index_earlier number xs owners tail (All-tail (λ (o : Owner). o.label < number) o owners below))
 
 length_map : {X : Type 0} (f : X → ℕ) (xs : List X) → length (map f xs) ≡ length xs
 length_map f [] = refl

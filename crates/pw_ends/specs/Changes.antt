@@ -1,5 +1,7 @@
 -- What becomes of ends: one of them, or each that stands at such a place.
 use Rattle.std.specs.Prelude.{◌==◌, ℕ, Bool, true, List, [], ◌∷◌, slice_index_or, slice_set, if◌then◌else◌}
+use Rattle.net_base.specs.declared.plan.places.EdgeId.{EdgeId}
+use Rattle.label_space.specs.declared.kept.Kept.{Kept}
 use Rattle.pw_signalling.specs.End.{EndState, fresh}
 use Rattle.pw_signalling.specs.Laws.{own_label}
 use Rattle.pw_signalling.specs.Rows.{group_stated, group_unbound, lost, released, renewed, stated, telling, unbound, withdrawn}

@@ -24,11 +24,12 @@ pub(crate) fn idle_ends(alloc: Global, count: usize) -> Result<Vec<PwEnd>, NoMem
 }
 
 /// Each end is as it was where nothing was told of it.
+#[tactic(auto, using(crate::proofs::IdleLemmas::idle_steps))]
 pub(crate) fn make_idle(ends: &mut Vec<PwEnd>)
     ensures { map end_of ends.new.items ≡ replicate (length ends.old.items) fresh }
 {
-    for slot in 0..ends.len() {
-        ends[slot] = PwEnd::Idle(PwIdle::new());
+    for end in ends.iter_mut() {
+        *end = PwEnd::Idle(PwIdle::new());
     }
 }
 

@@ -293,6 +293,7 @@ impl PwEnds {
 
     /// A Label Withdraw is put where the end advertises (RFC 5036 section 3.5.10). The label stays the end's own until the
     /// peer releases it or the session is lost.
+    #[tactic(auto, using(crate::proofs::WaitLemmas::none_steps))]
     pub fn withdraw(&mut self, slot: usize)
         requires slot { slot < length self.old.places }
         ensures places { self.new.places ≡ self.old.places }
@@ -304,7 +305,7 @@ impl PwEnds {
     }
 
     /// The ends of a wire are declined no longer.
-    #[tactic(auto, using(crate::proofs::SlotLemmas::seen_steps))]
+    #[tactic(auto, using(crate::proofs::SlotLemmas::seen_steps, crate::proofs::WaitLemmas::none_steps))]
     pub fn renew(&mut self, wire: WireId)
         ensures places { self.new.places ≡ self.old.places }
         ensures next { self.new.labels.next ≡ self.old.labels.next }
@@ -331,6 +332,7 @@ impl PwEnds {
     }
 
     /// A Label Withdraw of a whole group came from a peer (RFC 8077 section 6.5): each binding of the group goes.
+    #[tactic(auto, using(crate::proofs::WaitLemmas::none_steps))]
     pub fn on_group_withdraw(&mut self, peer: EdgeId, group: u32)
         ensures places { self.new.places ≡ self.old.places }
         ensures next { self.new.labels.next ≡ self.old.labels.next }
@@ -342,7 +344,7 @@ impl PwEnds {
 
     /// Each end beside a peer is changed: by what it tells of a whole group, for one. The number of a label that an end owns no
     /// longer waits for the peer, in the order of the ends; the next number stays.
-    #[tactic(auto, using(crate::proofs::SlotLemmas::seen_steps, crate::proofs::SlotLemmas::fresh_stays))]
+    #[tactic(auto, using(crate::proofs::SlotLemmas::seen_steps, crate::proofs::SlotLemmas::fresh_stays, crate::proofs::WaitLemmas::seen_keeps))]
     pub fn change_beside(&mut self, peer: EdgeId, change: &EndChange)
         ensures places { self.new.places ≡ self.old.places }
         ensures next { self.new.labels.next ≡ self.old.labels.next }
@@ -355,7 +357,7 @@ impl PwEnds {
     /// The session with a peer is lost: each end beside it is idle, not declined, and holds no binding (RFC 5036 section 3.5.1.1),
     /// and the number of its label waits for the peer, in the order of the ends. Where nothing was told since then it takes no walk
     /// over the ends.
-    #[tactic(auto, using(crate::proofs::SlotLemmas::seen_steps))]
+    #[tactic(auto, using(crate::proofs::SlotLemmas::seen_steps, crate::proofs::WaitLemmas::seen_loses))]
     pub fn lose(&mut self, peer: EdgeId)
         ensures places { self.new.places ≡ self.old.places }
         ensures next { self.new.labels.next ≡ self.old.labels.next }
@@ -422,9 +424,10 @@ impl PwEnds {
     }
 
     // Each end that is meant is changed.
-    #[tactic(auto, using(crate::proofs::SlotLemmas::each_steps))]
+    #[tactic(auto, using(crate::proofs::SlotLemmas::each_steps, crate::proofs::WaitLemmas::keeps_steps))]
     fn change_each(&mut self, which: WhichEnds, change: &EndChange)
         ensures count { length self.old.ends ≡ length self.old.places }
+        ensures apart { AreApart self.old.places }
         ensures places { self.new.places ≡ self.old.places }
         ensures next { self.new.labels.next ≡ self.old.labels.next }
         ensures kept { self.new.labels.kept ≡ keeps_meant which (changed change.now) self.old.places self.old.ends self.old.labels.kept }

@@ -1,5 +1,5 @@
 -- The end owns the label that was given.
-use Rattle.std.proofs.Common.{◌≡◌, ◌<◌, ◌∙◌, true, false, length, map, get_or, ap, refl, sym, subst}
+use Rattle.std.proofs.Common.{◌<◌, ◌∙◌, length, map, get_or, ap, refl, sym, subst}
 use Rattle.pw_signalling.specs.AnyEnd.{end_of}
 use Rattle.pw_signalling.specs.End.{EndState, fresh}
 use Rattle.pw_signalling.specs.Rows.{advertised}
@@ -13,9 +13,6 @@ use Rattle.pw_ends.proofs.MarkLemmas.{untold_changed}
 use Rattle.pw_ends.proofs.SlotLemmas.{seen_at, seen_changed}
 use Rattle.pw_ends.proofs.pw_ends.PwEnds.advertise.Goals as goal
 
-none : false ≡ true → ⊥
-none is = cc
-
 pub invariant_of-self-2 : goal.invariant_of-self-2
 invariant_of-self-2 c =
     let within : c.args.slot < length c.self.inside.places = subst (λ (l : EndLists). c.args.slot < length l.places) (sym c.self.view_is) c.requires.slot in
@@ -24,9 +21,9 @@ invariant_of-self-2 c =
     (subst (λ (l : EndLists). IsIdle (end_in l c.args.slot).local) (sym c.self.view_is) c.requires.idle) in
     record {
       kept =
-          kept_advertised _ _ c.args.told.now c.self.inside.places (map end_of c.self.inside.ends.items) (map end_of c.advertise_at.new.ends.items) c.self.inside.labels c.issue.new.self c.self.inside.owned c.add.new.self c.args.slot c.in-Ok.label
-          c.self.invariant.kept within idle c.requires.kind (λ last. none (c.in-Ok.ensures.no_label.1 last)) c.in-Ok.ensures.label c.advertise_at.ensures c.issue.ensures.space c.add.ensures
-          (ap segment_of c.place-place.ensures) (ap (λ (place : EndPlace). place.side) c.place-place.ensures);
+          kept_advertised _ _ _ c.args.told.now c.self.inside.places (map end_of c.self.inside.ends.items) (map end_of c.advertise_at.new.ends.items) c.self.inside.labels c.issue.new.self c.self.inside.owned c.add.new.self c.args.slot c.in-Ok.label
+          c.self.invariant.kept within idle c.requires.kind c.in-Ok.ensures.label c.advertise_at.ensures c.issue.ensures.space c.add.ensures
+          (ap segment_of c.place-place.ensures) (ap (λ (place : EndPlace). place.side) c.place-place.ensures) (ap (λ (place : EndPlace). place.peer) c.place-place.ensures);
       untold = untold_changed (has_mark c.self.inside.marks) (has_mark c.with-self-inside.result) c.self.inside.places (map end_of c.self.inside.ends.items) (map end_of c.advertise_at.new.ends.items) c.args.slot c.place-place.result.peer.0
           (advertised c.in-Ok.label c.args.told.now (get_or (map end_of c.self.inside.ends.items) c.args.slot fresh)) c.self.invariant.untold c.advertise_at.ensures (ap (λ (place : EndPlace). place.peer.0) c.place-place.ensures) c.with-self-inside.ensures;
     }

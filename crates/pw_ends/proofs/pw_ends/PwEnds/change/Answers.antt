@@ -1,5 +1,6 @@
 -- The ends own what is left in the label space.
 use Rattle.std.proofs.Common.{◌<◌, ◌∙◌, List, length, map, get_or, ap, refl, sym, subst}
+use Rattle.label_space.specs.Labels.{LabelNumbers}
 use Rattle.pw_signalling.specs.AnyEnd.{end_of}
 use Rattle.pw_signalling.specs.declared.pw_end.PwEnd.{PwEnd}
 use Rattle.pw_signalling.specs.End.{fresh}
@@ -12,6 +13,7 @@ use Rattle.pw_ends.specs.Marks.{has_mark}
 use Rattle.pw_ends.proofs.KeptLemmas.{kept_moved}
 use Rattle.pw_ends.proofs.MarkLemmas.{untold_changed}
 use Rattle.pw_ends.proofs.SlotLemmas.{seen_changed}
+use Rattle.pw_ends.proofs.WaitLemmas.{kept_changed_at}
 use Rattle.pw_ends.proofs.pw_ends.PwEnds.change.Goals as goal
 
 pub invariant_of-self : goal.invariant_of-self
@@ -31,3 +33,11 @@ returns-clause-seen c =
     let within : c.args.slot < length c.self.inside.places = subst (λ (l : EndLists). c.args.slot < length l.places) (sym c.self.view_is) c.requires.slot in
     seen_changed (changed c.args.change.now) (the_view c.self.inside) _ c.args.slot c.self.invariant.kept.apart c.self.invariant.kept.count within refl c.change_at.ensures
     ∙ ap (λ (l : EndLists). changed_at (place_of l c.args.slot) (changed c.args.change.now) (seen_ends l)) c.self.view_is
+
+pub returns-clause-kept : goal.returns-clause-kept
+returns-clause-kept c =
+    let within : c.args.slot < length c.self.inside.places = subst (λ (l : EndLists). c.args.slot < length l.places) (sym c.self.view_is) c.requires.slot in
+    let own : List PwEnd → _ = λ (ends : List PwEnd). own_of (get_or (map end_of ends) c.args.slot fresh) in
+    ap (λ (l : LabelNumbers). l.kept) c.free_left.ensures.labels
+    ∙ kept_changed_at c.args.change.now (the_view c.self.inside) c.args.self.now c.self.inside.owned (map end_of c.change_at.new.ends.items) c.args.slot c.own_label_at-before.result c.own_label_at-after.result c.self.invariant.kept within c.self.view_is c.change_at.ensures
+    (c.own_label_at-before.ensures ∙ ap own c.deref.ensures.value) (c.own_label_at-after.ensures ∙ ap own c.deref-2.ensures.value)
