@@ -70,7 +70,7 @@ owners_same from to (x ∷ xs) (y ∷ ys) rising others found = two (one (cases_
         let unlike : owns label y ≡ false = ap (owns label) (sym (one (cases_order x.label y.label))) ∙ apart in
         rw (apart, unlike) at (found label)
 
-    two : {a b : Owner} {as bs : List Owner} → a ≡ b → as ≡ bs → (a ∷ as) ≡ (b ∷ bs)
+    two : {a b : Owner} {rest others : List Owner} → a ≡ b → rest ≡ others → (a ∷ rest) ≡ (b ∷ others)
     two head tail = λ i. head i ∷ tail i
 
 -- ---- the owners by slots
@@ -102,11 +102,11 @@ found_in label [] own_list apart = refl
 found_in label (p ∷ ps) [] apart = refl
 found_in label (p ∷ ps) (None ∷ os) apart = found_in label ps os apart.1
 found_in label (p ∷ ps) (Some own ∷ os) apart =
-    find_put owned_label (owner_at p own) (owners_in ps os) (found_in own ps os apart.1 ∙ for_none own ps os apart.0) label ∙ by (own == label) refl
+    find_put owned_label (owner_at p own) (owners_in ps os) (found_in own ps os apart.1 ∙ for_none own ps os apart.0) label ∙ by (own == label) refl (found_in label ps os apart.1)
   where
-    by : (b : Bool) → (own == label) ≡ b → cond b (Some (owner_at p own)) (find (owns label) (owners_in ps os)) ≡ cond b (Some (owner_at p label)) (owner_for label ps os)
-    by true here = ap (λ (n : ℕ). Some (owner_at p n)) (eqb-true own label here)
-    by false other = found_in label ps os apart.1
+    by : (b : Bool) → (own == label) ≡ b → find (owns label) (owners_in ps os) ≡ owner_for label ps os → cond b (Some (owner_at p own)) (find (owns label) (owners_in ps os)) ≡ cond b (Some (owner_at p label)) (owner_for label ps os)
+    by true here rest = ap (λ (n : ℕ). Some (owner_at p n)) (eqb-true own label here)
+    by false other rest = rest
 
 rising_in : (places : List EndPlace) (own_list : List (Option ℕ)) → OwnApart own_list → AreRisingBy owned_label 0 (owners_in places own_list)
 rising_in [] own_list apart = tt
@@ -122,10 +122,10 @@ for_found : (label : ℕ) (owners : List Owner) (places : List EndPlace) (own_li
 for_found label owners [] [] are count none = sym (none tt)
 for_found label owners [] (o ∷ os) are count none = absurd (omega (arith, count))
 for_found label owners (p ∷ ps) [] are count none = absurd (omega (arith, count))
-for_found label owners (p ∷ ps) (o ∷ os) are count none = by (is_label label o) refl where
-  by : (b : Bool) → is_label label o ≡ b → cond b (Some (owner_at p label)) (owner_for label ps os) ≡ find (owns label) owners
-  by true here = sym (subst (IsOwner owners p) (label_is label o here) are.0)
-  by false other = for_found label owners ps os are.1 (omega (arith, count)) (λ rest. none (other, rest))
+for_found label owners (p ∷ ps) (o ∷ os) are count none = by (is_label label o) refl (λ away. for_found label owners ps os are.1 (omega (arith, count)) away) where
+  by : (b : Bool) → is_label label o ≡ b → ((AllByRecursion (λ own. is_label label own ≡ false) os → find (owns label) owners ≡ None) → owner_for label ps os ≡ find (owns label) owners) → cond b (Some (owner_at p label)) (owner_for label ps os) ≡ find (owns label) owners
+  by true here rest = sym (subst (IsOwner owners p) (label_is label o here) are.0)
+  by false other rest = rest (λ away. none (other, away))
 
 -- the owners of the label space, as the map of the ends tells them
 owners_are : (places : List EndPlace) (ends : List EndState) (labels : LabelNumbers) (index : OwnedList) → AreKept places ends labels index → owners_of (look places ends) places ≡ labels.owners

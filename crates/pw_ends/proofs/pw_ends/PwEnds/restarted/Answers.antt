@@ -17,7 +17,7 @@ invariant_of-self c =
     let idle : map end_of c.make_idle.new.ends.items ≡ replicate (length c.self.inside.places) fresh = c.make_idle.ensures ∙ ap (λ n. replicate n fresh) (seen_count c.self.inside.ends.items c.self.inside.places c.self.invariant.kept.count) in
     record {
       kept = kept_idle c.self.inside.places (map end_of c.self.inside.ends.items) (map end_of c.make_idle.new.ends.items) c.self.inside.labels c.restarted.new.self c.self.inside.owned c.clear.new.self c.self.invariant.kept idle c.restarted.ensures.space c.clear.ensures;
-      untold = rw idle (untold_opened (has_mark c.new.result) c.self.inside.places (length c.self.inside.places));
+      untold = rw idle (untold_opened (has_mark c.new-self-inside.result) c.self.inside.places (length c.self.inside.places));
     }
 
 pub returns-clause-kept : goal.returns-clause-kept
