@@ -11,7 +11,7 @@ use Rattle.label_space.specs.declared.kept.Kept.{Kept}
 use Rattle.label_space.specs.declared.kept.KeptState.TheVariants.{Free}
 use Rattle.label_space.specs.declared.owner.Owner.{Owner}
 use Rattle.label_space.specs.Kept.{kept_at, keeps, met, put_by, ticked, without, without_one}
-use Rattle.label_space.specs.Labels.{LabelNumbers, AreBelow, AreDistinctLabels, AreLeft, AreUnkept, IsHeldSpace, freed, freed_of, given_to, issued, keeps_each, numbers_end, owned_label, owner_of, owns, with_number_taken}
+use Rattle.label_space.specs.Labels.{LabelNumbers, AreBelow, AreDistinctLabels, AreLeft, AreUnkept, IsHeldSpace, freed, freed_of, given_to, issued, keeps_each, number_to_give, numbers_end, owned_label, owner_of, owns, with_number_taken}
 use Rattle.label_space.proofs.KeptLemmas.{kept_without}
 use Rattle.label_space.proofs.LabelLemmas.{apart_owners, below_filtered, below_later, below_none, below_put, distinct_filtered, distinct_put, left_at, left_each, left_filtered, left_kept, left_later, left_met, left_none, left_owned, left_ticked, left_without, owner_of-find, owner_of-freed, owner_of-kept, owner_of-put, unkept_more, unkept_owned, without_next}
 use Rattle.label_space.proofs.OrderLemmas.{below_apart, is_same, long_filtered, long_put, rising_filtered, rising_put, same}
