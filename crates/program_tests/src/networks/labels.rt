@@ -1,6 +1,8 @@
 //! Labels are given again, and packets age. The first edge has one label left, 1048575.
 
-use crate::networks::plans::{LARGEST, LAST_LABEL, LAST_LABEL_OF_TWO};
+use crate::networks::plans::{
+    LARGEST, LAST_LABEL, LAST_LABEL_AND_A_SHORT_SESSION, LAST_LABEL_OF_TWO,
+};
 use crate::networks::steps::{Step, plays};
 
 const UP: [Step; 3] = [Step::Connect(0, 1), Step::Settle, Step::Mappings(0, 1, 1)];
@@ -91,6 +93,20 @@ const GOES_TO_THE_FIRST_WIRE: [Step; 16] = [
     Step::NextLabel(0, 1048576),
 ];
 
+// The end that would have the number is lost at the tick that makes it free, since its session expires then: the next one has it.
+const GOES_TO_ONE_WHOSE_SESSION_STANDS: [Step; 10] = [
+    Step::Lose(0, 1),
+    Step::Settle,
+    Step::Connect(0, 1),
+    Step::Settle,
+    Step::Connect(0, 2),
+    Step::Settle,
+    Step::Ticks(63),
+    Step::Tick,
+    Step::Mappings(0, 2, 0),
+    Step::Mappings(0, 1, 2),
+];
+
 #[test]
 fn labels_are_given_again(rt: HostRuntime) {
     let alloc = rt.alloc();
@@ -99,6 +115,13 @@ fn labels_are_given_again(rt: HostRuntime) {
     plays(&rt, alloc, &LAST_LABEL, &UP, &RESTS_ON);
     plays(&rt, alloc, &LAST_LABEL, &UP, &WAITS_AFTER_A_RESTART);
     plays(&rt, alloc, &LAST_LABEL_OF_TWO, &UP, &GOES_TO_THE_FIRST_WIRE);
+    plays(
+        &rt,
+        alloc,
+        &LAST_LABEL_AND_A_SHORT_SESSION,
+        &UP,
+        &GOES_TO_ONE_WHOSE_SESSION_STANDS,
+    );
 }
 
 const SENDS: [Step; 4] = [

@@ -39,21 +39,34 @@ wire = [{ name = "w0", service = "s", class = "mesh", path = ["e0", "e1"], pw_id
 "#,
 ];
 
-/// An edge that has one label left, with a wire to each of two others; the first wire goes to the last edge.
-pub const LAST_LABEL_OF_TWO: [&str; 1] = [
-    r#"
+const TWO_EDGES: &str = r#"
 version = 1
 edge = [
   { name = "e0", address = "10.0.0.1", first_label = 1048575 },
   { name = "e1", address = "10.0.0.2" },
-  { name = "e2", address = "10.0.0.3" },
+"#;
+
+const TWO_WIRES: &str = r#"
 ]
 service = [{ name = "s" }, { name = "r" }]
 wire = [
   { name = "w0", service = "s", class = "mesh", path = ["e0", "e2"], pw_id = 100 },
   { name = "w1", service = "r", class = "mesh", path = ["e0", "e1"], pw_id = 200 },
 ]
-"#,
+"#;
+
+/// An edge that has one label left, with a wire to each of two others; the first wire goes to the last edge.
+pub const LAST_LABEL_OF_TWO: [&str; 3] = [
+    TWO_EDGES,
+    r#"  { name = "e2", address = "10.0.0.3" },"#,
+    TWO_WIRES,
+];
+
+/// The same, where a session with the last edge expires after 64 ticks.
+pub const LAST_LABEL_AND_A_SHORT_SESSION: [&str; 3] = [
+    TWO_EDGES,
+    r#"  { name = "e2", address = "10.0.0.3", keepalive = 64 },"#,
+    TWO_WIRES,
 ];
 
 /// Two edges with a circuit each, and a wire between them that carries frames of 9,216 octets.
