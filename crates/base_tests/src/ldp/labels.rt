@@ -86,9 +86,13 @@ impl Labels {
         self.space.met(peer);
     }
 
+    fn tick(&mut self) {
+        self.space.tick();
+    }
+
     fn ticks(&mut self, count: u32) {
         for _ in 0..count {
-            self.space.tick();
+            self.tick();
         }
     }
 
