@@ -6,14 +6,13 @@ use Rattle.net_base.specs.declared.plan.places.EdgeId.{EdgeId}
 use Rattle.ldp_grammar.specs.declared.message.Message.{Message}
 use Rattle.ldp_grammar.specs.declared.message.Message.TheVariants.{LabelMapping, LabelRelease}
 use Rattle.pw_signalling.specs.declared.binding.Binding.{Binding}
-use Rattle.pw_signalling.specs.Rows.{released}
 use Rattle.pw_tlvs.specs.declared.point.Point.{Point}
 use Rattle.pw_tlvs.specs.declared.pw_fec.PwFec.{PwFec}
 use Rattle.pw_tlvs.specs.declared.pw_status.PwStatus.{PwStatus}
 use Rattle.edge_model.specs.Content.{binding_in}
 use Rattle.edge_model.specs.declared.effect.Effect.{Effect}
 use Rattle.edge_model.specs.Hear.{acts, acts_on, advice_of, advises}
-use Rattle.edge_model.specs.Signal.{end_of_fec, maps_to, with_end_changed}
+use Rattle.edge_model.specs.Signal.{end_of_fec, maps_to, with_released}
 use Rattle.edge_model.specs.State.{EdgeState, has_end}
 use Rattle.edge_model.specs.Work.{Answers, Work}
 use Rattle.peer_dialogue.specs.Peering.{at_edge}
@@ -36,7 +35,7 @@ mapping_acts plan told peer message id fec label status points binding edge call
     mapping_heard plan told peer fec label status points binding edge calls out work made is ∙ sym (ap (λ (m : Message). acts_on plan told peer m (at_edge edge calls out)) at)
 
 pub release_acts : (plan : Plan) (told : Answers) (peer : EdgeId) (message : Message) (id : ℕ) (fec : PwFec) (label : Option ℕ) (edge now : EdgeState) (calls : List LinkCall) (out : List Effect)
-    → message ≡ LabelRelease id fec label → now ≡ with_end_changed (released label) (end_of_fec plan edge peer fec) edge
+    → message ≡ LabelRelease id fec label → now ≡ with_released label (end_of_fec plan edge peer fec) edge
     → at_edge now calls out ≡ acts_on plan told peer message (at_edge edge calls out)
 release_acts plan told peer message id fec label edge now calls out at is =
     release_heard plan peer fec label edge now calls out is ∙ sym (ap (λ (m : Message). acts_on plan told peer m (at_edge edge calls out)) at)

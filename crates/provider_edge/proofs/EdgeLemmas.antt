@@ -24,9 +24,10 @@ use Rattle.edge_model.specs.Connection.{connected_input, connects, connects_betw
 use Rattle.edge_model.specs.declared.end_place.EndPlace.{EndPlace}
 use Rattle.edge_model.specs.EndPlaces.{ends_here, passes}
 use Rattle.edge_model.specs.Hear.{hears_on, octets_input}
+use Rattle.edge_model.specs.Labels.{keeping_all, resting}
 use Rattle.edge_model.specs.Mend.{mends}
 use Rattle.edge_model.specs.Session.{happens_with_ends}
-use Rattle.edge_model.specs.State.{EdgeState, Peering, has_end, later, with_bits, with_learned, with_priority, with_ticks, without_ends, without_peerings}
+use Rattle.edge_model.specs.State.{EdgeState, Peering, has_end, later, with_bits, with_kept, with_learned, with_priority, with_ticks, without_ends, without_peerings}
 use Rattle.edge_model.specs.Synced.{InSync}
 use Rattle.provider_edge.specs.Tidy.{IsTidy}
 use Rattle.edge_model.specs.Tick.{counted, forgetting, ticks_sessions}
@@ -91,32 +92,32 @@ octets_done e told peer octets held mid calls work taken is = by ((seen e).peeri
   by None none is = absurd (cc (none.0))
   by (Some kept) some is = is
 
-pub restart_done : (e now : EdgeLists) (calls : List LinkCall) → seen now ≡ with_learned (λ service. []) (without_ends (without_peerings (seen e)))
+pub restart_done : (e now : EdgeLists) (calls : List LinkCall) → seen now ≡ with_learned (λ service. []) (without_ends (keeping_all (without_peerings (seen e))))
     → worked now calls (record { idle = false; list = [] }) ≡ restart_input (beginning (seen e) calls)
-unfolding worked changes with_learned without_ends without_peerings
+unfolding worked changes with_kept with_learned without_ends without_peerings
 restart_done e now calls is = ap (λ (s : EdgeState). record { edge = s; calls = calls; effects = []; idle = false }) is
 
 -- ---- ticks
 
-counted_at : (e mid : EdgeLists) (calls : List LinkCall) → seen mid ≡ with_ticks (later (seen e).ticks) (seen e) → at_edge (seen mid) calls [] ≡ changes counted (beginning (seen e) calls)
-unfolding at_edge changes
-counted_at e mid calls counts =
-    ap (λ (s : EdgeState). record { edge = s; calls = calls; effects = []; idle = false }) counts
+counted_at : (e rest mid : EdgeLists) (calls : List LinkCall) → seen rest ≡ resting (seen e) → seen mid ≡ with_ticks (later (seen rest).ticks) (seen rest) → at_edge (seen mid) calls [] ≡ changes counted (beginning (seen e) calls)
+unfolding at_edge changes with_kept
+counted_at e rest mid calls rests counts =
+    ap (λ (s : EdgeState). record { edge = s; calls = calls; effects = []; idle = false }) (counts ∙ ap (λ (s : EdgeState). with_ticks (later s.ticks) s) rests)
 
 forgot_at : (mid now : EdgeLists) (plan : Plan) (calls : List LinkCall) (list : List Effect) → mid.plan ≡ plan → seen now ≡ forgetting mid.plan (seen mid) → at_edge (seen now) calls list ≡ changes (forgetting plan) (at_edge (seen mid) calls list)
 unfolding at_edge changes
 forgot_at mid now plan calls list same is = ap (λ (s : EdgeState). record { edge = s; calls = calls; effects = list; idle = false }) (is ∙ ap (λ (p : Plan). forgetting p (seen mid)) same)
 
-pub ticked : (told : Answers) (e mid ticks now : EdgeLists) (calls new : List LinkCall) (list : List Effect)
-    → Keeps e mid → Keeps mid ticks → seen mid ≡ with_ticks (later (seen e).ticks) (seen e)
+pub ticked : (told : Answers) (e rest mid ticks now : EdgeLists) (calls new : List LinkCall) (list : List Effect)
+    → Keeps e mid → Keeps mid ticks → seen rest ≡ resting (seen e) → seen mid ≡ with_ticks (later (seen rest).ticks) (seen rest)
     → at_edge (seen ticks) new list ≡ ticks_sessions told 0 (length mid.plan.edges) (at_edge (seen mid) calls [])
     → seen now ≡ forgetting ticks.plan (seen ticks)
     → at_edge (seen now) new list ≡ changes (forgetting e.plan) (ticks_sessions told 0 (length e.plan.edges) (changes counted (beginning (seen e) calls)))
-ticked told e mid ticks now calls new list first next counts have forgets =
+ticked told e rest mid ticks now calls new list first next rests counts have forgets =
     forgot_at ticks now e.plan new list (next.plan ∙ first.plan) forgets
     ∙ (ap (changes (forgetting e.plan)) have
     ∙ (ap (λ (p : Plan). changes (forgetting e.plan) (ticks_sessions told 0 (length p.edges) (at_edge (seen mid) calls []))) first.plan
-    ∙ ap (λ (w : Work). changes (forgetting e.plan) (ticks_sessions told 0 (length e.plan.edges) w)) (counted_at e mid calls counts)))
+    ∙ ap (λ (w : Work). changes (forgetting e.plan) (ticks_sessions told 0 (length e.plan.edges) w)) (counted_at e rest mid calls rests counts)))
 
 -- ---- a connection stands
 

@@ -29,13 +29,12 @@ use Rattle.std.proofs.lemmas.Bool.{eqb-true}
 use Rattle.std.proofs.lemmas.List.Elements.{All-get_or}
 use Rattle.net_base.specs.declared.plan.places.WireId.{WireId}
 use Rattle.net_base.specs.declared.trace.down.Down.{Down}
-use Rattle.label_space.specs.Labels.{numbers_end}
 use Rattle.ldp_grammar.specs.declared.status_code.StatusCode.{StatusCode}
 use Rattle.pw_tlvs.specs.declared.pw_fec.PwFec.{PwFec}
 use Rattle.pw_tlvs.specs.declared.pw_status.PwStatus.{PwStatus}
 use Rattle.pw_signalling.specs.declared.told.Told.{Told}
 use Rattle.pw_signalling.specs.End.{LocalPart, Idle, Advertised, Withdrawing}
-use Rattle.pw_signalling.specs.Rows.{bound, group_stated, group_unbound, lost, released, stated, unbound}
+use Rattle.pw_signalling.specs.Rows.{bound, group_stated, group_unbound, stated, unbound}
 use Rattle.net_base.specs.plan.Places.{circuit_row, wire_row}
 use Rattle.net_base.specs.trace.Isolated.{inner_at}
 use Rattle.net_base.specs.trace.Frame.{dress}
@@ -93,17 +92,18 @@ use Rattle.edge_model.specs.Packet.{advertiser, advertises_label, alerted, alert
 use Rattle.edge_model.specs.Send.{drops, had_posted, packet_of, sends, sends_copy, sends_under}
 use Rattle.edge_model.specs.Synced.{InSync}
 use Rattle.edge_model.specs.Put.{Spoken, message_octets_of, octets_of, put_octets, put_replies, put_reply, put_reply_to, puts_on, with_spoken, stays}
-use Rattle.edge_model.specs.Session.{clears_ends, comes_of, ends, had_put, had_said, happens, happens_to, happens_with_ends, says, says_to, is_same_phase, tells_change, went_on, with_session}
+use Rattle.edge_model.specs.Labels.{label_to_give}
+use Rattle.edge_model.specs.Session.{clears_ends, comes_of, losing_ends, ends, had_put, had_said, happens, happens_to, happens_with_ends, says, says_to, is_same_phase, tells_change, went_on, with_session}
 use Rattle.edge_model.specs.declared.end_place.EndPlace.{EndPlace}
 use Rattle.edge_model.specs.Content.{binding_in, mac_withdrawal, mapping, pw_status_code, release, status_notification, withdrawal}
 use Rattle.edge_model.specs.EndPlaces.{end_places, ends_here, is_at, is_end_of_wire, passes}
 use Rattle.edge_model.specs.Ends.{is_up, wire_end}
-use Rattle.edge_model.specs.Mend.{advertises_wish, advertising, and_says, cause_number, each_end, forgets_down, forgets_downs, forgetting_wire, is_new_choice, mends, mends_choice, mends_end, mends_few, mends_local, mends_once, mends_status, mends_status_of, port_of_wire, stands, telling_status, tells_down, tells_downs, tells_new_status, tells_over, then_changes, wish, withdrawing, withdraws, withdraws_unless}
+use Rattle.edge_model.specs.Mend.{advertises_under, advertises_wish, advertising, and_says, cause_number, each_end, forgets_down, forgets_downs, forgetting_wire, is_new_choice, mends, mends_choice, mends_end, mends_few, mends_local, mends_once, mends_status, mends_status_of, port_of_wire, stands, telling_status, tells_down, tells_downs, tells_new_status, tells_over, then_changes, wish, withdrawing, withdraws, withdraws_unless}
 use Rattle.edge_model.specs.Role.{down_at, status_to_tell}
-use Rattle.edge_model.specs.Signal.{end_of_fec, hears_status, maps_to, releases_label, takes_content, with_end_changed, with_named}
+use Rattle.edge_model.specs.Signal.{end_of_fec, hears_status, maps_to, releases_label, takes_content, with_end_changed, with_named, with_released}
 use Rattle.edge_model.specs.Spokes.{choosing}
 use Rattle.edge_model.specs.Wire.{is_own_spoke, turned_wire}
-use Rattle.edge_model.specs.State.{EdgeState, Peering, end_at, has_end, is_on, is_there, with_bits, with_ends_beside, with_peering, with_priority, with_told_down}
+use Rattle.edge_model.specs.State.{EdgeState, Peering, end_at, has_end, is_on, is_there, with_bits, with_peering, with_priority, with_told_down}
 use Rattle.edge_model.specs.Step.{edge_step}
 use Rattle.edge_model.specs.Tick.{counted, forgetting, ticks_sessions}
 use Rattle.edge_model.specs.Work.{Agrees, Answers, Work, beginning, changes, gives, idles, next_answer, posts, puts}
@@ -485,9 +485,9 @@ happens_kept plan Holds kept told peer within event work here = to (work.edge.pe
 
 clears_kept : (plan : Plan) (Holds : Work → Type 0) → AreKept plan Holds → (peer : EdgeId) (work : Work) → Holds work → Holds (clears_ends peer work)
 clears_kept plan Holds kept peer work here = by (has_end work.edge peer) where
-  by : (b : Bool) → Holds (cond b work (changes (with_ends_beside peer lost) work))
+  by : (b : Bool) → Holds (cond b work (changes (losing_ends peer) work))
   by true = here
-  by false = kept.changed (with_ends_beside peer lost) work here
+  by false = kept.changed (losing_ends peer) work here
 
 with_ends_kept : (plan : Plan) (Holds : Work → Type 0) → AreKept plan Holds → (told : Answers) (peer : EdgeId) → peer.0 < length plan.edges → (event : SessionEvent) (work : Work) → Holds work → Holds (happens_with_ends told peer event work)
 with_ends_kept plan Holds kept told peer within event work here = clears_kept plan Holds kept peer (happens told peer event work) (happens_kept plan Holds kept told peer within event work here)
@@ -513,13 +513,11 @@ end_kept : (plan : Plan) (Holds : Work → Type 0) → AreKept plan Holds → (t
 end_kept plan Holds kept told place placed work here = to (end_at work.edge place).local where
   wished : (w : Option Told) → Holds (advertises_wish told place w work).work
   wished None = here
-  wished (Some content) = by (nat_eq work.edge.next_label numbers_end) where
-    begun : Work
-    begun = changes (advertising place work.edge.next_label content) work
-
-    by : (b : Bool) → Holds (cond b (stays work) (says told place.peer (mapping place.pw_id work.edge.next_label content) begun)).work
-    by true = here
-    by false = says_kept plan Holds kept told place.peer placed.peer (mapping place.pw_id work.edge.next_label content) begun (kept.changed (advertising place work.edge.next_label content) work here)
+  wished (Some content) = by (label_to_give work.edge) where
+    by : (label : Option ℕ) → Holds (advertises_under told place content label work).work
+    by None = here
+    by (Some label) =
+        says_kept plan Holds kept told place.peer placed.peer (mapping place.pw_id label content) (changes (advertising place label content) work) (kept.changed (advertising place label content) work here)
 
   unless : (label : ℕ) (content : Told) (w : Option Told) → Holds (withdraws_unless told place label content w work).work
   unless label content w = by (stands place content w) where
@@ -701,7 +699,7 @@ acted_kept plan Holds kept checked told peer within m work here = to m where
   to (message.LabelWithdraw id fec label) =
       says_kept plan Holds kept told peer within (release fec label) (changes (with_named plan peer fec (unbound label) (group_unbound fec.group) fec.pw_id) work)
       (kept.changed (with_named plan peer fec (unbound label) (group_unbound fec.group) fec.pw_id) work here)
-  to (message.LabelRelease id fec label) = kept.changed (λ edge. with_end_changed (released label) (end_of_fec plan edge peer fec) edge) work here
+  to (message.LabelRelease id fec label) = kept.changed (λ edge. with_released label (end_of_fec plan edge peer fec) edge) work here
   to (message.Notification id code status fec) = states code status fec
   to (message.Hello id hold targeted request transport) = advised (advice_of (message.Hello id hold targeted request transport))
   to (message.Initialization id params) = advised (advice_of (message.Initialization id params))

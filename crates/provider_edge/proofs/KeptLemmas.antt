@@ -1,10 +1,13 @@
 -- An edge before its first input.
-use Rattle.std.proofs.Common.{◌≡◌, ◌∙◌, Result, Ok, Err, false, ap, refl, sym}
+use Rattle.std.proofs.Common.{◌≡◌, ◌∙◌, ℕ, List, [], ◌∷◌, Result, Ok, Err, false, ap, refl, sym}
 use Rattle.std.specs.Prelude.{IfOk}
 use Rattle.net_base.specs.declared.plan.Plan.{Plan}
 use Rattle.net_base.specs.declared.plan.places.EdgeId.{EdgeId}
 use Rattle.edge_model.specs.State.{empty_edge}
-use Rattle.pw_ends.specs.Ends.{seen_ends}
+use Rattle.pw_signalling.specs.End.{fresh}
+use Rattle.edge_model.specs.declared.end_place.EndPlace.{EndPlace}
+use Rattle.edge_model.specs.EndPlaces.{end_places}
+use Rattle.pw_ends.specs.Ends.{look, seen_ends}
 use Rattle.provider_edge.specs.Lists.{EdgeLists, no_edge, seen}
 use Rattle.provider_edge.specs.Opening.{IsNewEdge}
 
@@ -24,7 +27,11 @@ opened_empty plan me r is = opened (IsNewEdge plan me) (λ edge. seen edge ≡ e
 pub opened_going : {E : Type 0} (plan : Plan) (me : EdgeId) (r : Result EdgeLists E) → IfOk r (IsNewEdge plan me) → IfOk r (λ edge. edge.stopped ≡ false)
 opened_going plan me r is = opened (IsNewEdge plan me) (λ edge. edge.stopped ≡ false) r (λ e new. new.going) is
 
+none_there : (places : List EndPlace) (wire peer : ℕ) → look places [] wire peer ≡ fresh
+none_there [] wire peer = refl
+none_there (place ∷ places) wire peer = refl
+
 -- one that has no place in its plan is as one before its first input
 pub no_edge_seen : (plan : Plan) (me : EdgeId) → seen (no_edge plan me) ≡ empty_edge plan me
 unfolding seen seen_ends
-no_edge_seen plan me = refl
+no_edge_seen plan me = λ i. record (empty_edge plan me) { ends = λ wire peer. none_there (end_places plan me) wire peer i }

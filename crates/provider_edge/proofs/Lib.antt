@@ -10,6 +10,7 @@ pub mod EchoLemmas
 pub mod EdgeLemmas
 pub mod EffectLemmas
 pub mod ForwardLemmas
+pub mod GivenLemmas
 pub mod HeardLemmas
 pub mod KeptLemmas
 pub mod LiftLemmas

@@ -10,6 +10,7 @@ use Rattle.edge_model.specs.declared.effect.Effect.{Effect}
 use Rattle.edge_model.specs.declared.effect.Effect.TheVariants.{Session}
 use Rattle.edge_model.specs.Connection.{connects, lost_input}
 use Rattle.edge_model.specs.Hear.{advises}
+use Rattle.edge_model.specs.Labels.{meeting}
 use Rattle.edge_model.specs.Put.{Spoken, put_reply}
 use Rattle.edge_model.specs.Session.{clears_ends, had_put, happens, happens_to, happens_with_ends, says, says_to}
 use Rattle.edge_model.specs.State.{EdgeState, Peering, has_end, is_there, with_peering}
@@ -130,14 +131,14 @@ none_there peer taken edge read none there = absurd (cc (sym (ap is_there (sym r
 -- ---- a connection stands
 
 pub connected_at : (told : Answers) (peer : EdgeId) (kept : Peering) (edge mid : EdgeState) (calls : List LinkCall) (out told_out : List Effect) (work : Work)
-    → mid ≡ with_peering peer (Some kept) edge → told_out ≡ out ++ Session peer name.Initialized ∷ []
+    → mid ≡ with_peering peer (Some kept) (meeting peer edge) → told_out ≡ out ++ Session peer name.Initialized ∷ []
     → work ≡ happens_with_ends told peer Start (at_edge mid calls told_out)
     → work ≡ connects told peer kept (at_edge edge calls out)
 unfolding at_edge changes gives
 connected_at told peer kept edge mid calls out told_out work puts tells is =
     is
     ∙ (ap (λ (e : EdgeState). happens_with_ends told peer Start (record { edge = e; calls = calls; effects = told_out; idle = false })) puts
-    ∙ ap (λ (l : List Effect). happens_with_ends told peer Start (record { edge = with_peering peer (Some kept) edge; calls = calls; effects = l; idle = false })) tells)
+    ∙ ap (λ (l : List Effect). happens_with_ends told peer Start (record { edge = with_peering peer (Some kept) (meeting peer edge); calls = calls; effects = l; idle = false })) tells)
 
 -- there is no session left exactly where none was kept
 pub over_is : (left : Option Peering) (none : Bool) → is_some left ≡ not none → none ≡ is_over left

@@ -10,20 +10,24 @@ use Rattle.net_base.specs.declared.plan.places.WireId.{WireId}
 use Rattle.net_base.specs.declared.plan.wire_plan.WirePlan.{WirePlan}
 use Rattle.net_base.specs.declared.outside.link_call.LinkCall.{LinkCall}
 use Rattle.pw_signalling.specs.End.{EndState, fresh}
-use Rattle.label_space.specs.Labels.{numbers_end}
+use Rattle.label_space.specs.declared.kept.Kept.{Kept}
+use Rattle.label_space.specs.Kept.{without}
+use Rattle.label_space.specs.Labels.{next_after, number_to_give, ticking}
+use Rattle.label_space.specs.Labels.{meeting as met_labels}
 use Rattle.pw_signalling.specs.declared.told.Told.{Told}
+use Rattle.pw_signalling.specs.Laws.{own_label}
 use Rattle.pw_signalling.specs.Rows.{advertised, lost}
 use Rattle.edge_model.specs.declared.effect.Effect.{Effect}
 use Rattle.edge_model.specs.declared.end_place.EndPlace.{EndPlace}
-use Rattle.edge_model.specs.Session.{clears_ends}
-use Rattle.edge_model.specs.Signal.{with_end_changed}
+use Rattle.edge_model.specs.Labels.{keeping_all, keeps_lost, keeps_one, keeps_owned, label_to_give, left_label, meeting, owners_of, resting}
+use Rattle.edge_model.specs.Session.{clears_ends, losing_ends}
 use Rattle.edge_model.specs.EndPlaces.{end_places, is_end_of_wire, is_of_wire}
 use Rattle.edge_model.specs.Mend.{advertising}
 use Rattle.edge_model.proofs.LocalLemmas.{and_left}
 use Rattle.edge_model.proofs.PlaceLemmas.{IsEndOf, places_are}
 use Rattle.std.specs.List.{AllByRecursion, list_any}
 use Rattle.std.proofs.lemmas.Option.{slice_get_within}
-use Rattle.edge_model.specs.State.{Peering, EdgeState, empty_edge, end_at, first_label, first_ping, has_end, priority_in, put_at, with_bits, with_chosen, with_end, with_ends_beside, with_peering, with_priority, with_renewed, with_wire, with_next_label, with_next_ping, without_ends, without_peerings}
+use Rattle.edge_model.specs.State.{Peering, EdgeState, empty_edge, end_at, first_label, first_ping, has_end, priority_in, put_at, with_bits, with_chosen, with_end, with_ends_beside, with_kept, with_peering, with_priority, with_renewed, with_wire, with_next_label, with_next_ping, without_ends, without_peerings}
 use Rattle.edge_model.specs.Work.{changes}
 use Rattle.edge_model.specs.Synced.{InSync}
 use Rattle.edge_model.proofs.SyncLemmas.{synced_first}
@@ -37,6 +41,7 @@ use Rattle.edge_forwarding.proofs.Views.{past_end, same_read, view_at, view_set}
 use Rattle.provider_edge.proofs.ForwardLemmas.{holds_forwarding, seen_forwarding}
 use Rattle.provider_edge.specs.declared.end_marks.EndMarks.{EndMarks}
 use Rattle.provider_edge.specs.Bounds.{HoldsFew}
+use Rattle.provider_edge.specs.Changes.{KeepsLabels, changing}
 use Rattle.provider_edge.specs.Invariant.{IsEdge}
 use Rattle.provider_edge.specs.Lists.{EdgeLists, Keeps, seen}
 use Rattle.provider_edge.specs.Opening.{AreNewParts, IsNewEdge}
@@ -140,23 +145,57 @@ seen_gone c = λ i. record (seen c) { peering = λ k. (view_gone c.peerings k) i
 
 -- ---- ends
 
-pub ends_at : (c : EdgeLists) (ends : EndLists) (place : EndPlace) (change : EndState → EndState)
-    → seen_ends ends ≡ changed_at place change (seen_ends c.ends) → ends.labels.next ≡ c.ends.labels.next
-    → seen (record c { ends = ends; marks = None }) ≡ with_end_changed change (Some place) (seen c)
-unfolding seen with_end
-ends_at c ends place change are next = λ i. record (seen c) { ends = are i; next_label = next i }
+-- the end of a slot is changed, and the label that it leaves waits for the neighbour
+abbrev pub LeavesOne : EndLists → ℕ → (EndState → EndState) → EndLists → Type 0
+LeavesOne old slot change new =
+    new.labels.kept ≡ keeps_one (left_label (own_label (end_in old slot).local) (own_label (change (end_in old slot)).local)) (place_of old slot).peer old.labels.kept
 
-pub ends_beside : (c : EdgeLists) (ends : EndLists) (peer : EdgeId) (change : EndState → EndState)
-    → seen_ends ends ≡ changed_beside peer change (seen_ends c.ends) → ends.labels.next ≡ c.ends.labels.next
+pub leaves_none : (old new : EndLists) (slot : ℕ) (change : EndState → EndState) → KeepsLabels change → new.labels.kept ≡ old.labels.kept → LeavesOne old slot change new
+leaves_none old new slot change keeps same = same ∙ sym (ap (λ (left : Option ℕ). keeps_one left (place_of old slot).peer old.labels.kept) (keeps (end_in old slot)))
+
+pub ends_at : (c : EdgeLists) (ends : EndLists) (slot : ℕ) (change : EndState → EndState) → ends.places ≡ c.ends.places
+    → seen_ends ends ≡ changed_at (place_of c.ends slot) change (seen_ends c.ends) → ends.labels.next ≡ c.ends.labels.next → LeavesOne c.ends slot change ends
+    → seen (record c { ends = ends; marks = None }) ≡ changing change (place_of c.ends slot) (seen c)
+unfolding seen with_end with_kept
+ends_at c ends slot change same are next kept = λ i. record (seen c) { places = same i; ends = are i; next_label = next i; kept = kept i }
+
+pub ends_beside : (c : EdgeLists) (ends : EndLists) (peer : EdgeId) (change : EndState → EndState) → ends.places ≡ c.ends.places
+    → seen_ends ends ≡ changed_beside peer change (seen_ends c.ends) → ends.labels.next ≡ c.ends.labels.next → ends.labels.kept ≡ c.ends.labels.kept
     → seen (record c { ends = ends; marks = None }) ≡ with_ends_beside peer change (seen c)
 unfolding seen with_ends_beside
-ends_beside c ends peer change are next = λ i. record (seen c) { ends = are i; next_label = next i }
+ends_beside c ends peer change same are next kept = λ i. record (seen c) { places = same i; ends = are i; next_label = next i; kept = kept i }
 
-pub ends_renewed : (c : EdgeLists) (ends : EndLists) (wire : WireId)
-    → seen_ends ends ≡ renewed_of wire (seen_ends c.ends) → ends.labels.next ≡ c.ends.labels.next
+-- each end beside a peer is lost, and their labels wait for it
+pub ends_lost : (c : EdgeLists) (ends : EndLists) (peer : EdgeId) → ends.places ≡ c.ends.places
+    → seen_ends ends ≡ changed_beside peer lost (seen_ends c.ends) → ends.labels.next ≡ c.ends.labels.next → ends.labels.kept ≡ keeps_lost peer (seen_ends c.ends) c.ends.places c.ends.labels.kept
+    → seen (record c { ends = ends; marks = None }) ≡ losing_ends peer (seen c)
+unfolding seen with_ends_beside with_kept
+ends_lost c ends peer same are next kept = λ i. record (seen c) { places = same i; ends = are i; next_label = next i; kept = kept i }
+
+-- where nothing was told of any of them, that changes nothing
+pub lost_already : (c : EdgeLists) (peer : EdgeId) → changed_beside peer lost (seen_ends c.ends) ≡ seen_ends c.ends → ((kept : List Kept) → keeps_lost peer (seen_ends c.ends) c.ends.places kept ≡ kept) → losing_ends peer (seen c) ≡ seen c
+unfolding seen
+lost_already c peer untold kept = sym (ends_lost c c.ends peer refl (sym untold) refl (sym (kept c.ends.labels.kept)))
+
+pub ends_renewed : (c : EdgeLists) (ends : EndLists) (wire : WireId) → ends.places ≡ c.ends.places
+    → seen_ends ends ≡ renewed_of wire (seen_ends c.ends) → ends.labels.next ≡ c.ends.labels.next → ends.labels.kept ≡ c.ends.labels.kept
     → seen (record c { ends = ends; marks = None }) ≡ with_renewed wire (seen c)
 unfolding seen with_renewed
-ends_renewed c ends wire are next = λ i. record (seen c) { ends = are i; next_label = next i }
+ends_renewed c ends wire same are next kept = λ i. record (seen c) { places = same i; ends = are i; next_label = next i; kept = kept i }
+
+-- ---- labels
+
+pub ends_met : (c : EdgeLists) (peer : EdgeId) (ends : EndLists) → ends ≡ record c.ends { labels = met_labels peer c.ends.labels } → seen (record c { ends = ends }) ≡ meeting peer (seen c)
+unfolding seen with_kept seen_ends
+ends_met c peer ends is = ap (λ (l : EndLists). seen (record c { ends = l })) is
+
+pub ends_rest : (c : EdgeLists) (ends : EndLists) (marks : Option EndMarks) → ends ≡ record c.ends { labels = ticking c.ends.labels } → seen (record c { ends = ends; marks = marks }) ≡ resting (seen c)
+unfolding seen with_kept seen_ends
+ends_rest c ends marks is = ap (λ (l : EndLists). seen (record c { ends = l })) is
+
+-- each end is as it was opened, and all labels that they owned wait
+abbrev pub LeavesAll : EndLists → EndLists → Type 0
+LeavesAll old new = new.labels.kept ≡ keeps_owned (owners_of (seen_ends old) old.places) old.labels.kept
 
 view_unchosen : (xs : List (Option WireId)) (k : ℕ) → view None (map unchosen xs) k ≡ None
 view_unchosen [] k = refl
@@ -168,11 +207,14 @@ view_unpinged [] k = refl
 view_unpinged (x ∷ xs) zero = refl
 view_unpinged (x ∷ xs) (suc k) = view_unpinged xs k
 
-ends_fresh : (c : EdgeLists) (ends : EndLists) (pings : List ℕ) (spokes : SpokeLists) → seen_ends ends ≡ (λ wire peer. fresh) → ends.labels.next ≡ c.ends.labels.next → spokes.chosen ≡ map unchosen c.spokes.chosen
-    → pings ≡ map unpinged c.pings → without_told (seen (record c { ends = ends; pings = pings; spokes = spokes; marks = None })) ≡ without_ends (seen c)
-unfolding seen without_ends without_told
-ends_fresh c ends pings spokes are next none ones = λ i. record (without_told (seen c)) {
+ends_fresh : (c : EdgeLists) (ends : EndLists) (pings : List ℕ) (spokes : SpokeLists) → ends.places ≡ c.ends.places → seen_ends ends ≡ (λ wire peer. fresh) → ends.labels.next ≡ c.ends.labels.next → LeavesAll c.ends ends
+    → spokes.chosen ≡ map unchosen c.spokes.chosen
+    → pings ≡ map unpinged c.pings → without_told (seen (record c { ends = ends; pings = pings; spokes = spokes; marks = None })) ≡ without_ends (keeping_all (seen c))
+unfolding seen without_ends without_told with_kept
+ends_fresh c ends pings spokes same are next kept none ones = λ i. record (without_told (seen c)) {
+  places = same i;
   ends = are i;
+  kept = kept i;
   chosen = λ k. (ap (λ (l : List (Option WireId)). view None l k) none ∙ view_unchosen c.spokes.chosen k) i;
   next_label = next i;
   next_ping = λ k. (ap (λ (l : List ℕ). view first_ping l k) ones ∙ view_unpinged c.pings k) i;
@@ -233,24 +275,24 @@ holds_forgotten c ends pings spokes f same ones none keeps working is =
 
 -- each end is as it was opened and counts as not pinged, of no end anything was told, and no spoke is chosen
 pub ends_forgotten : (c : EdgeLists) (ends : EndLists) (pings : List ℕ) (spokes : SpokeLists) (f : ForwardingLists) → c.stopped ≡ true → IsEdge c → ends.places ≡ c.ends.places → pings ≡ map unpinged c.pings → spokes ≡ record c.spokes { chosen = map unchosen c.spokes.chosen }
-    → KeepsForwarding c.forwarding f → seen_ends ends ≡ (λ wire peer. fresh) → ends.labels.next ≡ c.ends.labels.next
+    → KeepsForwarding c.forwarding f → seen_ends ends ≡ (λ wire peer. fresh) → ends.labels.next ≡ c.ends.labels.next → LeavesAll c.ends ends
     → ((edge : EdgeState) → with_forwarding f edge ≡ without_told (with_forwarding c.forwarding edge))
-    → seen (record c { ends = ends; pings = pings; spokes = spokes; forwarding = f; marks = None }) ≡ without_ends (seen c)
-ends_forgotten c ends pings spokes f working is same ones none keeps are next closed =
+    → seen (record c { ends = ends; pings = pings; spokes = spokes; forwarding = f; marks = None }) ≡ without_ends (keeping_all (seen c))
+ends_forgotten c ends pings spokes f working is same ones none keeps are next kept closed =
     seen_forwarding without_told (record c { ends = ends; pings = pings; spokes = spokes; marks = None }) f (holds_unpinged c ends pings spokes same ones none working is) keeps closed
-    ∙ ends_fresh c ends pings spokes are next (ap (λ (s : SpokeLists). s.chosen) none) ones
+    ∙ ends_fresh c ends pings spokes same are next kept (ap (λ (s : SpokeLists). s.chosen) none) ones
 
 -- ---- where no session stands, the ends are lost
 
 pub cleared_not : (peer : EdgeId) (edge : EdgeState) (calls : List LinkCall) (out : List Effect) → has_end edge peer ≡ true → at_edge edge calls out ≡ clears_ends peer (at_edge edge calls out)
 unfolding at_edge
-cleared_not peer edge calls out there = sym (ap (λ (b : Bool). cond b (at_edge edge calls out) (changes (with_ends_beside peer lost) (at_edge edge calls out))) there)
+cleared_not peer edge calls out there = sym (ap (λ (b : Bool). cond b (at_edge edge calls out) (changes (losing_ends peer) (at_edge edge calls out))) there)
 
-pub cleared : (peer : EdgeId) (edge now : EdgeState) (calls : List LinkCall) (out : List Effect) → has_end edge peer ≡ false → now ≡ with_ends_beside peer lost edge → at_edge now calls out ≡ clears_ends peer (at_edge edge calls out)
+pub cleared : (peer : EdgeId) (edge now : EdgeState) (calls : List LinkCall) (out : List Effect) → has_end edge peer ≡ false → now ≡ losing_ends peer edge → at_edge now calls out ≡ clears_ends peer (at_edge edge calls out)
 unfolding at_edge changes
 cleared peer edge now calls out gone is =
     ap (λ (e : EdgeState). record { edge = e; calls = calls; effects = out; idle = false }) is
-    ∙ sym (ap (λ (b : Bool). cond b (record { edge = edge; calls = calls; effects = out; idle = false }) (changes (with_ends_beside peer lost) (record { edge = edge; calls = calls; effects = out; idle = false }))) gone)
+    ∙ sym (ap (λ (b : Bool). cond b (record { edge = edge; calls = calls; effects = out; idle = false }) (changes (losing_ends peer) (record { edge = edge; calls = calls; effects = out; idle = false }))) gone)
 
 -- ---- before the first input
 
@@ -271,6 +313,7 @@ pub record AreNewLists (plan : Plan) (me : EdgeId) (c : EdgeLists) : Type 0 wher
   pub places : c.ends.places ≡ end_places plan me
   pub ends : seen_ends c.ends ≡ (λ wire peer. fresh)
   pub next : c.ends.labels.next ≡ first_label plan me
+  pub kept : c.ends.labels.kept ≡ []
   pub wires : c.wires_on ≡ replicate (length plan.wires) true
   pub zeros : c.bits ≡ replicate (length plan.wires) 0
   pub priorities : c.priorities ≡ map (λ (row : WirePlan). row.priority) plan.wires
@@ -291,6 +334,7 @@ new_lists plan made me c same keeps here parts peerings wires zeros priorities o
   places = parts.places;
   ends = parts.idle;
   next = parts.next;
+  kept = parts.kept;
   wires = wires ∙ ap (λ (p : Plan). replicate (length p.wires) true) same;
   zeros = zeros ∙ ap (λ (p : Plan). replicate (length p.wires) 0) same;
   priorities = priorities ∙ ap (λ (p : Plan). map (λ (row : WirePlan). row.priority) p.wires) same;
@@ -311,6 +355,7 @@ pub new_is : (plan : Plan) (me : EdgeId) (c : EdgeLists) → AreNewLists plan me
 unfolding seen with_forwarding opened_forwarding
 new_is plan me c are = λ i. record {
   me = are.here i;
+  places = are.places i;
   circuit_on = (are.forwarding.is (empty_edge plan me) i).circuit_on;
   learned = (are.forwarding.is (empty_edge plan me) i).learned;
   ticks = (are.forwarding.is (empty_edge plan me) i).ticks;
@@ -324,6 +369,7 @@ new_is plan me c are = λ i. record {
   told_down = (are.forwarding.is (empty_edge plan me) i).told_down;
   chosen = λ k. (ap (λ (l : List (Option WireId)). view None l k) are.spokes.none ∙ all_same (length plan.services) k None) i;
   next_label = are.next i;
+  kept = are.kept i;
   next_ping = λ k. (ap (λ (l : List ℕ). view 1 l k) are.ones ∙ all_same (length plan.wires) k 1) i;
 }
 
@@ -383,6 +429,10 @@ pub next_at : (c : EdgeLists) → c.ends.labels.next ≡ (seen c).next_label
 unfolding seen
 next_at c = refl
 
+pub kept_now : (c : EdgeLists) → c.ends.labels.kept ≡ (seen c).kept
+unfolding seen
+kept_now c = refl
+
 pub bits_read : (c : EdgeLists) (wire : WireId) (bits : ℕ) → wire.0 < length c.bits → bits ≡ slice_index_or c.bits wire.0 bits → bits ≡ (seen c).bits wire.0
 unfolding seen
 bits_read c wire bits within read = read ∙ same_read c.bits wire.0 bits 0 within
@@ -401,22 +451,18 @@ end_read c slot = refl
 
 -- ---- an end is advertised
 
-pub advertised_none : (c : EdgeLists) (ends : EndLists) → c.ends.labels.next ≡ numbers_end → ends ≡ c.ends
-    → ((seen c).next_label ≡ numbers_end) × (seen (record c { ends = ends; marks = None }) ≡ seen c)
+pub advertised_none : (c : EdgeLists) (ends : EndLists) → number_to_give c.ends.labels.next c.ends.labels.kept ≡ None → ends ≡ c.ends
+    → (label_to_give (seen c) ≡ None) × (seen (record c { ends = ends; marks = None }) ≡ seen c)
 unfolding seen
-advertised_none c ends none same = (sym (next_at c) ∙ none, ap (λ (l : EndLists). seen (record c { ends = l })) same)
+advertised_none c ends none same = (none, ap (λ (l : EndLists). seen (record c { ends = l })) same)
 
-pub advertised_some : (c : EdgeLists) (ends : EndLists) (place : EndPlace) (told : Told) (found : Option ℕ) → (c.ends.labels.next ≡ numbers_end → found ≡ None)
-    → IfSome found (λ label. label ≡ c.ends.labels.next) → IfSome found (λ label. ends.labels.next ≡ c.ends.labels.next + 1)
-    → IfSome found (λ label. seen_ends ends ≡ changed_at place (advertised label told) (seen_ends c.ends))
-    → IfSome found (λ label. ((seen c).next_label ≡ numbers_end → ⊥) × (label ≡ (seen c).next_label) × (seen (record c { ends = ends; marks = None }) ≡ advertising place label told (seen c)))
-unfolding seen with_end with_next_label
-advertised_some c ends place told None none is next are = tt
-advertised_some c ends place told (Some label) none is next are = (
-  λ at. absurd (cc (none at)),
-  is,
-  λ i. record (seen c) { ends = are i; next_label = (next ∙ ap (λ (n : ℕ). n + 1) (sym is)) i },
-)
+pub advertised_some : (c : EdgeLists) (ends : EndLists) (place : EndPlace) (told : Told) (found : Option ℕ) → ends.places ≡ c.ends.places
+    → IfSome found (λ label. number_to_give c.ends.labels.next c.ends.labels.kept ≡ Some label) → IfSome found (λ label. ends.labels.next ≡ next_after c.ends.labels.next)
+    → IfSome found (λ label. ends.labels.kept ≡ without label c.ends.labels.kept) → IfSome found (λ label. seen_ends ends ≡ changed_at place (advertised label told) (seen_ends c.ends))
+    → IfSome found (λ label. (label_to_give (seen c) ≡ Some label) × (seen (record c { ends = ends; marks = None }) ≡ advertising place label told (seen c)))
+unfolding seen with_end with_kept with_next_label
+advertised_some c ends place told None same is next kept are = tt
+advertised_some c ends place told (Some label) same is next kept are = (is, λ i. record (seen c) { places = same i; ends = are i; next_label = next i; kept = kept i })
 
 -- ---- where the ends are
 

@@ -7,10 +7,10 @@ use Rattle.net_base.specs.declared.plan.places.EdgeId.{EdgeId}
 use Rattle.net_base.specs.declared.plan.places.WireId.{WireId}
 use Rattle.pw_signalling.specs.declared.told.Told.{Told}
 use Rattle.pw_signalling.specs.End.{EndState, fresh}
-use Rattle.label_space.specs.Labels.{numbers_end}
 use Rattle.edge_model.specs.declared.effect.Effect.{Effect}
 use Rattle.edge_model.specs.declared.end_place.EndPlace.{EndPlace}
 use Rattle.edge_model.specs.EndPlaces.{end_places}
+use Rattle.edge_model.specs.Labels.{label_to_give}
 use Rattle.edge_model.specs.Mend.{advertising, each_end, forgets_downs, mends_end, mends_status, tells_downs}
 use Rattle.edge_model.specs.Put.{Spoken}
 use Rattle.edge_model.specs.Session.{clears_ends}
@@ -74,13 +74,13 @@ besides_kept c new wire (Some marks) keeps marked besides =
 
 -- a label was taken, or none was left
 pub labelled_kept : (c new : EdgeLists) (told : Told) (place read : EndPlace) (taken : Option ℕ) (after : Option EndMarks) → read ≡ place → Keeps c new → IfSome after (IsTidyBesides c.plan (seen c) read.wire.0)
-    → (taken ≡ None → seen new ≡ seen c) → IfSome taken (λ label. ((seen c).next_label ≡ numbers_end → ⊥) × (label ≡ (seen c).next_label) × (seen new ≡ advertising place label told (seen c))) → IfSome after (IsTidy new.plan (seen new))
+    → (taken ≡ None → seen new ≡ seen c) → IfSome taken (λ label. (label_to_give (seen c) ≡ Some label) × (seen new ≡ advertising place label told (seen c))) → IfSome after (IsTidy new.plan (seen new))
 labelled_kept c new told place read None None is keeps marked same step = tt
 labelled_kept c new told place read None (Some marks) is keeps marked same step =
     subst (λ (p : Plan). IsTidy p (seen new) marks) (sym keeps.plan) (subst (λ (e : EdgeState). IsTidy c.plan e marks) (sym (same refl)) marked.tidy)
 labelled_kept c new told place read (Some label) after is keeps marked same step =
     besides_kept c new place.wire.0 after keeps (subst (λ (p : EndPlace). IfSome after (IsTidyBesides c.plan (seen c) p.wire.0)) is marked)
-    (subst (IsBesides place.wire.0 (seen c)) (sym step.2) (besides_advertising place label told (seen c) step.0))
+    (subst (IsBesides place.wire.0 (seen c)) (sym step.1) (besides_advertising place label told (seen c) step.0))
 
 -- ---- a walk over the ends begins at the first one that has a mark, and stops behind the last one
 

@@ -3,14 +3,16 @@ use Rattle.std.proofs.Common.{◌≡◌, ◌<◌, ◌∙◌, ℕ, Bool, true, fa
 use Rattle.std.specs.Prelude.{IfSome}
 use Rattle.net_base.specs.declared.plan.places.EdgeId.{EdgeId}
 use Rattle.net_base.specs.declared.plan.places.WireId.{WireId}
-use Rattle.label_space.specs.Labels.{numbers_end}
+use Rattle.label_space.specs.declared.kept.Kept.{Kept}
+use Rattle.label_space.specs.Kept.{met}
+use Rattle.label_space.specs.Labels.{meeting as met_labels}
 use Rattle.pw_signalling.specs.declared.told.Told.{Told}
 use Rattle.pw_signalling.specs.End.{EndState, fresh}
 use Rattle.edge_model.specs.declared.end_place.EndPlace.{EndPlace}
+use Rattle.edge_model.specs.Labels.{label_to_give}
 use Rattle.edge_model.specs.Mend.{advertising}
-use Rattle.edge_model.specs.Signal.{with_end_changed}
 use Rattle.edge_model.specs.Spokes.{choice}
-use Rattle.edge_model.specs.State.{put_at, with_bits, with_chosen, with_ends_beside, with_priority, with_renewed, with_wire}
+use Rattle.edge_model.specs.State.{EdgeState, put_at, with_bits, with_chosen, with_ends_beside, with_kept, with_priority, with_renewed, with_wire}
 use Rattle.edge_model.specs.Wire.{turned_wire}
 use Rattle.pw_ends.specs.Ends.{EndLists, changed_at, changed_beside, place_of, renewed_of, seen_ends}
 use Rattle.provider_edge.specs.declared.end_marks.EndMarks.{EndMarks}
@@ -19,9 +21,12 @@ use Rattle.provider_edge.specs.Lists.{EdgeLists, Keeps, seen}
 use Rattle.provider_edge.specs.Marks.{Marked, MarksBeside}
 use Rattle.provider_edge.specs.Spokes.{SpokeLists, starts_spoke}
 use Rattle.provider_edge.specs.Tidy.{IsTidy, IsTidyApart, IsTidyBesides}
-use Rattle.provider_edge.proofs.ListLemmas.{ends_at, ends_beside, ends_renewed, holds_ends, seen_bits, seen_chosen, seen_on, seen_priority}
+use Rattle.provider_edge.specs.Changes.{changing}
+use Rattle.provider_edge.proofs.GivenLemmas.{meeting_leaves}
+use Rattle.provider_edge.proofs.TidyLemmas.{tidy_rekept}
+use Rattle.provider_edge.proofs.ListLemmas.{LeavesOne, ends_at, ends_beside, ends_met, ends_renewed, holds_ends, seen_bits, seen_chosen, seen_on, seen_priority}
 use Rattle.provider_edge.proofs.MarkedLemmas.{besides_kept, chosen_kept, group_kept, labelled_kept}
-use Rattle.provider_edge.proofs.SettledLemmas.{IsBesides, besides_bits, besides_changed, besides_priority, besides_renewed, besides_then, besides_wire}
+use Rattle.provider_edge.proofs.SettledLemmas.{IsBesides, besides_bits, besides_changing, besides_priority, besides_renewed, besides_then, besides_wire}
 
 -- an edge without marks, and these marks
 pub with_marks : (edge : EdgeLists) (marks : Option EndMarks) → IsEdge (record edge { marks = None }) → IfSome marks (IsTidy edge.plan (seen edge)) → IsEdge (record edge { marks = marks })
@@ -69,25 +74,25 @@ ends_keep v ends same = record { plan = refl; me = refl; places = same; count = 
 
 -- the end of a slot is changed
 pub end_marked : (v c : EdgeLists) (ends : EndLists) (change : EndState → EndState) (slot : ℕ) (read : EndPlace) (marks : Option EndMarks) → v ≡ c → IsEdge v → c.stopped ≡ true → ends.places ≡ v.ends.places
-    → seen_ends ends ≡ changed_at (place_of v.ends slot) change (seen_ends v.ends) → ends.labels.next ≡ v.ends.labels.next → read ≡ place_of c.ends slot → IfSome marks (IsTidyBesides c.plan (seen c) read.wire.0)
+    → seen_ends ends ≡ changed_at (place_of v.ends slot) change (seen_ends v.ends) → ends.labels.next ≡ v.ends.labels.next → LeavesOne v.ends slot change ends → read ≡ place_of c.ends slot → IfSome marks (IsTidyBesides c.plan (seen c) read.wire.0)
     → IsEdge (record v { ends = ends; marks = marks })
-end_marked v c ends change slot read marks is holds working same are next at marked =
+end_marked v c ends change slot read marks is holds working same are next kept at marked =
     wire_marked v c (record v { ends = ends; marks = None }) read.wire.0 marks is marked (holds_ends v ends same (stopped_at v c is working) holds) (ends_keep v ends same)
-    (subst (IsBesides read.wire.0 (seen v)) (sym (ends_at v ends (place_of v.ends slot) change are next))
-    (subst (λ (p : EndPlace). IsBesides p.wire.0 (seen v) (with_end_changed change (Some (place_of v.ends slot)) (seen v))) (sym (read_at v c slot read is at)) (besides_changed change (place_of v.ends slot) (seen v))))
+    (subst (IsBesides read.wire.0 (seen v)) (sym (ends_at v ends slot change same are next kept))
+    (subst (λ (p : EndPlace). IsBesides p.wire.0 (seen v) (changing change (place_of v.ends slot) (seen v))) (sym (read_at v c slot read is at)) (besides_changing change (place_of v.ends slot) (seen v))))
 
-pub end_seen : (v c : EdgeLists) (ends : EndLists) (change : EndState → EndState) (slot : ℕ) (marks : Option EndMarks) → v ≡ c
-    → seen_ends ends ≡ changed_at (place_of v.ends slot) change (seen_ends v.ends) → ends.labels.next ≡ v.ends.labels.next
-    → seen (record v { ends = ends; marks = marks }) ≡ with_end_changed change (Some (place_of c.ends slot)) (seen c)
+pub end_seen : (v c : EdgeLists) (ends : EndLists) (change : EndState → EndState) (slot : ℕ) (marks : Option EndMarks) → v ≡ c → ends.places ≡ v.ends.places
+    → seen_ends ends ≡ changed_at (place_of v.ends slot) change (seen_ends v.ends) → ends.labels.next ≡ v.ends.labels.next → LeavesOne v.ends slot change ends
+    → seen (record v { ends = ends; marks = marks }) ≡ changing change (place_of c.ends slot) (seen c)
 unfolding seen
-end_seen v c ends change slot marks is are next =
-    subst (λ (n : EdgeLists). seen (record v { ends = ends; marks = marks }) ≡ with_end_changed change (Some (place_of n.ends slot)) (seen n)) is
-    (ends_at v ends (place_of v.ends slot) change are next)
+end_seen v c ends change slot marks is same are next kept =
+    subst (λ (n : EdgeLists). seen (record v { ends = ends; marks = marks }) ≡ changing change (place_of n.ends slot) (seen n)) is
+    (ends_at v ends slot change same are next kept)
 
 -- a label was taken, or none was left
 pub labelled_marked : (v c : EdgeLists) (ends : EndLists) (told : Told) (slot : ℕ) (read : EndPlace) (taken : Option ℕ) (marks : Option EndMarks) → v ≡ c → IsEdge v → c.stopped ≡ true → ends.places ≡ v.ends.places
     → (taken ≡ None → seen (record v { ends = ends; marks = None }) ≡ seen v)
-    → IfSome taken (λ label. ((seen v).next_label ≡ numbers_end → ⊥) × (label ≡ (seen v).next_label) × (seen (record v { ends = ends; marks = None }) ≡ advertising (place_of v.ends slot) label told (seen v)))
+    → IfSome taken (λ label. (label_to_give (seen v) ≡ Some label) × (seen (record v { ends = ends; marks = None }) ≡ advertising (place_of v.ends slot) label told (seen v)))
     → read ≡ place_of c.ends slot → IfSome marks (IsTidyBesides c.plan (seen c) read.wire.0) → IsEdge (record v { ends = ends; marks = marks })
 labelled_marked v c ends told slot read taken marks is holds working same none some at marked =
     with_marks (record v { ends = ends; marks = None }) marks (holds_ends v ends same (stopped_at v c is working) holds)
@@ -141,23 +146,23 @@ off_seen v c wire on marks is holds within off =
     turned false is_off = refl
 
 pub on_marked : (v c : EdgeLists) (wire : WireId) (on : Bool) (ends : EndLists) (marks : Option EndMarks) → v ≡ c → IsEdge v → c.stopped ≡ true → wire.0 < length c.plan.wires → IfSome marks (IsTidyBesides c.plan (seen c) wire.0)
-    → IsEdge (record v { wires_on = slice_set v.wires_on wire.0 on; marks = None }) → ends.places ≡ v.ends.places → seen_ends ends ≡ renewed_of wire (seen_ends v.ends) → ends.labels.next ≡ v.ends.labels.next
+    → IsEdge (record v { wires_on = slice_set v.wires_on wire.0 on; marks = None }) → ends.places ≡ v.ends.places → seen_ends ends ≡ renewed_of wire (seen_ends v.ends) → ends.labels.next ≡ v.ends.labels.next → ends.labels.kept ≡ v.ends.labels.kept
     → IsEdge (record v { wires_on = slice_set v.wires_on wire.0 on; ends = ends; marks = marks })
-on_marked v c wire on ends marks is holds working within marked plain same are next =
+on_marked v c wire on ends marks is holds working within marked plain same are next kept =
     wire_marked v c (record turned { ends = ends; marks = None }) wire.0 marks is marked (holds_ends turned ends same (stopped_at v c is working) plain) (record { plan = refl; me = refl; places = same; count = refl; stopped = refl })
     (besides_then wire.0 (seen v) (seen turned) (seen (record turned { ends = ends; marks = None })) (turned_besides v wire on (within_wires v c wire (length v.wires_on) is holds.wires within))
-    (subst (IsBesides wire.0 (seen turned)) (sym (ends_renewed turned ends wire are next)) (besides_renewed wire (seen turned))))
+    (subst (IsBesides wire.0 (seen turned)) (sym (ends_renewed turned ends wire same are next kept)) (besides_renewed wire (seen turned))))
   where
     turned : EdgeLists
     turned = record v { wires_on = slice_set v.wires_on wire.0 on; marks = None }
 
-pub on_seen : (v c : EdgeLists) (wire : WireId) (on : Bool) (ends : EndLists) (marks : Option EndMarks) → v ≡ c → IsEdge v → wire.0 < length c.plan.wires → on ≡ true
-    → seen_ends ends ≡ renewed_of wire (seen_ends v.ends) → ends.labels.next ≡ v.ends.labels.next
+pub on_seen : (v c : EdgeLists) (wire : WireId) (on : Bool) (ends : EndLists) (marks : Option EndMarks) → v ≡ c → IsEdge v → wire.0 < length c.plan.wires → on ≡ true → ends.places ≡ v.ends.places
+    → seen_ends ends ≡ renewed_of wire (seen_ends v.ends) → ends.labels.next ≡ v.ends.labels.next → ends.labels.kept ≡ v.ends.labels.kept
     → seen (record v { wires_on = slice_set v.wires_on wire.0 on; ends = ends; marks = marks }) ≡ turned_wire wire on (seen c)
 unfolding seen
-on_seen v c wire on ends marks is holds within now are next =
+on_seen v c wire on ends marks is holds within now same are next kept =
     subst (λ (n : EdgeLists). seen (record v { wires_on = slice_set v.wires_on wire.0 on; ends = ends; marks = marks }) ≡ turned_wire wire on (seen n)) is
-    (ends_renewed (record v { wires_on = slice_set v.wires_on wire.0 on; marks = None }) ends wire are next
+    (ends_renewed (record v { wires_on = slice_set v.wires_on wire.0 on; marks = None }) ends wire same are next kept
     ∙ (ap (with_renewed wire) (seen_on v wire on (within_wires v c wire (length v.wires_on) is holds.wires within)) ∙ turned on now))
   where
     turned : (b : Bool) → b ≡ true → with_renewed wire (with_wire wire b (seen v)) ≡ turned_wire wire b (seen v)
@@ -167,17 +172,30 @@ on_seen v c wire on ends marks is holds within now are next =
 -- ---- a change beside one peer
 
 pub group_marked : (v c : EdgeLists) (ends : EndLists) (peer : EdgeId) (change : EndState → EndState) (marks : Option EndMarks) → v ≡ c → IsEdge v → c.stopped ≡ true → ends.places ≡ v.ends.places → change fresh ≡ fresh
-    → seen_ends ends ≡ changed_beside peer change (seen_ends v.ends) → ends.labels.next ≡ v.ends.labels.next → Marked (MarksBeside c.ends.places peer.0) v.marks marks → IsEdge (record v { ends = ends; marks = marks })
-group_marked v c ends peer change marks is holds working same stays are next marked =
+    → seen_ends ends ≡ changed_beside peer change (seen_ends v.ends) → ends.labels.next ≡ v.ends.labels.next → ends.labels.kept ≡ v.ends.labels.kept → Marked (MarksBeside c.ends.places peer.0) v.marks marks → IsEdge (record v { ends = ends; marks = marks })
+group_marked v c ends peer change marks is holds working same stays are next kept marked =
     with_marks (record v { ends = ends; marks = None }) marks (holds_ends v ends same (stopped_at v c is working) holds)
     (group_kept v v (record v { ends = ends; marks = None }) peer change marks refl holds (ends_keep v ends same) stays
-    (subst (λ (n : EdgeLists). Marked (MarksBeside n.ends.places peer.0) v.marks marks) (sym is) marked) (ends_beside v ends peer change are next))
+    (subst (λ (n : EdgeLists). Marked (MarksBeside n.ends.places peer.0) v.marks marks) (sym is) marked) (ends_beside v ends peer change same are next kept))
 
-pub group_seen : (v c : EdgeLists) (ends : EndLists) (peer : EdgeId) (change : EndState → EndState) (marks : Option EndMarks) → v ≡ c
-    → seen_ends ends ≡ changed_beside peer change (seen_ends v.ends) → ends.labels.next ≡ v.ends.labels.next → seen (record v { ends = ends; marks = marks }) ≡ with_ends_beside peer change (seen c)
+pub group_seen : (v c : EdgeLists) (ends : EndLists) (peer : EdgeId) (change : EndState → EndState) (marks : Option EndMarks) → v ≡ c → ends.places ≡ v.ends.places
+    → seen_ends ends ≡ changed_beside peer change (seen_ends v.ends) → ends.labels.next ≡ v.ends.labels.next → ends.labels.kept ≡ v.ends.labels.kept → seen (record v { ends = ends; marks = marks }) ≡ with_ends_beside peer change (seen c)
 unfolding seen
-group_seen v c ends peer change marks is are next =
-    subst (λ (n : EdgeLists). seen (record v { ends = ends; marks = marks }) ≡ with_ends_beside peer change (seen n)) is (ends_beside v ends peer change are next)
+group_seen v c ends peer change marks is same are next kept =
+    subst (λ (n : EdgeLists). seen (record v { ends = ends; marks = marks }) ≡ with_ends_beside peer change (seen n)) is (ends_beside v ends peer change same are next kept)
+
+-- ---- other numbers are kept to be given again
+
+-- where no label was left none is, the marks are as they were
+pub labels_marked : (v : EdgeLists) (ends : EndLists) (kept : List Kept) → ends.places ≡ v.ends.places → v.stopped ≡ true → IsEdge v → seen (record v { ends = ends }) ≡ with_kept kept (seen v)
+    → (label_to_give (seen v) ≡ None → label_to_give (with_kept kept (seen v)) ≡ None) → IsEdge (record v { ends = ends })
+labels_marked v ends kept same working holds is leaves =
+    with_marks (record v { ends = ends }) v.marks (holds_ends v ends same working holds)
+    (subst (λ (e : EdgeState). IfSome v.marks (IsTidy v.plan e)) (sym is) (tidy_rekept v.plan (seen v) kept v.marks leaves holds.tidy))
+
+pub met_marked : (v : EdgeLists) (peer : EdgeId) (ends : EndLists) → v.stopped ≡ true → IsEdge v → ends ≡ record v.ends { labels = met_labels peer v.ends.labels } → IsEdge (record v { ends = ends })
+met_marked v peer ends working holds is =
+    labels_marked v ends (met peer (seen v).kept) (ap (λ (l : EndLists). l.places) is) working holds (ends_met v peer ends is) (meeting_leaves peer (seen v))
 
 -- ---- the edge chooses for a service
 

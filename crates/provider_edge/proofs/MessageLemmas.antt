@@ -16,11 +16,10 @@ use Rattle.edge_model.specs.declared.effect.Effect.{Effect}
 use Rattle.edge_model.specs.Hear.{acts, hears, hears_message, hears_messages, hears_on, hears_one, hears_pdu, holds, was_up}
 use Rattle.edge_model.specs.Mend.{mends}
 use Rattle.edge_model.proofs.HeldLemmas.{hears_few_held, held_is}
-use Rattle.edge_model.specs.Session.{clears_ends, happens_with_ends}
-use Rattle.edge_model.specs.State.{EdgeState, Peering, has_end, is_there, with_ends_beside, with_peering}
+use Rattle.edge_model.specs.Session.{clears_ends, happens_with_ends, losing_ends}
+use Rattle.edge_model.specs.State.{EdgeState, Peering, has_end, is_there, with_ends_beside, with_kept, with_peering}
 use Rattle.edge_model.specs.Tick.{ticks_sessions}
 use Rattle.edge_model.specs.Work.{Answers, Work, changes}
-use Rattle.pw_signalling.specs.Rows.{lost}
 use Rattle.peer_dialogue.specs.Heard.{CanBeHeard}
 use Rattle.peer_dialogue.specs.Hearing.{HearsOn, IsAtFault, IsAtPdu, IsWaitingFor, alive}
 use Rattle.peer_dialogue.specs.Peering.{at_edge}
@@ -36,11 +35,11 @@ left_none_read peer mid now left puts none = ap (λ (e : EdgeState). e.peering p
 
 -- the loss of ends leaves that as it is
 pub cleared_none : (peer : EdgeId) (edge now : EdgeState) (calls : List LinkCall) (out : List Effect) → at_edge now calls out ≡ clears_ends peer (at_edge edge calls out) → edge.peering peer.0 ≡ None → now.peering peer.0 ≡ None
-unfolding at_edge changes with_ends_beside
+unfolding at_edge changes with_ends_beside with_kept
 cleared_none peer edge now calls out is none =
     let start : Work = record { edge = edge; calls = calls; effects = out; idle = false } in
     ap (λ (w : Work). w.edge.peering peer.0) is
-    ∙ (ap (λ (x : Option Peering). (cond (is_there x) start (changes (with_ends_beside peer lost) start)).edge.peering peer.0) none ∙ none)
+    ∙ (ap (λ (x : Option Peering). (cond (is_there x) start (changes (losing_ends peer) start)).edge.peering peer.0) none ∙ none)
 
 -- ---- a message
 

@@ -8,7 +8,8 @@ use Rattle.peer_dialogue.specs.Peering.{gone}
 use Rattle.pw_ends.specs.Ends.{EndLists, seen_ends}
 use Rattle.provider_edge.proofs.BoundsLemmas.{few_gone}
 use Rattle.provider_edge.proofs.ForwardLemmas.{holds_forwarding, seen_forwarding}
-use Rattle.provider_edge.proofs.ListLemmas.{ends_forgotten, holds_forgotten, holds_peerings, seen_gone}
+use Rattle.edge_model.specs.Labels.{keeping_all}
+use Rattle.provider_edge.proofs.ListLemmas.{LeavesAll, ends_forgotten, holds_forgotten, holds_peerings, seen_gone}
 use Rattle.provider_edge.specs.Invariant.{IsEdge}
 use Rattle.provider_edge.specs.Lists.{EdgeLists, seen}
 use Rattle.provider_edge.specs.Pings.{unpinged}
@@ -20,6 +21,7 @@ pub record AreForgotten (v : EdgeLists) (kept : List (Option Peering)) (slots : 
   pub places : slots.places ≡ v.ends.places
   pub ends : seen_ends slots ≡ (λ wire peer. fresh)
   pub next : slots.labels.next ≡ v.ends.labels.next
+  pub kept : LeavesAll v.ends slots
   pub pings : counts ≡ map unpinged v.pings
   pub spokes : choices ≡ record v.spokes { chosen = map unchosen v.spokes.chosen }
   pub closes : KeepsForwarding v.forwarding closed
@@ -42,10 +44,10 @@ restart_holds v peerings ends pings spokes told new working is are =
     (holds_forgotten (alone v) ends pings spokes told are.places are.pings are.spokes are.closes working (holds_alone v working is)))
 
 pub restart_seen : (v : EdgeLists) (peerings : List (Option Peering)) (ends : EndLists) (pings : List ℕ) (spokes : SpokeLists) (told new : ForwardingLists) → v.stopped ≡ true → IsEdge v → AreForgotten v peerings ends pings spokes told new
-    → seen (record v { peerings = peerings; ends = ends; pings = pings; spokes = spokes; forwarding = new; marks = None }) ≡ with_learned (λ service. []) (without_ends (without_peerings (seen v)))
+    → seen (record v { peerings = peerings; ends = ends; pings = pings; spokes = spokes; forwarding = new; marks = None }) ≡ with_learned (λ service. []) (without_ends (keeping_all (without_peerings (seen v))))
 restart_seen v peerings ends pings spokes told new working is are =
     ap (λ (kept : List (Option Peering)). seen (record v { peerings = kept; ends = ends; pings = pings; spokes = spokes; forwarding = new; marks = None })) are.peerings
     ∙ (seen_forwarding (with_learned (λ service. [])) (record (alone v) { ends = ends; pings = pings; spokes = spokes; forwarding = told; marks = None }) new
     (holds_forgotten (alone v) ends pings spokes told are.places are.pings are.spokes are.closes working (holds_alone v working is)) are.clears are.unlearned
     ∙ ap (with_learned (λ service. []))
-    (ends_forgotten (alone v) ends pings spokes told working (holds_alone v working is) are.places are.pings are.spokes are.closes are.ends are.next are.untold ∙ ap without_ends (seen_gone v)))
+    (ends_forgotten (alone v) ends pings spokes told working (holds_alone v working is) are.places are.pings are.spokes are.closes are.ends are.next are.kept are.untold ∙ ap (λ (e : EdgeState). without_ends (keeping_all e)) (seen_gone v)))

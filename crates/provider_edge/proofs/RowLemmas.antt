@@ -8,7 +8,6 @@ use Rattle.net_base.specs.declared.plan.Plan.{Plan}
 use Rattle.net_base.specs.declared.plan.places.EdgeId.{EdgeId}
 use Rattle.net_base.specs.declared.plan.places.WireId.{WireId}
 use Rattle.net_base.specs.declared.trace.down.Down.{Down}
-use Rattle.label_space.specs.Labels.{numbers_end}
 use Rattle.ldp_grammar.specs.declared.status_code.StatusCode.{StatusCode}
 use Rattle.pw_signalling.specs.declared.binding.Binding.{Binding}
 use Rattle.pw_signalling.specs.declared.told.Told.{Told}
@@ -23,13 +22,15 @@ use Rattle.edge_model.specs.declared.effect.Effect.{Effect}
 use Rattle.edge_model.specs.declared.effect.Effect.TheVariants.{Wire}
 use Rattle.edge_model.specs.declared.end_place.EndPlace.{EndPlace}
 use Rattle.edge_model.specs.EndPlaces.{end_named}
-use Rattle.edge_model.specs.Mend.{advertises, advertises_wish, advertising, cause_number, stands, telling_status, tells_down, tells_new_status, withdrawing, withdraws, withdraws_unless}
+use Rattle.edge_model.specs.Labels.{label_to_give}
+use Rattle.edge_model.specs.Mend.{advertises, advertises_under, advertises_wish, advertising, cause_number, stands, telling_status, tells_down, tells_new_status, withdrawing, withdraws, withdraws_unless}
 use Rattle.edge_model.specs.Put.{Spoken, stays}
 use Rattle.edge_model.specs.Session.{says}
-use Rattle.edge_model.specs.Signal.{end_of_fec, hears_mapping, hears_release, hears_status, hears_withdraw, maps_to, releases_label, takes_content, with_end_changed, with_named}
+use Rattle.edge_model.specs.Signal.{end_of_fec, hears_mapping, hears_release, hears_status, hears_withdraw, maps_to, releases_label, takes_content, with_end_changed, with_named, with_released}
 use Rattle.edge_model.specs.State.{EdgeState, with_told_down}
 use Rattle.edge_model.specs.Work.{Answers, Work, changes, gives}
 use Rattle.peer_dialogue.specs.Peering.{at_edge}
+use Rattle.provider_edge.specs.Changes.{changing}
 use Rattle.provider_edge.specs.Lists.{EdgeLists, seen}
 
 pub changed_edge : (change : EdgeState → EdgeState) (edge now : EdgeState) (calls : List LinkCall) (out : List Effect) → now ≡ change edge → at_edge now calls out ≡ changes change (at_edge edge calls out)
@@ -46,6 +47,9 @@ named_none found lists x named none = sym named ∙ ap (option_map (place_of lis
 
 pub one_some : (change : EndState → EndState) (x : Option EndPlace) (place : EndPlace) (edge now : EdgeState) → x ≡ Some place → now ≡ with_end_changed change (Some place) edge → now ≡ with_end_changed change x edge
 one_some change x place edge now some is = is ∙ ap (λ (p : Option EndPlace). with_end_changed change p edge) (sym some)
+
+pub released_some : (label : Option ℕ) (x : Option EndPlace) (place : EndPlace) (edge now : EdgeState) → x ≡ Some place → now ≡ changing (released label) place edge → now ≡ with_released label x edge
+released_some label x place edge now some is = is ∙ ap (λ (p : Option EndPlace). with_released label p edge) (sym some)
 
 pub one_none : (change : EndState → EndState) (x : Option EndPlace) (edge : EdgeState) → x ≡ None → edge ≡ with_end_changed change x edge
 one_none change x edge none = sym (ap (λ (p : Option EndPlace). with_end_changed change p edge) none)
@@ -99,8 +103,8 @@ withdraw_heard plan told peer fec label edge mid calls out work unbinds is =
     is ∙ ap (releases_label told peer fec label) (changed_edge (with_named plan peer fec (unbound label) (group_unbound fec.group) fec.pw_id) edge mid calls out unbinds)
 
 pub release_heard : (plan : Plan) (peer : EdgeId) (fec : PwFec) (label : Option ℕ) (edge now : EdgeState) (calls : List LinkCall) (out : List Effect)
-    → now ≡ with_end_changed (released label) (end_of_fec plan edge peer fec) edge → at_edge now calls out ≡ hears_release plan peer fec label (at_edge edge calls out)
-release_heard plan peer fec label edge now calls out is = changed_edge (λ (e : EdgeState). with_end_changed (released label) (end_of_fec plan e peer fec) e) edge now calls out is
+    → now ≡ with_released label (end_of_fec plan edge peer fec) edge → at_edge now calls out ≡ hears_release plan peer fec label (at_edge edge calls out)
+release_heard plan peer fec label edge now calls out is = changed_edge (λ (e : EdgeState). with_released label (end_of_fec plan e peer fec) e) edge now calls out is
 
 -- ---- a status
 
@@ -118,26 +122,21 @@ status_heard plan peer code status given fec named edge now calls out some there
 
 -- ---- what an end puts
 
-pub advertises_none : (told : Answers) (place : EndPlace) (content : Told) (edge now : EdgeState) (calls : List LinkCall) (out : List Effect) → edge.next_label ≡ numbers_end → now ≡ edge
+pub advertises_none : (told : Answers) (place : EndPlace) (content : Told) (edge now : EdgeState) (calls : List LinkCall) (out : List Effect) → label_to_give edge ≡ None → now ≡ edge
     → record { work = at_edge now calls out; failed = false } ≡ advertises told place content (at_edge edge calls out)
 unfolding at_edge
 advertises_none told place content edge now calls out none same =
     ap (λ (e : EdgeState). record { work = record { edge = e; calls = calls; effects = out; idle = false }; failed = false }) same
-    ∙ sym (ap (λ (b : Bool). cond b (record { work = record { edge = edge; calls = calls; effects = out; idle = false }; failed = false })
-    (says told place.peer (mapping place.pw_id edge.next_label content) (changes (advertising place edge.next_label content) (record { edge = edge; calls = calls; effects = out; idle = false }))))
-    (eq-eqb edge.next_label numbers_end none))
+    ∙ sym (ap (λ (l : Option ℕ). advertises_under told place content l (record { edge = edge; calls = calls; effects = out; idle = false })) none)
 
-pub advertises_some : (told : Answers) (place : EndPlace) (content : Told) (label : ℕ) (edge mid : EdgeState) (calls : List LinkCall) (out : List Effect) (put : Spoken) → (edge.next_label ≡ numbers_end → ⊥) → label ≡ edge.next_label
+pub advertises_some : (told : Answers) (place : EndPlace) (content : Told) (label : ℕ) (edge mid : EdgeState) (calls : List LinkCall) (out : List Effect) (put : Spoken) → label_to_give edge ≡ Some label
     → mid ≡ advertising place label content edge → put ≡ says told place.peer (mapping place.pw_id label content) (at_edge mid calls out)
     → put ≡ advertises told place content (at_edge edge calls out)
 unfolding at_edge changes
-advertises_some told place content label edge mid calls out put some next advertised puts =
+advertises_some told place content label edge mid calls out put some advertised puts =
     puts
     ∙ (ap (λ (e : EdgeState). says told place.peer (mapping place.pw_id label content) (record { edge = e; calls = calls; effects = out; idle = false })) advertised
-    ∙ (ap (λ (l : ℕ). says told place.peer (mapping place.pw_id l content) (record { edge = advertising place l content edge; calls = calls; effects = out; idle = false })) next
-    ∙ sym (ap (λ (b : Bool). cond b (record { work = record { edge = edge; calls = calls; effects = out; idle = false }; failed = false })
-    (says told place.peer (mapping place.pw_id edge.next_label content) (record { edge = advertising place edge.next_label content edge; calls = calls; effects = out; idle = false })))
-    (ne_eqb edge.next_label numbers_end some))))
+    ∙ sym (ap (λ (l : Option ℕ). advertises_under told place content l (record { edge = edge; calls = calls; effects = out; idle = false })) some))
 
 pub wishes_none : (told : Answers) (place : EndPlace) (wished read : Option Told) (work : Work) → read ≡ wished → read ≡ None → record { work = work; failed = false } ≡ advertises_wish told place wished work
 wishes_none told place wished read work is none = sym (ap (λ (w : Option Told). advertises_wish told place w work) (sym is ∙ none))

@@ -13,7 +13,8 @@ use Rattle.net_base.specs.plan.Paths.{is_first, is_last, mate, offer_of}
 use Rattle.net_base.specs.plan.Places.{is_mesh_class, wire_row}
 use Rattle.net_base.specs.plan.Roles.{is_spoke_from}
 use Rattle.hvpls_spokes.specs.Port.{is_wire_port, ports_of}
-use Rattle.label_space.specs.Labels.{numbers_end}
+use Rattle.label_space.specs.declared.kept.Kept.{Kept}
+use Rattle.label_space.specs.Kept.{least_free}
 use Rattle.pw_tlvs.specs.declared.pw_status.PwStatus.{PwStatus}
 use Rattle.pw_status.specs.Status.{combined, method_by}
 use Rattle.pw_signalling.specs.declared.binding.Binding.{Binding}
@@ -22,6 +23,7 @@ use Rattle.pw_signalling.specs.declared.end_role.EndRole.TheVariants as role
 use Rattle.pw_signalling.specs.declared.told.Told.{Told}
 use Rattle.pw_signalling.specs.Down.{down}
 use Rattle.pw_signalling.specs.End.{EndState, LocalPart, Idle, Advertised, Withdrawing, fresh}
+use Rattle.pw_signalling.specs.Laws.{own_label}
 use Rattle.pw_signalling.specs.Rows.{advertised, lost, renewed}
 use Rattle.pw_stitch.specs.Passing.{passed_status}
 use Rattle.spoke_redundancy.specs.declared.spoke.Spoke.{Spoke}
@@ -32,14 +34,14 @@ use Rattle.edge_model.specs.Content.{content_of}
 use Rattle.edge_model.specs.declared.effect.Effect.{Effect}
 use Rattle.edge_model.specs.declared.end_place.EndPlace.{EndPlace}
 use Rattle.edge_model.specs.EndPlaces.{end_places, is_at, is_terminal}
+use Rattle.edge_model.specs.Labels.{keeps_lost, keeps_one, label_to_give, left_label}
 use Rattle.edge_model.specs.Mend.{advertising, and_says, cause_number, each_end, is_up_with, mends_end, mends_status, passed_from, port_of_wire, status_held, tells_status, wish, wish_of}
 use Rattle.edge_model.specs.Put.{Spoken, stays}
 use Rattle.edge_model.specs.Role.{down_at, end_role_of, is_chosen_wire, own_status, role_at, role_in, status_to_tell}
-use Rattle.edge_model.specs.Session.{clears_ends}
+use Rattle.edge_model.specs.Session.{clears_ends, losing_ends}
 use Rattle.edge_model.specs.Settled.{IsForgotten, IsSettled, is_down_told, is_mended, is_told, tells_now, tells_wish}
-use Rattle.edge_model.specs.Signal.{with_end_changed}
 use Rattle.edge_model.specs.Spokes.{choice, is_spoke_row, spoke_at, spoke_places}
-use Rattle.edge_model.specs.State.{EdgeState, Peering, addresses_of, end_at, has_end, put_at, with_bits, with_chosen, with_end, with_ends_beside, with_next_label, with_peering, with_priority, with_renewed, with_told_down, with_wire, without_port}
+use Rattle.edge_model.specs.State.{EdgeState, Peering, addresses_of, end_at, has_end, put_at, with_bits, with_chosen, with_end, with_ends_beside, with_kept, with_next_label, with_peering, with_priority, with_renewed, with_told_down, with_wire, without_port}
 use Rattle.edge_model.specs.Work.{Answers, Work, changes}
 use Rattle.edge_model.proofs.MendedLemmas.{IsMended, forgets_down_not, mends_end_not, mends_not, mends_status_not, tells_down_not}
 use Rattle.edge_model.proofs.PlaceLemmas.{IsEndOf, places_are}
@@ -47,11 +49,13 @@ use Rattle.pw_ends.specs.Ends.{place_of, seen_ends}
 use Rattle.pw_ends.proofs.BesideLemmas.{beside_none, beside_peer, beside_place, beside_within}
 use Rattle.peer_dialogue.specs.Peering.{at_edge}
 use Rattle.provider_edge.specs.declared.end_marks.EndMarks.{EndMarks}
+use Rattle.provider_edge.specs.Changes.{changing}
 use Rattle.provider_edge.specs.Lists.{EdgeLists, seen}
 use Rattle.provider_edge.specs.Marks.{IsUnmarked, IsWider, Marked, MarksBeside, MarksEach, MarksWire, place_at}
 use Rattle.provider_edge.specs.Mending.{forgotten_down, mended_down}
 use Rattle.provider_edge.specs.Spokes.{starts_spoke}
 use Rattle.provider_edge.specs.Tidy.{HasChosenFor, IsPassedBy, IsSettledAt, IsTidy, MendsNothing}
+use Rattle.provider_edge.proofs.GivenLemmas.{lost_free, none_is, none_left, one_free}
 use Rattle.provider_edge.proofs.MendLemmas.{settles_downs}
 
 -- ---- an end that sees nothing of a change stays settled
@@ -67,18 +71,18 @@ pub record SeesAlike (plan : Plan) (place : EndPlace) (old new : EdgeState) : Ty
   pub remotes : (k : ℕ) → (new.ends place.wire.0 k).remote ≡ (old.ends place.wire.0 k).remote
   pub role : place.terminal ≡ true → role_at plan new place ≡ role_at plan old place
   pub told : new.told_down place.wire.0 ≡ old.told_down place.wire.0
-  -- labels do not come back, nor do addresses that are gone
-  pub labels : nat_eq old.next_label numbers_end ≡ true → nat_eq new.next_label numbers_end ≡ true
+  -- where no label is left none is then, and addresses that are gone are so then
+  pub labels : label_to_give old ≡ None → label_to_give new ≡ None
   pub learned : (port : Option ℕ) (service : ℕ) → without_port port (old.learned service) ≡ old.learned service → without_port port (new.learned service) ≡ new.learned service
 
 -- fewer labels are left
-fewer : (place : EndPlace) (wished : Option Told) (none_left then_none : Bool) (local : LocalPart) → (none_left ≡ true → then_none ≡ true) → tells_wish place wished none_left local ≡ true
+pub fewer_left : (place : EndPlace) (wished : Option Told) (none_left then_none : Bool) (local : LocalPart) → (none_left ≡ true → then_none ≡ true) → tells_wish place wished none_left local ≡ true
     → tells_wish place wished then_none local ≡ true
-fewer place wished none_left then_none (Idle true) left is = refl
-fewer place None none_left then_none (Idle false) left is = refl
-fewer place (Some content) none_left then_none (Idle false) left is = left is
-fewer place wished none_left then_none (Advertised label content) left is = is
-fewer place wished none_left then_none (Withdrawing label) left is = refl
+fewer_left place wished none_left then_none (Idle true) left is = refl
+fewer_left place None none_left then_none (Idle false) left is = refl
+fewer_left place (Some content) none_left then_none (Idle false) left is = left is
+fewer_left place wished none_left then_none (Advertised label content) left is = is
+fewer_left place wished none_left then_none (Withdrawing label) left is = refl
 
 module _ (plan : Plan) (place : EndPlace) (old new : EdgeState) (alike : SeesAlike plan place old new) where
   held_alike : held_of new place.wire ≡ held_of old place.wire
@@ -128,9 +132,9 @@ module _ (plan : Plan) (place : EndPlace) (old new : EdgeState) (alike : SeesAli
 
   mended_alike : is_mended plan old place ≡ true → is_mended plan new place ≡ true
   mended_alike is =
-      ap (λ (o : Option Told). tells_wish place o (nat_eq new.next_label numbers_end) (end_at new place).local) wish_alike
-      ∙ (ap (λ (e : EndState). tells_wish place (wish plan old place) (nat_eq new.next_label numbers_end) e.local) alike.end
-      ∙ fewer place (wish plan old place) (nat_eq old.next_label numbers_end) (nat_eq new.next_label numbers_end) (end_at old place).local alike.labels is)
+      ap (λ (o : Option Told). tells_wish place o (not (is_some (label_to_give new))) (end_at new place).local) wish_alike
+      ∙ (ap (λ (e : EndState). tells_wish place (wish plan old place) (not (is_some (label_to_give new))) e.local) alike.end
+      ∙ fewer_left place (wish plan old place) (not (is_some (label_to_give old))) (not (is_some (label_to_give new))) (end_at old place).local (none_is (label_to_give old) (label_to_give new) alike.labels) is)
 
   told_alike : is_told plan old place ≡ true → is_told plan new place ≡ true
   told_alike is =
@@ -259,7 +263,7 @@ pub record IsBesides (wire : ℕ) (old new : EdgeState) : Type 0 where
   pub priority : (k : ℕ) → nat_eq k wire ≡ false → new.priority k ≡ old.priority k
   pub ends : (k peer : ℕ) → nat_eq k wire ≡ false → new.ends k peer ≡ old.ends k peer
   pub told : (k : ℕ) → nat_eq k wire ≡ false → new.told_down k ≡ old.told_down k
-  pub labels : nat_eq old.next_label numbers_end ≡ true → nat_eq new.next_label numbers_end ≡ true
+  pub labels : label_to_give old ≡ None → label_to_give new ≡ None
   pub learned : (port : Option ℕ) (service : ℕ) → without_port port (old.learned service) ≡ old.learned service → without_port port (new.learned service) ≡ new.learned service
 
 same_role : (plan : Plan) (place : EndPlace) (old new : EdgeState) → new.me ≡ old.me → new.chosen ≡ old.chosen → role_at plan new place ≡ role_at plan old place
@@ -330,12 +334,36 @@ besides_end place end edge = record {
   learned = λ port service gone. gone;
 }
 
-pub besides_changed : (change : EndState → EndState) (place : EndPlace) (edge : EdgeState) → IsBesides place.wire.0 edge (with_end_changed change (Some place) edge)
-besides_changed change place edge = besides_end place (change (end_at edge place)) edge
+-- other numbers are kept, and none is free that was not
+rekept : (wire : ℕ) (kept : List Kept) (edge : EdgeState) → least_free kept ≡ least_free edge.kept → IsBesides wire edge (with_kept kept edge)
+unfolding with_kept
+rekept wire kept edge same = record {
+  me = refl;
+  ups = λ k. refl;
+  chosen = refl;
+  on = λ k away. refl;
+  bits = λ k away. refl;
+  priority = λ k away. refl;
+  ends = λ k peer away. refl;
+  told = λ k away. refl;
+  labels = none_left edge.next_label edge.kept kept same;
+  learned = λ port service gone. gone;
+}
+
+kept_at_end : (place : EndPlace) (end : EndState) (edge : EdgeState) → (with_end place end edge).kept ≡ edge.kept
+unfolding with_end
+kept_at_end place end edge = refl
+
+pub besides_changing : (change : EndState → EndState) (place : EndPlace) (edge : EdgeState) → IsBesides place.wire.0 edge (changing change place edge)
+besides_changing change place edge =
+    let end : EndState = change (end_at edge place) in
+    let left : Option ℕ = left_label (own_label (end_at edge place).local) (own_label end.local) in
+    besides_then place.wire.0 edge (with_end place end edge) (changing change place edge) (besides_end place end edge)
+    (rekept place.wire.0 (keeps_one left place.peer edge.kept) (with_end place end edge) (one_free left place.peer edge.kept ∙ ap least_free (sym (kept_at_end place end edge))))
 
 -- a label was left
-pub besides_advertising : (place : EndPlace) (label : ℕ) (told : Told) (edge : EdgeState) → edge.next_label ≢ numbers_end → IsBesides place.wire.0 edge (advertising place label told edge)
-unfolding with_end with_next_label
+pub besides_advertising : (place : EndPlace) (label : ℕ) (told : Told) (edge : EdgeState) → label_to_give edge ≡ Some label → IsBesides place.wire.0 edge (advertising place label told edge)
+unfolding with_end with_kept with_next_label
 besides_advertising place label told edge left =
     let ended : IsBesides place.wire.0 edge (with_end place (advertised label told (end_at edge place)) edge) = besides_end place (advertised label told (end_at edge place)) edge in
     record {
@@ -347,7 +375,7 @@ besides_advertising place label told edge left =
       priority = λ k away. refl;
       ends = ended.ends;
       told = λ k away. refl;
-      labels = λ none. absurd (left (eqb-true edge.next_label numbers_end none));
+      labels = λ none. absurd (cc (sym none ∙ left));
       learned = λ port service gone. gone;
     }
 
@@ -587,7 +615,7 @@ pub record IsBeside (plan : Plan) (peer : ℕ) (old new : EdgeState) : Type 0 wh
   pub priority : new.priority ≡ old.priority
   pub told : new.told_down ≡ old.told_down
   pub chosen : new.chosen ≡ old.chosen
-  pub labels : nat_eq old.next_label numbers_end ≡ true → nat_eq new.next_label numbers_end ≡ true
+  pub labels : label_to_give old ≡ None → label_to_give new ≡ None
   pub learned : (port : Option ℕ) (service : ℕ) → without_port port (old.learned service) ≡ old.learned service → without_port port (new.learned service) ≡ new.learned service
   pub ups : (k : ℕ) → nat_eq k peer ≡ false → is_up_with (new.peering k) ≡ is_up_with (old.peering k)
   pub ends : (wire k : ℕ) → nat_eq k peer ≡ false → new.ends wire k ≡ old.ends wire k
@@ -698,8 +726,23 @@ beside_ends plan peer change edge stays_fresh else = record {
       ∙ (ap change (else wire peer.0 none) ∙ (stays_fresh ∙ sym (else wire peer.0 none)));
 }
 
-pub beside_lost : (plan : Plan) (peer : EdgeId) (edge : EdgeState) → AreFreshElse plan edge → IsBeside plan peer.0 edge (with_ends_beside peer lost edge)
-beside_lost plan peer edge else = beside_ends plan peer lost edge refl else
+pub beside_lost : (plan : Plan) (peer : EdgeId) (edge : EdgeState) → AreFreshElse plan edge → IsBeside plan peer.0 edge (losing_ends peer edge)
+unfolding with_ends_beside with_kept
+beside_lost plan peer edge else =
+    let beside : IsBeside plan peer.0 edge (with_ends_beside peer lost edge) = beside_ends plan peer lost edge refl else in
+    record {
+      me = refl;
+      on = refl;
+      bits = refl;
+      priority = refl;
+      told = refl;
+      chosen = refl;
+      labels = none_left edge.next_label edge.kept (keeps_lost peer edge.ends edge.places edge.kept) (lost_free peer edge.ends edge.places edge.kept);
+      learned = λ port service gone. gone;
+      ups = λ k away. refl;
+      ends = beside.ends;
+      absent = beside.absent;
+    }
 
 -- another session with the peer, or none
 pub beside_peering : (plan : Plan) (peer : EdgeId) (kept : Option Peering) (edge : EdgeState) → IsBeside plan peer.0 edge (with_peering peer kept edge)
@@ -730,7 +773,7 @@ beside_cleared plan peer put new else clears = subst (IsBeside plan peer.0 put) 
   here : Work
   here = record { edge = put; calls = []; effects = []; idle = false }
 
-  by : (b : Bool) → IsBeside plan peer.0 put (cond b here (changes (with_ends_beside peer lost) here)).edge
+  by : (b : Bool) → IsBeside plan peer.0 put (cond b here (changes (losing_ends peer) here)).edge
   by true = beside_not plan peer.0 put
   by false = beside_lost plan peer put else
 

@@ -3,11 +3,10 @@ use Rattle.std.proofs.Common.{◌≡◌, ◌<◌, ◌+◌, ◌↔◌, ◌∙◌,
 use Rattle.std.specs.List.{list_all}
 use Rattle.net_base.specs.declared.outside.link_call.LinkCall.{LinkCall}
 use Rattle.net_base.specs.declared.plan.places.EdgeId.{EdgeId}
-use Rattle.pw_signalling.specs.Rows.{lost}
 use Rattle.session_core.specs.Table.{SessionEvent, Ticked}
 use Rattle.edge_model.specs.declared.effect.Effect.{Effect}
-use Rattle.edge_model.specs.Session.{happens, happens_to, happens_with_ends}
-use Rattle.edge_model.specs.State.{EdgeState, Peering, has_end, is_there, with_ends_beside}
+use Rattle.edge_model.specs.Session.{losing_ends, happens, happens_to, happens_with_ends}
+use Rattle.edge_model.specs.State.{EdgeState, Peering, has_end, is_there}
 use Rattle.edge_model.specs.Tick.{ticks_sessions}
 use Rattle.edge_model.specs.Work.{Answers}
 use Rattle.edge_model.proofs.LocalLemmas.{and_left, and_right, is_not}
@@ -29,14 +28,14 @@ untouched told peer event edge calls out absent =
 
 -- nor are ends lost of which nothing was told
 pub passed_by : (told : Answers) (peer : EdgeId) (event : SessionEvent) (edge : EdgeState) (calls : List LinkCall) (out : List Effect)
-    → has_end edge peer ≡ false → with_ends_beside peer lost edge ≡ edge → at_edge edge calls out ≡ happens_with_ends told peer event (at_edge edge calls out)
+    → has_end edge peer ≡ false → losing_ends peer edge ≡ edge → at_edge edge calls out ≡ happens_with_ends told peer event (at_edge edge calls out)
 passed_by told peer event edge calls out absent untold =
     happened told peer event (at_edge edge calls out) (at_edge edge calls out) (at_edge edge calls out)
     (untouched told peer event edge calls out absent) (cleared peer edge edge calls out absent (sym untold))
 
 -- so it is with so many neighbours from a place on
 pub all_passed_by : (told : Answers) (size place count : ℕ) (edge : EdgeState) (calls : List LinkCall) (out : List Effect)
-    → place + count ≡ size → ((peer : EdgeId) → has_end edge peer ≡ false) → ((peer : EdgeId) → peer.0 < size → with_ends_beside peer lost edge ≡ edge)
+    → place + count ≡ size → ((peer : EdgeId) → has_end edge peer ≡ false) → ((peer : EdgeId) → peer.0 < size → losing_ends peer edge ≡ edge)
     → at_edge edge calls out ≡ ticks_sessions told place count (at_edge edge calls out)
 all_passed_by told size place zero edge calls out all absent untold = refl
 all_passed_by told size place (suc count) edge calls out all absent untold =

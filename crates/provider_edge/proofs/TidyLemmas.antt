@@ -13,12 +13,12 @@ use Rattle.net_base.specs.declared.plan.wire_plan.WirePlan.{WirePlan}
 use Rattle.net_base.specs.plan.Accepted.{IsChecked}
 use Rattle.net_values.specs.declared.mac.Mac.{Mac}
 use Rattle.net_base.specs.plan.Places.{wire_row}
-use Rattle.label_space.specs.Labels.{numbers_end}
+use Rattle.label_space.specs.declared.kept.Kept.{Kept}
+use Rattle.label_space.specs.Kept.{met}
 use Rattle.mac_table.specs.Addresses.{entry_stays, is_young}
 use Rattle.mac_table.specs.declared.mac_entry.MacEntry.{MacEntry}
 use Rattle.pw_signalling.specs.declared.told.Told.{Told}
 use Rattle.pw_signalling.specs.End.{EndState, LocalPart, Idle, Advertised, Withdrawing}
-use Rattle.pw_signalling.specs.Rows.{lost}
 use Rattle.session_core.specs.Phase.{Phase}
 use Rattle.session_core.specs.Phase as phase
 use Rattle.edge_model.specs.declared.effect.Effect.{Effect}
@@ -26,16 +26,19 @@ use Rattle.edge_model.specs.declared.end_place.EndPlace.{EndPlace}
 use Rattle.edge_model.specs.Clear.{withdrawing_at}
 use Rattle.edge_model.specs.EndPlaces.{end_places}
 use Rattle.edge_model.specs.Hear.{was_up}
+use Rattle.edge_model.specs.Labels.{label_to_give, meeting}
 use Rattle.edge_model.specs.Mend.{forgetting_wire, is_up_with, mends_once, port_of_wire, stands, wish, wish_by, wish_of}
 use Rattle.edge_model.specs.Put.{Spoken}
-use Rattle.edge_model.specs.Session.{clears_ends}
+use Rattle.edge_model.specs.Session.{clears_ends, losing_ends}
 use Rattle.edge_model.specs.Settled.{IsSettled, is_mended}
-use Rattle.edge_model.specs.State.{EdgeState, Peering, addresses_of, end_at, has_end, is_there, put_at, with_addresses, with_circuit, with_ends_beside, with_learned, with_next_ping, with_peering, with_ticks, without_port}
+use Rattle.edge_model.specs.State.{EdgeState, Peering, addresses_of, end_at, has_end, is_there, put_at, with_addresses, with_circuit, with_kept, with_learned, with_next_ping, with_peering, with_ticks, without_port}
 use Rattle.edge_model.specs.Tick.{aged, forgetting}
 use Rattle.edge_model.specs.Work.{Answers, Work, changes}
 use Rattle.edge_model.proofs.AgainLemmas.{mends_at_once, one_end}
 use Rattle.edge_model.proofs.MendedLemmas.{IsMended, round_mends}
 use Rattle.peer_dialogue.specs.Peering.{at_edge}
+use Rattle.provider_edge.proofs.GivenLemmas.{meeting_leaves, none_is}
+use Rattle.provider_edge.proofs.SettledLemmas.{fewer_left}
 use Rattle.provider_edge.specs.declared.end_marks.EndMarks.{EndMarks}
 use Rattle.provider_edge.specs.Marks.{IsUnmarked, place_at}
 use Rattle.provider_edge.specs.Spokes.{starts_spoke}
@@ -73,6 +76,27 @@ pub tidy_each : (plan : Plan) (old new : EdgeState) (marks : Option EndMarks) �
     → ((service : ℕ) → HasChosenFor plan old service → HasChosenFor plan new service)
     → IfSome marks (IsTidy plan old) → IfSome marks (IsTidy plan new)
 tidy_each plan old new marks same each chosen = tidy_slots plan old new marks same (λ slot within. each (place_at (end_places plan old.me) slot)) chosen
+
+-- ---- the numbers that are kept to be given again
+
+-- where no label is left to be given none is then
+pub tidy_rekept : (plan : Plan) (edge : EdgeState) (kept : List Kept) (marks : Option EndMarks) → (label_to_give edge ≡ None → label_to_give (with_kept kept edge) ≡ None) → IfSome marks (IsTidy plan edge)
+    → IfSome marks (IsTidy plan (with_kept kept edge))
+unfolding with_kept
+tidy_rekept plan edge kept marks leaves =
+    tidy_each plan edge (record edge { kept = kept }) marks refl
+    (λ place is. record {
+      mended = fewer_left place (wish plan edge place) (not (is_some (label_to_give edge))) (not (is_some (label_to_give (record edge { kept = kept })))) (end_at edge place).local
+          (none_is (label_to_give edge) (label_to_give (record edge { kept = kept })) leaves) is.mended;
+      told = is.told;
+      forgotten = is.forgotten;
+      down = is.down;
+    })
+    (λ service is. is)
+
+-- what waits for a peer begins to rest
+pub tidy_met : (plan : Plan) (edge : EdgeState) (peer : EdgeId) (marks : Option EndMarks) → IfSome marks (IsTidy plan edge) → IfSome marks (IsTidy plan (meeting peer edge))
+tidy_met plan edge peer marks = tidy_rekept plan edge (met peer edge.kept) marks (meeting_leaves peer edge)
 
 -- ---- ticks, pings and circuits
 
@@ -207,7 +231,7 @@ mended_up plan edge peering place ups = by (end_at edge place).local where
   same = wish_up plan edge peering place ups
 
   by : (local : LocalPart) → is_mended plan (record edge { peering = peering; ends = with_local local }) place ≡ is_mended plan (record edge { ends = with_local local }) place
-  by (Idle declined) = ap (λ (wished : Option Told). declined || (not (is_some wished) || nat_eq edge.next_label numbers_end)) same
+  by (Idle declined) = ap (λ (wished : Option Told). declined || (not (is_some wished) || not (is_some (label_to_give edge)))) same
   by (Advertised label content) = ap (λ (wished : Option Told). stands place content wished) same
   by (Withdrawing label) = refl
 
@@ -280,7 +304,7 @@ cleared_there : (peer : EdgeId) (put new : EdgeState) → ((calls : List LinkCal
 unfolding at_edge
 cleared_there peer put new clears there =
     let here : Work = record { edge = put; calls = []; effects = []; idle = false } in
-    ap (λ (w : Work). w.edge) (clears [] []) ∙ ap (λ (b : Bool). (cond b here (changes (with_ends_beside peer lost) here)).edge) there
+    ap (λ (w : Work). w.edge) (clears [] []) ∙ ap (λ (b : Bool). (cond b here (changes (losing_ends peer) here)).edge) there
 
 there_put : (peer : EdgeId) (left : Option Peering) (mid put : EdgeState) → put ≡ with_peering peer left mid → is_there left ≡ true → has_end put peer ≡ true
 unfolding with_peering

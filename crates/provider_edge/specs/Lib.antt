@@ -1,5 +1,6 @@
 pub mod AtWork
 pub mod Bounds
+pub mod Changes
 pub mod EndOf
 pub mod Hearing
 pub mod Invariant

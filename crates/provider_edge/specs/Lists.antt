@@ -6,6 +6,7 @@ use Rattle.net_base.specs.declared.plan.places.EdgeId.{EdgeId}
 use Rattle.net_base.specs.declared.trace.down.Down.TheVariants.{NoLocal}
 use Rattle.pw_ends.specs.Ends.{EndLists, seen_ends}
 use Rattle.edge_model.specs.declared.effects.Effects.{Effects}
+use Rattle.edge_model.specs.EndPlaces.{end_places}
 use Rattle.edge_model.specs.State.{EdgeState, Peering, first_label, first_ping, priority_in}
 use Rattle.edge_model.specs.Work.{Work}
 use Rattle.edge_forwarding.specs.Forwarding.{ForwardingLists, domain_of, entries_of}
@@ -40,6 +41,7 @@ pub record EdgeLists : Type 0 where
 unfoldable pub seen : EdgeLists → EdgeState
 seen edge = record {
   me = edge.me;
+  places = edge.ends.places;
   circuit_on = view true edge.forwarding.circuits_on;
   learned = λ service. entries_of (domain_of edge.forwarding service);
   ticks = edge.forwarding.ticks;
@@ -51,16 +53,17 @@ seen edge = record {
   told_down = view (Some NoLocal) edge.forwarding.told_down;
   chosen = view None edge.spokes.chosen;
   next_label = edge.ends.labels.next;
+  kept = edge.ends.labels.kept;
   next_ping = view first_ping edge.pings;
 }
 
--- an edge that has no place in its plan: it lists nothing
+-- an edge that has no place in its plan: but for where its ends would be it lists nothing
 abbrev pub no_edge : Plan → EdgeId → EdgeLists
 no_edge plan me = record {
   plan = plan;
   me = me;
   peerings = [];
-  ends = record { places = []; ends = []; labels = record { next = first_label plan me; room = 0; owners = [] } };
+  ends = record { places = end_places plan me; ends = []; labels = record { next = first_label plan me; room = 0; owners = []; kept = [] } };
   wires_on = [];
   bits = [];
   priorities = [];

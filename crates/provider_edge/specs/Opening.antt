@@ -1,5 +1,5 @@
 -- An edge before its first input.
-use Rattle.std.specs.Prelude.{◌≡◌, false}
+use Rattle.std.specs.Prelude.{◌≡◌, [], false}
 use Rattle.net_base.specs.declared.plan.Plan.{Plan}
 use Rattle.net_base.specs.declared.plan.places.EdgeId.{EdgeId}
 use Rattle.pw_ends.specs.Ends.{EndLists, seen_ends}
@@ -15,6 +15,7 @@ pub record AreNewParts (plan : Plan) (me : EdgeId) (ends : EndLists) (spokes : S
   pub places : ends.places ≡ end_places plan me
   pub idle : seen_ends ends ≡ (λ wire peer. fresh)
   pub next : ends.labels.next ≡ first_label plan me
+  pub kept : ends.labels.kept ≡ []
   pub unchosen : IsNewSpokes plan me spokes
   pub unheard : IsNewForwarding plan me forwarding
 

@@ -271,7 +271,7 @@ impl Edge {
         }
     }
 
-    /// The label that the edge gives next, 16 to 1048576 (RFC 3032 section 2.1); at 1048576 no label is left.
+    /// The label that the edge gives next, 16 to 1048576 (RFC 3032 section 2.1); at 1048576 it gives labels again that are free.
     #[tactic(auto, unfolding(crate::specs::Lists::seen))]
     pub fn next_label(&self) -> u32
         ensures { result ≡ (seen self.now).next_label }

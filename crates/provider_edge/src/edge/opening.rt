@@ -1,5 +1,5 @@
 //! An edge is opened.
-ghost use Rattle.std.specs.Prelude.{◌≡◌, ◌<◌, None, true, false, length, map, replicate, IfOk};
+ghost use Rattle.std.specs.Prelude.{◌≡◌, ◌<◌, [], None, true, false, length, map, replicate, IfOk};
 ghost use Rattle.net_base.specs.plan.Accepted.{IsChecked};
 ghost use Rattle.pw_signalling.specs.End.{fresh};
 ghost use Rattle.pw_ends.specs.Ends.{seen_ends};
@@ -33,6 +33,7 @@ impl Edge {
         requires places { ends.places ≡ end_places plan.value me }
         requires idle { seen_ends ends ≡ (λ wire peer. fresh) }
         requires next { ends.labels.next ≡ first_label plan.value me }
+        requires kept { ends.labels.kept ≡ [] }
         ensures { IfOk result (λ edge. IsNewEdge plan.value me edge) }
     {
         match Spokes::open(alloc, &plan, me, ends.places()) {
@@ -54,6 +55,7 @@ impl Edge {
         requires places { ends.places ≡ end_places plan.value me }
         requires idle { seen_ends ends ≡ (λ wire peer. fresh) }
         requires next { ends.labels.next ≡ first_label plan.value me }
+        requires kept { ends.labels.kept ≡ [] }
         requires spokes { IsNewSpokes plan.value me spokes }
         ensures { IfOk result (λ edge. IsNewEdge plan.value me edge) }
     {

@@ -1,20 +1,20 @@
 //! A tick passes.
 ghost use Rattle.std.specs.Prelude.{◌≡◌, ◌<◌, [], true, false, length, OnOk};
 ghost use Rattle.session_core.specs.Table.{Ticked};
-ghost use Rattle.pw_signalling.specs.Rows.{lost};
-ghost use Rattle.edge_model.specs.Session.{happens_with_ends};
-ghost use Rattle.edge_model.specs.State.{has_end, with_ends_beside};
+ghost use Rattle.edge_model.specs.Labels.{resting};
+ghost use Rattle.edge_model.specs.Session.{happens_with_ends, losing_ends};
+ghost use Rattle.edge_model.specs.State.{has_end};
 ghost use Rattle.edge_model.specs.Tick.{tick_input, ticks_sessions};
 ghost use Rattle.edge_model.specs.Work.{Agrees, Answers, beginning};
 ghost use Rattle.provider_edge.specs.AtWork.{Takes, Works, at_work, worked_at};
-ghost use Rattle.provider_edge.specs.Lists.{seen};
+ghost use Rattle.provider_edge.specs.Lists.{Keeps, seen};
 
 use crate::Edge;
 use net_base::{EdgeId, Link, NoMemory};
 use peer_dialogue::{AtWork, Event};
 
 impl Edge {
-    // The edge counts the tick, its sessions have it, its addresses age, and then it mends its ends.
+    // The edge's labels rest, it counts the tick, its sessions have it, its addresses age, and then it mends its ends.
     pub(crate) fn tick<L: Link>(&mut self, work: &mut AtWork<'_, L>) -> Result<(), NoMemory>
         requires working { self.old.stopped ≡ true }
         requires fresh { work.old.effects.now ≡ record { idle = false; list = [] } }
@@ -22,10 +22,25 @@ impl Edge {
         ensures step { OnOk result ((told : Answers) → Agrees told (L.calls work.new.link.now)
             → worked_at L.calls self.new work.new ≡ tick_input self.old.plan told (beginning (seen self.old) (L.calls work.old.link.now))) }
     {
+        self.rest_labels();
         self.count_tick();
         self.tick_sessions(work)?;
         self.age();
         self.mend(work)
+    }
+
+    // Each label that rests does so for one tick more. Where one is free by that, and none was left to be given, each idle end may want it,
+    // so that any end may be unsettled.
+    fn rest_labels(&mut self)
+        requires working { self.old.stopped ≡ true }
+        ensures keeps { Keeps self.old self.new }
+        ensures step { seen self.new ≡ resting (seen self.old) }
+    {
+        let had_label = self.ends.has_label();
+        self.ends.tick();
+        if !had_label && self.ends.has_label() {
+            self.marks = None;
+        }
     }
 
     // The sessions have a tick, in the plan's order. An edge without a session, of which nothing was told beside any peer, takes no walk.
@@ -66,7 +81,7 @@ impl Edge {
     // it, so that there are none to be lost.
     fn is_apart(&self, peer: EdgeId) -> bool
         ensures absent { result ≡ true → has_end (seen self.now) peer ≡ false }
-        ensures untold { result ≡ true → with_ends_beside peer lost (seen self.now) ≡ seen self.now }
+        ensures untold { result ≡ true → losing_ends peer (seen self.now) ≡ seen self.now }
     {
         if self.has_end(peer) {
             return false;
@@ -77,7 +92,7 @@ impl Edge {
     // Whether so it is with every peer of the plan.
     fn is_idle(&self) -> bool
         ensures absent { result ≡ true → (peer : EdgeId) → has_end (seen self.now) peer ≡ false }
-        ensures untold { result ≡ true → (peer : EdgeId) → peer.0 < length self.now.plan.edges → with_ends_beside peer lost (seen self.now) ≡ seen self.now }
+        ensures untold { result ≡ true → (peer : EdgeId) → peer.0 < length self.now.plan.edges → losing_ends peer (seen self.now) ≡ seen self.now }
     {
         if !self.is_alone() {
             return false;

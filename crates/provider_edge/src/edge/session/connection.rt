@@ -4,6 +4,7 @@ ghost use Rattle.std.specs.List.{list_any};
 ghost use Rattle.net_base.specs.plan.Paths.{are_joined};
 ghost use Rattle.session_core.specs.State.{IsProper};
 ghost use Rattle.edge_model.specs.Connection.{connected_input, connects, lost_input, restart_input};
+ghost use Rattle.edge_model.specs.Labels.{meeting};
 ghost use Rattle.edge_model.specs.Work.{Agrees, Answers, beginning};
 ghost use Rattle.net_base.specs.declared.outside.link_call.LinkCall.{LinkCall};
 ghost use Rattle.peer_dialogue.specs.Peering.{connection_with, gone, peers_between};
@@ -53,7 +54,7 @@ impl Edge {
         is_beside(self.ends.places(), peer)
     }
 
-    // A connection with a peer stands, and its session begins (RFC 5036 section 2.5.3).
+    // A connection with a peer stands, so the labels that waited for it rest from now on, and its session begins (RFC 5036 section 2.5.3).
     fn connect<L: Link>(
         &mut self,
         peer: EdgeId,
@@ -67,6 +68,7 @@ impl Edge {
         ensures step { OnOk result ((told : Answers) → Agrees told (L.calls work.new.link.now)
             → at_work L.calls self.new work.new ≡ connects told peer (connection_with peers) (at_work L.calls self.old work.old)) }
     {
+        self.meet(peer);
         let absent = !self.has_end(peer);
         let marks = if absent { self.marks } else { None };
         self.put_peering(peer, Some(Peering::open(peers)));
@@ -76,6 +78,15 @@ impl Edge {
             state: StateName::Initialized,
         })?;
         self.happens(peer, Event::Start, work)
+    }
+
+    // The labels that wait for a peer begin to rest. None is free by that, so it unsettles no end.
+    fn meet(&mut self, peer: EdgeId)
+        requires working { self.old.stopped ≡ true }
+        ensures keeps { Keeps self.old self.new }
+        ensures step { seen self.new ≡ meeting peer (seen self.old) }
+    {
+        self.ends.met(peer);
     }
 
     // The two ends of a session, as the plan has them.
@@ -116,7 +127,8 @@ impl Edge {
         self.mend(work)
     }
 
-    // The edge restarts: it keeps its ticks, what was set of its circuits and wires, and the label that it gives next.
+    // The edge restarts: it keeps its ticks, what was set of its circuits and wires, the label that it gives next, and the labels that may
+    // be given again. Those that its ends owned wait for their neighbours.
     pub(crate) fn restart(&mut self)
         requires working { self.old.stopped ≡ true }
         ensures keeps { Keeps self.old self.new }

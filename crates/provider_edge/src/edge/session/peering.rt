@@ -77,7 +77,8 @@ impl Edge {
         self.peerings[peer.0 as usize] = kept;
     }
 
-    // Where no session with a neighbour stands, each end beside it is lost (RFC 5036 section 3.5.1.1), if something was told of one.
+    // Where no session with a neighbour stands, each end beside it is lost (RFC 5036 section 3.5.1.1), if something was told of one, and
+    // its label waits for the neighbour.
     pub(crate) fn clear_ends(&mut self, peer: EdgeId)
         requires working { self.old.stopped ≡ true }
         ensures keeps { Keeps self.old self.new }

@@ -1,14 +1,15 @@
 //! The ends of an edge: how one is found, and what becomes of it where the edge tells of it, one call a change.
 ghost use Rattle.std.specs.Prelude.{◌≡◌, ◌<◌, ◌≤◌, length, Some, None, option_map, IfSome, true, false};
-ghost use Rattle.label_space.specs.Labels.{numbers_end};
 ghost use Rattle.pw_signalling.specs.Rows.{bound};
 ghost use Rattle.pw_ends.specs.Changes.{changed};
 ghost use Rattle.pw_ends.specs.Ends.{IsIdle, end_in, place_of};
 ghost use Rattle.edge_model.specs.EndPlaces.{end_named};
+ghost use Rattle.edge_model.specs.Labels.{label_to_give};
 ghost use Rattle.edge_model.specs.Mend.{advertising};
 ghost use Rattle.edge_model.specs.Signal.{end_of_fec, with_end_changed, with_named};
 ghost use Rattle.edge_model.specs.State.{with_ends_beside};
 ghost use Rattle.peer_dialogue.specs.Heard.{CanBeTold};
+ghost use Rattle.provider_edge.specs.Changes.{KeepsLabels, changing};
 ghost use Rattle.provider_edge.specs.Lists.{Keeps, seen};
 
 use crate::Edge;
@@ -37,16 +38,15 @@ impl Edge {
         }
     }
 
-    // An idle end advertises the next label with its content; `None` exactly where no label is left. The ends of its wire are marked.
+    // An idle end advertises the label that is given next with its content; `None` exactly where no label is left. The ends of its wire are marked.
     pub(crate) fn advertise(&mut self, slot: usize, told: &Told) -> Option<Label>
         requires working { self.old.stopped ≡ true }
         requires slot { slot < length self.old.ends.places }
         requires idle { IsIdle (end_in self.old.ends slot).local }
         requires kind { told.now.kind ≤ 0x7FFF }
         ensures keeps { Keeps self.old self.new }
-        ensures none { result ≡ None → ((seen self.old).next_label ≡ numbers_end) × (seen self.new ≡ seen self.old) }
-        ensures step { IfSome result (λ label. ((seen self.old).next_label ≡ numbers_end → ⊥)
-            × (label ≡ (seen self.old).next_label)
+        ensures none { result ≡ None → (label_to_give (seen self.old) ≡ None) × (seen self.new ≡ seen self.old) }
+        ensures step { IfSome result (λ label. (label_to_give (seen self.old) ≡ Some label)
             × (seen self.new ≡ advertising (place_of self.old.ends slot) label told.now (seen self.old))) }
     {
         let marks = self.marks_at(self.place_at(slot).wire);
@@ -69,19 +69,21 @@ impl Edge {
         self.marks = marks;
     }
 
-    // The end of a slot is changed, by what the edge tells or by what its peer does; the ends of its wire are marked.
+    // The end of a slot is changed, by what the edge tells or by what its peer does; the label that it owns no longer waits for the
+    // peer. The ends of its wire are marked.
     pub(crate) fn change(&mut self, slot: usize, change: &EndChange)
         requires working { self.old.stopped ≡ true }
         requires slot { slot < length self.old.ends.places }
         ensures keeps { Keeps self.old self.new }
-        ensures step { seen self.new ≡ with_end_changed (changed change.now) (Some (place_of self.old.ends slot)) (seen self.old) }
+        ensures step { seen self.new ≡ changing (changed change.now) (place_of self.old.ends slot) (seen self.old) }
     {
         let marks = self.marks_at(self.place_at(slot).wire);
         self.ends.change(slot, change);
         self.marks = marks;
     }
 
-    // The end that a FEC names is changed, or each one beside the peer where it names a group; the ends of their wires are marked.
+    // The end that a FEC names is changed, or each one beside the peer where it names a group, by a change after which they own their
+    // labels as before; the ends of their wires are marked.
     pub(crate) fn change_named(
         &mut self,
         peer: EdgeId,
@@ -90,6 +92,8 @@ impl Edge {
         all: &EndChange,
     )
         requires working { self.old.stopped ≡ true }
+        requires one { KeepsLabels (changed one.now) }
+        requires all { KeepsLabels (changed all.now) }
         ensures keeps { Keeps self.old self.new }
         ensures step { seen self.new ≡ with_named self.old.plan peer fec.now (changed one.now) (changed all.now) fec.now.pw_id (seen self.old) }
     {
@@ -103,9 +107,10 @@ impl Edge {
         }
     }
 
-    // Each end beside a peer is changed; the ends of the wires beside the peer are marked.
+    // Each end beside a peer is changed, and owns its label as before; the ends of the wires beside the peer are marked.
     fn change_beside(&mut self, peer: EdgeId, change: &EndChange)
         requires working { self.old.stopped ≡ true }
+        requires labels { KeepsLabels (changed change.now) }
         ensures keeps { Keeps self.old self.new }
         ensures step { seen self.new ≡ with_ends_beside peer (changed change.now) (seen self.old) }
     {

@@ -2,9 +2,8 @@
 //! 6.3.2), one call a message.
 ghost use Rattle.std.specs.Prelude.{◌≡◌, ◌≤◌, ◌<◌, Some, None, List, length, OnOk, option_copied, true, false};
 ghost use Rattle.net_base.specs.declared.outside.link_call.LinkCall.{LinkCall};
-ghost use Rattle.pw_signalling.specs.Rows.{released};
 ghost use Rattle.edge_model.specs.declared.effect.Effect.{Effect};
-ghost use Rattle.edge_model.specs.Signal.{end_of_fec, hears_status, hears_withdraw, maps_to, releases_label, with_end_changed};
+ghost use Rattle.edge_model.specs.Signal.{end_of_fec, hears_status, hears_withdraw, maps_to, releases_label, with_released};
 ghost use Rattle.edge_model.specs.Work.{Agrees, Answers};
 ghost use Rattle.peer_dialogue.specs.Heard.{CanBeTold};
 ghost use Rattle.peer_dialogue.specs.Peering.{at_edge};
@@ -93,11 +92,11 @@ impl Edge {
     }
 
     // Label Release of the own label, or without a label: an end that has withdrawn it is idle, and one that advertises it is
-    // declined. One of another label, or without a PW ID, changes nothing.
+    // declined, and the label waits for the peer. One of another label, or without a PW ID, changes nothing.
     pub(crate) fn hear_release(&mut self, peer: EdgeId, fec: &PwFec, label: Option<Label>)
         requires working { self.old.stopped ≡ true }
         ensures keeps { Keeps self.old self.new }
-        ensures step { seen self.new ≡ with_end_changed (released label) (end_of_fec self.old.plan (seen self.old) peer fec.now) (seen self.old) }
+        ensures step { seen self.new ≡ with_released label (end_of_fec self.old.plan (seen self.old) peer fec.now) (seen self.old) }
     {
         if let Some(slot) = self.slot_of(peer, fec) {
             self.change(slot, &EndChange::Released(label));

@@ -1,8 +1,12 @@
 use Rattle.std.proofs.Common.{ap, option_copied}
 use Rattle.std.proofs.lemmas.Bool.{eq-eqb}
+use Rattle.provider_edge.proofs.GivenLemmas.{keeps_group_stated, keeps_stated}
 use Rattle.provider_edge.proofs.RowLemmas.{status_heard}
 use Rattle.provider_edge.specs.Lists.{seen}
 use Rattle.provider_edge.proofs.edge.Edge.hear_status.Goals as goal
+
+pub change_named-requires : goal.change_named-requires
+change_named-requires c = record { working = c.requires.working; one = keeps_stated c.in-Some.status; all = keeps_group_stated c.in-Some-fec.fec.now.group c.in-Some.status }
 
 pub returns-then-code-eq-PW_STATUS_CODE-clause-step : goal.returns-then-code-eq-PW_STATUS_CODE-clause-step
 returns-then-code-eq-PW_STATUS_CODE-clause-step c = λ calls out.

@@ -9,6 +9,8 @@ use Rattle.pw_signalling.specs.End.{Advertised}
 use Rattle.pw_signalling.specs.declared.told.Told.{Told}
 use Rattle.peer_dialogue.specs.Peering.{at_edge}
 use Rattle.peer_dialogue.proofs.SettleLemmas.{map_ok}
+use Rattle.pw_signalling.specs.Rows.{withdrawn}
+use Rattle.provider_edge.proofs.GivenLemmas.{changing_keeps, keeps_withdrawn}
 use Rattle.provider_edge.proofs.MendLemmas.{advertised_ends, idle_declined, idle_wishes, local_is, withdrawing_stays}
 use Rattle.provider_edge.proofs.RowLemmas.{unless_stands, unless_stands_not, withdraws_at}
 use Rattle.provider_edge.specs.AtWork.{at_work}
@@ -52,7 +54,7 @@ returns-else-still_stands-clause-step g c =
     (unless_stands_not told (place_of c.args.self.now.ends c.args.slot) (place_of c.args.self.now.ends c.args.slot) c.label-label.result c.told-content.result.now wished wished c.still_stands.result (at_work g.L.Link.calls c.args.self.now c.args.work.now) put
     refl refl (c.still_stands.ensures ∙ ap (λ (t : Told). stands (place_of c.args.self.now.ends c.args.slot) t wished) (c.told.ensures.told ∙ sym c.told-content.ensures.told)) c.if-still_stands.false
     (withdraws_at told (place_of c.args.self.now.ends c.args.slot) c.label-label.result c.told-content.result.now (seen c.args.self.now) (seen c.change.new.self) (g.L.Link.calls c.args.work.now.link.now) c.args.work.now.effects.now.list put
-    c.change.ensures.step
+    (c.change.ensures.step ∙ changing_keeps withdrawn (place_of c.args.self.now.ends c.args.slot) (seen c.args.self.now) keeps_withdrawn)
     (said told agrees ∙ ap (λ (p : EndPlace). says told p.peer (withdrawal p.pw_id c.label-label.result c.told-content.result.now) (at_work g.L.Link.calls c.change.new.self c.args.work.now)) c.place_at-place.ensures.place))))
     c.say.ensures.step
 

@@ -10,6 +10,8 @@ use Rattle.pw_signalling.specs.End.{Advertised}
 use Rattle.pw_signalling.specs.declared.told.Told.{Told}
 use Rattle.peer_dialogue.specs.Peering.{at_edge}
 use Rattle.peer_dialogue.proofs.SettleLemmas.{map_ok}
+use Rattle.pw_signalling.specs.Rows.{telling}
+use Rattle.provider_edge.proofs.GivenLemmas.{changing_keeps, keeps_telling}
 use Rattle.provider_edge.proofs.MendLemmas.{local_is, over_new, over_none, over_same, status_idle, status_over, status_withdrawing}
 use Rattle.provider_edge.proofs.RowLemmas.{tells_at}
 use Rattle.provider_edge.specs.AtWork.{at_work}
@@ -46,7 +48,7 @@ returns-else-last-status-clause-step g c =
     (over_new told (place_of c.args.self.now.ends c.args.slot) c.told-content.result.now c.status_to_tell-status.result (status_to_tell c.args.self.now.plan (seen c.args.self.now) (place_of c.args.self.now.ends c.args.slot)) c.told-content.result.now.status c.in-Some.last (at_work g.L.Link.calls c.args.self.now c.args.work.now) put
     c.status_to_tell-status.ensures (ap (λ (t : Told). t.status) (c.told-content.ensures.told ∙ sym c.told.ensures.told) ∙ c.in-Some.is) (ne_eqb c.in-Some.last.0 c.status_to_tell-status.result.0 c.if-last-status.false)
     (tells_at told (place_of c.args.self.now.ends c.args.slot) c.told-content.result.now c.status_to_tell-status.result (seen c.args.self.now) (seen c.change.new.self) (g.L.Link.calls c.args.work.now.link.now) c.args.work.now.effects.now.list put
-    c.change.ensures.step
+    (c.change.ensures.step ∙ changing_keeps (telling c.status_to_tell-status.result) (place_of c.args.self.now.ends c.args.slot) (seen c.args.self.now) (keeps_telling c.status_to_tell-status.result))
     (said told agrees ∙ ap (λ (p : EndPlace). says told p.peer (status_notification p.pw_id c.status_to_tell-status.result c.told-content.result.now) (at_work g.L.Link.calls c.change.new.self c.args.work.now)) c.place_at-place.ensures.place))))
     c.say.ensures.step
 

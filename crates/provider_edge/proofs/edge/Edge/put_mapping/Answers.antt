@@ -32,7 +32,7 @@ returns-clause-step g c =
     c.wish.ensures.wish c.in-Some.is
     (advertises_some told (place_of c.args.self.now.ends c.args.slot) c.in-Some.content c.in-Some-advertise.label (seen c.args.self.now) (seen c.advertise.new.self) (g.L.Link.calls c.args.work.now.link.now) c.args.work.now.effects.now.list
     (record { work = at_work g.L.Link.calls c.say.new.self c.say.new.work; failed = failed })
-    some.0 some.1 some.2
+    some.0 some.1
     (said told agrees ∙ ap (λ (p : EndPlace). says told p.peer (mapping p.pw_id c.in-Some-advertise.label c.in-Some.content) (at_work g.L.Link.calls c.advertise.new.self c.args.work.now)) c.place_at-place.ensures.place)))
     c.say.ensures.step
 

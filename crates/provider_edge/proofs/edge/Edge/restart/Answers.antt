@@ -1,5 +1,6 @@
 -- Each part of the edge is forgotten.
 use Rattle.std.proofs.Common.{◌≡◌, ◌∙◌, [], None, true, ap, subst}
+use Rattle.edge_model.specs.Labels.{keeping_all}
 use Rattle.edge_model.specs.State.{with_learned, without_ends, without_peerings}
 use Rattle.provider_edge.specs.contracts.edge.Edge.{the_view}
 use Rattle.provider_edge.proofs.EdgeLemmas.{restart_done}
@@ -16,6 +17,7 @@ invariant_of-self c =
       places = c.restarted.ensures.places;
       ends = c.restarted.ensures.seen;
       next = c.restarted.ensures.next;
+      kept = c.restarted.ensures.kept;
       pings = c.forget_pings.ensures;
       spokes = c.clear.ensures;
       closes = c.close_wires.ensures.keeps;
@@ -30,12 +32,13 @@ returns-clause-step c = λ calls.
     let working : v.stopped ≡ true = ap (λ (e : EdgeLists). e.stopped) c.self.view_is ∙ c.requires.working in
     let now : EdgeLists = record v { peerings = c.drop_all.new.peerings.items; ends = c.restarted.new.self; pings = c.forget_pings.new.pings.items; spokes = c.clear.new.self; forwarding = c.clear-2.new.self; marks = None } in
     restart_done c.args.self.now now calls
-    (subst (λ (n : EdgeLists). seen now ≡ with_learned (λ service. []) (without_ends (without_peerings (seen n)))) c.self.view_is
+    (subst (λ (n : EdgeLists). seen now ≡ with_learned (λ service. []) (without_ends (keeping_all (without_peerings (seen n))))) c.self.view_is
     (restart_seen v c.drop_all.new.peerings.items c.restarted.new.self c.forget_pings.new.pings.items c.clear.new.self c.close_wires.new.self c.clear-2.new.self working c.self.invariant (record {
       peerings = c.drop_all.ensures;
       places = c.restarted.ensures.places;
       ends = c.restarted.ensures.seen;
       next = c.restarted.ensures.next;
+      kept = c.restarted.ensures.kept;
       pings = c.forget_pings.ensures;
       spokes = c.clear.ensures;
       closes = c.close_wires.ensures.keeps;
