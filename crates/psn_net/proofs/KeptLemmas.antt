@@ -13,11 +13,12 @@ use Rattle.net_base.specs.plan.Places.{circuit_row}
 use Rattle.edge_model.specs.declared.effect.Effect.{Effect}
 use Rattle.edge_model.specs.declared.effect.Effect.TheVariants as effect
 use Rattle.edge_model.specs.Circuit.{circuit_input}
-use Rattle.edge_model.specs.State.{EdgeState, is_there}
+use Rattle.edge_model.specs.State.{EdgeState, is_there, with_kept}
 use Rattle.edge_model.specs.Tick.{tick_input}
 use Rattle.edge_model.specs.Wire.{priority_input, status_input, wire_input}
 use Rattle.edge_model.specs.Work.{Work, changes}
 use Rattle.edge_model.proofs.SessionLemmas.{are_all}
+use Rattle.network_model.specs.Age.{aged_entries}
 use Rattle.network_model.specs.Absorb.{Stepped, absorb, absorb_all, absorb_one, all_entries_of, answer, begin_at, entries_told, idle, taken_all}
 use Rattle.network_model.specs.Circuit.{circuit_event}
 use Rattle.network_model.specs.Connection.{can_connect, connect_event, connected_work, connecting, deliver_event, delivering, hearing_work, is_deliverable, is_drained_pipe, lose_event, losing, losing_work, restart_event}
@@ -25,9 +26,9 @@ use Rattle.network_model.specs.Frame.{entering, frame_event, frame_work, next_or
 use Rattle.network_model.specs.Ping.{ping_work}
 use Rattle.network_model.specs.declared.packet.Packet.{Packet}
 use Rattle.network_model.specs.Packet.{again_event, arrive_event, arriving, discard_event, packet_at, packet_work}
-use Rattle.network_model.specs.State.{NetworkState, edge_at, stands, with_edge, with_frame, with_packet, with_pipe, without_octets_to, without_packet}
+use Rattle.network_model.specs.State.{NetworkState, edge_at, stands, with_copy, with_edge, with_frame, with_older, with_packet, with_pipe, without_octets_to, without_packet}
 use Rattle.network_model.specs.Step.{brings, step}
-use Rattle.network_model.specs.Tick.{tick_at, ticks_from}
+use Rattle.network_model.specs.Tick.{tick_at, tick_event, ticks_from}
 use Rattle.network_model.proofs.AbsorbLemmas.{all_keep}
 use Rattle.psn_net.specs.DeliveryIndex.{IsIndexed, IsIndexedBeside, is_pair, is_set, is_told, is_told_by, is_with, may_change}
 use Rattle.psn_net.specs.PairIndex.{IndexLists}
@@ -291,7 +292,7 @@ deliver_at plan from to count n i j apart = by (is_deliverable n from.0 to.0) (i
 
 -- a restart tells nothing
 restart_at : (me : EdgeId) (n : NetworkState) (i j : ℕ) → is_with me.0 i j ≡ false → IsKeptAt i j n (restart_event me n).state
-unfolding changes with_edge without_octets_to
+unfolding changes with_edge with_kept without_octets_to
 restart_at me n i j apart =
     let both = or_none (nat_eq i me.0) (nat_eq j me.0) apart in
     record { there = rw both.0 refl; back = rw both.1 refl; pipe = rw both.1 refl }
@@ -308,6 +309,15 @@ ticks_at plan place (suc count) n i j none =
     then_at i j n ticked (ticks_from plan place (suc count) n).state
     (absorb_at me 0 0 work n i j (tells_all (n.edges place) work (λ k. tick_tells plan taken_all k (begin_at n me))) both.0)
     (ticks_at plan (place + 1) count ticked i j both.1)
+
+older_at : (n : NetworkState) (i j : ℕ) → IsKeptAt i j n (with_older n)
+unfolding with_older
+older_at n i j = record { there = refl; back = refl; pipe = refl }
+
+tick_at_all : (plan : Plan) (n : NetworkState) (i j : ℕ) → KeepsUntold i j n (tick_event plan n)
+tick_at_all plan n i j none =
+    let ticked : Stepped = ticks_from plan 0 (length plan.edges) (with_older n) in
+    then_at i j n (with_older n) ticked.state (older_at n i j) (ticks_at plan 0 (length plan.edges) (with_older n) i j (untold_both (aged_entries n.under_way) ticked.entries i j none).1)
 
 frame_at : (plan : Plan) (circuit : CircuitId) (octets : List ℕ) (row : Option CircuitPlan) (n : NetworkState) (i j : ℕ) → KeepsUntold i j n (frame_event plan circuit octets row n)
 unfolding with_frame
@@ -346,7 +356,7 @@ discard_at None n i j none = stays_at i j n
 discard_at (Some packet) n i j none = record { there = refl; back = refl; pipe = refl }
 
 again_at : (packet : Option Packet) (n : NetworkState) (i j : ℕ) → KeepsUntold i j n (again_event packet n)
-unfolding with_packet
+unfolding with_copy
 again_at None n i j none = stays_at i j n
 again_at (Some packet) n i j none = record { there = refl; back = refl; pipe = refl }
 
@@ -357,7 +367,7 @@ brings_at plan (event.Connect from to) n i j apart = connect_at plan from to n i
 brings_at plan (event.Deliver from to count) n i j apart = deliver_at plan from to count n i j apart
 brings_at plan (event.Lose me peer) n i j apart = lose_at plan me peer n i j
 brings_at plan (event.Restart me) n i j apart = λ none. restart_at me n i j apart
-brings_at plan event.Tick n i j apart = ticks_at plan 0 (length plan.edges) n i j
+brings_at plan event.Tick n i j apart = tick_at_all plan n i j
 brings_at plan (event.Frame circuit octets) n i j apart = frame_at plan circuit octets (circuit_row plan circuit) n i j
 brings_at plan (event.Circuit circuit on) n i j apart = circuit_at plan circuit on (circuit_row plan circuit) n i j
 brings_at plan (event.Wire me wire on) n i j apart =

@@ -1,4 +1,5 @@
 pub mod AbsorbLemmas
+pub mod AgeLemmas
 pub mod AnswerLemmas
 pub mod BroughtLemmas
 pub mod CalmLemmas

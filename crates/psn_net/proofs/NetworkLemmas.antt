@@ -106,6 +106,7 @@ told_network n now entry result is ok err =
       packets = is.packets;
       packets_told = omega (arith, is.packets_told, more);
       frames_told = omega (arith, is.frames_told, more);
+      ticks_told = omega (arith, is.ticks_told, more);
     }
   where
     by : (result : Result (Unit {0}) NoMemory) → OnOk result (now ≡ n.trace ++ entry ∷ []) → OnErr result (now ≡ n.trace) → length n.trace ≤ length now
@@ -124,6 +125,7 @@ edge_kept n me found now is below at kept stays = record {
   packets = is.packets;
   packets_told = is.packets_told;
   frames_told = is.frames_told;
+  ticks_told = is.ticks_told;
 } where
   by : (b : Bool) (k : ℕ) → k < length n.edges → (cond b now (edge_lists n k)).plan ≡ n.plan
   by true k within = kept ∙ (ap (λ (e : EdgeLists). e.plan) (at ∙ same_default n.edges me.0 found (no_edge n.plan me.0) below) ∙ is.planned me.0 below)
@@ -233,20 +235,20 @@ frame_stepped old mid in_ now circuit octets me effects origin at driven idle en
 
 -- the network of a plan before its first event
 pub opening : (plan : Plan) (edges : List EdgeLists) (pipes : PipeLists) → AreOpen plan (length plan.edges) edges → pipes_of pipes ≡ no_octets
-    → seen (record { plan = plan; edges = edges; pipes = pipes; packets = record { list = []; last = 0 }; entered = 0; trace = []; failed = false }) ≡ empty_network plan
+    → seen (record { plan = plan; edges = edges; pipes = pipes; packets = record { list = []; last = 0; ticks = 0 }; entered = 0; trace = []; failed = false }) ≡ empty_network plan
 unfolding seen
 opening plan edges pipes are empty = λ i. record { edges = λ k. are.empty k i; pipes = empty i; under_way = []; sent = 0; entered = 0 }
 
 -- the network of a plan before its first event, by its parts
 pub opened_state : (plan own : Plan) (count : ℕ) (edges : List EdgeLists) (pipes : PipeLists) (packets : UnderWay) (trace : List Entry)
-    → own ≡ plan → count ≡ length plan.edges → AreOpen own count edges → pipes_of pipes ≡ no_octets → packets ≡ record { list = []; last = 0 } → trace ≡ []
+    → own ≡ plan → count ≡ length plan.edges → AreOpen own count edges → pipes_of pipes ≡ no_octets → packets ≡ record { list = []; last = 0; ticks = 0 } → trace ≡ []
     → seen (record { plan = own; edges = edges; pipes = pipes; packets = packets; entered = 0; trace = trace; failed = false }) ≡ empty_network plan
 opened_state plan own count edges pipes packets trace planned counted are empty sent told =
     (λ i. seen (record { plan = own; edges = edges; pipes = pipes; packets = sent i; entered = 0; trace = told i; failed = false }))
     ∙ (opening own edges pipes (subst (λ (m : ℕ). AreOpen own m edges) (counted ∙ ap (λ (p : Plan). length p.edges) (sym planned)) are) empty ∙ ap empty_network planned)
 
 pub opened_network : (plan own : Plan) (count : ℕ) (edges : List EdgeLists) (pipes : PipeLists) (packets : UnderWay) (trace : List Entry)
-    → IsChecked plan → own ≡ plan → count ≡ length plan.edges → AreOpen own count edges → pipes.size ≡ count → packets ≡ record { list = []; last = 0 }
+    → IsChecked plan → own ≡ plan → count ≡ length plan.edges → AreOpen own count edges → pipes.size ≡ count → packets ≡ record { list = []; last = 0; ticks = 0 }
     → IsNetwork (record { plan = own; edges = edges; pipes = pipes; packets = packets; entered = 0; trace = trace; failed = false })
 unfolding edge.seen
 opened_network plan own count edges pipes packets trace checked planned counted are size sent =
@@ -260,6 +262,7 @@ opened_network plan own count edges pipes packets trace checked planned counted 
       packets = subst (λ (u : UnderWay). ArePacketsOf own u.last u.list) (sym sent) tt;
       packets_told = subst (λ (u : UnderWay). u.last ≤ length trace) (sym sent) (omega arith);
       frames_told = omega arith;
+      ticks_told = subst (λ (u : UnderWay). u.ticks ≤ length trace) (sym sent) (omega arith);
     }
 
 index_end : {X : Type 0} (xs : List X) (x d : X) (k : ℕ) → slice_index_or (xs ++ x ∷ []) k d ≡ cond (nat_eq k (length xs)) x (slice_index_or xs k d)

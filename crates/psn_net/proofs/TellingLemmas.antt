@@ -19,7 +19,7 @@ use Rattle.ldp_grammar.specs.declared.message.Message.{Message}
 use Rattle.pw_tlvs.specs.declared.pw_fec.PwFec.{PwFec}
 use Rattle.pw_tlvs.specs.declared.pw_status.PwStatus.{PwStatus}
 use Rattle.pw_signalling.specs.End.{EndState}
-use Rattle.pw_signalling.specs.Rows.{bound, group_stated, group_unbound, lost, released, stated, unbound}
+use Rattle.pw_signalling.specs.Rows.{bound, group_stated, group_unbound, stated, unbound}
 use Rattle.session_core.specs.declared.reply.Reply.{Reply}
 use Rattle.session_core.specs.Phase.{Phase}
 use Rattle.session_core.specs.Session.{phase_name}
@@ -34,16 +34,17 @@ use Rattle.edge_model.specs.declared.effect.Effect.TheVariants as effect
 use Rattle.edge_model.specs.declared.end_place.EndPlace.{EndPlace}
 use Rattle.edge_model.specs.EndPlaces.{end_named, ends_here, passes}
 use Rattle.edge_model.specs.Frame.{frame_input, is_own}
+use Rattle.edge_model.specs.Labels.{meeting}
 use Rattle.edge_model.specs.Hear.{hears_on, octets_input}
 use Rattle.edge_model.specs.Mend.{advertising, forgetting_wire, mends, telling_status, withdrawing}
 use Rattle.edge_model.specs.Packet.{packet_input}
 use Rattle.edge_model.specs.Ping.{ping_input}
 use Rattle.edge_model.specs.Put.{Spoken, having_spoken, message_octets_of, octets_of, put_octets, put_replies, put_reply, put_reply_to, puts_on, with_spoken}
 use Rattle.edge_model.specs.Role.{down_at, status_to_tell}
-use Rattle.edge_model.specs.Session.{clears_ends, comes_of, ends, had_put, had_said, happens, happens_to, happens_with_ends, is_same_phase, says, says_to, tells_change, went_on, with_session}
-use Rattle.edge_model.specs.Signal.{end_of_fec, with_end_changed, with_named}
+use Rattle.edge_model.specs.Session.{clears_ends, comes_of, ends, had_put, had_said, happens, happens_to, happens_with_ends, is_same_phase, losing_ends, says, says_to, tells_change, went_on, with_session}
+use Rattle.edge_model.specs.Signal.{end_of_fec, with_end_changed, with_named, with_released}
 use Rattle.edge_model.specs.Spokes.{choosing}
-use Rattle.edge_model.specs.State.{EdgeState, Peering, has_end, is_on, is_there, with_addresses, with_bits, with_chosen, with_circuit, with_end, with_ends_beside, with_learned, with_next_label, with_peering, with_priority, with_renewed, with_ticks, with_told_down, with_wire}
+use Rattle.edge_model.specs.State.{EdgeState, Peering, has_end, is_on, is_there, with_addresses, with_bits, with_chosen, with_circuit, with_end, with_ends_beside, with_learned, with_next_label, with_peering, with_priority, with_renewed, with_ticks, with_kept, with_told_down, with_wire}
 use Rattle.edge_model.specs.Tick.{counted, forgetting, tick_input, ticks_sessions}
 use Rattle.edge_model.specs.Wire.{is_own_spoke, priority_input, status_input, turned_wire, wire_input}
 use Rattle.edge_model.specs.Work.{Work, Answers, beginning, changes, gives, idles, next_answer, puts}
@@ -225,11 +226,11 @@ happens_tells told k peer event work = to (work.edge.peering peer.0) refl where
   to (Some kept) is = comes_of_tells told k peer kept (outcome_of kept.session event) work is
 
 clears_tells : (k : ℕ) (peer : EdgeId) (work : Work) → TellsOf k work (clears_ends peer work)
-unfolding with_ends_beside
+unfolding with_ends_beside with_kept
 clears_tells k peer work = by (has_end work.edge peer) where
-  by : (stands : Bool) → TellsOf k work (cond stands work (changes (with_ends_beside peer lost) work))
+  by : (stands : Bool) → TellsOf k work (cond stands work (changes (losing_ends peer) work))
   by true = tells_not k work
-  by false = same_tells k (with_ends_beside peer lost) work refl
+  by false = same_tells k (losing_ends peer) work refl
 
 with_ends_tells : (told : Answers) (k : ℕ) (peer : EdgeId) (event : SessionEvent) (work : Work) → TellsOf k work (happens_with_ends told peer event work)
 with_ends_tells told k peer event work =
@@ -265,6 +266,11 @@ unfolding with_end
 changed_keeps change None edge = refl
 changed_keeps change (Some place) edge = refl
 
+released_keeps : (label : Option ℕ) (place : Option EndPlace) (edge : EdgeState) → (with_released label place edge).peering ≡ edge.peering
+unfolding with_end with_kept
+released_keeps label None edge = refl
+released_keeps label (Some place) edge = refl
+
 named_keeps : (plan : Plan) (peer : EdgeId) (fec : PwFec) (one all : EndState → EndState) (pw_id : Option ℕ) (edge : EdgeState) → (with_named plan peer fec one all pw_id edge).peering ≡ edge.peering
 unfolding with_ends_beside
 named_keeps plan peer fec one all None edge = refl
@@ -293,12 +299,11 @@ changes_and_says told k change peer message work same =
     tells_then k work (changes change work) (says told peer message (changes change work)).work (same_tells k change work same) (says_tells told k peer message (changes change work))
 
 mend_steps : (plan : Plan) (told : Answers) (k : ℕ) → MendSteps plan told (TellsOf k)
-unfolding with_chosen with_end with_next_label with_told_down
+unfolding with_chosen with_end with_kept with_next_label with_told_down
 mend_steps plan told k = record {
   same = λ work. tells_not k work;
   joined = λ a b c first next. tells_then k a b c first next;
-  advertises = λ place content work is idle wished left.
-      changes_and_says told k (advertising place work.edge.next_label content) place.peer (mapping place.pw_id work.edge.next_label content) work refl;
+  advertises = λ place label content work is idle wished given. changes_and_says told k (advertising place label content) place.peer (mapping place.pw_id label content) work refl;
   withdraws = λ place label content work is advertised wished. changes_and_says told k (withdrawing place) place.peer (withdrawal place.pw_id label content) work refl;
   chooses = λ work. same_tells k (choosing plan) work refl;
   tells_status = λ place label content last work is advertised told_it other.
@@ -324,7 +329,7 @@ hear_steps plan told k = record {
   unbinds = λ peer fec label work there.
       same_tells k (with_named plan peer fec (unbound label) (group_unbound fec.group) fec.pw_id) work (named_keeps plan peer fec (unbound label) (group_unbound fec.group) fec.pw_id work.edge);
   released = λ peer fec label work there.
-      same_tells k (λ edge. with_end_changed (released label) (end_of_fec plan edge peer fec) edge) work (changed_keeps (released label) (end_of_fec plan work.edge peer fec) work.edge);
+      same_tells k (λ edge. with_released label (end_of_fec plan edge peer fec) edge) work (released_keeps label (end_of_fec plan work.edge peer fec) work.edge);
   states = λ peer fec status work there.
       same_tells k (with_named plan peer fec (stated status) (group_stated fec.group status) fec.pw_id) work (named_keeps plan peer fec (stated status) (group_stated fec.group status) fec.pw_id work.edge);
   clears = λ service addresses from work. same_tells k (withdrawing_at service addresses from) work refl;
@@ -340,15 +345,22 @@ module _ (plan : Plan) (told : Answers) (k : ℕ) where
   changed_mends : (change : EdgeState → EdgeState) (work : Work) → (change work.edge).peering ≡ work.edge.peering → TellsOf k work (mends plan told (changes change work))
   changed_mends change work same = tells_then k work (changes change work) (mends plan told (changes change work)) (same_tells k change work same) (mends_tells (changes change work))
 
+  meeting_tells : (peer : EdgeId) (work : Work) → TellsOf k work (changes (meeting peer) work)
+  unfolding with_kept
+  meeting_tells peer work = same_tells k (meeting peer) work refl
+
   pub connected_tells : (peer : EdgeId) (work : Work) → TellsOf k work (connected_input plan told peer work)
   connected_tells peer work = by (are_joined plan work.edge.me.0 peer.0 && not (has_end work.edge peer)) where
+    met : Work
+    met = changes (meeting peer) work
+
     between : (own other : Option EdgePlan) → TellsOf k work (connects_between plan told peer own other work)
     between None other = idles_tells k work
     between (Some own) None = idles_tells k work
     between (Some own) (Some other) =
-        let began : Work = gives (effect.Session peer name.Initialized) (changes (with_peering peer (Some (opened_with own other))) work) in
+        let began : Work = gives (effect.Session peer name.Initialized) (changes (with_peering peer (Some (opened_with own other))) met) in
         let started : Work = happens_with_ends told peer table.Start began in
-        tells_then k work began (mends plan told started) (opens_tells k peer (Some (opened_with own other)) name.Initialized work)
+        tells_then k work began (mends plan told started) (tells_then k work met began (meeting_tells peer work) (opens_tells k peer (Some (opened_with own other)) name.Initialized met))
         (tells_then k began started (mends plan told started) (with_ends_tells told k peer table.Start began) (mends_tells started))
 
     by : (b : Bool) → TellsOf k work (cond b (connects_between plan told peer (slice_get plan.edges work.edge.me.0) (slice_get plan.edges peer.0) work) (idles work))
@@ -371,7 +383,7 @@ module _ (plan : Plan) (told : Answers) (k : ℕ) where
     by false = idles_tells k work
 
   pub tick_tells : (work : Work) → TellsOf k work (tick_input plan told work)
-  unfolding with_learned with_ticks
+  unfolding with_kept with_learned with_ticks
   tick_tells work =
       let first : Work = changes counted work in
       let ticked : Work = ticks_sessions told 0 (length plan.edges) first in

@@ -3,8 +3,9 @@ use Rattle.std.proofs.Common.{◌≡◌, ◌<◌, ◌≤◌, ◌+◌, ◌-◌, �
 use Rattle.net_base.specs.declared.plan.Plan.{Plan}
 use Rattle.net_base.specs.declared.trace.entry.Entry.{Entry}
 use Rattle.network_model.specs.Absorb.{Stepped, and_then, network_stays}
+use Rattle.network_model.specs.Age.{ageing}
 use Rattle.network_model.specs.State.{NetworkState}
-use Rattle.network_model.specs.Tick.{tick_at, ticks_from}
+use Rattle.network_model.specs.Tick.{tick_at, tick_event, ticks_from}
 use Rattle.psn_net.specs.Lists.{HasStepped, NetLists, seen}
 
 pub ticks_more : (plan : Plan) (i n : ℕ) (network : NetworkState) → i < n → ticks_from plan i (n - i) network ≡ and_then (tick_at plan (record { 0 = i }) network) (ticks_from plan (i + 1) (n - (i + 1)))
@@ -37,3 +38,17 @@ tick_done plan old new i n kept below done =
     (ticks_state plan i n (seen old) (seen new) below step.state, ticks_told plan i n (seen old) (seen new) old.trace new.trace below step.state step.told)
 
 pub ruleset tick_steps = (ticks_told, ticks_state, ticks_end)
+
+-- a tick passes for the packets, and then at each edge
+pub tick_joined : (old mid now : NetLists) → HasStepped old mid (ageing (seen old)) → mid.plan ≡ old.plan → HasStepped mid now (ticks_from mid.plan 0 (length mid.plan.edges) (seen mid))
+    → HasStepped old now (tick_event old.plan (seen old))
+tick_joined old mid now aged kept ticked =
+    let edges : Stepped = ticks_from old.plan 0 (length old.plan.edges) (ageing (seen old)).state in
+    let same : ticks_from mid.plan 0 (length mid.plan.edges) (seen mid) ≡ edges =
+    ap (λ (p : Plan). ticks_from p 0 (length p.edges) (seen mid)) kept ∙ ap (ticks_from old.plan 0 (length old.plan.edges)) aged.state in
+    record {
+      state = ticked.state ∙ ap (λ (s : Stepped). s.state) same;
+      told = ticked.told ∙ (ap (λ (t : List Entry). t ++ (ticks_from mid.plan 0 (length mid.plan.edges) (seen mid)).entries) aged.told
+          ∙ (append_assoc old.trace (ageing (seen old)).entries (ticks_from mid.plan 0 (length mid.plan.edges) (seen mid)).entries
+          ∙ ap (λ (s : Stepped). old.trace ++ ((ageing (seen old)).entries ++ s.entries)) same));
+    }

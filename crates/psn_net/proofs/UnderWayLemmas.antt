@@ -1,17 +1,18 @@
 -- Packets under way: one is taken off its way, and one is sent once more.
-use Rattle.std.proofs.Common.{◌≡◌, ◌==◌, ◌<◌, ◌≤◌, ◌+◌, ◌++◌, ◌∷◌, ◌∙◌, [], ℕ, Bool, true, false, List, Option, Some, None, IfSome, cond, refl, ap, sym, subst, arith, length, append-nil, eqb-true}
+use Rattle.std.proofs.Common.{◌≡◌, ◌==◌, ◌<◌, ◌≤◌, ◌+◌, ◌++◌, ◌∷◌, ◌∙◌, [], ℕ, Bool, true, false, List, Option, Some, None, Result, Ok, Err, IfSome, OnErr, OnOk, cond, option_map, refl, ap, sym, subst, arith, length, append-nil, eqb-true}
 use Rattle.std.specs.List.{find}
 use Rattle.net_base.specs.declared.plan.Plan.{Plan}
 use Rattle.net_base.specs.declared.trace.entry.Entry.{Entry}
-use Rattle.net_base.specs.declared.trace.entry.Entry.TheVariants.{Idle}
+use Rattle.net_base.specs.declared.trace.entry.Entry.TheVariants.{Copied, Idle}
+use Rattle.net_values.specs.declared.no_memory.NoMemory.{NoMemory}
 use Rattle.edge_model.specs.Work.{Work}
 use Rattle.network_model.specs.declared.packet.Packet.{Packet}
 use Rattle.network_model.specs.Absorb.{Stepped, absorb}
 use Rattle.network_model.specs.Absorb.{idle as idle_event}
-use Rattle.network_model.specs.Packet.{arrive_event, arriving, discard_event, packet_at, packet_work}
-use Rattle.network_model.specs.State.{NetworkState, without_number, without_packet}
-use Rattle.psn_net.specs.Lists.{HasStepped, NetLists, seen}
-use Rattle.psn_net.specs.Packets.{ArePacketsOf, IsPacketOf, is_numbered}
+use Rattle.network_model.specs.Packet.{again_event, arrive_event, arriving, discard_event, packet_at, packet_work}
+use Rattle.network_model.specs.State.{NetworkState, with_copy, without_number, without_packet}
+use Rattle.psn_net.specs.Lists.{HasRoom, HasStepped, IsNetwork, NetLists, copied, seen}
+use Rattle.psn_net.specs.Packets.{ArePacketsOf, IsPacketOf, UnderWay, is_numbered, with_copy_of}
 
 -- ---- the packets are those of the plan
 
@@ -37,6 +38,49 @@ packets_more plan last (q ∷ qs) p are from to passed =
     (record { from = are.0.from; to = are.0.to; hops = omega (arith, are.0.hops) }, packets_more plan last qs p are.1 from to passed)
 
 pub ruleset taken_steps = (planned_found, planned_rest)
+
+-- a copy of one is sent, where it is under way
+planned_copied : (plan : Plan) (packets : UnderWay) (number : ℕ) → ArePacketsOf plan packets.last packets.list
+    → ArePacketsOf plan (with_copy_of (find (is_numbered number) packets.list) packets).last (with_copy_of (find (is_numbered number) packets.list) packets).list
+planned_copied plan packets number are = by (find (is_numbered number) packets.list) (planned_found plan packets.last number packets.list are) where
+  by : (o : Option Packet) → IfSome o (IsPacketOf plan packets.last) → ArePacketsOf plan (with_copy_of o packets).last (with_copy_of o packets).list
+  by None is = are
+  by (Some p) is = packets_more plan packets.last packets.list (record p { number = packets.last + 1 }) are is.from is.to (omega (arith, is.hops))
+
+copied_network : (n : NetLists) (number : ℕ) → IsNetwork n → HasRoom n → IsNetwork (record n { packets = with_copy_of (find (is_numbered number) n.packets.list) n.packets })
+copied_network n number is room = record {
+  checked = is.checked;
+  count = is.count;
+  square = is.square;
+  planned = is.planned;
+  placed = is.placed;
+  packets = planned_copied n.plan n.packets number is.packets;
+  packets_told = sent (find (is_numbered number) n.packets.list);
+  frames_told = is.frames_told;
+  ticks_told = ticked (find (is_numbered number) n.packets.list);
+} where
+  sent : (o : Option Packet) → (with_copy_of o n.packets).last ≤ length n.trace
+  sent None = is.packets_told
+  sent (Some p) = omega (arith, room.packets)
+
+  ticked : (o : Option Packet) → (with_copy_of o n.packets).ticks ≤ length n.trace
+  ticked None = is.ticks_told
+  ticked (Some p) = is.ticks_told
+
+pub repeated_network : (n : NetLists) (now : UnderWay) (number : ℕ) (result : Result (Option ℕ) NoMemory) → IsNetwork n → HasRoom n
+    → OnOk result (now ≡ with_copy_of (find (is_numbered number) n.packets.list) n.packets) → OnErr result (now ≡ n.packets) → IsNetwork (record n { packets = now })
+repeated_network n now number (Ok copy) is room ok err = subst (λ (u : UnderWay). IsNetwork (record n { packets = u })) (sym ok) (copied_network n number is room)
+repeated_network n now number (Err fault) is room ok err = subst (λ (u : UnderWay). IsNetwork (record n { packets = u })) (sym err) is
+
+pub repeated_seen : (n : NetLists) (now : UnderWay) (number : ℕ) → now ≡ with_copy_of (find (is_numbered number) n.packets.list) n.packets
+    → seen (record n { packets = now }) ≡ copied (packet_at (seen n) number) (seen n)
+unfolding seen with_copy
+repeated_seen n now number is = ap (λ (u : UnderWay). seen (record n { packets = u })) is ∙ by (find (is_numbered number) n.packets.list) where
+  by : (o : Option Packet) → seen (record n { packets = with_copy_of o n.packets }) ≡ copied o (seen n)
+  by None = refl
+  by (Some p) = refl
+
+pub ruleset repeated_steps = (repeated_network, repeated_seen)
 
 -- ---- the packet with a number
 
@@ -125,3 +169,37 @@ arrive_stepped old mid now number packet found planned taken told next =
 pub ruleset arrive_steps = (arrive_idle_stepped, arrive_stepped)
 
 pub ruleset discard_steps = (discard_idle_stepped, discard_stepped)
+
+-- ---- one is repeated
+
+pub again_stepped : (old mid now : NetLists) (number copy : ℕ) → Some copy ≡ option_map (λ packet. (seen old).sent + 1) (packet_at (seen old) number) → seen mid ≡ copied (packet_at (seen old) number) (seen old)
+    → mid.trace ≡ old.trace → seen now ≡ seen mid → now.trace ≡ mid.trace ++ Copied copy number ∷ [] → HasStepped old now (again_event (packet_at (seen old) number) (seen old))
+again_stepped old mid now number copy given state same kept told = by (packet_at (seen old) number) refl given state where
+  next : ℕ
+  next = (seen old).sent + 1
+
+  by : (o : Option Packet) → packet_at (seen old) number ≡ o → Some copy ≡ option_map (λ packet. next) o → seen mid ≡ copied o (seen old) → HasStepped old now (again_event o (seen old))
+  by None found given state = absurd (cc (given))
+  by (Some p) found given state =
+      let new : copy ≡ next = cc (given) in
+      record {
+        state = kept ∙ state;
+        told = told ∙ (ap (λ (t : List Entry). t ++ Copied copy number ∷ []) same
+            ∙ (ap (λ (m : ℕ). old.trace ++ Copied m number ∷ []) new
+            ∙ ap (λ (m : ℕ). old.trace ++ Copied next m ∷ []) (sym (found_number number (seen old).under_way p found))));
+      }
+
+pub again_idle_stepped : (old mid now : NetLists) (number : ℕ) → None ≡ option_map (λ packet. (seen old).sent + 1) (packet_at (seen old) number) → seen mid ≡ copied (packet_at (seen old) number) (seen old)
+    → mid.trace ≡ old.trace → seen now ≡ seen mid → now.trace ≡ mid.trace ++ Idle ∷ [] → HasStepped old now (again_event (packet_at (seen old) number) (seen old))
+again_idle_stepped old mid now number given state same kept told = by (packet_at (seen old) number) given state where
+  next : ℕ
+  next = (seen old).sent + 1
+
+  none : Option ℕ
+  none = None
+
+  by : (o : Option Packet) → none ≡ option_map (λ packet. next) o → seen mid ≡ copied o (seen old) → HasStepped old now (again_event o (seen old))
+  by None given state = record { state = kept ∙ state; told = told ∙ ap (λ (t : List Entry). t ++ Idle ∷ []) same }
+  by (Some p) given state = absurd (cc (given))
+
+pub ruleset again_steps = (again_stepped, again_idle_stepped)

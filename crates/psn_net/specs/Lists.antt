@@ -1,12 +1,13 @@
 -- The network as contracts see it: lists by the plan's places, and by `seen` maps.
-use Rattle.std.specs.Prelude.{◌≡◌, ◌<◌, ◌≤◌, ◌++◌, ◌+◌, ◌∷◌, ℕ, Bool, List, [], Option, option_map, length, slice_index_or, if◌then◌else◌}
+use Rattle.std.specs.Prelude.{◌≡◌, ◌<◌, ◌≤◌, ◌++◌, ◌+◌, ◌∷◌, ℕ, Bool, List, [], Option, Some, None, option_map, length, slice_index_or, if◌then◌else◌}
 use Rattle.net_base.specs.declared.plan.Plan.{Plan}
 use Rattle.net_base.specs.declared.trace.entry.Entry.{Entry}
 use Rattle.net_base.specs.plan.Accepted.{IsChecked}
 use Rattle.edge_model.specs.declared.effects.Effects.{Effects}
 use Rattle.edge_model.specs.Work.{Work}
 use Rattle.network_model.specs.Absorb.{Stepped, absorb_all, all_entries_of, idle}
-use Rattle.network_model.specs.State.{NetworkState, with_edge, with_frame}
+use Rattle.network_model.specs.declared.packet.Packet.{Packet}
+use Rattle.network_model.specs.State.{NetworkState, with_copy, with_edge, with_frame}
 use Rattle.net_base.specs.declared.plan.places.CircuitId.{CircuitId}
 use Rattle.net_base.specs.declared.plan.places.EdgeId.{EdgeId}
 use Rattle.net_base.specs.declared.plan.circuit_plan.CircuitPlan.{CircuitPlan}
@@ -56,6 +57,8 @@ pub record IsNetwork (n : NetLists) : Type 0 where
   -- each packet that was sent and each frame that entered has an entry
   pub packets_told : n.packets.last ≤ length n.trace
   pub frames_told : n.entered ≤ length n.trace
+  -- and each tick
+  pub ticks_told : n.packets.ticks ≤ length n.trace
 
 -- an event was told that may send packets and let a frame enter: their numbers stay below the number of entries
 pub record HasRoom (n : NetLists) : Type 0 where
@@ -96,6 +99,11 @@ pub record AreOpen (plan : Plan) (count : ℕ) (edges : List EdgeLists) : Type 0
   pub len : length edges ≡ count
   pub planned : (k : ℕ) → k < count → (slice_index_or edges k (no_edge plan k)).plan ≡ plan
   pub empty : (k : ℕ) → edge.seen (slice_index_or edges k (no_edge plan k)) ≡ empty_edge plan (record { 0 = k })
+
+-- a copy of a packet is under way, where there is one
+abbrev pub copied : Option Packet → NetworkState → NetworkState
+copied None network = network
+copied (Some packet) network = with_copy packet network
 
 -- a frame entered with the next number, and was told
 pub record HasEntered (old now : NetLists) (circuit : CircuitId) (octets : List ℕ) (number : ℕ) : Type 0 where

@@ -3,6 +3,7 @@
 
 mod call;
 mod call_log;
+mod carried;
 mod departure;
 mod ledger;
 mod net_stop;
@@ -14,6 +15,7 @@ mod pipe;
 mod pipe_row;
 mod pipes;
 mod psn_link;
+mod sending;
 mod shared_plan;
 mod trail;
 

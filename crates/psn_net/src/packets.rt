@@ -1,47 +1,58 @@
 //! The packets under way.
-ghost use Rattle.std.specs.Prelude.{◌≡◌, ◌<◌, ◌+◌, ◌++◌, ◌∷◌, ◌^◌, [], length, slice_get, option_copied, OnErr, OnOk};
+ghost use Rattle.std.specs.Prelude.{◌≡◌, ◌<◌, ◌≤◌, ◌+◌, ◌++◌, ◌∷◌, ◌^◌, [], Some, None, length, slice_get, option_map, IfOk, IfSome, OnErr, OnOk};
 ghost use Rattle.std.specs.List.{find};
-ghost use Rattle.network_model.specs.State.{without_number};
-ghost use Rattle.psn_net.specs.Packets.{is_numbered};
+ghost use Rattle.network_model.specs.State.{all_older, without_number};
+ghost use Rattle.psn_net.specs.Packets.{is_aged, is_numbered, number_of, packet_of, with_copy_of, without_aged};
 
+use crate::carried::Carried;
 use crate::departure::Departure;
+use crate::sending::Sending;
 use net_base::NoMemory;
 use network_model::Packet;
 use std::alloc::Global;
-use std::collections::BTreeMap;
+use std::collections::{BTreeMap, BTreeSet};
 use std::marker::Model;
 
-/// The packets under way, and the number of the last one that was sent. One is found, taken out and added in logarithmic
-/// time. Contracts see the packets by rising number.
+/// A packet lives fewer ticks than this.
+const LIFE: u64 = 64;
+
+/// The packets under way, the number of the last one that was sent, and how many ticks have passed. One is found, taken out and
+/// added in logarithmic time, and so is the one that the next tick makes too old: a set has them by when they were sent.
+/// Contracts see the packets by rising number.
 #[derive(Drop)]
 pub struct Packets {
-    by_number: BTreeMap<u64, Packet>,
+    by_number: BTreeMap<u64, Carried>,
+    by_age: BTreeSet<Sending>,
     last: u64,
+    ticks: u64,
 }
 
 impl Model for Packets {
-    ghost use Rattle.std.specs.BTreeMap.{values};
-    ghost use Rattle.psn_net.specs.Packets.{UnderWay, ArePacketsKept};
+    ghost use Rattle.psn_net.specs.Packets.{AreKept, IsIndex, UnderWay, packets_of};
 
     ghost Value = { UnderWay };
 
-    ghost view = { λ p. record { list = values p.by_number; last = p.last } };
+    ghost view = { λ p. record { list = packets_of p.ticks p.by_number.entries; last = p.last; ticks = p.ticks } };
 
-    ghost invariant = { λ p. ArePacketsKept p.last p.by_number.entries };
+    ghost invariant = { λ p. AreKept p.ticks p.last p.by_number.entries × IsIndex p.by_number.entries p.by_age.keys };
 }
 
 impl Packets {
-    /// None is under way, and none was sent.
+    /// None is under way, none was sent, and no tick has passed.
+    #[tactic(auto, using(crate::proofs::PacketLemmas::index_none))]
     pub fn new(alloc: Global) -> Packets
-        ensures { result ≡ record { list = []; last = 0 } }
+        ensures { result ≡ record { list = []; last = 0; ticks = 0 } }
     {
         Packets {
             by_number: BTreeMap::new(alloc),
+            by_age: BTreeSet::new(alloc),
             last: 0,
+            ticks: 0,
         }
     }
 
     /// How many are under way.
+    #[tactic(auto, using(crate::proofs::PacketLemmas::length_of))]
     pub fn len(&self) -> usize
         ensures { result ≡ length self.now.list }
     {
@@ -55,12 +66,15 @@ impl Packets {
         self.last
     }
 
-    /// The packet with a number, where it is under way.
-    #[tactic(auto, using(crate::proofs::PacketLemmas::kept_steps))]
-    pub fn get(&self, number: u64) -> Option<&Packet>
-        ensures { option_copied result ≡ find (is_numbered number) self.now.list }
+    /// The number of the packet under way with the lowest number.
+    #[tactic(auto, using(crate::proofs::PacketLemmas::first_of))]
+    pub fn first(&self) -> Option<u64>
+        ensures { result ≡ option_map number_of (slice_get self.now.list 0) }
     {
-        self.by_number.get(&number)
+        match self.by_number.first_key_value() {
+            Some((number, _)) => Some(*number),
+            None => None,
+        }
     }
 
     /// Takes out the packet with a number, where it is under way.
@@ -69,26 +83,46 @@ impl Packets {
         ensures packet { result ≡ find (is_numbered number) self.old.list }
         ensures rest { self.new ≡ record self.old { list = without_number number self.old.list } }
     {
-        self.by_number.remove(&number)
+        let Some(carried) = self.by_number.remove(&number) else {
+            return None;
+        };
+        self.by_age.remove(&Sending {
+            since: carried.since,
+            number,
+        });
+        Some(carried.into_packet(number, self.ticks))
     }
 
-    /// The packet under way with the lowest number.
-    #[tactic(auto, using(crate::proofs::PacketLemmas::kept_steps))]
-    pub fn first(&self) -> Option<&Packet>
-        ensures { option_copied result ≡ slice_get self.now.list 0 }
+    /// The number of the first packet that a further tick makes 64 ticks old, where there is one.
+    pub fn first_aged(&self) -> Option<u64>
+        ensures number { result ≡ option_map number_of (find is_aged self.now.list) }
+        ensures left { IfSome result (λ number. without_number number self.now.list ≡ without_aged self.now.list) }
     {
-        match self.by_number.first_key_value() {
-            Some((_, packet)) => Some(packet),
-            None => None,
+        // Asked so that what always holds of it is at hand for the proof.
+        let _count = self.by_number.len();
+        let Some(first) = self.by_age.first() else {
+            return None;
+        };
+        if self.ticks - first.since + 1 < LIFE {
+            return None;
         }
+        Some(first.number)
     }
 
-    /// A packet is sent and has the next number. After `NoMemory` nothing has changed.
-    #[tactic(auto, using(crate::proofs::PacketLemmas::kept_steps))]
+    /// A tick passes: each packet is older. Those that it makes 64 ticks old are gone already.
+    pub fn tick(&mut self)
+        requires young { find is_aged self.old.list ≡ None }
+        requires few { self.old.ticks + 1 < 2 ^ 64 }
+        ensures { self.new ≡ record self.old { list = all_older self.old.list; ticks = self.old.ticks + 1 } }
+    {
+        self.ticks += 1;
+    }
+
+    /// A packet is sent: it has the next number, and its age begins. After `NoMemory` nothing has changed.
     pub fn add(&mut self, departure: Departure) -> Result<(), NoMemory>
         requires { self.old.last + 1 < 2 ^ 64 }
         ensures err { OnErr result (self.new ≡ self.old) }
-        ensures ok { OnOk result (self.new ≡ record {
+        ensures ok { OnOk result (self.new ≡ record self.old {
           list = self.old.list ++ record {
             number = self.old.last + 1;
             wire = departure.wire;
@@ -96,32 +130,58 @@ impl Packets {
             to = departure.to;
             origin = departure.trail.origin;
             hops = departure.trail.hops;
+            age = 0;
             bytes = departure.bytes;
           } ∷ [];
           last = self.old.last + 1;
         }) }
     {
+        let since = self.ticks;
+        self.put(Carried { departure, since })
+    }
+
+    /// A copy of the packet with a number is sent, where that one is under way: it has the next number, and is as old. After
+    /// `NoMemory` nothing has changed.
+    pub fn repeat(&mut self, alloc: Global, number: u64) -> Result<Option<u64>, NoMemory>
+        requires { self.old.last + 1 < 2 ^ 64 }
+        ensures err { OnErr result (self.new ≡ self.old) }
+        ensures number { IfOk result (λ copy. copy ≡ option_map (λ packet. self.old.last + 1) (find (is_numbered number) self.old.list)) }
+        ensures ok { OnOk result (self.new ≡ with_copy_of (find (is_numbered number) self.old.list) self.old) }
+    {
+        let Some(carried) = self.by_number.get(&number) else {
+            return Ok(None);
+        };
+        let copy = carried.copy(alloc)?;
+        self.put(copy)?;
+        Ok(Some(self.last))
+    }
+
+    // One more packet is under way, under the next number.
+    fn put(&mut self, carried: Carried) -> Result<(), NoMemory>
+        requires number { self.old.last + 1 < 2 ^ 64 }
+        requires sent { carried.since ≤ self.old.ticks }
+        requires young { self.old.ticks < carried.since + 64 }
+        ensures err { OnErr result (self.new ≡ self.old) }
+        ensures ok { OnOk result (self.new ≡ record self.old {
+          list = self.old.list ++ packet_of self.old.ticks (self.old.last + 1, carried) ∷ [];
+          last = self.old.last + 1;
+        }) }
+    {
         let number = self.last + 1;
-        let Departure {
-            wire,
-            from,
-            to,
-            trail,
-            bytes,
-        } = departure;
-        self.by_number.insert(
+        let sending = Sending {
+            since: carried.since,
             number,
-            Packet {
-                number,
-                wire,
-                from,
-                to,
-                origin: trail.origin,
-                hops: trail.hops,
-                bytes,
-            },
-        )?;
-        self.last = number;
-        Ok(())
+        };
+        self.by_age.insert(sending)?;
+        match self.by_number.insert(number, carried) {
+            Ok(_) => {
+                self.last = number;
+                Ok(())
+            }
+            Err(_) => {
+                self.by_age.remove(&sending);
+                Err(NoMemory)
+            }
+        }
     }
 }

@@ -189,6 +189,7 @@ impl Parts {
         ensures room { HasRoom self.old → HasRoom self.new }
         ensures made { OnOk result (HasRoom self.new) }
         ensures more { OnOk result (length self.new.trace ≡ length self.old.trace + 1) }
+        ensures time { OnOk result (self.new.packets.ticks < length self.new.trace) }
         ensures counts { (self.new.packets.last ≡ self.old.packets.last) × (self.new.entered ≡ self.old.entered) }
         ensures ok { OnOk result (self.new.trace ≡ self.old.trace ++ entry ∷ []) }
         ensures err { OnErr result (self.new.trace ≡ self.old.trace) }

@@ -2,7 +2,7 @@
 use Rattle.std.specs.Prelude.{◌+◌, ◌++◌, if◌then◌else◌, ℕ, codes, Bool, true, false, List, [], ◌∷◌, count_by}
 use Rattle.std.specs.Fmt.{decimal}
 use Rattle.net_base.specs.declared.trace.entry.Entry.{Entry}
-use Rattle.net_base.specs.declared.trace.entry.Entry.TheVariants.{Did, Idle, Said, In, Sent, Copied, Left, Dropped, Session, Wire, Pong}
+use Rattle.net_base.specs.declared.trace.entry.Entry.TheVariants.{Did, Idle, Said, In, Sent, Copied, Aged, Left, Dropped, Session, Wire, Pong}
 use Rattle.net_base.specs.declared.plan.Plan.{Plan}
 use Rattle.report_text.specs.declared.ending.Ending.{Ending}
 use Rattle.report_text.specs.declared.ending.Ending.TheVariants.{End, Crowded, TooMuch}
@@ -21,6 +21,7 @@ entry_words plan (In circuit number octets) = codes "in" ∷ circuit_name plan c
 entry_words plan (Sent from to wire arrival packet origin hops octets) =
     codes "sent" ∷ decimal packet ∷ edge_name plan from ∷ edge_name plan to ∷ wire_name plan wire ∷ arrival_name plan arrival ∷ decimal origin ∷ decimal hops ∷ hex octets ∷ []
 entry_words plan (Copied packet of) = codes "copied" ∷ decimal packet ∷ decimal of ∷ []
+entry_words plan (Aged packet) = codes "aged" ∷ decimal packet ∷ []
 entry_words plan (Left circuit origin hops octets) = codes "left" ∷ circuit_name plan circuit ∷ decimal origin ∷ decimal hops ∷ hex octets ∷ []
 entry_words plan (Dropped edge origin cause) = codes "dropped" ∷ edge_name plan edge ∷ decimal origin ∷ cause_name cause ∷ []
 entry_words plan (Session edge peer state) = codes "session" ∷ edge_name plan edge ∷ edge_name plan peer ∷ state_name state ∷ []

@@ -193,6 +193,7 @@ fn put_any_entry<'a, K: Sink>(
             ],
         ),
         Entry::Copied { packet, of } => page.put_line(sink, b"copied", &copied(packet, of)),
+        Entry::Aged { packet } => page.put_line(sink, b"aged", &[Word::Number(packet)]),
         Entry::Left {
             circuit,
             origin,

@@ -5,7 +5,7 @@ ghost use Rattle.edge_model.specs.Step.{edge_step};
 ghost use Rattle.network_model.specs.Absorb.{absorb, begin_at, taken_all};
 ghost use Rattle.network_model.specs.Frame.{frame_event};
 ghost use Rattle.network_model.specs.State.{with_frame};
-ghost use Rattle.network_model.specs.Tick.{tick_event};
+ghost use Rattle.network_model.specs.Tick.{tick_event, ticks_from};
 ghost use Rattle.provider_edge.specs.Taking.{IsInRange};
 ghost use Rattle.psn_net.specs.Lists.{HasAnswered, HasEntered, HasRoom, HasStepped, Keeps, edge_of, seen};
 
@@ -16,12 +16,26 @@ use net_base::{CircuitId, EdgeId, Entry, NoMemory, Octets};
 use std::alloc::Global;
 
 impl Parts {
-    // A tick passes at each edge, in the plan's order.
-    #[tactic(auto, using(crate::proofs::TickLemmas::tick_steps))]
+    // A tick passes for the packets under way, and then at each edge.
+    #[tactic(auto, using(crate::proofs::TickLemmas::tick_joined))]
     pub(crate) fn tick(&mut self, alloc: Global) -> Result<(), NoMemory>
         requires room { HasRoom self.old }
+        requires time { self.old.packets.ticks < length self.old.trace }
         ensures keeps { Keeps self.old self.new }
         ensures step { OnOk result (HasStepped self.old self.new (tick_event self.old.plan (seen self.old))) }
+    {
+        match self.age() {
+            Ok(()) => self.tick_edges(alloc),
+            Err(fault) => Err(fault),
+        }
+    }
+
+    // A tick passes at each edge, in the plan's order.
+    #[tactic(auto, using(crate::proofs::TickLemmas::tick_steps))]
+    fn tick_edges(&mut self, alloc: Global) -> Result<(), NoMemory>
+        requires room { HasRoom self.old }
+        ensures keeps { Keeps self.old self.new }
+        ensures step { OnOk result (HasStepped self.old self.new (ticks_from self.old.plan 0 (length self.old.plan.edges) (seen self.old))) }
     {
         let count = self.plan.edges.len();
         for place in 0..count {

@@ -1,12 +1,13 @@
-//! Packets under way: one reaches its edge, is lost, or is repeated.
-ghost use Rattle.std.specs.Prelude.{◌≡◌, ◌<◌, Some, option_copied, IfSome, OnOk};
+//! Packets under way: one reaches its edge, is lost, or is repeated, and each grows older.
+ghost use Rattle.std.specs.Prelude.{◌≡◌, ◌<◌, ◌+◌, None, option_map, length, IfOk, IfSome, OnOk};
+ghost use Rattle.std.specs.List.{find};
 ghost use Rattle.net_base.specs.plan.Planned.{IsEventOf};
+ghost use Rattle.network_model.specs.Age.{ageing};
 ghost use Rattle.network_model.specs.Packet.{again_event, arrive_event, discard_event, next_arrival, packet_at};
-ghost use Rattle.network_model.specs.State.{without_packet};
-ghost use Rattle.psn_net.specs.Lists.{HasRoom, HasStepped, Keeps, seen};
-ghost use Rattle.psn_net.specs.Packets.{IsPacketOf};
+ghost use Rattle.network_model.specs.State.{with_older, without_number, without_packet};
+ghost use Rattle.psn_net.specs.Lists.{HasRoom, HasStepped, Keeps, copied, seen};
+ghost use Rattle.psn_net.specs.Packets.{IsPacketOf, is_aged, number_of, without_aged};
 
-use crate::departure::Departure;
 use crate::parts::Parts;
 use crate::trail::Trail;
 use edge_model::Input;
@@ -52,6 +53,7 @@ impl Parts {
         ensures keeps { Keeps self.old self.new }
         ensures trace { self.new.trace ≡ self.old.trace }
         ensures room { HasRoom self.old → HasRoom self.new }
+        ensures ticks { self.new.packets.ticks ≡ self.old.packets.ticks }
         ensures packet { result ≡ packet_at (seen self.old) number }
         ensures planned { IfSome result (IsPacketOf self.new.plan self.new.packets.last) }
         ensures state { seen self.new ≡ without_packet number (seen self.old) }
@@ -59,37 +61,73 @@ impl Parts {
         self.packets.take(number)
     }
 
-    // A copy of a packet is under way under the next number.
+    // A copy of a packet is under way under the next number, and is as old.
+    #[tactic(auto, using(crate::proofs::UnderWayLemmas::again_steps))]
     pub(crate) fn again(&mut self, alloc: Global, number: u64) -> Result<(), NoMemory>
         requires room { HasRoom self.old }
         ensures keeps { Keeps self.old self.new }
         ensures step { OnOk result (HasStepped self.old self.new (again_event (packet_at (seen self.old) number) (seen self.old))) }
     {
-        let Some(packet) = self.packet(number) else {
-            return self.tell(Entry::Idle);
-        };
-        let of = packet.number;
-        let departure = Departure {
-            wire: packet.wire,
-            from: packet.from,
-            to: packet.to,
-            trail: Trail {
-                origin: packet.origin,
-                hops: packet.hops,
-            },
-            bytes: packet.bytes.copy(alloc)?,
-        };
-        let packet = self.add_packet(departure)?;
-        self.tell(Entry::Copied { packet, of })
+        match self.repeat_packet(alloc, number) {
+            Ok(Some(packet)) => self.tell(Entry::Copied { packet, of: number }),
+            Ok(None) => self.tell(Entry::Idle),
+            Err(fault) => Err(fault),
+        }
     }
 
-    // The packet with a number, where it is under way.
-    #[tactic(auto, using(crate::proofs::UnderWayLemmas::planned_found), unfolding(crate::specs::Lists::seen))]
-    fn packet(&self, number: u64) -> Option<&Packet>
-        ensures packet { option_copied result ≡ packet_at (seen self.now) number }
-        ensures planned { IfSome (option_copied result) (IsPacketOf self.now.plan self.now.packets.last) }
+    // A copy of the packet with a number is sent, where that one is under way: the number of the copy.
+    #[tactic(auto, using(crate::proofs::UnderWayLemmas::repeated_steps))]
+    fn repeat_packet(&mut self, alloc: Global, number: u64) -> Result<Option<u64>, NoMemory>
+        requires room { HasRoom self.old }
+        ensures keeps { Keeps self.old self.new }
+        ensures trace { self.new.trace ≡ self.old.trace }
+        ensures number { IfOk result (λ copy. copy ≡ option_map (λ packet. (seen self.old).sent + 1) (packet_at (seen self.old) number)) }
+        ensures state { OnOk result (seen self.new ≡ copied (packet_at (seen self.old) number) (seen self.old)) }
     {
-        self.packets.get(number)
+        // Asked so that what always holds of it is at hand for the proof.
+        let _told = self.ledger.trace().len();
+        self.packets.repeat(alloc, number)
+    }
+
+    // A tick passes for the packets under way: those that it makes too old go, and are told by rising number.
+    #[tactic(auto, using(crate::proofs::AgeLemmas::age_steps))]
+    pub(crate) fn age(&mut self) -> Result<(), NoMemory>
+        requires room { HasRoom self.old }
+        requires time { self.old.packets.ticks < length self.old.trace }
+        ensures keeps { Keeps self.old self.new }
+        ensures room { OnOk result (HasRoom self.new) }
+        ensures step { OnOk result (HasStepped self.old self.new (ageing (seen self.old))) }
+    {
+        'ageing: while let Some(packet) = self.first_aged() {
+            self.take_packet(packet);
+            self.tell(Entry::Aged { packet })?;
+        }
+        self.count_tick();
+        Ok(())
+    }
+
+    // The number of the first packet that a further tick makes too old.
+    #[tactic(auto, unfolding(crate::specs::Lists::seen))]
+    fn first_aged(&self) -> Option<u64>
+        ensures number { result ≡ option_map number_of (find is_aged (seen self.now).under_way) }
+        ensures left { IfSome result (λ number. without_number number (seen self.now).under_way ≡ without_aged (seen self.now).under_way) }
+    {
+        self.packets.first_aged()
+    }
+
+    // Each packet under way is a tick older.
+    #[tactic(auto, using(crate::proofs::AgeLemmas::planned_older), unfolding(crate::specs::Lists::seen, network_model::specs::State::with_older))]
+    fn count_tick(&mut self)
+        requires young { find is_aged (seen self.old).under_way ≡ None }
+        requires time { self.old.packets.ticks < length self.old.trace }
+        ensures keeps { Keeps self.old self.new }
+        ensures trace { self.new.trace ≡ self.old.trace }
+        ensures room { HasRoom self.old → HasRoom self.new }
+        ensures state { seen self.new ≡ with_older (seen self.old) }
+    {
+        // Asked so that what always holds of it is at hand for the proof.
+        let _told = self.ledger.trace().len();
+        self.packets.tick();
     }
 
     /// The next arrival: the packet under way with the lowest number. `None` exactly where none is under way.
@@ -99,8 +137,6 @@ impl Parts {
         ensures planned { IfSome result (IsEventOf self.now.plan) }
     {
         let packet = self.packets.first()?;
-        Some(Event::Arrive {
-            packet: packet.number,
-        })
+        Some(Event::Arrive { packet })
     }
 }

@@ -1,6 +1,6 @@
 use Rattle.std.proofs.Common.{◌∙◌}
 use Rattle.psn_net.proofs.TickLemmas.{tick_done}
-use Rattle.psn_net.proofs.parts.Parts.tick.Goals as goal
+use Rattle.psn_net.proofs.parts.Parts.tick_edges.Goals as goal
 
 pub loop-place-preserved : goal.loop-place-preserved
 loop-place-preserved c =

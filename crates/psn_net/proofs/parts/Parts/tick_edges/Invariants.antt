@@ -1,7 +1,7 @@
 use Rattle.std.proofs.Common.{◌≡◌, ◌++◌, ◌-◌, length}
 use Rattle.network_model.specs.Tick.{ticks_from}
 use Rattle.psn_net.specs.Lists.{HasRoom, Keeps, seen}
-use Rattle.psn_net.proofs.parts.Parts.tick.Given as goal
+use Rattle.psn_net.proofs.parts.Parts.tick_edges.Given as goal
 
 abbrev pub invariant-loop-place : goal.invariant-loop-place
 invariant-loop-place l = record {
