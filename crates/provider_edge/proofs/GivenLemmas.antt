@@ -24,10 +24,10 @@ use Rattle.provider_edge.specs.Changes.{KeepsLabels, changing}
 
 put_free : (label : ℕ) (peer : EdgeId) (kept : List Kept) → find is_free (put_by label_of (waiting label peer) kept) ≡ find is_free kept
 put_free label peer [] = refl
-put_free label peer (k ∷ ks) = by (nat_lt k.label label) where
-  by : (b : Bool) → find is_free (cond b (k ∷ put_by label_of (waiting label peer) ks) (waiting label peer ∷ k ∷ ks)) ≡ find is_free (k ∷ ks)
-  by true = ap (λ (found : Option Kept). cond (is_free k) (Some k) found) (put_free label peer ks)
-  by false = refl
+put_free label peer (k ∷ ks) = by (put_free label peer ks) (nat_lt k.label label) where
+  by : find is_free (put_by label_of (waiting label peer) ks) ≡ find is_free ks → (b : Bool) → find is_free (cond b (k ∷ put_by label_of (waiting label peer) ks) (waiting label peer ∷ k ∷ ks)) ≡ find is_free (k ∷ ks)
+  by rest true = ap (λ (found : Option Kept). cond (is_free k) (Some k) found) rest
+  by rest false = refl
 
 pub one_free : (own : Option ℕ) (peer : EdgeId) (kept : List Kept) → least_free (keeps_one own peer kept) ≡ least_free kept
 one_free None peer kept = refl
@@ -71,6 +71,15 @@ none_left next before after same none = ap (λ (least : Option ℕ). cond (nat_e
 pub meeting_leaves : (peer : EdgeId) (edge : EdgeState) → label_to_give edge ≡ None → label_to_give (meeting peer edge) ≡ None
 unfolding with_kept
 meeting_leaves peer edge = none_left edge.next_label edge.kept (met peer edge.kept) (met_free peer edge.kept)
+
+-- one that is left, and one that is not
+pub had_one : (before after : Option ℕ) (had : Bool) → had ≡ is_some before → had ≡ true → before ≡ None → after ≡ None
+had_one None after had is so none = absurd (cc (sym so ∙ is))
+had_one (Some label) after had is so none = absurd (cc (none))
+
+pub has_none : (after : Option ℕ) (has : Bool) → has ≡ is_some after → has ≡ false → after ≡ None
+has_none None has is so = refl
+has_none (Some label) has is so = absurd (cc (sym so ∙ is))
 
 -- whether one is left, in two words
 pub none_is : (before after : Option ℕ) → (before ≡ None → after ≡ None) → not (is_some before) ≡ true → not (is_some after) ≡ true

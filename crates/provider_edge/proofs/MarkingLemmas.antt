@@ -1,15 +1,16 @@
 -- The marks are set with the change that they are about.
-use Rattle.std.proofs.Common.{◌≡◌, ◌<◌, ◌∙◌, ℕ, Bool, true, false, Option, Some, None, length, slice_set, refl, ap, sym, subst, arith}
+use Rattle.std.proofs.Common.{◌≡◌, ◌<◌, ◌∙◌, ℕ, Bool, true, false, is_some, List, Option, Some, None, length, slice_set, refl, ap, sym, subst, arith}
 use Rattle.std.specs.Prelude.{IfSome}
 use Rattle.net_base.specs.declared.plan.places.EdgeId.{EdgeId}
 use Rattle.net_base.specs.declared.plan.places.WireId.{WireId}
 use Rattle.label_space.specs.declared.kept.Kept.{Kept}
-use Rattle.label_space.specs.Kept.{met}
+use Rattle.label_space.specs.Kept.{met, ticked}
 use Rattle.label_space.specs.Labels.{meeting as met_labels}
+use Rattle.label_space.specs.Labels.{number_to_give, ticking}
 use Rattle.pw_signalling.specs.declared.told.Told.{Told}
 use Rattle.pw_signalling.specs.End.{EndState, fresh}
 use Rattle.edge_model.specs.declared.end_place.EndPlace.{EndPlace}
-use Rattle.edge_model.specs.Labels.{label_to_give}
+use Rattle.edge_model.specs.Labels.{label_to_give, resting}
 use Rattle.edge_model.specs.Mend.{advertising}
 use Rattle.edge_model.specs.Spokes.{choice}
 use Rattle.edge_model.specs.State.{EdgeState, put_at, with_bits, with_chosen, with_ends_beside, with_kept, with_priority, with_renewed, with_wire}
@@ -22,9 +23,9 @@ use Rattle.provider_edge.specs.Marks.{Marked, MarksBeside}
 use Rattle.provider_edge.specs.Spokes.{SpokeLists, starts_spoke}
 use Rattle.provider_edge.specs.Tidy.{IsTidy, IsTidyApart, IsTidyBesides}
 use Rattle.provider_edge.specs.Changes.{changing}
-use Rattle.provider_edge.proofs.GivenLemmas.{meeting_leaves}
+use Rattle.provider_edge.proofs.GivenLemmas.{had_one, has_none, meeting_leaves}
 use Rattle.provider_edge.proofs.TidyLemmas.{tidy_rekept}
-use Rattle.provider_edge.proofs.ListLemmas.{LeavesOne, ends_at, ends_beside, ends_met, ends_renewed, holds_ends, seen_bits, seen_chosen, seen_on, seen_priority}
+use Rattle.provider_edge.proofs.ListLemmas.{LeavesOne, ends_at, ends_beside, ends_met, ends_renewed, ends_rest, holds_ends, seen_bits, seen_chosen, seen_on, seen_priority}
 use Rattle.provider_edge.proofs.MarkedLemmas.{besides_kept, chosen_kept, group_kept, labelled_kept}
 use Rattle.provider_edge.proofs.SettledLemmas.{IsBesides, besides_bits, besides_changing, besides_priority, besides_renewed, besides_then, besides_wire}
 
@@ -196,6 +197,25 @@ labels_marked v ends kept same working holds is leaves =
 pub met_marked : (v : EdgeLists) (peer : EdgeId) (ends : EndLists) → v.stopped ≡ true → IsEdge v → ends ≡ record v.ends { labels = met_labels peer v.ends.labels } → IsEdge (record v { ends = ends })
 met_marked v peer ends working holds is =
     labels_marked v ends (met peer (seen v).kept) (ap (λ (l : EndLists). l.places) is) working holds (ends_met v peer ends is) (meeting_leaves peer (seen v))
+
+-- a tick has passed, and a label was left before, or none is now
+rested_marked : (v : EdgeLists) (ends : EndLists) → v.stopped ≡ true → IsEdge v → ends ≡ record v.ends { labels = ticking v.ends.labels }
+    → (number_to_give v.ends.labels.next v.ends.labels.kept ≡ None → number_to_give ends.labels.next ends.labels.kept ≡ None) → IsEdge (record v { ends = ends })
+rested_marked v ends working holds is leaves =
+    labels_marked v ends (ticked (seen v).kept) (ap (λ (l : EndLists). l.places) is) working holds (ends_rest v ends v.marks is) (given leaves)
+  where
+    given : (number_to_give v.ends.labels.next v.ends.labels.kept ≡ None → number_to_give ends.labels.next ends.labels.kept ≡ None) → label_to_give (seen v) ≡ None → label_to_give (resting (seen v)) ≡ None
+    unfolding seen with_kept
+    given leaves none = ap (λ (l : EndLists). number_to_give l.labels.next l.labels.kept) (sym is) ∙ leaves none
+
+pub had_marked : (v : EdgeLists) (ends : EndLists) (had : Bool) → v.stopped ≡ true → IsEdge v → ends ≡ record v.ends { labels = ticking v.ends.labels }
+    → had ≡ is_some (number_to_give v.ends.labels.next v.ends.labels.kept) → had ≡ true → IsEdge (record v { ends = ends })
+had_marked v ends had working holds is left so =
+    rested_marked v ends working holds is (had_one (number_to_give v.ends.labels.next v.ends.labels.kept) (number_to_give ends.labels.next ends.labels.kept) had left so)
+
+pub none_marked : (v : EdgeLists) (ends : EndLists) (has : Bool) → v.stopped ≡ true → IsEdge v → ends ≡ record v.ends { labels = ticking v.ends.labels }
+    → has ≡ is_some (number_to_give ends.labels.next ends.labels.kept) → has ≡ false → IsEdge (record v { ends = ends })
+none_marked v ends has working holds is left so = rested_marked v ends working holds is (λ none. has_none (number_to_give ends.labels.next ends.labels.kept) has left so)
 
 -- ---- the edge chooses for a service
 

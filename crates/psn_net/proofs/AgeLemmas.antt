@@ -72,9 +72,9 @@ pub age_goes_on : (first old mid now : NetLists) (n : ℕ) → Some n ≡ option
 age_goes_on first old mid now n is left taken same kept told older tells = (
   ap with_older (kept ∙ taken) ∙ (left_older (seen old) n left ∙ older),
   ap (λ (s : NetworkState). now.trace ++ aged_entries s.under_way) (kept ∙ taken)
-  ∙ (ap (λ (t : List Entry). t ++ aged_entries (without_packet n (seen old)).under_way) (told ∙ ap (λ (t : List Entry). t ++ Aged n ∷ []) same)
-  ∙ (append_assoc old.trace (Aged n ∷ []) (aged_entries (without_packet n (seen old)).under_way)
-  ∙ (ap (λ (es : List Entry). old.trace ++ es) (sym (left_told (seen old) n (sym is) left)) ∙ tells))),
+      ∙ (ap (λ (t : List Entry). t ++ aged_entries (without_packet n (seen old)).under_way) (told ∙ ap (λ (t : List Entry). t ++ Aged n ∷ []) same)
+      ∙ (append_assoc old.trace (Aged n ∷ []) (aged_entries (without_packet n (seen old)).under_way)
+      ∙ (ap (λ (es : List Entry). old.trace ++ es) (sym (left_told (seen old) n (sym is) left)) ∙ tells))),
 )
 
 -- all have gone, and the others are older

@@ -304,8 +304,7 @@ ticked_kept t l (e ∷ es) kept none = by (nat_lt (t - e.1.since + 1) 64) refl n
   by false dies none goes_on = absurd (cc (none))
   by true lives none goes_on =
       let rest = goes_on none in
-      let first : packet_of (t + 1) e ≡ older (packet_of t e) = ap (λ (age : ℕ). record (packet_of t e) { age = age }) (aged e.1.since kept.1) in
-      (
+      let first : packet_of (t + 1) e ≡ older (packet_of t e) = ap (λ (age : ℕ). record (packet_of t e) { age = age }) (aged e.1.since kept.1) in (
         ap (λ (p : Packet). p ∷ packets_of (t + 1) es) first ∙ ap (λ (ps : List Packet). older (packet_of t e) ∷ ps) rest.0,
         (kept.0, omega (arith, kept.1), young e.1.since lives, rest.1),
       )
@@ -318,8 +317,7 @@ seen_packets t l es = record { list = packets_of t es; last = l; ticks = t }
 pub seen_ticked : (t l : ℕ) (es : List (ℕ × Carried)) (u : UnderWay) → seen_packets t l es ≡ u → AreKept t l es → find is_aged u.list ≡ None
     → (AreKept (t + 1) l es) × (seen_packets (t + 1) l es ≡ record { list = all_older u.list; last = u.last; ticks = u.ticks + 1 })
 seen_ticked t l es u seen kept young =
-    let ticked = ticked_kept t l es kept (ap (λ (v : UnderWay). find is_aged v.list) seen ∙ young) in
-    (
+    let ticked = ticked_kept t l es kept (ap (λ (v : UnderWay). find is_aged v.list) seen ∙ young) in (
       ticked.1,
       (λ i. record { list = ticked.0 i; last = l; ticks = t + 1 }) ∙ ap (λ (v : UnderWay). record { list = all_older v.list; last = v.last; ticks = v.ticks + 1 }) seen,
     )
