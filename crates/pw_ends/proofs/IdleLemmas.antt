@@ -1,5 +1,5 @@
 -- Ends that are made idle one by one.
-use Rattle.std.proofs.Common.{◌≡◌, ◌<◌, ◌≤◌, ◌+◌, ◌∙◌, ℕ, zero, suc, List, [], ◌∷◌, length, get_or, set, take, map, replicate, refl, ap, sym, arith}
+use Rattle.std.proofs.Common.{◌≡◌, ◌<◌, ◌≤◌, ◌+◌, ◌∙◌, ℕ, zero, suc, List, [], ◌∷◌, length, set, take, map, replicate, refl, ap, sym, arith}
 use Rattle.pw_signalling.specs.AnyEnd.{end_of}
 use Rattle.pw_signalling.specs.declared.pw_end.PwEnd.{PwEnd}
 use Rattle.pw_signalling.specs.End.{EndState, fresh}

@@ -1,5 +1,5 @@
 -- What the ends own, and what their label space has.
-use Rattle.std.proofs.Common.{◌≡◌, ◌≢◌, ◌<◌, ◌≤◌, ◌+◌, ◌++◌, ◌∙◌, ◌==◌, ◌⊎◌, ℕ, zero, suc, Bool, true, false, not, cond, List, [], ◌∷◌, Option, Some, None, length, get_or, set, map, replicate, refl, ap, sym, subst, arith, inl, inr}
+use Rattle.std.proofs.Common.{◌≡◌, ◌≢◌, ◌<◌, ◌≤◌, ◌+◌, ◌∙◌, ◌==◌, ◌⊎◌, ℕ, zero, suc, Bool, true, false, not, cond, List, [], ◌∷◌, Option, Some, None, length, get_or, set, map, replicate, refl, ap, sym, subst, arith, inl, inr}
 use Rattle.std.specs.Prelude.{filter}
 use Rattle.std.specs.List.{AllByRecursion, find}
 use Rattle.std.proofs.lemmas.Bool.{cases_Bool}
@@ -23,7 +23,7 @@ use Rattle.pw_signalling.specs.End.{EndState, LocalPart, Idle, Advertised, Withd
 use Rattle.pw_signalling.specs.Laws.{own_label}
 use Rattle.pw_signalling.specs.Rows.{advertised, advertise_part, bound, tell_part, withdraw_part, renew_part, release_part, names, is_in_group, unbound, stated}
 use Rattle.edge_model.specs.declared.end_place.EndPlace.{EndPlace}
-use Rattle.edge_model.specs.Labels.{left_label, owner_at}
+use Rattle.edge_model.specs.Labels.{left_label}
 use Rattle.pw_ends.specs.declared.end_change.EndChange.{EndChange}
 use Rattle.pw_ends.specs.declared.end_change.EndChange.TheVariants as change
 use Rattle.pw_ends.specs.Changes.{changed, changed_in}

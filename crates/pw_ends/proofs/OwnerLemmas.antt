@@ -1,5 +1,5 @@
 -- The slots by labels: each label that is owned has the slot of its owner, before and after the calls.
-use Rattle.std.proofs.Common.{◌≡◌, ◌<◌, ◌+◌, ◌++◌, ◌∙◌, ◌==◌, ◌⊎◌, ℕ, zero, suc, Bool, true, false, not, cond, nat_lt, IfSome, List, [], ◌∷◌, Option, Some, None, length, get_or, set, map, filter, option_map, position, replicate, refl, ap, sym, subst, arith, inl, inr}
+use Rattle.std.proofs.Common.{◌≡◌, ◌<◌, ◌+◌, ◌∙◌, ◌==◌, ◌⊎◌, ℕ, zero, suc, Bool, true, false, not, cond, nat_lt, IfSome, List, [], ◌∷◌, Option, Some, None, length, get_or, set, map, filter, option_map, position, replicate, refl, ap, sym, subst, arith, inl, inr}
 use Rattle.std.specs.List.{AllByRecursion, find, position_or_len}
 use Rattle.std.proofs.lemmas.Bool.{cases_Bool, eqb-true, ne_eqb, lt-ltb}
 use Rattle.std.proofs.lemmas.Bool.Decides.{nat_tests}

@@ -1,13 +1,11 @@
 -- At a restart: the owners of the label space are the ends that own labels, in rising order of the labels.
-use Rattle.std.proofs.Common.{◌≡◌, ◌≢◌, ◌<◌, ◌≤◌, ◌+◌, ◌∙◌, ◌==◌, ◌⊎◌, ℕ, zero, suc, Bool, true, false, cond, List, [], ◌∷◌, Option, Some, None, length, map, option_map, position, replicate, refl, ap, sym, subst, arith, inl, inr}
+use Rattle.std.proofs.Common.{◌≡◌, ◌<◌, ◌+◌, ◌∙◌, ◌==◌, ◌⊎◌, ℕ, Bool, true, false, cond, List, [], ◌∷◌, Option, Some, None, length, map, option_map, replicate, refl, ap, sym, subst, arith, inl, inr}
 use Rattle.std.specs.List.{AllByRecursion, find}
-use Rattle.std.proofs.lemmas.Bool.{cases_Bool, cases_order, eqb-true}
-use Rattle.std.proofs.lemmas.Bool.Decides.{nat_tests}
-use Rattle.net_base.specs.declared.plan.places.SegKey.{SegKey}
+use Rattle.std.proofs.lemmas.Bool.{cases_order, eqb-true}
 use Rattle.label_space.specs.declared.kept.Kept.{Kept}
 use Rattle.label_space.specs.declared.kept.KeptState.{KeptState}
 use Rattle.label_space.specs.declared.owner.Owner.{Owner}
-use Rattle.label_space.specs.Kept.{AreRisingBy, kept_at, keeps, put_by}
+use Rattle.label_space.specs.Kept.{AreRisingBy, keeps}
 use Rattle.label_space.specs.Labels.{AreDistinctLabels, AreUnkept, LabelNumbers, emptied, keeps_each, owned_label, owner_of, owns}
 use Rattle.label_space.specs.Laws.{Restarted}
 use Rattle.label_space.proofs.LabelLemmas.{apart_owners, owner_of-find, unkept_all, unkept_more}
@@ -16,10 +14,10 @@ use Rattle.label_space.proofs.OrderLemmas.{above_apart, rising_put, same}
 use Rattle.pw_signalling.specs.End.{EndState, fresh}
 use Rattle.pw_signalling.specs.Laws.{own_label}
 use Rattle.edge_model.specs.declared.end_place.EndPlace.{EndPlace}
-use Rattle.edge_model.specs.Labels.{keeps_one, keeps_owned, owner_at, owners_of, unless_kept, with_owner_at}
+use Rattle.edge_model.specs.Labels.{keeps_owned, owner_at, owners_of, unless_kept, with_owner_at}
 use Rattle.pw_ends.specs.Ends.{EndLists, is_label, look, seen_ends}
 use Rattle.pw_ends.specs.Kept.{AreKept, AreOwners, Differ, IsOwner, OwnApart, own_of}
-use Rattle.pw_ends.specs.Owned.{OwnedList, slot_of}
+use Rattle.pw_ends.specs.Owned.{OwnedList}
 use Rattle.pw_ends.proofs.FindLemmas.{find_put}
 use Rattle.pw_ends.proofs.HoldLemmas.{holding_none}
 use Rattle.pw_ends.proofs.KeptLemmas.{count_fresh, found_none, none_apart, none_kind, none_own, none_owned, own_count}

@@ -1,7 +1,6 @@
 -- The numbers of the labels that ends have left: one end after another, and as the map of the ends tells them.
-use Rattle.std.proofs.Common.{◌≡◌, ◌≢◌, ◌<◌, ◌≤◌, ◌+◌, ◌∙◌, ◌==◌, ◌⊎◌, ℕ, zero, suc, Bool, true, false, cond, List, [], ◌∷◌, Option, Some, None, length, get_or, set, drop, map, option_map, refl, ap, sym, subst, arith, inl, inr}
+use Rattle.std.proofs.Common.{◌≡◌, ◌≢◌, ◌<◌, ◌≤◌, ◌+◌, ◌∙◌, ◌==◌, ℕ, zero, suc, Bool, true, false, cond, List, [], ◌∷◌, Option, Some, None, length, get_or, set, drop, map, option_map, refl, ap, sym, subst, arith}
 use Rattle.std.specs.List.{AllByRecursion, find}
-use Rattle.std.proofs.lemmas.Bool.{cases_Bool}
 use Rattle.std.proofs.lemmas.Bool.Decides.{nat_tests}
 use Rattle.net_base.specs.declared.plan.places.EdgeId.{EdgeId}
 use Rattle.net_base.specs.declared.plan.places.SegKey.{SegKey}
@@ -9,7 +8,7 @@ use Rattle.net_base.specs.declared.plan.places.WireId.{WireId}
 use Rattle.label_space.specs.declared.kept.Kept.{Kept}
 use Rattle.label_space.specs.declared.kept.KeptState.{KeptState}
 use Rattle.label_space.specs.declared.owner.Owner.{Owner}
-use Rattle.label_space.specs.Kept.{kept_at, keeps}
+use Rattle.label_space.specs.Kept.{kept_at}
 use Rattle.label_space.specs.Labels.{LabelNumbers, freed_of, owner_of, owns}
 use Rattle.label_space.proofs.LabelLemmas.{owner_of-find, unkept_owned}
 use Rattle.pw_signalling.specs.End.{EndState, LocalPart, Idle, Advertised, Withdrawing, fresh}

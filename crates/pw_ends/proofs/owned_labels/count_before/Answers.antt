@@ -1,5 +1,5 @@
 -- The labels before the place are smaller, and no other is.
-use Rattle.std.proofs.Common.{rules, of_calls, nat_lt, arith}
+use Rattle.std.proofs.Common.{rules, of_calls, arith}
 use Rattle.std.proofs.lemmas.Fn.{always_returns_same}
 use Rattle.std.proofs.lemmas.List.Sorted.{IsPartitionPoint-from_clause}
 use Rattle.label_space.proofs.OrderLemmas.{insert_put, parted}

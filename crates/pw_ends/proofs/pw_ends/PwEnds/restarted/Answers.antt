@@ -1,10 +1,8 @@
 -- No end owns a label any more, and of none anything was told.
-use Rattle.std.proofs.Common.{◌≡◌, ◌∙◌, List, length, map, replicate, ap}
+use Rattle.std.proofs.Common.{◌≡◌, ◌∙◌, length, map, replicate, ap}
 use Rattle.pw_signalling.specs.AnyEnd.{end_of}
-use Rattle.pw_signalling.specs.declared.pw_end.PwEnd.{PwEnd}
-use Rattle.pw_signalling.specs.End.{EndState, fresh}
+use Rattle.pw_signalling.specs.End.{fresh}
 use Rattle.pw_ends.specs.contracts.pw_ends.PwEnds.{the_view}
-use Rattle.pw_ends.specs.Ends.{EndLists}
 use Rattle.pw_ends.specs.Marks.{has_mark}
 use Rattle.pw_ends.proofs.KeptLemmas.{seen_count}
 use Rattle.pw_ends.proofs.MarkLemmas.{untold_opened}
