@@ -1,5 +1,5 @@
 -- A tick passes for the packets under way: one after another of those that it makes too old goes, and is told.
-use Rattle.std.proofs.Common.{◌≡◌, ◌+◌, ◌<◌, ◌≤◌, ◌++◌, ◌∷◌, ◌∙◌, [], ℕ, Bool, true, false, not, List, Option, Some, None, cond, refl, ap, sym, arith, option_map, length, append_assoc, append-nil}
+use Rattle.std.proofs.Common.{◌≡◌, ◌+◌, ◌<◌, ◌≤◌, ◌++◌, ◌∷◌, ◌∙◌, [], ℕ, Bool, true, false, not, List, Option, Some, None, cond, refl, ap, sym, subst, arith, option_map, length, append_assoc, append-nil}
 use Rattle.std.specs.List.{find}
 use Rattle.net_base.specs.declared.plan.Plan.{Plan}
 use Rattle.net_base.specs.declared.trace.entry.Entry.{Entry}
@@ -64,6 +64,23 @@ left_told : (network : NetworkState) (n : ℕ) → option_map number_of (find is
 unfolding without_packet
 left_told network n is left = first_told n network.under_way is ∙ ap (λ (ps : List Packet). Aged n ∷ aged_entries ps) (sym left)
 
+left_shorter : (n : ℕ) (ps : List Packet) → option_map number_of (find is_aged ps) ≡ Some n → length (without_aged ps) < length ps
+left_shorter n [] is = absurd (cc (is))
+left_shorter n (p ∷ ps) is = by (lives_on p) is (λ rest. left_shorter n ps rest) where
+  by : (b : Bool) → option_map number_of (cond (not b) (Some p) (find is_aged ps)) ≡ Some n → (option_map number_of (find is_aged ps) ≡ Some n → length (without_aged ps) < length ps)
+      → length (cond b (p ∷ without_aged ps) ps) < length (p ∷ ps)
+  by true is rest = let less = rest is in omega (arith, less)
+  by false is rest = omega arith
+
+-- one fewer is under way
+pub age_shrinks : (old mid now : NetLists) (n : ℕ) → Some n ≡ option_map number_of (find is_aged (seen old).under_way) → without_number n (seen old).under_way ≡ without_aged (seen old).under_way
+    → seen mid ≡ without_packet n (seen old) → seen now ≡ seen mid → length (seen now).under_way < length (seen old).under_way
+unfolding without_packet
+age_shrinks old mid now n is left taken kept =
+    let less : length (without_aged (seen old).under_way) < length (seen old).under_way = left_shorter n (seen old).under_way (sym is) in
+    let same : (seen now).under_way ≡ without_aged (seen old).under_way = ap (λ (s : NetworkState). s.under_way) (kept ∙ taken) ∙ left in
+    subst (λ (ps : List Packet). length ps < length (seen old).under_way) (sym same) less
+
 -- one more has gone, and was told
 pub age_goes_on : (first old mid now : NetLists) (n : ℕ) → Some n ≡ option_map number_of (find is_aged (seen old).under_way) → without_number n (seen old).under_way ≡ without_aged (seen old).under_way
     → seen mid ≡ without_packet n (seen old) → mid.trace ≡ old.trace → seen now ≡ seen mid → now.trace ≡ mid.trace ++ Aged n ∷ []
@@ -86,4 +103,4 @@ age_ends first old now none counted same older tells = record {
   told = same ∙ (sym (append-nil old.trace) ∙ (ap (λ (es : List Entry). old.trace ++ es) (sym (none_told (seen old).under_way none)) ∙ tells));
 }
 
-pub ruleset age_steps = (none_aged, age_goes_on, age_ends)
+pub ruleset age_steps = (none_aged, age_shrinks, age_goes_on, age_ends)
