@@ -199,14 +199,15 @@ met_marked v peer ends working holds is =
     labels_marked v ends (met peer (seen v).kept) (ap (λ (l : EndLists). l.places) is) working holds (ends_met v peer ends is) (meeting_leaves peer (seen v))
 
 -- a tick has passed, and a label was left before, or none is now
+rested_leaves : (v : EdgeLists) (ends : EndLists) → ends ≡ record v.ends { labels = ticking v.ends.labels }
+    → (number_to_give v.ends.labels.next v.ends.labels.kept ≡ None → number_to_give ends.labels.next ends.labels.kept ≡ None) → label_to_give (seen v) ≡ None → label_to_give (resting (seen v)) ≡ None
+unfolding seen with_kept
+rested_leaves v ends is leaves none = ap (λ (l : EndLists). number_to_give l.labels.next l.labels.kept) (sym is) ∙ leaves none
+
 rested_marked : (v : EdgeLists) (ends : EndLists) → v.stopped ≡ true → IsEdge v → ends ≡ record v.ends { labels = ticking v.ends.labels }
     → (number_to_give v.ends.labels.next v.ends.labels.kept ≡ None → number_to_give ends.labels.next ends.labels.kept ≡ None) → IsEdge (record v { ends = ends })
 rested_marked v ends working holds is leaves =
-    labels_marked v ends (ticked (seen v).kept) (ap (λ (l : EndLists). l.places) is) working holds (ends_rest v ends v.marks is) (given leaves)
-  where
-    given : (number_to_give v.ends.labels.next v.ends.labels.kept ≡ None → number_to_give ends.labels.next ends.labels.kept ≡ None) → label_to_give (seen v) ≡ None → label_to_give (resting (seen v)) ≡ None
-    unfolding seen with_kept
-    given leaves none = ap (λ (l : EndLists). number_to_give l.labels.next l.labels.kept) (sym is) ∙ leaves none
+    labels_marked v ends (ticked (seen v).kept) (ap (λ (l : EndLists). l.places) is) working holds (ends_rest v ends v.marks is) (rested_leaves v ends is leaves)
 
 pub had_marked : (v : EdgeLists) (ends : EndLists) (had : Bool) → v.stopped ≡ true → IsEdge v → ends ≡ record v.ends { labels = ticking v.ends.labels }
     → had ≡ is_some (number_to_give v.ends.labels.next v.ends.labels.kept) → had ≡ true → IsEdge (record v { ends = ends })
