@@ -11,19 +11,23 @@ use Rattle.label_space.specs.Laws.{Restarted}
 use Rattle.label_space.proofs.LabelLemmas.{apart_owners, owner_of-find, unkept_all, unkept_more}
 use Rattle.label_space.proofs.LawLemmas.{labels_are_used_again}
 use Rattle.label_space.proofs.OrderLemmas.{above_apart, rising_put, same}
+use Rattle.pw_signalling.specs.AnyEnd.{end_of}
+use Rattle.pw_signalling.specs.declared.pw_end.PwEnd.{PwEnd}
 use Rattle.pw_signalling.specs.End.{EndState, fresh}
 use Rattle.pw_signalling.specs.Laws.{own_label}
 use Rattle.edge_model.specs.declared.end_place.EndPlace.{EndPlace}
 use Rattle.edge_model.specs.Labels.{keeps_owned, owner_at, owners_of, unless_kept, with_owner_at}
 use Rattle.pw_ends.specs.Ends.{EndLists, is_label, look, seen_ends}
-use Rattle.pw_ends.specs.Kept.{AreKept, AreOwners, Differ, IsOwner, OwnApart, own_of}
+use Rattle.pw_ends.specs.Kept.{AreKept, AreMarked, AreOwners, Differ, IsOwner, OwnApart, own_of}
 use Rattle.pw_ends.specs.Owned.{OwnedList}
 use Rattle.pw_ends.proofs.FindLemmas.{find_put}
 use Rattle.pw_ends.proofs.HoldLemmas.{holding_none}
-use Rattle.pw_ends.proofs.KeptLemmas.{count_fresh, found_none, none_apart, none_kind, none_own, none_owned, own_count}
+use Rattle.pw_ends.proofs.KeptLemmas.{count_fresh, found_none, none_apart, none_kind, none_own, none_owned, own_count, seen_count}
 use Rattle.pw_ends.proofs.LabelLemmas.{label_is, unowned}
+use Rattle.pw_ends.proofs.MarkLemmas.{untold_opened}
 use Rattle.pw_ends.proofs.OwnerLemmas.{away, index_opened, position_away}
 use Rattle.pw_ends.proofs.SegmentLemmas.{owners_none}
+use Rattle.pw_ends.proofs.SlotLemmas.{seen_opened}
 use Rattle.pw_ends.proofs.WaitLemmas.{AreSeen, are_seen}
 
 something : {X : Type 0} (x : X) → Some x ≡ None → ⊥
@@ -170,5 +174,14 @@ idle_kept places ends labels index kept = record {
   holds = holding_none places (length places);
 }
 
-pub kept_idle : (places : List EndPlace) (ends now : List EndState) (labels left : LabelNumbers) (index none : OwnedList) → AreKept places ends labels index → now ≡ replicate (length places) fresh → left ≡ emptied labels → none ≡ record { room = index.room; labels = [] } → AreKept places now left none
-kept_idle places ends now labels left index none kept is left_is none_is = rw (is, left_is, none_is) (idle_kept places ends labels index kept)
+-- the same of what the code has
+pub marked_idle : (marks now_marks : ℕ → Bool) (places : List EndPlace) (ends now : List PwEnd) (labels left : LabelNumbers) (index none : OwnedList) → AreMarked places (map end_of ends) labels index marks → map end_of now ≡ replicate (length ends) fresh → left ≡ emptied labels → none ≡ record { room = index.room; labels = [] }
+    → AreMarked places (map end_of now) left none now_marks
+marked_idle marks now_marks places ends now labels left index none marked is left_is none_is =
+    let idle : map end_of now ≡ replicate (length places) fresh = is ∙ ap (λ n. replicate n fresh) (seen_count ends places marked.kept.count) in
+    rw (idle, left_is, none_is) (record { kept = idle_kept places (map end_of ends) labels index marked.kept; untold = untold_opened now_marks places (length places) })
+
+pub seen_idle : (lists : EndLists) (ends : List PwEnd) → length (map end_of ends) ≡ length lists.places → lists.ends ≡ replicate (length ends) fresh → seen_ends lists ≡ (λ wire peer. fresh)
+seen_idle lists ends count is = seen_opened lists (is ∙ ap (λ n. replicate n fresh) (seen_count ends lists.places count))
+
+pub ruleset restart_steps = (seen_idle, kept_restarted)

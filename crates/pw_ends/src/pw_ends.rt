@@ -411,6 +411,7 @@ impl PwEnds {
 
     /// The edge restarts: each end is as it was opened, and the number of each label that one owned waits for its peer, the least
     /// first where not all can be kept. The next number and those that are kept already stay, so no number is given too early.
+    #[tactic(auto, using(crate::proofs::RestartLemmas::restart_steps))]
     pub fn restarted(&mut self)
         ensures places { self.new.places ≡ self.old.places }
         ensures next { self.new.labels.next ≡ self.old.labels.next }
