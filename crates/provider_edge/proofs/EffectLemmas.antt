@@ -92,7 +92,7 @@ use Rattle.edge_model.specs.Packet.{advertiser, advertises_label, alerted, alert
 use Rattle.edge_model.specs.Send.{drops, had_posted, packet_of, sends, sends_copy, sends_under}
 use Rattle.edge_model.specs.Synced.{InSync}
 use Rattle.edge_model.specs.Put.{Spoken, message_octets_of, octets_of, put_octets, put_replies, put_reply, put_reply_to, puts_on, with_spoken, stays}
-use Rattle.edge_model.specs.Labels.{label_to_give}
+use Rattle.edge_model.specs.Labels.{label_to_give, meeting}
 use Rattle.edge_model.specs.Session.{clears_ends, comes_of, losing_ends, ends, had_put, had_said, happens, happens_to, happens_with_ends, says, says_to, is_same_phase, tells_change, went_on, with_session}
 use Rattle.edge_model.specs.declared.end_place.EndPlace.{EndPlace}
 use Rattle.edge_model.specs.Content.{binding_in, mac_withdrawal, mapping, pw_status_code, release, status_notification, withdrawal}
@@ -780,10 +780,11 @@ connected_kept plan Holds kept checked told peer work here = by (are_joined plan
   between (Some own) None is = kept.idle work here
   between (Some own) (Some other) is =
       let within : peer.0 < length plan.edges = slice_get_within plan.edges peer.0 other is in
-      let stands : Work = changes (with_peering peer (Some (opened_with own other))) work in
+      let met : Work = changes (meeting peer) work in
+      let stands : Work = changes (with_peering peer (Some (opened_with own other))) met in
       mends_kept plan Holds kept checked told (happens_with_ends told peer table.Start (gives (Session peer name.Initialized) stands))
       (with_ends_kept plan Holds kept told peer within table.Start (gives (Session peer name.Initialized) stands)
-      (kept.session peer name.Initialized stands within (kept.changed (with_peering peer (Some (opened_with own other))) work here)))
+      (kept.session peer name.Initialized stands within (kept.changed (with_peering peer (Some (opened_with own other))) met (kept.changed (meeting peer) work here))))
 
   by : (b : Bool) → Holds (cond b (connects_between plan told peer (slice_get plan.edges work.edge.me.0) (slice_get plan.edges peer.0) work) (idles work))
   by true = between (slice_get plan.edges work.edge.me.0) (slice_get plan.edges peer.0) refl

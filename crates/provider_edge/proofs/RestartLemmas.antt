@@ -21,7 +21,7 @@ pub record AreForgotten (v : EdgeLists) (kept : List (Option Peering)) (slots : 
   pub places : slots.places ≡ v.ends.places
   pub ends : seen_ends slots ≡ (λ wire peer. fresh)
   pub next : slots.labels.next ≡ v.ends.labels.next
-  pub kept : LeavesAll v.ends slots
+  pub labels : LeavesAll v.ends slots
   pub pings : counts ≡ map unpinged v.pings
   pub spokes : choices ≡ record v.spokes { chosen = map unchosen v.spokes.chosen }
   pub closes : KeepsForwarding v.forwarding closed
@@ -50,4 +50,4 @@ restart_seen v peerings ends pings spokes told new working is are =
     ∙ (seen_forwarding (with_learned (λ service. [])) (record (alone v) { ends = ends; pings = pings; spokes = spokes; forwarding = told; marks = None }) new
     (holds_forgotten (alone v) ends pings spokes told are.places are.pings are.spokes are.closes working (holds_alone v working is)) are.clears are.unlearned
     ∙ ap (with_learned (λ service. []))
-    (ends_forgotten (alone v) ends pings spokes told working (holds_alone v working is) are.places are.pings are.spokes are.closes are.ends are.next are.kept are.untold ∙ ap (λ (e : EdgeState). without_ends (keeping_all e)) (seen_gone v)))
+    (ends_forgotten (alone v) ends pings spokes told working (holds_alone v working is) are.places are.pings are.spokes are.closes are.ends are.next are.labels are.untold ∙ ap (λ (e : EdgeState). without_ends (keeping_all e)) (seen_gone v)))

@@ -30,8 +30,8 @@ keep_marks-requires-clause-tidy g c =
       | then-absent w ↦
           subst (λ (m : Option EndMarks). IfSome m (IsTidy c.put_peering.new.self.plan (seen c.put_peering.new.self))) (sym w.marks-is)
           (subst (λ (p : Plan). IfSome v.marks (IsTidy p (seen c.put_peering.new.self))) (sym c.put_peering.ensures.keeps.plan)
-          (tidy_begun c.args.self.now.plan c.args.peer (connection_with c.args.peers) (seen c.args.self.now) (seen c.put_peering.new.self) v.marks
+          (tidy_begun c.meet.new.self.plan c.args.peer (connection_with c.args.peers) (seen c.meet.new.self) (seen c.put_peering.new.self) v.marks
           (subst (λ (n : EdgeLists). IfSome v.marks (IsTidy n.plan (seen n))) c.self.view_is c.self.invariant.tidy)
-          (sym w.if-absent.ensures) refl (c.put_peering.ensures.step ∙ ap (λ (d : Peering). with_peering c.args.peer (Some d) (seen c.args.self.now)) c.open.ensures)))
+          (sym w.if-absent.ensures) refl (c.put_peering.ensures.step ∙ ap (λ (d : Peering). with_peering c.args.peer (Some d) (seen c.meet.new.self)) c.open.ensures)))
       | else-absent w ↦ subst (λ (m : Option EndMarks). IfSome m (IsTidy c.put_peering.new.self.plan (seen c.put_peering.new.self))) (sym w.marks-is) tt
     ]
