@@ -160,7 +160,31 @@ fn end_with_the_labels(rt: &impl Abort, ends: &mut PwEnds) {
         ends.lose(B);
     }
     advertises(rt, ends, 0, &told, 0);
-    assert!(rt; is_fresh(ends, 0));
+    assert!(rt; is_fresh(ends, 0) && !ends.has_label());
+}
+
+// So many ticks pass.
+fn tick_often(ends: &mut PwEnds, ticks: u16) {
+    for _tick in 0..ticks {
+        ends.tick();
+    }
+}
+
+// The four labels that the first end has left wait for its peer, however many ticks pass. They rest from the next connection with it on,
+// and after 64 ticks the least one is given again.
+fn give_a_label_again(rt: &impl Abort, ends: &mut PwEnds) {
+    end_with_the_labels(rt, ends);
+    tick_often(ends, 64);
+    ends.met(C);
+    tick_often(ends, 64);
+    assert!(rt; !ends.has_label());
+    ends.met(B);
+    tick_often(ends, 63);
+    assert!(rt; !ends.has_label());
+    ends.tick();
+    assert!(rt; ends.has_label());
+    advertises(rt, ends, 0, &told(rt, None), 1_048_572);
+    is_owned(rt, ends, 1_048_572, Some(0));
 }
 
 // The end of a slot hears a mapping of label 17.
@@ -192,6 +216,7 @@ enum Deed {
     OwnLabels,
     AdvertiseUntilOneWithdraws,
     EndWithTheLabels,
+    GiveALabelAgain,
     HoldABinding,
 }
 
@@ -203,6 +228,7 @@ fn opened_do(rt: &impl Abort, alloc: Global, deed: Deed) {
         Deed::OwnLabels => own_labels(rt, &mut ends),
         Deed::AdvertiseUntilOneWithdraws => advertise_until_one_withdraws(rt, &mut ends),
         Deed::EndWithTheLabels => end_with_the_labels(rt, &mut ends),
+        Deed::GiveALabelAgain => give_a_label_again(rt, &mut ends),
         Deed::HoldABinding => hold_a_binding(rt, &mut ends),
     }
     drop(ends);
@@ -215,6 +241,7 @@ fn ends_stand_advertise_and_bind(rt: HostRuntime) {
     opened_do(&rt, alloc, Deed::OwnLabels);
     opened_do(&rt, alloc, Deed::AdvertiseUntilOneWithdraws);
     opened_do(&rt, alloc, Deed::EndWithTheLabels);
+    opened_do(&rt, alloc, Deed::GiveALabelAgain);
     opened_do(&rt, alloc, Deed::HoldABinding);
     switches(&rt, alloc);
 }
