@@ -1,6 +1,6 @@
 -- Where no label is left to be given, none is after what lets no number be free: a label that an end leaves waits, and so do those of the
 -- ends that are lost; and what waits for a peer begins to rest.
-use Rattle.std.proofs.Common.{◌≡◌, ◌∙◌, ◌==◌, ℕ, Bool, true, false, List, [], ◌∷◌, Option, Some, None, cond, length, nat_eq, nat_lt, not, is_some, option_map, refl, ap, sym}
+use Rattle.std.proofs.Common.{◌≡◌, ◌∙◌, ℕ, Bool, true, false, List, [], ◌∷◌, Option, Some, None, cond, length, nat_eq, nat_lt, not, is_some, option_map, refl, ap, sym}
 use Rattle.std.specs.List.{find}
 use Rattle.net_base.specs.declared.plan.places.EdgeId.{EdgeId}
 use Rattle.label_space.specs.declared.kept.Kept.{Kept}
