@@ -26,6 +26,7 @@ use Rattle.edge_model.proofs.SyncLemmas.{ends_here_is}
 use Rattle.provider_edge.specs.Lists.{EdgeLists, seen}
 use Rattle.network_model.specs.Calm.{first_forwards, inner_stitched, last_forwards}
 use Rattle.network_model.specs.State.{NetworkState}
+use Rattle.psn_net.specs.Carrying.{forwards_if}
 use Rattle.psn_net.specs.Lists.{IsNetwork, NetLists, no_edge}
 
 -- ---- the rows of a checked plan
@@ -57,6 +58,19 @@ first_within plan wire row first checked is at = path_first plan row.path first 
 pub last_within : (plan : Plan) (wire : ℕ) (row : WirePlan) (last : EdgeId) → IsChecked plan → slice_get plan.wires wire ≡ Some row → last_edge row.path ≡ Some last → last.0 < length plan.edges
 last_within plan wire row last checked is at = path_last plan row.path last (row_of plan wire row checked is).edges at
 
+-- the same of an edge that is told, if one is
+pub first_of_plan : (plan : Plan) (wire : ℕ) (row : WirePlan) → IsChecked plan → slice_get plan.wires wire ≡ Some row → IfSome (first_edge row.path) (λ edge. edge.0 < length plan.edges)
+first_of_plan plan wire row checked is = told (first_edge row.path) refl where
+  told : (e : Option EdgeId) → first_edge row.path ≡ e → IfSome e (λ edge. edge.0 < length plan.edges)
+  told None at = tt
+  told (Some edge) at = first_within plan wire row edge checked is at
+
+pub last_of_plan : (plan : Plan) (wire : ℕ) (row : WirePlan) → IsChecked plan → slice_get plan.wires wire ≡ Some row → IfSome (last_edge row.path) (λ edge. edge.0 < length plan.edges)
+last_of_plan plan wire row checked is = told (last_edge row.path) refl where
+  told : (e : Option EdgeId) → last_edge row.path ≡ e → IfSome e (λ edge. edge.0 < length plan.edges)
+  told None at = tt
+  told (Some edge) at = last_within plan wire row edge checked is at
+
 same_default : (xs : List EdgeLists) (i : ℕ) (d e : EdgeLists) → i < length xs → slice_index_or xs i d ≡ slice_index_or xs i e
 same_default [] i d e below = absurd (omega arith)
 same_default (x ∷ xs) zero d e below = refl
@@ -84,11 +98,6 @@ lent_placed n id (Some edge) is some at =
     ap (λ (e : EdgeLists). e.me) (at ∙ same_default n.edges id.0 edge.now (no_edge n.plan id.0) below) ∙ is.placed id.0
 
 -- ---- the terminal edges of a path
-
--- an edge that is told forwards
-abbrev pub forwards_if : Plan → NetworkState → ℕ → Option EdgeId → Bool
-forwards_if plan network wire None = false
-forwards_if plan network wire (Some edge) = end_forwards plan (network.edges edge.0) (record { 0 = wire })
 
 pub first_forwards_is : (plan : Plan) (network : NetworkState) (wire : ℕ) (path : List EdgeId) → first_forwards plan network wire path ≡ forwards_if plan network wire (first_edge path)
 first_forwards_is plan network wire [] = refl

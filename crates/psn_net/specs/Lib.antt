@@ -1,5 +1,6 @@
 pub mod Applying
 pub mod Calm
+pub mod Carrying
 pub mod DeliveryIndex
 pub mod Lists
 pub mod Packets

@@ -1,12 +1,13 @@
 //! Which wires carry frames.
-ghost use Rattle.std.specs.Prelude.{◌≡◌, ◌<◌, Some, true, length, slice_get};
+ghost use Rattle.std.specs.Prelude.{◌≡◌, ◌<◌, Some, true, length, slice_get, IfSome};
 ghost use Rattle.std.specs.List.{list_all};
 ghost use Rattle.net_base.specs.plan.Accepted.{IsChecked};
 ghost use Rattle.net_base.specs.plan.RowFaults.{is_edge_of};
 ghost use Rattle.edge_model.specs.Ends.{end_forwards, is_stitched, is_up};
 ghost use Rattle.provider_edge.specs.Lists.{seen as seen_edge};
-ghost use Rattle.network_model.specs.Calm.{carries, first_forwards, inner_stitched, is_joined_up, last_forwards};
+ghost use Rattle.network_model.specs.Calm.{carries, inner_stitched, is_joined_up};
 ghost use Rattle.network_model.specs.State.{edge_at};
+ghost use Rattle.psn_net.specs.Carrying.{forwards_if};
 ghost use Rattle.psn_net.specs.Lists.{seen};
 
 use crate::parts::Parts;
@@ -16,39 +17,15 @@ use provider_edge::Edge;
 
 impl Parts {
     /// The wire with this row forwards at both of its terminal edges, and is stitched between them (RFC 6073 section 4).
+    #[tactic(auto, using(crate::proofs::CarryingLemmas::first_of_plan, crate::proofs::CarryingLemmas::last_of_plan, crate::proofs::CarryingLemmas::first_forwards_is, crate::proofs::CarryingLemmas::last_forwards_is))]
     pub fn carries(&self, wire: WireId, row: &WirePlan) -> bool
         requires checked { IsChecked self.now.plan }
         requires row { slice_get self.now.plan.wires wire.0 ≡ Some row.now }
         ensures { result ≡ carries self.now.plan (seen self.now) wire.0 row.now }
     {
-        (self.first_forwards(wire, row) && self.last_forwards(wire, row))
+        let path = row.path.as_slice();
+        (self.forwards(first_of(path), wire, row) && self.forwards(last_of(path), wire, row))
             && self.is_joined_up(wire, row)
-    }
-
-    // The first edge of the wire's path forwards.
-    #[tactic(auto, using(crate::proofs::CarryingLemmas::first_within, crate::proofs::CarryingLemmas::first_forwards_is))]
-    fn first_forwards(&self, wire: WireId, row: &WirePlan) -> bool
-        requires checked { IsChecked self.now.plan }
-        requires row { slice_get self.now.plan.wires wire.0 ≡ Some row.now }
-        ensures { result ≡ first_forwards self.now.plan (seen self.now) wire.0 row.now.path }
-    {
-        match first_of(row.path.as_slice()) {
-            Some(first) => self.forwards(first, wire, row),
-            None => false,
-        }
-    }
-
-    // The last edge of the wire's path forwards.
-    #[tactic(auto, using(crate::proofs::CarryingLemmas::last_within, crate::proofs::CarryingLemmas::last_forwards_is))]
-    fn last_forwards(&self, wire: WireId, row: &WirePlan) -> bool
-        requires checked { IsChecked self.now.plan }
-        requires row { slice_get self.now.plan.wires wire.0 ≡ Some row.now }
-        ensures { result ≡ last_forwards self.now.plan (seen self.now) wire.0 row.now.path }
-    {
-        match last_of(row.path.as_slice()) {
-            Some(last) => self.forwards(last, wire, row),
-            None => false,
-        }
     }
 
     // The path has an edge, and each of its switching points is stitched.
@@ -87,14 +64,17 @@ impl Parts {
         self.edge_at(edge).is_stitched(wire)
     }
 
-    // An edge's terminal end of the wire forwards.
-    fn forwards(&self, edge: EdgeId, wire: WireId, row: &WirePlan) -> bool
+    // A terminal edge of the wire, where its path has one, forwards.
+    fn forwards(&self, terminal: Option<EdgeId>, wire: WireId, row: &WirePlan) -> bool
         requires checked { IsChecked self.now.plan }
         requires row { slice_get self.now.plan.wires wire.0 ≡ Some row.now }
-        requires edge { edge.0 < length self.now.plan.edges }
-        ensures { result ≡ end_forwards self.now.plan (edge_at (seen self.now) edge) wire }
+        requires within { IfSome terminal (λ edge. edge.0 < length self.now.plan.edges) }
+        ensures { result ≡ forwards_if self.now.plan (seen self.now) wire.0 terminal }
     {
-        end_forwards(self.edge_at(edge), wire, row)
+        match terminal {
+            Some(edge) => end_forwards(self.edge_at(edge), wire, row),
+            None => false,
+        }
     }
 
     // The edge with this place, over the plan of the network.
