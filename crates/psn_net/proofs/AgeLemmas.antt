@@ -14,29 +14,30 @@ use Rattle.psn_net.specs.Packets.{ArePacketsOf, IsPacketOf, is_aged, number_of, 
 
 none_told : (ps : List Packet) → find is_aged ps ≡ None → aged_entries ps ≡ []
 none_told [] none = refl
-none_told (p ∷ ps) none = by (lives_on p) none where
-  by : (b : Bool) → cond (not b) (Some p) (find is_aged ps) ≡ None → cond b (aged_entries ps) (Aged p.number ∷ aged_entries ps) ≡ []
-  by true none = none_told ps none
-  by false none = absurd (cc (none))
+none_told (p ∷ ps) none = by (lives_on p) none (λ rest. none_told ps rest) where
+  by : (b : Bool) → cond (not b) (Some p) (find is_aged ps) ≡ None → (find is_aged ps ≡ None → aged_entries ps ≡ []) → cond b (aged_entries ps) (Aged p.number ∷ aged_entries ps) ≡ []
+  by true none rest = rest none
+  by false none rest = absurd (cc (none))
 
 -- the one that goes first is told first
 first_told : (n : ℕ) (ps : List Packet) → option_map number_of (find is_aged ps) ≡ Some n → aged_entries ps ≡ Aged n ∷ aged_entries (without_aged ps)
 first_told n [] is = absurd (cc (is))
-first_told n (p ∷ ps) is = by (lives_on p) refl is where
+first_told n (p ∷ ps) is = by (lives_on p) refl is (λ rest. first_told n ps rest) where
   by : (b : Bool) → lives_on p ≡ b → option_map number_of (cond (not b) (Some p) (find is_aged ps)) ≡ Some n
+      → (option_map number_of (find is_aged ps) ≡ Some n → aged_entries ps ≡ Aged n ∷ aged_entries (without_aged ps))
       → cond b (aged_entries ps) (Aged p.number ∷ aged_entries ps) ≡ Aged n ∷ aged_entries (cond b (p ∷ without_aged ps) ps)
-  by true lives is = first_told n ps is ∙ ap (λ (b : Bool). Aged n ∷ cond b (aged_entries (without_aged ps)) (Aged p.number ∷ aged_entries (without_aged ps))) (sym lives)
-  by false dies is = let same : p.number ≡ n = cc (is) in ap (λ (m : ℕ). Aged m ∷ aged_entries ps) same
+  by true lives is rest = rest is ∙ ap (λ (b : Bool). Aged n ∷ cond b (aged_entries (without_aged ps)) (Aged p.number ∷ aged_entries (without_aged ps))) (sym lives)
+  by false dies is rest = let same : p.number ≡ n = cc (is) in ap (λ (m : ℕ). Aged m ∷ aged_entries ps) same
 
 -- those that live on are the same without it
 older_left : (ps : List Packet) → all_older (without_aged ps) ≡ all_older ps
 older_left [] = refl
-older_left (p ∷ ps) = by (lives_on p) refl where
-  by : (b : Bool) → lives_on p ≡ b → all_older (cond b (p ∷ without_aged ps) ps) ≡ cond b (older p ∷ all_older ps) (all_older ps)
-  by true lives =
+older_left (p ∷ ps) = by (lives_on p) refl (older_left ps) where
+  by : (b : Bool) → lives_on p ≡ b → all_older (without_aged ps) ≡ all_older ps → all_older (cond b (p ∷ without_aged ps) ps) ≡ cond b (older p ∷ all_older ps) (all_older ps)
+  by true lives rest =
       ap (λ (b : Bool). cond b (older p ∷ all_older (without_aged ps)) (all_older (without_aged ps))) lives
-      ∙ ap (λ (qs : List Packet). older p ∷ qs) (older_left ps)
-  by false dies = refl
+      ∙ ap (λ (qs : List Packet). older p ∷ qs) rest
+  by false dies rest = refl
 
 -- they are those of the plan
 pub planned_older : (plan : Plan) (last : ℕ) (ps : List Packet) → ArePacketsOf plan last ps → ArePacketsOf plan last (all_older ps)

@@ -1,4 +1,4 @@
-use Rattle.std.proofs.Common.{◌+◌, ◌-◌, ◌≤◌, ap, arith, option_map, sym}
+use Rattle.std.proofs.Common.{◌≡◌, ◌+◌, ◌-◌, ◌≤◌, false, true, ap, arith, option_map, sym}
 use Rattle.psn_net.specs.Packets.{number_of}
 use Rattle.psn_net.proofs.PacketLemmas.{aged_first, aged_none, aged_nowhere, seen_first, seen_none, sent_young}
 use Rattle.psn_net.proofs.packets.Packets.first_aged.Goals as goal
@@ -6,7 +6,8 @@ use Rattle.psn_net.proofs.packets.Packets.first_aged.Goals as goal
 pub returns-in_default-clause-number : goal.returns-in_default-clause-number
 returns-in_default-clause-number c =
     sym (ap (option_map number_of) (seen_none c.self.inside.ticks c.self.inside.last c.self.inside.by_number.entries c.args.self.now c.self.view_is
-    (aged_nowhere c.self.inside.ticks c.self.inside.by_number.entries c.self.inside.by_age.keys c.len-count.ensures.ordered c.self.invariant.1 c.in_default.ensures.variant.1)))
+    (aged_nowhere c.self.inside.ticks c.self.inside.by_number.entries c.self.inside.by_age.keys c.len-count.ensures.ordered c.self.invariant.1
+    (λ some. let wrong : false ≡ true = c.in_default.ensures.variant.1 some in absurd (cc (wrong))))))
 
 pub overflow_sub-self-inside : goal.overflow_sub-self-inside
 overflow_sub-self-inside c =
