@@ -19,10 +19,18 @@ fn is_owned(labels: &LabelSpace, number: u32) -> bool {
     }
 }
 
-// Whether the slots of a label space have each of its owned labels.
-fn has_labels(labels: &LabelSpace) -> bool {
+// The first label of an edge.
+fn first_label(edge: &Edge) -> u32 {
+    match edge.plan().edges.get(usize::from(edge.me().0)) {
+        Some(row) => row.first_label,
+        None => 16,
+    }
+}
+
+// Whether the slots of a label space that begins at a number have each of its owned labels.
+fn has_labels(labels: &LabelSpace, first: u32) -> bool {
     let mut owned: usize = 0;
-    for number in 16..labels.next_number() {
+    for number in first..labels.next_number() {
         if is_owned(labels, number) {
             owned = owned.saturating_add(1);
         }
@@ -39,7 +47,7 @@ fn has_all(edge: &Edge, services: u16) -> bool {
             return false;
         }
     }
-    has_labels(edge.labels())
+    has_labels(edge.labels(), first_label(edge))
 }
 
 // Whether the maps of the edge at a place have what its tables have.
