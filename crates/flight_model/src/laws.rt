@@ -40,8 +40,9 @@ pub fn runs_settle()
 {}
 
 /// Wherever a label of an edge is named, at one of its own ends, in a message on its way from it or towards it, or in a binding
-/// of a neighbour, it was given before, and whoever owns it is the end that it is named with (RFC 3032 section 2.1, RFC 5036
-/// sections 3.5.7, 3.5.10 and 3.5.11).
+/// of a neighbour, it was given before, and whoever owns it is the end that it is named with; where its number waits, it waits for
+/// the neighbour that it is named with, and it neither rests nor is free (RFC 3032 section 2.1, RFC 5036 sections 3.5.7, 3.5.10 and
+/// 3.5.11).
 #[tactic(auto, using(crate::proofs::RuledRunLemmas::runs_keep_label_rule))]
 pub fn runs_keep_label_rule()
     ensures { RunsKeepLabelRule }
