@@ -3,6 +3,7 @@ pub mod AnswerLemmas
 pub mod CaptureLemmas
 pub mod FaultLemmas
 pub mod FileLemmas
+pub mod GoingLemmas
 pub mod MadeLemmas
 pub mod PlannedLemmas
 pub mod RunLemmas

@@ -89,6 +89,7 @@ is_scenario_run scenario captures left reason checked planned short has =
     (made_planned scenario.plan (empty_network scenario.plan) captures scenario.commands short planned) in
     record {
       plan_is = has.plan_is;
+      going = has.going;
       ends = has.ends;
       done = run.done;
       are_done = run.are_done;

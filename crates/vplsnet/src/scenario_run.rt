@@ -1,12 +1,12 @@
 //! The run of a scenario: each command makes its events, and the network does them in turn.
-ghost use Rattle.std.specs.Prelude.{◌≡◌, ◌<◌, All, IfOk, length};
+ghost use Rattle.std.specs.Prelude.{◌≡◌, ◌<◌, All, IfOk, false, length};
 ghost use Rattle.net_base.specs.plan.Accepted.{IsChecked};
 ghost use Rattle.net_base.specs.plan.Planned.{IsFrame};
 ghost use Rattle.psn_net.specs.Lists.{seen};
 ghost use Rattle.psn_net.specs.Runs.{GivesNetwork, ran};
 ghost use Rattle.command_text.specs.Planned.{IsPlanned};
 ghost use Rattle.vplsnet.specs.Made.{arrivals, captures_after, deliveries, entering, made_by, ticks};
-ghost use Rattle.vplsnet.specs.ScenarioRun.{HasRun};
+ghost use Rattle.vplsnet.specs.ScenarioRun.{HasRun, IsGoing};
 
 use crate::left_captures::LeftCaptures;
 use crate::types::see_types;
@@ -55,17 +55,19 @@ pub fn run_scenario(alloc: Global, work: Work) -> Result<ScenarioRun, NoMemory>
 }
 
 // Does the events of a command. A capture that it plays is left no longer.
-#[tactic(auto, using(psn_net::proofs::RunLemmas::ran_one, psn_net::proofs::RunLemmas::ran_none, crate::proofs::MadeLemmas::next_short))]
+#[tactic(auto, using(psn_net::proofs::RunLemmas::ran_one, psn_net::proofs::RunLemmas::ran_none, crate::proofs::MadeLemmas::next_short, crate::proofs::GoingLemmas::applied_going))]
 fn run_command(
     alloc: Global,
     network: &mut Network,
     captures: &mut LeftCaptures,
     command: Command,
 ) -> Result<(), NetStop>
+    requires going { network.old.failed ≡ false }
     requires planned { IsPlanned network.old.plan command }
     requires frames { All (All IsFrame) captures.old }
     ensures plan { network.new.plan ≡ network.old.plan }
     ensures left { captures.new ≡ captures_after command captures.old }
+    ensures going { IsGoing result network.new }
     ensures ran { GivesNetwork result network.new (ran network.old.plan (seen network.old) network.old.trace (made_by network.old.plan (seen network.old) captures.old command)) }
 {
     match command {
@@ -89,9 +91,11 @@ fn run_frames(
     circuit: CircuitId,
     frames: List<Octets>,
 ) -> Result<(), NetStop>
+    requires going { network.old.failed ≡ false }
     requires circuit { circuit.0 < length network.old.plan.circuits }
     requires frames { All IsFrame frames }
     ensures plan { network.new.plan ≡ network.old.plan }
+    ensures going { IsGoing result network.new }
     ensures ran { GivesNetwork result network.new (ran network.old.plan (seen network.old) network.old.trace (entering circuit frames)) }
 {
     for frame in frames.into_items() {
@@ -106,7 +110,9 @@ fn run_frames(
 // Does the next delivery so many times, or until there is none.
 #[tactic(auto, using(crate::proofs::MadeLemmas::delivery_steps))]
 fn run_deliveries(alloc: Global, network: &mut Network, count: u32) -> Result<(), NetStop>
+    requires going { network.old.failed ≡ false }
     ensures plan { network.new.plan ≡ network.old.plan }
+    ensures going { IsGoing result network.new }
     ensures ran { GivesNetwork result network.new (ran network.old.plan (seen network.old) network.old.trace (deliveries network.old.plan count (seen network.old))) }
 {
     for _turn in 0..count {
@@ -121,7 +127,9 @@ fn run_deliveries(alloc: Global, network: &mut Network, count: u32) -> Result<()
 // Does the next arrival so many times, or until there is none.
 #[tactic(auto, using(crate::proofs::MadeLemmas::arrival_steps))]
 fn run_arrivals(alloc: Global, network: &mut Network, count: u32) -> Result<(), NetStop>
+    requires going { network.old.failed ≡ false }
     ensures plan { network.new.plan ≡ network.old.plan }
+    ensures going { IsGoing result network.new }
     ensures ran { GivesNetwork result network.new (ran network.old.plan (seen network.old) network.old.trace (arrivals network.old.plan count (seen network.old))) }
 {
     for _arrival in 0..count {
@@ -136,7 +144,9 @@ fn run_arrivals(alloc: Global, network: &mut Network, count: u32) -> Result<(), 
 // Does so many ticks.
 #[tactic(auto, using(crate::proofs::MadeLemmas::ticks_end))]
 fn run_ticks(alloc: Global, network: &mut Network, count: u32) -> Result<(), NetStop>
+    requires going { network.old.failed ≡ false }
     ensures plan { network.new.plan ≡ network.old.plan }
+    ensures going { IsGoing result network.new }
     ensures ran { GivesNetwork result network.new (ran network.old.plan (seen network.old) network.old.trace (ticks count)) }
 {
     for _done in 0..count {

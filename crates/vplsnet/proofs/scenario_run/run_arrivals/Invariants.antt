@@ -1,4 +1,4 @@
-use Rattle.std.proofs.Common.{◌≡◌, ◌-◌}
+use Rattle.std.proofs.Common.{◌≡◌, ◌-◌, false}
 use Rattle.psn_net.specs.Lists.{seen}
 use Rattle.psn_net.specs.Runs.{ran}
 use Rattle.vplsnet.specs.Made.{arrivals}
@@ -7,6 +7,7 @@ use Rattle.vplsnet.proofs.scenario_run.run_arrivals.Given as goal
 abbrev pub invariant-loop-arrival : goal.invariant-loop-arrival
 invariant-loop-arrival l = record {
   plan : l.network.plan ≡ l.fn.network.plan;
+  going : l.network.failed ≡ false;
   ran : ran l.fn.network.plan (seen l.network) l.network.trace (arrivals l.fn.network.plan (l.count - l._arrival) (seen l.network))
       ≡ ran l.fn.network.plan (seen l.fn.network) l.fn.network.trace (arrivals l.fn.network.plan l.count (seen l.fn.network));
 }

@@ -1,4 +1,4 @@
-use Rattle.std.proofs.Common.{◌≡◌, ◌-◌}
+use Rattle.std.proofs.Common.{◌≡◌, ◌-◌, false}
 use Rattle.psn_net.specs.Lists.{seen}
 use Rattle.psn_net.specs.Runs.{ran}
 use Rattle.vplsnet.specs.Made.{deliveries}
@@ -7,6 +7,7 @@ use Rattle.vplsnet.proofs.scenario_run.run_deliveries.Given as goal
 abbrev pub invariant-loop-turn : goal.invariant-loop-turn
 invariant-loop-turn l = record {
   plan : l.network.plan ≡ l.fn.network.plan;
+  going : l.network.failed ≡ false;
   ran : ran l.fn.network.plan (seen l.network) l.network.trace (deliveries l.fn.network.plan (l.count - l._turn) (seen l.network))
       ≡ ran l.fn.network.plan (seen l.fn.network) l.fn.network.trace (deliveries l.fn.network.plan l.count (seen l.fn.network));
 }

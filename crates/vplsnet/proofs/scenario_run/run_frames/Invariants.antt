@@ -1,4 +1,4 @@
-use Rattle.std.proofs.Common.{◌≡◌}
+use Rattle.std.proofs.Common.{◌≡◌, false}
 use Rattle.std.specs.List.{All}
 use Rattle.net_base.specs.plan.Planned.{IsFrame}
 use Rattle.psn_net.specs.Lists.{seen}
@@ -12,6 +12,7 @@ invariant-loop-frame l =
     × (goal.iterator-loop-frame).is_finite l.frame-iterator
     × record {
       plan : l.network.plan ≡ l.fn.network.plan;
+      going : l.network.failed ≡ false;
       ran : ran l.fn.network.plan (seen l.network) l.network.trace (entering l.circuit l.frame-iterator.rest.items)
           ≡ ran l.fn.network.plan (seen l.fn.network) l.fn.network.trace (entering l.circuit l.fn.frames);
       short : All IsFrame l.frame-iterator.rest.items;

@@ -5,6 +5,7 @@ use Rattle.net_base.specs.plan.Planned.{IsFrame}
 use Rattle.command_text.specs.Planned.{IsPlanned}
 use Rattle.psn_net.specs.Runs.{RunHalts}
 use Rattle.vplsnet.specs.ScenarioRun.{whole_run}
+use Rattle.vplsnet.proofs.GoingLemmas.{limit_going}
 use Rattle.vplsnet.proofs.MadeLemmas.{left_short, made_next, made_stopped, stopped_end}
 use Rattle.vplsnet.proofs.scenario_run.run_scenario.Goals as goal
 
@@ -14,6 +15,7 @@ loop-command-preserved c = (
   tt,
   record {
     plan = c.in-Ok-run_command.ensures.plan ∙ c.loop-command.invariant.2.plan;
+    going = c.in-Ok-run_command.ensures.going;
     ran = made_next c.args.work.scenario.plan c.loop-command.network c.run_command.new.network (whole_run c.args.work.scenario c.args.work.captures) c.loop-command.captures c.run_command.new.captures
         c.in-Some.command c.loop-command.command-iterator.rest.items c.next.new.self.rest.items c.in-Some.ensures.steps.0 c.loop-command.invariant.2.plan c.loop-command.invariant.2.ran
         c.in-Ok-run_command.ensures.ran c.in-Ok-run_command.ensures.left;
@@ -31,6 +33,7 @@ returns-in-Err-run_command c =
     record {
       run = record {
         plan_is = c.in-Err-run_command.ensures.plan ∙ c.loop-command.invariant.2.plan;
+        going = limit_going c.in-Err-run_command.stop c.run_command.new.network (search rules) c.in-Err-run_command.ensures.going;
         ends = stopped_end c.in-Err-run_command.stop c.run_command.new.network (whole_run c.args.work.scenario c.args.work.captures) (search rules) halts;
         types = c.see_types.ensures;
       };

@@ -1,4 +1,4 @@
-use Rattle.std.proofs.Common.{◌≡◌}
+use Rattle.std.proofs.Common.{◌≡◌, false}
 use Rattle.std.specs.List.{All}
 use Rattle.net_base.specs.plan.Planned.{IsFrame}
 use Rattle.command_text.specs.Planned.{IsPlanned}
@@ -14,6 +14,7 @@ invariant-loop-command l =
     × (goal.iterator-loop-command).is_finite l.command-iterator
     × record {
       plan : l.network.plan ≡ l.fn.work.scenario.plan;
+      going : l.network.failed ≡ false;
       ran : ran l.fn.work.scenario.plan (seen l.network) l.network.trace (made l.fn.work.scenario.plan (seen l.network) l.captures l.command-iterator.rest.items) ≡ whole_run l.fn.work.scenario l.fn.work.captures;
       planned : All (IsPlanned l.fn.work.scenario.plan) l.command-iterator.rest.items;
       short : All (All IsFrame) l.captures;

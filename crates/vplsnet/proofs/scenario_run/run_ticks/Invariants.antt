@@ -1,4 +1,4 @@
-use Rattle.std.proofs.Common.{◌≡◌, ◌-◌}
+use Rattle.std.proofs.Common.{◌≡◌, ◌-◌, false}
 use Rattle.psn_net.specs.Lists.{seen}
 use Rattle.psn_net.specs.Runs.{ran}
 use Rattle.vplsnet.specs.Made.{ticks}
@@ -7,5 +7,6 @@ use Rattle.vplsnet.proofs.scenario_run.run_ticks.Given as goal
 abbrev pub invariant-loop-done : goal.invariant-loop-done
 invariant-loop-done l = record {
   plan : l.network.plan ≡ l.fn.network.plan;
+  going : l.network.failed ≡ false;
   ran : ran l.fn.network.plan (seen l.network) l.network.trace (ticks (l.count - l._done)) ≡ ran l.fn.network.plan (seen l.fn.network) l.fn.network.trace (ticks l.count);
 }
