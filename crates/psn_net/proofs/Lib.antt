@@ -20,4 +20,3 @@ pub mod TickLemmas
 pub mod UnderWayLemmas
 pub mod WeightLemmas
 pub mod WordLemmas
-pub mod CallLogWalks

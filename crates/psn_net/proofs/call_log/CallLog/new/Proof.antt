@@ -23,7 +23,7 @@ use denote.Triple.Entry.{alive}
 use denote.Triple.Spec.{Meets, triple_of}
 use denote.Triple.Table.{entered}
 use denote.Triple.Walked.{says, Stays, walk_of, ends_at, walk_Meets}
-use Rattle.psn_net.proofs.CallLogWalks.{none, none_made}
+use Rattle.net_base.proofs.LogWalks.{none, none_made}
 use Rattle.psn_net.specs.contracts.call_log.CallLog as CallLog
 use Rattle.psn_net.specs.contracts.call_log.CallLog.new as F
 use Rattle.psn_net.specs.contracts.call_log.CallLog.new.Key.{name as #self}

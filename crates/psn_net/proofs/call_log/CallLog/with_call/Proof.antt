@@ -25,7 +25,7 @@ use denote.Triple.Entry.{alive}
 use denote.Triple.Spec.{Meets, triple_of}
 use denote.Triple.Table.{entered}
 use denote.Triple.Walked.{says, Stays, stay_dropped, walk_of, ends_at, walk_Meets, Goes-dropped}
-use Rattle.psn_net.proofs.CallLogWalks.{none, none_made}
+use Rattle.net_base.proofs.LogWalks.{none, none_made}
 use Rattle.psn_net.specs.contracts.call_log.CallLog as CallLog
 use Rattle.psn_net.specs.contracts.call.Call as Call
 use Rattle.net_base.specs.outside.Link.{call_of}

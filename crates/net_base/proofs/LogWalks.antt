@@ -1,4 +1,4 @@
--- A step that the walks of `src/call_log.rt` share.
+-- A step that the walks of the logs share, which have ghost data alone.
 use Rattle.std.proofs.Common.{List, [], ◌∷◌, refl}
 use seplogic.Ra.Ura.{Ura}
 use mir.Val.{Val, vstruct, vnil}

@@ -1,0 +1,33 @@
+//! The reads that a shelf was asked for. They exist in proofs alone.
+ghost use Rattle.std.specs.Prelude.{◌≡◌, ◌++◌, ◌∷◌, [], List};
+ghost use Rattle.std.specs.Borrow.{ftrue};
+ghost use Rattle.net_base.specs.outside.Outside.{ReadCall};
+
+use crate::outside::read::Read;
+use std::marker::Model;
+
+/// The reads that a shelf was asked for, in order. It takes no memory, and its calls do nothing when they run.
+#[derive(Drop)]
+pub struct ReadLog {
+    pub ghost reads: { List ReadCall },
+}
+
+impl Model for ReadLog {
+    ghost also_owns = { λ _. ftrue };
+}
+
+impl ReadLog {
+    /// No read yet.
+    pub fn new() -> ReadLog
+        ensures { result.reads ≡ [] }
+    {
+        ReadLog {}
+    }
+
+    /// The same reads, and this one behind them.
+    pub fn with_read(&self, _read: &Read<'_>) -> ReadLog
+        ensures { result.reads ≡ self.now.reads ++ record { name = _read.now.name.now; from = _read.now.from; room = _read.now.room } ∷ [] }
+    {
+        ReadLog {}
+    }
+}
