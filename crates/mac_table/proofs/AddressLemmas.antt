@@ -277,19 +277,19 @@ length-learned table entry within = elim (has_address table.entries entry.addres
 ]
 
 -- the invariant holds after an address came
-pub held_learned : (capacity room now : ℕ) (xs ys : List MacEntry) (entry : MacEntry) → IsHeld capacity room xs → ys ≡ learned (record { entries = xs; capacity = capacity }) entry → room ≤ now → IsHeld capacity now ys
-held_learned capacity room now xs ys entry held same more = rw same (record {
-  reserved = omega (arith, held.reserved);
+pub held_learned : (capacity room now : ℕ) (xs ys : List MacEntry) (entry : MacEntry) → IsHeld capacity room xs → ys ≡ learned (record { entries = xs; capacity = capacity }) entry → now ≡ room → IsHeld capacity now ys
+held_learned capacity room now xs ys entry held same equal = rw (same, equal) (record {
+  reserved = held.reserved;
   within = length-learned (record { entries = xs; capacity = capacity }) entry held.within;
   distinct = distinct-learned (record { entries = xs; capacity = capacity }) entry held.distinct;
 })
 
 -- and where an entry took the place of the one of its address
-pub held_written : (capacity room now : ℕ) (xs ys : List MacEntry) (entry : MacEntry) (place : ℕ) → IsHeld capacity room xs → place ≡ entry_place xs entry.address → place < length xs → ys ≡ set xs place entry → room ≤ now → IsHeld capacity now ys
-held_written capacity room now xs ys entry place held is within same more =
+pub held_written : (capacity room now : ℕ) (xs ys : List MacEntry) (entry : MacEntry) (place : ℕ) → IsHeld capacity room xs → place ≡ entry_place xs entry.address → place < length xs → ys ≡ set xs place entry → now ≡ room → IsHeld capacity now ys
+held_written capacity room now xs ys entry place held is within same equal =
     let table : AddressTable = record { entries = xs; capacity = capacity } in
     let kept : learned table entry ≡ replaced entry xs = rw (held_at xs entry.address place is within) refl in
-    held_learned capacity room now xs ys entry held (same ∙ (written_at entry xs place is within ∙ sym kept)) more
+    held_learned capacity room now xs ys entry held (same ∙ (written_at entry xs place is within ∙ sym kept)) equal
 
 -- the invariant holds of what is left
 pub held_filtered : (p : MacEntry → Bool) (capacity room now : ℕ) (xs ys : List MacEntry) → IsHeld capacity room xs → ys ≡ filter p xs → now ≡ room → IsHeld capacity now ys

@@ -1,5 +1,5 @@
 //! Changes of a table.
-ghost use Rattle.std.specs.Prelude.{◌≡◌, ◌<◌, ◌≤◌, ℕ, filter, length, IsTrue};
+ghost use Rattle.std.specs.Prelude.{◌≡◌, ◌<◌, ◌≤◌, ◌++◌, ◌∷◌, ℕ, [], filter, length, vec_capacity, vec_len, IsTrue};
 ghost use Rattle.std.specs.List.{remove};
 ghost use Rattle.mac_table.specs.Addresses.{AreDistinctAddresses, NoneAfter, learned, learning_of};
 ghost use Rattle.mac_table.specs.Removal.{keeps_entry};
@@ -9,6 +9,18 @@ use crate::removal::Removal;
 use crate::search::place_of;
 use crate::ticks::{forget, forget_leaving, note, shift};
 use crate::{Learned, MacEntry, MacTable};
+
+// Puts the entry at the end of a list that has room for it; the room of the list stays what it is.
+#[tactic(auto, using(std::proofs::lemmas::List::Edits::insert_end))]
+fn append(entries: &mut Vec<MacEntry>, entry: MacEntry)
+    requires { vec_len entries.old < vec_capacity entries.old }
+    ensures items { entries.new.items ≡ entries.old.items ++ entry ∷ [] }
+    ensures room { vec_capacity entries.new ≡ vec_capacity entries.old }
+{
+    // Where there is room `insert` promises that it stays, and `push` does not.
+    let end = entries.len();
+    entries.insert(end, entry).unwrap();
+}
 
 impl MacTable {
     // Puts the entry in place of the one of its address, or at the end where there is room.
@@ -36,7 +48,7 @@ impl MacTable {
         if self.entries.len() < self.capacity as usize {
             add(&mut self.index, self.entries.as_slice(), entry);
             note(&mut self.ticks, self.entries.as_slice(), entry);
-            self.entries.push(entry).unwrap();
+            append(&mut self.entries, entry);
             return Learned::New;
         }
         Learned::NotLearned

@@ -1,6 +1,6 @@
 -- The map and the ticks have what the list has, after the write in all.
 use Rattle.std.proofs.Common.{rules, ◌≡◌, ◌<◌, ◌≤◌, ◌++◌, ◌∙◌, nat_lt, true, false, List, [], ◌∷◌, length, ap, subst, sym, refl, arith}
-use Rattle.std.specs.Prelude.{vec_capacity, slice_set}
+use Rattle.std.specs.Prelude.{slice_set}
 use Rattle.std.proofs.lemmas.Bool.{lt-ltb}
 use Rattle.mac_table.specs.declared.mac_entry.MacEntry.{MacEntry}
 use Rattle.mac_table.specs.Addresses.{entry_place, has_address, learned}
@@ -13,9 +13,8 @@ pub invariant_of-self : goal.invariant_of-self
 invariant_of-self c =
     let xs = c.self.inside.entries.items in
     let at : c.place_of-place.result ≡ entry_place xs c.args.entry.address = c.place_of-place.ensures ∙ ap (λ (l : List MacEntry). entry_place l c.args.entry.address) c.as_slice.ensures.value in
-    let within : c.place_of-place.result < length xs = search rules in
-    let room : vec_capacity c.self.inside.entries ≤ vec_capacity c.self.inside.entries = omega arith in (
-      held_written _ _ _ _ _ c.args.entry c.place_of-place.result c.self.invariant.0 at within refl room,
+    let within : c.place_of-place.result < length xs = search rules in (
+      held_written _ _ _ _ _ c.args.entry c.place_of-place.result c.self.invariant.0 at within refl refl,
       index_written _ _ _ _ c.place_of-place.result c.args.entry c.self.invariant.1 at within c.put_at.ensures refl,
       subst (λ (l : List MacEntry). IsTickIndex c.shift.new.ticks.entries (slice_set l c.place_of-place.result c.args.entry)) c.as_slice-then-place-len.ensures.value c.shift.ensures,
     )
@@ -29,8 +28,8 @@ invariant_of-self-then-len-self c =
     let under : length xs < c.self.inside.capacity = search rules in
     let fits : nat_lt (length xs) c.self.inside.capacity ≡ true = lt-ltb _ _ under in
     let grown : learned (record { entries = xs; capacity = c.self.inside.capacity }) c.args.entry ≡ xs ++ c.args.entry ∷ [] = rw (absent, fits) refl in
-    let pushed : c.push.new.self.items ≡ xs ++ c.args.entry ∷ [] = search rules in (
-      held_learned _ _ _ _ _ c.args.entry c.self.invariant.0 (pushed ∙ sym grown) (search rules),
+    let pushed : c.append.new.entries.items ≡ xs ++ c.args.entry ∷ [] = search rules in (
+      held_learned _ _ _ _ _ c.args.entry c.self.invariant.0 (pushed ∙ sym grown) c.append.ensures.room,
       search rules,
       search rules,
     )
