@@ -22,6 +22,8 @@ pub mod PassedLemmas
 pub mod PingLemmas
 pub mod PlaceLemmas
 pub mod ReleaseLemmas
+pub mod RestartedLemmas
+pub mod RisingLemmas
 mod SessionExamples
 pub mod SessionLemmas
 mod SignalExamples

@@ -21,6 +21,8 @@ pub mod Passed
 pub mod Ping
 pub mod Put
 pub mod Released
+pub mod Restarted
+pub mod Rising
 pub mod Role
 pub mod Send
 pub mod Session

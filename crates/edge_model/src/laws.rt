@@ -6,6 +6,8 @@ ghost use Rattle.edge_model.specs.Mended.{MendsAtOnce};
 ghost use Rattle.edge_model.specs.Parts.{EdgeHearsInParts};
 ghost use Rattle.edge_model.specs.Passed.{WithdrawalsGoOn};
 ghost use Rattle.edge_model.specs.Released.{MindsOwnReleases};
+ghost use Rattle.edge_model.specs.Restarted.{RestartsKeepSettings};
+ghost use Rattle.edge_model.specs.Rising.{EndPlacesRise};
 ghost use Rattle.edge_model.specs.StandbyBit.{SpokesAloneStandBy};
 
 /// Local isolation of frames: what an edge lets leave on a frame of a circuit leaves at another circuit of that circuit's
@@ -87,4 +89,19 @@ pub fn mends_at_once()
 #[tactic(auto, using(crate::proofs::PassedLemmas::withdrawals_go_on))]
 pub fn withdrawals_go_on()
     ensures { WithdrawalsGoOn }
+{}
+
+/// A restart keeps what was set at an edge: which circuits and wires are on, failure bits and priority numbers; and its ticks, and its
+/// labels, as a label space keeps them that restarts (RFC 5036 section 2.6.3). It forgets addresses, connections and ends, chooses no spoke, and
+/// numbers messages and pings from 1 again.
+#[tactic(auto, using(crate::proofs::RestartedLemmas::restarts_keep_settings))]
+pub fn restarts_keep_settings()
+    ensures { RestartsKeepSettings }
+{}
+
+/// An edge goes over its ends, as it does when it mends, by rising numbers of the wires, and on each wire by rising segments; neighbours
+/// have no part in the order.
+#[tactic(auto, using(crate::proofs::RisingLemmas::end_places_rise))]
+pub fn end_places_rise()
+    ensures { EndPlacesRise }
 {}

@@ -14,7 +14,7 @@ pub use effects::Effects;
 pub use end_place::EndPlace;
 pub use input::Input;
 pub use laws::{
-    addresses_last_their_age, echoes_stay_apart, frames_stay_local, heard_in_parts, mends_at_once,
-    minds_own_releases, packets_stay_local, pings_stay_local, spokes_alone_stand_by,
-    withdrawals_go_on,
+    addresses_last_their_age, echoes_stay_apart, end_places_rise, frames_stay_local,
+    heard_in_parts, mends_at_once, minds_own_releases, packets_stay_local, pings_stay_local,
+    restarts_keep_settings, spokes_alone_stand_by, withdrawals_go_on,
 };

@@ -2,13 +2,11 @@
 use Rattle.std.proofs.Common.{◌≡◌, ◌<◌, ◌+◌, ◌∙◌, ◌==◌, ◌⊎◌, ℕ, Bool, true, false, cond, List, [], ◌∷◌, Option, Some, None, length, map, option_map, replicate, refl, ap, sym, subst, arith, inl, inr}
 use Rattle.std.specs.List.{AllByRecursion, find}
 use Rattle.std.proofs.lemmas.Bool.{cases_order, eqb-true}
-use Rattle.label_space.specs.declared.kept.Kept.{Kept}
-use Rattle.label_space.specs.declared.kept.KeptState.{KeptState}
 use Rattle.label_space.specs.declared.owner.Owner.{Owner}
-use Rattle.label_space.specs.Kept.{AreRisingBy, keeps}
-use Rattle.label_space.specs.Labels.{AreDistinctLabels, AreUnkept, LabelNumbers, emptied, keeps_each, owned_label, owner_of, owns}
+use Rattle.label_space.specs.Kept.{AreRisingBy}
+use Rattle.label_space.specs.Labels.{LabelNumbers, emptied, owned_label, owner_of, owns}
 use Rattle.label_space.specs.Laws.{Restarted}
-use Rattle.label_space.proofs.LabelLemmas.{apart_owners, owner_of-find, unkept_all, unkept_more}
+use Rattle.label_space.proofs.LabelLemmas.{apart_owners, owner_of-find, unkept_all}
 use Rattle.label_space.proofs.LawLemmas.{labels_are_used_again}
 use Rattle.label_space.proofs.OrderLemmas.{above_apart, rising_put, same}
 use Rattle.pw_signalling.specs.AnyEnd.{end_of}
@@ -16,7 +14,8 @@ use Rattle.pw_signalling.specs.declared.pw_end.PwEnd.{PwEnd}
 use Rattle.pw_signalling.specs.End.{EndState, fresh}
 use Rattle.pw_signalling.specs.Laws.{own_label}
 use Rattle.edge_model.specs.declared.end_place.EndPlace.{EndPlace}
-use Rattle.edge_model.specs.Labels.{keeps_owned, owner_at, owners_of, unless_kept, with_owner_at}
+use Rattle.edge_model.specs.Labels.{keeps_owned, owner_at, owners_of, with_owner_at}
+use Rattle.edge_model.proofs.RestartedLemmas.{keeps_owned_each}
 use Rattle.pw_ends.specs.Ends.{EndLists, is_label, look, seen_ends}
 use Rattle.pw_ends.specs.Kept.{AreKept, AreMarked, AreOwners, Differ, IsOwner, OwnApart, own_of}
 use Rattle.pw_ends.specs.Owned.{OwnedList}
@@ -139,13 +138,6 @@ owners_are places ends labels index kept =
     (λ none. found_none label labels.owners (unowned label index.labels labels.owners kept.slots.same (kept.slots.slot label ∙ position_away label (map own_of ends) none))))
 
 -- ---- what is kept
-
--- what is owned is not kept, so each number waits where there is room
-keeps_owned_each : (owners : List Owner) (kept : List Kept) → AreDistinctLabels owners → AreUnkept kept owners → keeps_owned owners kept ≡ keeps_each owners kept
-keeps_owned_each [] kept distinct unkept = refl
-keeps_owned_each (o ∷ os) kept distinct unkept =
-    ap (λ (r : Option KeptState). keeps_owned os (unless_kept r o.label o.peer kept)) unkept.0
-    ∙ keeps_owned_each os (keeps o.label o.peer kept) distinct.1 (unkept_more o os kept distinct.0 unkept.0 unkept.1)
 
 pub kept_restarted : (inside : EndLists) (old : EndLists) (now : LabelNumbers) (index : OwnedList) → AreKept inside.places inside.ends inside.labels index → inside ≡ old → now ≡ emptied inside.labels → now.kept ≡ keeps_owned (owners_of (seen_ends old) old.places) old.labels.kept
 unfolding seen_ends
