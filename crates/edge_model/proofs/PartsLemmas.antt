@@ -8,8 +8,9 @@ use Rattle.ldp_stream.specs.FrontOf.{Front, More, Got, Bad, front_of}
 use Rattle.ldp_stream.specs.Hearing.{Hearer, Left, hear, hear_few, hear_front, hear_within}
 use Rattle.ldp_stream.proofs.HearingLemmas.{in_parts}
 use Rattle.session_core.specs.Table.{Refused}
-use Rattle.edge_model.specs.Hear.{hears, hears_few, hears_front, hears_on, hears_pdu, hears_within, holds}
-use Rattle.edge_model.specs.Parts.{EdgeHearsInParts, HasFitMaximum}
+use Rattle.edge_model.specs.Hear.{hears, hears_few, hears_front, hears_on, hears_pdu, hears_within, holds, octets_input}
+use Rattle.edge_model.specs.Mend.{mends}
+use Rattle.edge_model.specs.Parts.{EdgeHearsInParts, HasFitMaximum, takes_octets}
 use Rattle.edge_model.specs.Session.{happens_with_ends}
 use Rattle.edge_model.specs.State.{Peering, has_end, is_there, with_peering}
 use Rattle.edge_model.specs.Work.{Work, Answers, changes}
@@ -137,13 +138,43 @@ gives_up plan told peer octets more work are fits ended =
     let first : hears plan told peer octets work ≡ settled peer left = as_hearer plan told peer (suc (length octets)) octets work fits in
     rest_first plan told peer octets more work are fits ∙ (settled_none plan told peer more left (subst (λ (w : Work). has_end w.edge peer ≡ false) first ended) ∙ sym first)
 
+behind_held : (plan : Plan) (told : Answers) (peer : EdgeId) (octets more : List ℕ) (kept : Peering) (work : Work) → AreOctets (kept.held ++ (octets ++ more)) → HasFitMaximum (work.edge.peering peer.0)
+    → has_end (hears_on plan told peer octets (Some kept) work).edge peer ≡ true
+    → hears_on plan told peer (octets ++ more) (Some kept) work
+    ≡ hears_on plan told peer more ((hears_on plan told peer octets (Some kept) work).edge.peering peer.0) (hears_on plan told peer octets (Some kept) work)
+behind_held plan told peer octets more kept work are fits stands =
+    ap (λ (l : List ℕ). hears plan told peer l work) (sym (append_assoc kept.held octets more))
+    ∙ goes_on plan told peer (kept.held ++ octets) more work (subst AreOctets (sym (append_assoc kept.held octets more)) are) fits stands
+
+two_inputs : (plan : Plan) (told : Answers) (peer : EdgeId) (octets more : List ℕ) (kept : Peering) (work : Work) → work.edge.peering peer.0 ≡ Some kept
+    → AreOctets (kept.held ++ (octets ++ more)) → HasFitMaximum (Some kept)
+    → takes_octets plan told peer octets work ≡ hears_on plan told peer octets (Some kept) work → has_end (takes_octets plan told peer octets work).edge peer ≡ true
+    → takes_octets plan told peer more (takes_octets plan told peer octets work) ≡ takes_octets plan told peer (octets ++ more) work
+two_inputs plan told peer octets more kept work is are fits mended stands =
+    ap (takes_octets plan told peer more) mended
+    ∙ (by (heard.edge.peering peer.0) up
+    ∙ (ap (mends plan told) (sym (behind_held plan told peer octets more kept work are (subst HasFitMaximum (sym is) fits) here))
+    ∙ ap (λ (o : Option Peering). octets_input plan told peer (octets ++ more) o work) (sym is)))
+  where
+    heard : Work
+    heard = hears_on plan told peer octets (Some kept) work
+
+    here : has_end heard.edge peer ≡ true
+    here = subst (λ (w : Work). has_end w.edge peer ≡ true) mended stands
+
+    up : is_there (heard.edge.peering peer.0) ≡ true
+    up = here
+
+    by : (now : Option Peering) → is_there now ≡ true → octets_input plan told peer more now heard ≡ mends plan told (hears_on plan told peer more now heard)
+    by None there = absurd (cc (there))
+    by (Some k) there = refl
+
 pub heard_in_parts : EdgeHearsInParts
 heard_in_parts = record {
   goes_on = λ plan told peer octets more work are fits stands. goes_on plan told peer octets more work are fits stands;
   gives_up = λ plan told peer octets more work are fits ended. gives_up plan told peer octets more work are fits ended;
-  with_held = λ plan told peer octets more kept work are fits stands.
-      ap (λ (l : List ℕ). hears plan told peer l work) (sym (append_assoc kept.held octets more))
-      ∙ goes_on plan told peer (kept.held ++ octets) more work (subst AreOctets (sym (append_assoc kept.held octets more)) are) fits stands;
+  with_held = λ plan told peer octets more kept work are fits stands. behind_held plan told peer octets more kept work are fits stands;
+  two_inputs = λ plan told peer octets more kept work is are fits mended stands. two_inputs plan told peer octets more kept work is are fits mended stands;
   begins = λ plan me k. tt;
   keeps = λ plan told input work fit. step_fits plan told input work fit;
 }
