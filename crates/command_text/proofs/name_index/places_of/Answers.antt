@@ -8,7 +8,7 @@ placing-preserved c =
     let within : c.placing.at - 1 < length c.args.names.now = omega arith in
     let next : c.placing.at - 1 + 1 ≡ c.placing.at = omega arith in
     let at : c.as_slice.result.now ≡ get_or c.args.names.now (c.placing.at - 1) c.as_slice.result.now =
-    c.as_slice.ensures ∙ c.index-names-at.is ∙ ap (λ d. get_or c.args.names.now (c.placing.at - 1) d) (sym c.as_slice.ensures) in (
+    c.as_slice.ensures.same ∙ c.index-names-at.is ∙ ap (λ d. get_or c.args.names.now (c.placing.at - 1) d) (sym c.as_slice.ensures.same) in (
       finds_more (c.placing.at - 1) c.placing.at c.args.names.now c.as_slice.result.now c.placing.places.entries c.insert.new.self.entries within next at c.placing.invariant.0 c.in_ok-insert.ensures.updates.0,
       omega arith,
     )
