@@ -17,7 +17,8 @@ use Rattle.ldp_grammar.specs.declared.message.Message.{Message}
 use Rattle.pw_tlvs.specs.declared.pw_status.PwStatus.{PwStatus}
 use Rattle.pw_signalling.specs.declared.told.Told.{Told}
 use Rattle.pw_signalling.specs.End.{LocalPart, Idle, Advertised, Withdrawing}
-use Rattle.edge_model.specs.Content.{mac_withdrawal, mapping, status_notification, withdrawal}
+use Rattle.pw_messages.specs.Content.{mac_withdrawal, mapping, status_notification, withdrawal}
+use Rattle.pw_messages.specs.LinkAnswers.{Answers}
 use Rattle.edge_model.specs.declared.effect.Effect.TheVariants.{Wire}
 use Rattle.edge_model.specs.declared.end_place.EndPlace.{EndPlace}
 use Rattle.edge_model.specs.EndPlaces.{end_places}
@@ -29,7 +30,7 @@ use Rattle.edge_model.specs.Session.{clears_ends, ends, had_said, says, says_to}
 use Rattle.edge_model.specs.Spokes.{choosing}
 use Rattle.edge_model.specs.State.{EdgeState, Peering, end_at, is_there, with_chosen, with_end, with_next_label, with_peering, with_told_down, with_kept}
 use Rattle.edge_model.specs.Withdraw.{tells_piece, tells_piece_by}
-use Rattle.edge_model.specs.Work.{Work, Answers, changes, gives, next_answer, puts}
+use Rattle.edge_model.specs.Work.{Work, changes, gives, next_answer, puts}
 use Rattle.edge_model.proofs.BridgeLemmas.{forgets_downs_only}
 use Rattle.edge_model.proofs.HeldLemmas.{clears_keep}
 use Rattle.edge_model.proofs.MendLemmas.{says_nothing, says_taken}

@@ -13,6 +13,8 @@ use Rattle.net_base.specs.declared.plan.wire_plan.WirePlan.{WirePlan}
 use Rattle.net_base.specs.declared.trace.down.Down.{Down}
 use Rattle.net_base.specs.plan.Places.{wire_row}
 use Rattle.net_values.specs.declared.mac.Mac.{Mac}
+use Rattle.pw_messages.specs.Content.{mac_withdrawal, mapping, status_notification, withdrawal}
+use Rattle.pw_messages.specs.LinkAnswers.{Answers}
 use Rattle.hvpls_spokes.specs.declared.port.Port.{Port}
 use Rattle.hvpls_spokes.specs.declared.port.Port.TheVariants as port
 use Rattle.hvpls_spokes.specs.Port.{is_wire_port, ports_of}
@@ -26,7 +28,6 @@ use Rattle.pw_tlvs.specs.declared.pw_status.PwStatus.{PwStatus}
 use Rattle.pw_signalling.specs.declared.told.Told.{Told}
 use Rattle.pw_signalling.specs.End.{LocalPart, Idle, Advertised, Withdrawing}
 use Rattle.edge_model.specs.Aging.{AddressesLastTheirAge, entry_at, ticking}
-use Rattle.edge_model.specs.Content.{mac_withdrawal, mapping, status_notification, withdrawal}
 use Rattle.edge_model.specs.declared.end_place.EndPlace.{EndPlace}
 use Rattle.edge_model.specs.EndPlaces.{end_places, is_end_of_wire}
 use Rattle.edge_model.specs.Ends.{wire_end}
@@ -39,7 +40,7 @@ use Rattle.edge_model.specs.Spokes.{choosing}
 use Rattle.edge_model.specs.State.{EdgeState, addresses_of, end_at, later, with_addresses, with_chosen, with_end, with_learned, with_next_label, with_ticks, without_port, with_kept}
 use Rattle.edge_model.specs.Tick.{counted, forgetting, tick_input, ticks_sessions}
 use Rattle.edge_model.specs.Withdraw.{tells_piece, tells_piece_by}
-use Rattle.edge_model.specs.Work.{Work, Answers, beginning, changes}
+use Rattle.edge_model.specs.Work.{Work, beginning, changes}
 use Rattle.edge_model.proofs.AgainLemmas.{one_end}
 use Rattle.edge_model.proofs.AgingLemmas.{at_forgot_is, forgetting_keeps, fresh, less_of, mends_keep, next_tick, one_tick, rest_of, TicksOnce, ticking_goes, ticking_stands}
 use Rattle.edge_model.proofs.BridgeLemmas.{LearnsOnly, forgets_down_only, forgets_downs_only, learns_is}

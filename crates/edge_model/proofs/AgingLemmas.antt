@@ -13,6 +13,8 @@ use Rattle.net_base.specs.declared.plan.service_plan.ServicePlan.{ServicePlan}
 use Rattle.net_base.specs.declared.plan.wire_plan.WirePlan.{WirePlan}
 use Rattle.net_base.specs.plan.Places.{wire_row}
 use Rattle.net_values.specs.declared.mac.Mac.{Mac}
+use Rattle.pw_messages.specs.Content.{mac_withdrawal, mapping, status_notification, withdrawal}
+use Rattle.pw_messages.specs.LinkAnswers.{Answers}
 use Rattle.hvpls_spokes.specs.declared.port.Port.TheVariants as port
 use Rattle.hvpls_spokes.specs.Port.{is_wire_port, ports_of}
 use Rattle.hvpls_spokes.proofs.WirePortLemmas.{found_wire_port, ports_apart}
@@ -22,14 +24,13 @@ use Rattle.mac_table.specs.Addresses.{AreDistinctAddresses, is_young, mac_entry_
 use Rattle.mac_table.proofs.AddressLemmas.{distinct-filter, entry_of-filter}
 use Rattle.mac_table.proofs.AgeLemmas.{goes_old, none_comes, old, stays_young, young}
 use Rattle.edge_model.specs.Aging.{IsAtCircuit, entry_at, ticking}
-use Rattle.edge_model.specs.Content.{mac_withdrawal, mapping, status_notification, withdrawal}
 use Rattle.edge_model.specs.Mend.{advertising, forgetting_wire, mends, port_of_wire, telling_status, withdrawing}
 use Rattle.edge_model.specs.Role.{down_at, status_to_tell}
 use Rattle.edge_model.specs.Session.{says}
 use Rattle.edge_model.specs.Spokes.{choosing}
 use Rattle.edge_model.specs.State.{EdgeState, addresses_of, later, with_addresses, with_chosen, with_end, with_learned, with_next_label, with_ticks, with_told_down, without_port, with_kept}
 use Rattle.edge_model.specs.Tick.{aged, counted, forgetting, tick_input, ticks_sessions}
-use Rattle.edge_model.specs.Work.{Work, Answers, beginning, changes, gives}
+use Rattle.edge_model.specs.Work.{Work, beginning, changes, gives}
 use Rattle.edge_model.proofs.SessionLemmas.{IsSessionWork, any, says_works, ticks_work}
 use Rattle.edge_model.proofs.WalkLemmas.{MendSteps, mends_holds}
 

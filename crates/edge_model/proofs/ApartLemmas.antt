@@ -8,6 +8,7 @@ use Rattle.net_base.specs.declared.trace.drop_cause.DropCause.{DropCause}
 use Rattle.net_base.specs.declared.trace.drop_cause.DropCause.TheVariants as cause
 use Rattle.net_base.specs.plan.Paths.{offer_of}
 use Rattle.net_base.specs.plan.Places.{wire_row}
+use Rattle.pw_messages.specs.LinkAnswers.{Answers}
 use Rattle.eth_encap.specs.declared.stack_entry.StackEntry.{StackEntry}
 use Rattle.eth_encap.specs.Packet.{entry_of}
 use Rattle.pw_signalling.specs.declared.binding.Binding.{Binding}
@@ -26,7 +27,7 @@ use Rattle.edge_model.specs.Local.{ComesInChannel, from_label, has_alert, is_in_
 use Rattle.edge_model.specs.Packet.{advertiser, alerted, alerts_by, alerts_end, behind_entry, by_offer, enters, is_alert, is_channel, labelled, least_label, opened_by, owned, switched, terminated}
 use Rattle.edge_model.specs.Send.{drops, had_posted}
 use Rattle.edge_model.specs.State.{EdgeState, end_at}
-use Rattle.edge_model.specs.Work.{Answers, Work, beginning, gives, next_answer, posts}
+use Rattle.edge_model.specs.Work.{Work, beginning, gives, next_answer, posts}
 use Rattle.edge_model.proofs.PacketLemmas.{picked_is}
 
 -- an end with control word does not pick type 3

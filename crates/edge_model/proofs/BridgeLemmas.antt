@@ -17,6 +17,7 @@ use Rattle.net_values.specs.declared.mac.Mac.{Mac}
 use Rattle.net_base.specs.plan.Paths.{edge_address, mate, offer_of}
 use Rattle.net_base.specs.plan.Places.{wire_row}
 use Rattle.net_base.specs.trace.Isolated.{inner_at}
+use Rattle.pw_messages.specs.LinkAnswers.{Answers}
 use Rattle.eth_encap.specs.declared.stack_entry.StackEntry.{StackEntry}
 use Rattle.eth_encap.specs.Packet.{entry_of}
 use Rattle.hvpls_spokes.specs.declared.port.Port.{Port}
@@ -51,7 +52,7 @@ use Rattle.edge_model.specs.Ping.{asks, far_address, ping_between, ping_input, p
 use Rattle.edge_model.specs.Role.{down_at}
 use Rattle.edge_model.specs.Send.{drops, had_posted, packet_of, sends, sends_copy, sends_under}
 use Rattle.edge_model.specs.State.{EdgeState, end_at, is_on, with_addresses, with_next_ping}
-use Rattle.edge_model.specs.Work.{Work, Answers, changes, gives, idles, next_answer, posts}
+use Rattle.edge_model.specs.Work.{Work, changes, gives, idles, next_answer, posts}
 use Rattle.edge_model.proofs.SessionLemmas.{GivesOnly, gives_none, gives_then}
 
 -- of the edge, all stays but what its bridges have learned

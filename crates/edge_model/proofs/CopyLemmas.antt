@@ -18,6 +18,7 @@ use Rattle.net_base.specs.plan.Paths.{is_first, is_last, offer_of}
 use Rattle.net_base.specs.plan.Places.{circuit_row, is_mesh_class, service_of, wire_row}
 use Rattle.net_base.specs.plan.Roles.{is_circuit_at, is_wire_of, wire_ends_at}
 use Rattle.net_base.specs.trace.Frame.{dress}
+use Rattle.pw_messages.specs.LinkAnswers.{Answers}
 use Rattle.hvpls_spokes.specs.declared.port.Port.{Port}
 use Rattle.hvpls_spokes.specs.declared.port.Port.TheVariants as port
 use Rattle.hvpls_spokes.specs.Port.{is_mesh, is_mesh_port, ports_of, wire_port}
@@ -36,7 +37,7 @@ use Rattle.edge_model.specs.Frame.{copies, copy_by, forwarded, forwards, hearing
 use Rattle.edge_model.specs.Role.{down_at}
 use Rattle.edge_model.specs.Send.{had_posted, packet_of, sends_copy, sends_under}
 use Rattle.edge_model.specs.State.{EdgeState, end_at, with_addresses}
-use Rattle.edge_model.specs.Work.{Work, Answers, changes, gives, next_answer, posts}
+use Rattle.edge_model.specs.Work.{Work, changes, gives, next_answer, posts}
 
 -- ---- what is found by a test passes it
 

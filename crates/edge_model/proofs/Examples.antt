@@ -8,12 +8,13 @@ use Rattle.net_base.specs.declared.plan.places.CircuitId.{CircuitId}
 use Rattle.net_base.specs.declared.plan.service_plan.ServicePlan.{ServicePlan}
 use Rattle.net_base.specs.declared.trace.drop_cause.DropCause.TheVariants.{NoTag}
 use Rattle.net_base.specs.plan.Places.{circuit_row}
+use Rattle.pw_messages.specs.LinkAnswers.{Answers}
 use Rattle.edge_model.specs.declared.effect.Effect.TheVariants.{Left, Dropped}
 use Rattle.edge_model.specs.Circuit.{circuit_input}
 use Rattle.edge_model.specs.Frame.{frame_input}
 use Rattle.edge_model.specs.State.{EdgeState, empty_edge, with_addresses, with_chosen, with_circuit, with_ends_beside, with_learned, with_ticks, with_kept}
 use Rattle.edge_model.specs.Tick.{tick_input}
-use Rattle.edge_model.specs.Work.{Work, Answers, beginning, changes, gives, idles}
+use Rattle.edge_model.specs.Work.{Work, beginning, changes, gives, idles}
 
 abbrev an_edge : ℕ → EdgePlan
 an_edge last = record { name = codes "pe"; address = record { 0 = 10 ∷ 0 ∷ 0 ∷ last ∷ [] }; first_label = 16; keepalive = 180; max_pdu = 4096 }

@@ -28,10 +28,11 @@ use Rattle.session_core.specs.Session.{phase_name}
 use Rattle.session_core.specs.State.{SessionState, is_active}
 use Rattle.session_core.specs.StatusCodes.{about_none, bad_ldp_identifier, keep_alive_timer_expired}
 use Rattle.session_core.specs.Table.{SessionEvent, Outcome, Stay, Goes, Ends, Start, Heard, Received, Refused, Spoke, Ticked, Closed, is_expired, is_keep_alive_due, judged, a_tick_later, notified, outcome_of, reason_in, table, ticked}
+use Rattle.pw_messages.specs.Content.{mac_withdrawal, mapping, release, status_notification, withdrawal}
+use Rattle.pw_messages.specs.LinkAnswers.{Answers}
 use Rattle.edge_model.specs.Circuit.{turned}
 use Rattle.edge_model.specs.Clear.{withdrawing_at}
 use Rattle.edge_model.specs.Connection.{opened_with}
-use Rattle.edge_model.specs.Content.{mac_withdrawal, mapping, release, status_notification, withdrawal}
 use Rattle.edge_model.specs.declared.effect.Effect.TheVariants as effect
 use Rattle.edge_model.specs.declared.end_place.EndPlace.{EndPlace}
 use Rattle.edge_model.specs.declared.input.Input.{Input}
@@ -47,7 +48,7 @@ use Rattle.edge_model.specs.Signal.{end_of_fec, with_end_changed, with_named, wi
 use Rattle.edge_model.specs.State.{EdgeState, Peering, with_addresses, with_bits, with_chosen, with_circuit, with_end, with_ends_beside, with_learned, with_next_label, with_next_ping, with_peering, with_priority, with_renewed, with_ticks, with_told_down, with_wire, without_ends, without_peerings, with_kept}
 use Rattle.edge_model.specs.Step.{edge_step}
 use Rattle.edge_model.specs.Wire.{turned_wire}
-use Rattle.edge_model.specs.Work.{Work, Answers, changes, gives, idles, next_answer, puts}
+use Rattle.edge_model.specs.Work.{Work, changes, gives, idles, next_answer, puts}
 use Rattle.edge_model.proofs.BridgeLemmas.{forgetting_only, sends_bridges, withdrawing_only}
 use Rattle.edge_model.proofs.HeldLemmas.{clears_keep}
 use Rattle.edge_model.proofs.WalkLemmas.{HearSteps, InputSteps, MendSteps, hears_pdu_holds, step_holds}

@@ -8,6 +8,7 @@ use Rattle.net_base.specs.declared.trace.arrival.Arrival.TheVariants as arrival
 use Rattle.net_base.specs.declared.trace.drop_cause.DropCause.{DropCause}
 use Rattle.net_base.specs.plan.Places.{circuit_row}
 use Rattle.net_base.specs.trace.Isolated.{inner_at}
+use Rattle.pw_messages.specs.LinkAnswers.{Answers}
 use Rattle.hvpls_spokes.specs.Port.{ports_of}
 use Rattle.hvpls_spokes.proofs.PortsLemmas.{LeadsTo, found_port, same_circuit_port}
 use Rattle.edge_model.specs.Copies.{AllAreCopies, FrameGoesOut, FrameIsDropped, FrameIsIdle, FrameWork, IsCopy}
@@ -16,7 +17,7 @@ use Rattle.edge_model.specs.declared.effect.Effect.TheVariants as effect
 use Rattle.edge_model.specs.Frame.{frame_input, is_own, port_at, received}
 use Rattle.edge_model.specs.Local.{AllStayBeside, FramesStayLocal, StaysBeside}
 use Rattle.edge_model.specs.State.{EdgeState, is_on}
-use Rattle.edge_model.specs.Work.{Answers, beginning, gives, idles}
+use Rattle.edge_model.specs.Work.{beginning, gives, idles}
 use Rattle.edge_model.proofs.CopyLemmas.{forwards_copies}
 
 -- parts of a conjunction

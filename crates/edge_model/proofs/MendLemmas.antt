@@ -10,7 +10,8 @@ use Rattle.ldp_grammar.specs.declared.message.Message.{Message}
 use Rattle.pw_tlvs.specs.declared.pw_status.PwStatus.{PwStatus}
 use Rattle.pw_signalling.specs.declared.told.Told.{Told}
 use Rattle.pw_signalling.specs.End.{LocalPart, Idle, Advertised, Withdrawing}
-use Rattle.edge_model.specs.Content.{mac_withdrawal, mapping, status_notification, withdrawal}
+use Rattle.pw_messages.specs.Content.{mac_withdrawal, mapping, status_notification, withdrawal}
+use Rattle.pw_messages.specs.LinkAnswers.{Answers}
 use Rattle.edge_model.specs.declared.end_place.EndPlace.{EndPlace}
 use Rattle.edge_model.specs.EndPlaces.{end_places}
 use Rattle.edge_model.specs.Mend.{advertises_under, advertises_wish, advertising, and_says, each_end, is_new_choice, mends, mends_again, mends_choice, mends_end, mends_few, mends_local, mends_once, mends_status, mends_status_of, telling_status, tells_over, then_changes, wish, withdrawing, withdraws_unless, stands, withdraws}
@@ -20,7 +21,7 @@ use Rattle.edge_model.specs.Session.{clears_ends, had_said, says, says_to}
 use Rattle.edge_model.specs.Spokes.{choosing}
 use Rattle.edge_model.specs.State.{Peering, end_at, has_end, is_there, with_chosen, with_end, with_next_label, with_peering, with_told_down, with_kept}
 use Rattle.edge_model.specs.Withdraw.{tells_piece, tells_piece_by}
-use Rattle.edge_model.specs.Work.{Work, Answers, changes, gives, next_answer, puts}
+use Rattle.edge_model.specs.Work.{Work, changes, gives, next_answer, puts}
 use Rattle.edge_model.proofs.BridgeLemmas.{forgetting_only}
 use Rattle.edge_model.proofs.WalkLemmas.{MendSteps, mends_holds}
 use Rattle.edge_model.specs.Labels.{label_to_give}

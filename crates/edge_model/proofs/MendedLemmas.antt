@@ -13,6 +13,8 @@ use Rattle.net_base.specs.plan.Places.{wire_row}
 use Rattle.label_space.specs.declared.kept.Kept.{Kept}
 use Rattle.label_space.specs.Kept.{without}
 use Rattle.label_space.specs.Labels.{next_after, number_to_give}
+use Rattle.pw_messages.specs.Content.{content_of, mac_withdrawal, mapping, status_notification, withdrawal}
+use Rattle.pw_messages.specs.LinkAnswers.{Answers}
 use Rattle.mac_table.specs.declared.mac_entry.MacEntry.{MacEntry}
 use Rattle.ldp_grammar.specs.declared.message.Message.{Message}
 use Rattle.pw_tlvs.specs.declared.pw_status.PwStatus.{PwStatus}
@@ -25,7 +27,6 @@ use Rattle.pw_signalling.specs.Down.{down}
 use Rattle.pw_signalling.specs.End.{EndState, LocalPart, Idle, Advertised, Withdrawing}
 use Rattle.pw_signalling.specs.Rows.{advertised, telling, withdrawn, with_status}
 use Rattle.spoke_redundancy.specs.Telling.{is_not_chosen}
-use Rattle.edge_model.specs.Content.{content_of, mac_withdrawal, mapping, status_notification, withdrawal}
 use Rattle.edge_model.specs.declared.effect.Effect.TheVariants.{Wire}
 use Rattle.edge_model.specs.declared.end_place.EndPlace.{EndPlace}
 use Rattle.edge_model.specs.EndPlaces.{end_places, is_terminal}
@@ -37,7 +38,7 @@ use Rattle.edge_model.specs.Settled.{IsForgotten, is_down_told, is_mended, is_st
 use Rattle.edge_model.specs.Spokes.{choosing}
 use Rattle.edge_model.specs.State.{EdgeState, Peering, addresses_of, end_at, with_addresses, with_chosen, with_end, with_next_label, with_peering, with_told_down, without_port, with_kept}
 use Rattle.edge_model.specs.Withdraw.{tells_piece, tells_piece_by}
-use Rattle.edge_model.specs.Work.{Work, Answers, changes, gives, next_answer, puts}
+use Rattle.edge_model.specs.Work.{Work, changes, gives, next_answer, puts}
 use Rattle.edge_model.proofs.BridgeLemmas.{LearnsOnly, forgets_downs_only, forgetting_learns, learns_is}
 use Rattle.edge_model.proofs.ChoiceLemmas.{HasChosen, choice_same, choosing_is, choosing_not, telling_down}
 use Rattle.edge_model.proofs.MendLemmas.{TakesAll, mends_once_takes, mends_takes, says_nothing, says_taken}

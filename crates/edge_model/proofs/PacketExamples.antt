@@ -16,13 +16,14 @@ use Rattle.net_base.specs.plan.Places.{circuit_row}
 use Rattle.pw_signalling.specs.declared.told.Told.{Told}
 use Rattle.pw_signalling.specs.Down.{down}
 use Rattle.pw_signalling.specs.End.{EndState, Advertised}
-use Rattle.edge_model.specs.Content.{content_of}
+use Rattle.pw_messages.specs.Content.{content_of}
+use Rattle.pw_messages.specs.LinkAnswers.{Answers}
 use Rattle.edge_model.specs.declared.effect.Effect.TheVariants.{Left, Sent, Dropped}
 use Rattle.edge_model.specs.declared.end_place.EndPlace.{EndPlace}
 use Rattle.edge_model.specs.Frame.{frame_input}
 use Rattle.edge_model.specs.Packet.{packet_input}
 use Rattle.edge_model.specs.State.{EdgeState, empty_edge, with_addresses, with_end, with_kept}
-use Rattle.edge_model.specs.Work.{Answers, Work, beginning, changes, gives, idles, posts}
+use Rattle.edge_model.specs.Work.{Work, beginning, changes, gives, idles, posts}
 
 abbrev an_edge : ℕ → EdgePlan
 an_edge last = record { name = codes "pe"; address = record { 0 = 10 ∷ 0 ∷ 0 ∷ last ∷ [] }; first_label = 16; keepalive = 180; max_pdu = 4096 }

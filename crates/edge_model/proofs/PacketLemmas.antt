@@ -13,6 +13,7 @@ use Rattle.net_base.specs.declared.trace.drop_cause.DropCause.TheVariants as cau
 use Rattle.net_base.specs.plan.Paths.{mate, offer_of}
 use Rattle.net_base.specs.plan.Places.{is_mesh_class, mtu_of, wire_row}
 use Rattle.net_base.specs.plan.Roles.{wire_ends_at}
+use Rattle.pw_messages.specs.LinkAnswers.{Answers}
 use Rattle.hvpls_spokes.specs.declared.port.Port.{Port}
 use Rattle.hvpls_spokes.specs.Port.{is_mesh, is_mesh_port, is_wire_port, ports_of, wire_port}
 use Rattle.hvpls_spokes.proofs.RowPortLemmas.{wire_behind, wire_leads}
@@ -48,7 +49,7 @@ use Rattle.edge_model.specs.Packet.{switched_by, switched_to, switched_under, to
 use Rattle.edge_model.specs.Role.{down_at}
 use Rattle.edge_model.specs.Send.{drops, had_posted}
 use Rattle.edge_model.specs.State.{EdgeState, end_at}
-use Rattle.edge_model.specs.Work.{Answers, Work, beginning, gives, next_answer, posts}
+use Rattle.edge_model.specs.Work.{Work, beginning, gives, next_answer, posts}
 use Rattle.edge_model.proofs.CopyLemmas.{forwards_copies, found_among, found_passes, wire_class}
 use Rattle.edge_model.proofs.PlaceLemmas.{IsEndOf, places_are}
 

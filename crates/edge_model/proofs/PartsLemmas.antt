@@ -8,12 +8,13 @@ use Rattle.ldp_stream.specs.FrontOf.{Front, More, Got, Bad, front_of}
 use Rattle.ldp_stream.specs.Hearing.{Hearer, Left, hear, hear_few, hear_front, hear_within}
 use Rattle.ldp_stream.proofs.HearingLemmas.{in_parts}
 use Rattle.session_core.specs.Table.{Refused}
+use Rattle.pw_messages.specs.LinkAnswers.{Answers}
 use Rattle.edge_model.specs.Hear.{hears, hears_few, hears_front, hears_on, hears_pdu, hears_within, holds, octets_input}
 use Rattle.edge_model.specs.Mend.{mends}
 use Rattle.edge_model.specs.Parts.{EdgeHearsInParts, HasFitMaximum, takes_octets}
 use Rattle.edge_model.specs.Session.{happens_with_ends}
 use Rattle.edge_model.specs.State.{Peering, has_end, is_there, with_peering}
-use Rattle.edge_model.specs.Work.{Work, Answers, changes}
+use Rattle.edge_model.specs.Work.{Work, changes}
 use Rattle.edge_model.proofs.FitLemmas.{hears_pdu_fits, step_fits, with_ends_fit}
 use Rattle.edge_model.proofs.HeldLemmas.{hears_few_held, held_is, is_set, refused_gone}
 

@@ -12,6 +12,9 @@ use Rattle.net_base.specs.declared.trace.state_name.Reason.TheVariants as reason
 use Rattle.net_base.specs.declared.trace.state_name.StateName.TheVariants as name
 use Rattle.net_base.specs.plan.Places.{wire_row}
 use Rattle.net_values.specs.declared.mac.Mac.{Mac}
+use Rattle.pw_messages.specs.Content.{mac_withdrawal}
+use Rattle.pw_messages.specs.LinkAnswers.{Answers}
+use Rattle.pw_messages.specs.Sender.{platform_of}
 use Rattle.hvpls_spokes.specs.declared.edge_role.Role.{Role}
 use Rattle.hvpls_spokes.specs.declared.edge_role.Role.TheVariants as role
 use Rattle.hvpls_spokes.specs.declared.port.Port.{Port}
@@ -27,18 +30,17 @@ use Rattle.pw_signalling.specs.End.{EndState, LocalPart, Idle, Advertised, Withd
 use Rattle.pw_tlvs.specs.declared.pw_fec.PwFec.{PwFec}
 use Rattle.session_core.specs.declared.peers.Peers.{Peers}
 use Rattle.edge_model.specs.Clear.{clears_at, clears_by, clears_wire, hears_mac_withdraw, passes_on, tells_at, tells_by, withdrawing_at}
-use Rattle.edge_model.specs.Content.{mac_withdrawal}
 use Rattle.edge_model.specs.declared.effect.Effect.{Effect}
 use Rattle.edge_model.specs.declared.effect.Effect.TheVariants.{Said, Session, Closed}
 use Rattle.edge_model.specs.declared.end_place.EndPlace.{EndPlace}
 use Rattle.edge_model.specs.Ends.{wire_end}
 use Rattle.edge_model.specs.Frame.{copies}
 use Rattle.edge_model.specs.Passed.{ComesToCore, GivesMore, GoesOnBy, IsOfPassing, MayGoOnBy, WasTold, WithdrawalsGoOn, piece_octets}
-use Rattle.edge_model.specs.Put.{Spoken, having_spoken, message_octets_of, platform_of, put_octets, stays, with_spoken}
+use Rattle.edge_model.specs.Put.{Spoken, having_spoken, message_octets_of, put_octets, stays, with_spoken}
 use Rattle.edge_model.specs.Session.{ends, had_said, says, says_to, losing_ends}
 use Rattle.edge_model.specs.State.{EdgeState, Peering, end_at, has_end, is_there, with_addresses, with_ends_beside, with_peering, with_kept}
 use Rattle.edge_model.specs.Withdraw.{tells_piece, tells_piece_by, tells_pieces}
-use Rattle.edge_model.specs.Work.{Work, Answers, changes, gives, next_answer, puts}
+use Rattle.edge_model.specs.Work.{Work, changes, gives, next_answer, puts}
 use Rattle.edge_model.proofs.AgainLemmas.{refused, refused_keeps}
 use Rattle.edge_model.proofs.MendLemmas.{says_nothing, says_taken}
 use Rattle.edge_model.proofs.PlaceLemmas.{all-append, all-map}

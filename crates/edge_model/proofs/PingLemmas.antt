@@ -11,6 +11,7 @@ use Rattle.net_base.specs.plan.Paths.{edge_address}
 use Rattle.net_base.specs.plan.Places.{wire_row}
 use Rattle.net_values.specs.declared.addr.Addr.{Addr}
 use Rattle.pw_signalling.specs.declared.binding.Binding.{Binding}
+use Rattle.pw_messages.specs.LinkAnswers.{Answers}
 use Rattle.pw_stitch.specs.Stitch.{has_told}
 use Rattle.vccv_channel.specs.declared.cc.Cc.{Cc}
 use Rattle.vccv_channel.specs.Echo.{request_packet}
@@ -23,7 +24,7 @@ use Rattle.edge_model.specs.Local.{AllStayAsked, PingsStayLocal, SentAsked}
 use Rattle.edge_model.specs.Ping.{asks, far_address, ping_between, ping_input, pinging, pings_at, pings_by, pings_in, pings_under}
 use Rattle.edge_model.specs.Send.{had_posted}
 use Rattle.edge_model.specs.State.{EdgeState, end_at}
-use Rattle.edge_model.specs.Work.{Answers, Work, beginning, changes, gives, idles, next_answer, posts}
+use Rattle.edge_model.specs.Work.{Work, beginning, changes, gives, idles, next_answer, posts}
 
 -- what comes of a ping
 pub data PingWork (plan : Plan) (edge : EdgeState) (wire : WireId) (effects : List Effect) : Type 0 where

@@ -10,6 +10,7 @@ use Rattle.pw_signalling.specs.End.{EndState}
 use Rattle.pw_signalling.specs.Rows.{released}
 use Rattle.pw_signalling.proofs.LawLemmas.{keeps_its_label}
 use Rattle.session_core.specs.Table.{Received}
+use Rattle.pw_messages.specs.LinkAnswers.{Answers}
 use Rattle.edge_model.specs.declared.end_place.EndPlace.{EndPlace}
 use Rattle.edge_model.specs.EndPlaces.{end_named}
 use Rattle.edge_model.specs.Hear.{acts, acts_on, hears_one, was_up}
@@ -17,7 +18,7 @@ use Rattle.edge_model.specs.Released.{IsOfNoEnd, MindsOwnReleases}
 use Rattle.edge_model.specs.Session.{happens_with_ends}
 use Rattle.edge_model.specs.Signal.{end_of_fec, hears_release, with_released}
 use Rattle.edge_model.specs.State.{EdgeState, end_at, has_end, with_end, with_kept}
-use Rattle.edge_model.specs.Work.{Work, Answers, changes}
+use Rattle.edge_model.specs.Work.{Work, changes}
 use Rattle.edge_model.specs.Labels.{keeps_one, left_label}
 use Rattle.pw_signalling.specs.Laws.{own_label}
 

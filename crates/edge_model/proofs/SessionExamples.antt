@@ -11,13 +11,14 @@ use Rattle.net_base.specs.declared.plan.wire_plan.Class.TheVariants.{Mesh}
 use Rattle.net_base.specs.declared.trace.down.Down.TheVariants.{NoRemote}
 use Rattle.net_base.specs.declared.trace.state_name.Reason.TheVariants as reason
 use Rattle.net_base.specs.declared.trace.state_name.StateName.TheVariants as name
+use Rattle.pw_messages.specs.LinkAnswers.{Answers}
 use Rattle.edge_model.specs.Connection.{connected_input, lost_input, restart_input}
 use Rattle.edge_model.specs.declared.effect.Effect.TheVariants.{Said, Session, Wire, Closed}
 use Rattle.edge_model.specs.Hear.{hears_pdu}
 use Rattle.edge_model.specs.Put.{with_spoken}
 use Rattle.edge_model.specs.State.{EdgeState, empty_edge, with_addresses, with_chosen, with_end, with_ends_beside, with_kept, with_learned, with_next_label, with_peering, with_ticks, with_told_down, without_ends, without_peerings}
 use Rattle.edge_model.specs.Tick.{tick_input}
-use Rattle.edge_model.specs.Work.{Work, Answers, beginning, changes, gives, idles, puts}
+use Rattle.edge_model.specs.Work.{Work, beginning, changes, gives, idles, puts}
 use Rattle.label_space.specs.Kept.{waiting}
 use Rattle.label_space.specs.declared.kept.KeptState.{KeptState}
 use Rattle.label_space.specs.declared.kept.KeptState.TheVariants.{Rests}

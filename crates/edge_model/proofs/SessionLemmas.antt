@@ -12,6 +12,7 @@ use Rattle.session_core.specs.Phase.{Phase}
 use Rattle.session_core.specs.Session.{phase_name}
 use Rattle.session_core.specs.Table as table
 use Rattle.session_core.specs.Table.{SessionEvent, Outcome, Stay, Goes, Ends, Ticked, outcome_of}
+use Rattle.pw_messages.specs.LinkAnswers.{Answers}
 use Rattle.edge_model.specs.Connection.{connects, restart_input}
 use Rattle.edge_model.specs.declared.effect.Effect.{Effect}
 use Rattle.edge_model.specs.declared.effect.Effect.TheVariants as effect
@@ -20,7 +21,7 @@ use Rattle.edge_model.specs.Put.{Spoken, message_octets_of, octets_of, put_octet
 use Rattle.edge_model.specs.Session.{clears_ends, comes_of, ends, had_put, had_said, happens, happens_to, happens_with_ends, is_same_phase, says, says_to, tells_change, went_on, with_session, losing_ends}
 use Rattle.edge_model.specs.State.{EdgeState, Peering, has_end, with_ends_beside, with_learned, with_peering, without_ends, without_peerings, with_kept}
 use Rattle.edge_model.specs.Tick.{ticks_sessions}
-use Rattle.edge_model.specs.Work.{Work, Answers, changes, gives, next_answer, puts}
+use Rattle.edge_model.specs.Work.{Work, changes, gives, next_answer, puts}
 use Rattle.edge_model.specs.Labels.{meeting}
 
 -- an effect of the session with one of these peers: the link took octets of LDP, a state is told, or the end is gone

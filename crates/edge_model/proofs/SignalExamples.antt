@@ -16,21 +16,23 @@ use Rattle.net_values.specs.declared.addr.Addr.{Addr}
 use Rattle.ldp_grammar.specs.declared.message.Message.{Message}
 use Rattle.ldp_grammar.specs.declared.message.Message.TheVariants.{AddressWithdraw, Initialization, KeepAlive, LabelMapping, LabelWithdraw, LabelRelease, Notification}
 use Rattle.ldp_grammar.specs.Written.{written}
+use Rattle.pw_messages.specs.Content.{bare_fec_of, fec_of, pw_status_notice}
+use Rattle.pw_messages.specs.LinkAnswers.{Answers}
+use Rattle.pw_messages.specs.Sender.{platform_of}
 use Rattle.mac_table.specs.declared.mac_entry.MacEntry.{MacEntry}
 use Rattle.pw_tlvs.specs.declared.pw_fec.PwFec.{PwFec}
 use Rattle.pw_signalling.specs.declared.told.Told.{Told}
 use Rattle.pw_signalling.specs.Down.{down}
 use Rattle.session_core.specs.Parameters.{proposal}
 use Rattle.edge_model.specs.Connection.{connected_input, lost_input}
-use Rattle.edge_model.specs.Content.{bare_fec_of, fec_of, pw_status_notice}
 use Rattle.pw_tlvs.specs.Fec.{no_params}
 use Rattle.edge_model.specs.declared.effect.Effect.{Effect}
 use Rattle.edge_model.specs.declared.effect.Effect.TheVariants.{Said, Session, Wire, Closed}
 use Rattle.edge_model.specs.Hear.{hears_messages}
-use Rattle.edge_model.specs.Put.{platform_of, with_spoken}
+use Rattle.edge_model.specs.Put.{with_spoken}
 use Rattle.edge_model.specs.State.{EdgeState, empty_edge, with_addresses, with_bits, with_chosen, with_end, with_ends_beside, with_learned, with_next_label, with_peering, with_renewed, with_told_down, with_wire, with_kept}
 use Rattle.edge_model.specs.Wire.{status_input, wire_input}
-use Rattle.edge_model.specs.Work.{Work, Answers, beginning, changes, gives, idles, puts}
+use Rattle.edge_model.specs.Work.{Work, beginning, changes, gives, idles, puts}
 
 abbrev address : ℕ → Addr
 address last = record { 0 = 10 ∷ 0 ∷ 0 ∷ last ∷ [] }

@@ -22,10 +22,11 @@ use Rattle.pw_signalling.specs.declared.told.Told.{Told}
 use Rattle.pw_signalling.specs.End.{EndState, LocalPart, Idle, Advertised, Withdrawing}
 use Rattle.pw_signalling.specs.Rows.{bound, group_stated, group_unbound, released, stated, telling, unbound, withdrawn}
 use Rattle.session_core.specs.Table as table
+use Rattle.pw_messages.specs.Content.{mac_withdrawal, mapping, release, status_notification, withdrawal}
+use Rattle.pw_messages.specs.LinkAnswers.{Answers}
 use Rattle.edge_model.specs.Circuit.{circuit_input, is_same, turned}
 use Rattle.edge_model.specs.Connection.{connected_input, connects, connects_between, lost_input, opened_with}
 use Rattle.edge_model.specs.Clear.{withdrawing_at}
-use Rattle.edge_model.specs.Content.{mac_withdrawal, mapping, release, status_notification, withdrawal}
 use Rattle.edge_model.specs.declared.effect.Effect.{Effect}
 use Rattle.edge_model.specs.declared.effect.Effect.TheVariants as effect
 use Rattle.edge_model.specs.declared.end_place.EndPlace.{EndPlace}
@@ -42,7 +43,7 @@ use Rattle.edge_model.specs.State.{EdgeState, Peering, end_at, has_end, is_on, w
 use Rattle.edge_model.specs.Tick.{counted, forgetting, tick_input, ticks_sessions}
 use Rattle.edge_model.specs.Wire.{is_own_spoke, priority_input, status_input, turned_wire, wire_input}
 use Rattle.edge_model.specs.Withdraw.{tells_piece, tells_piece_by}
-use Rattle.edge_model.specs.Work.{Work, Answers, changes, gives, idles}
+use Rattle.edge_model.specs.Work.{Work, changes, gives, idles}
 use Rattle.edge_model.proofs.BridgeLemmas.{ForgetsOnly, forgets_downs_only, forgetting_only, withdrawing_only}
 use Rattle.edge_model.proofs.LocalLemmas.{and_left, and_right}
 use Rattle.edge_model.proofs.SessionLemmas.{GivesOnly, IsSessionWork, advice_works, any, are_all, connects_works, gives_none, gives_then, happens_with_ends_works, is_of_session, says_works}

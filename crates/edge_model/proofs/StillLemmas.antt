@@ -12,6 +12,7 @@ use Rattle.net_base.specs.plan.Paths.{are_joined}
 use Rattle.net_base.specs.plan.Places.{wire_row}
 use Rattle.net_base.specs.trace.Isolated.{inner_at}
 use Rattle.session_core.specs.Table.{Closed}
+use Rattle.pw_messages.specs.LinkAnswers.{Answers}
 use Rattle.edge_model.specs.Circuit.{circuit_input, is_same, turned}
 use Rattle.edge_model.specs.Connection.{connected_input, connects_between, lost_input, opened_with}
 use Rattle.edge_model.specs.Frame.{frame_input, is_own, port_at, received}
@@ -22,7 +23,7 @@ use Rattle.edge_model.specs.Packet.{packet_input}
 use Rattle.edge_model.specs.Session.{happens_with_ends}
 use Rattle.edge_model.specs.State.{Peering, has_end, is_on, is_there, with_bits, with_priority}
 use Rattle.edge_model.specs.Wire.{is_own_spoke, priority_input, status_input, turned_wire, wire_input}
-use Rattle.edge_model.specs.Work.{Answers, Work, changes, idles}
+use Rattle.edge_model.specs.Work.{Work, changes, idles}
 use Rattle.edge_model.proofs.BridgeLemmas.{packet_bridges, received_bridges}
 use Rattle.edge_model.proofs.SignalLemmas.{begun_signals, ended_signals, heard_signals, mends_signals}
 

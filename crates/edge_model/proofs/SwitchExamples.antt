@@ -14,8 +14,9 @@ use Rattle.pw_signalling.specs.declared.binding.Binding.{Binding}
 use Rattle.pw_signalling.specs.declared.told.Told.{Told}
 use Rattle.pw_signalling.specs.End.{Advertised}
 use Rattle.session_core.specs.Phase as phase
+use Rattle.pw_messages.specs.Content.{bare_fec_of, content_of}
+use Rattle.pw_messages.specs.LinkAnswers.{Answers}
 use Rattle.edge_model.specs.Connection.{opened_with, peers_of}
-use Rattle.edge_model.specs.Content.{bare_fec_of, content_of}
 use Rattle.edge_model.specs.declared.effect.Effect.TheVariants.{Said, Sent, Dropped}
 use Rattle.edge_model.specs.declared.end_place.EndPlace.{EndPlace}
 use Rattle.edge_model.specs.Ends.{is_stitched}
@@ -25,7 +26,7 @@ use Rattle.edge_model.specs.Put.{with_spoken}
 use Rattle.edge_model.specs.Role.{status_to_tell}
 use Rattle.edge_model.specs.Signal.{hears_mapping, takes_content}
 use Rattle.edge_model.specs.State.{EdgeState, Peering, empty_edge, with_end, with_peering, with_kept}
-use Rattle.edge_model.specs.Work.{Answers, Work, beginning, changes, gives, posts, puts}
+use Rattle.edge_model.specs.Work.{Work, beginning, changes, gives, posts, puts}
 use Rattle.pw_tlvs.specs.declared.point.Point.{Point}
 use Rattle.session_core.specs.State.{opened}
 

@@ -17,6 +17,7 @@ use Rattle.net_base.specs.plan.Places.{circuit_row, wire_row}
 use Rattle.pw_signalling.specs.Down.{down}
 use Rattle.pw_signalling.specs.End.{EndState, fresh}
 use Rattle.session_core.specs.Table.{Closed}
+use Rattle.pw_messages.specs.LinkAnswers.{Answers}
 use Rattle.edge_model.specs.Circuit.{circuit_input, is_same, turned}
 use Rattle.edge_model.specs.Connection.{connected_input, connects, connects_between, opened_with, restart_input}
 use Rattle.edge_model.specs.declared.end_place.EndPlace.{EndPlace}
@@ -38,7 +39,7 @@ use Rattle.edge_model.specs.Step.{edge_step}
 use Rattle.edge_model.specs.Synced.{InSync, IsSynced}
 use Rattle.edge_model.specs.Tick.{counted, forgetting, ticks_sessions}
 use Rattle.edge_model.specs.Wire.{is_own_spoke, turned_wire}
-use Rattle.edge_model.specs.Work.{Work, Answers, changes, idles}
+use Rattle.edge_model.specs.Work.{Work, changes, idles}
 use Rattle.edge_model.proofs.BridgeLemmas.{LearnsOnly, PingsInput, forgets_downs_only, frame_bridges, learns_is, packet_bridges, ping_bridges, with_pings}
 use Rattle.edge_model.proofs.LocalLemmas.{and_left, and_right}
 use Rattle.edge_model.proofs.MendedLemmas.{HaveTold, all_told}

@@ -5,6 +5,7 @@ use Rattle.net_base.specs.declared.plan.places.CircuitId.{CircuitId}
 use Rattle.net_base.specs.declared.plan.places.ServiceId.{ServiceId}
 use Rattle.net_base.specs.declared.plan.service_plan.ServicePlan.{ServicePlan}
 use Rattle.net_values.specs.declared.mac.Mac.{Mac}
+use Rattle.pw_messages.specs.LinkAnswers.{Answers}
 use Rattle.hvpls_spokes.specs.declared.port.Port.{Port}
 use Rattle.hvpls_spokes.specs.declared.port.Port.TheVariants as port
 use Rattle.hvpls_spokes.specs.Port.{is_wire_port, ports_of}
@@ -17,7 +18,7 @@ use Rattle.edge_model.specs.Mended.{HasFitPaths}
 use Rattle.edge_model.specs.Role.{down_at}
 use Rattle.edge_model.specs.State.{EdgeState, addresses_of}
 use Rattle.edge_model.specs.Step.{edge_step}
-use Rattle.edge_model.specs.Work.{Work, Answers, beginning}
+use Rattle.edge_model.specs.Work.{Work, beginning}
 
 -- so many ticks pass at an edge, each of them an input, and nothing else comes
 abbrev pub ticking : Plan → Answers → ℕ → Work → Work

@@ -7,6 +7,7 @@ use Rattle.net_base.specs.declared.trace.arrival.Arrival.TheVariants as arrival
 use Rattle.net_base.specs.declared.trace.drop_cause.DropCause.{DropCause}
 use Rattle.net_base.specs.plan.Paths.{offer_of}
 use Rattle.net_base.specs.plan.Places.{wire_row}
+use Rattle.pw_messages.specs.LinkAnswers.{Answers}
 use Rattle.eth_encap.specs.declared.stack_entry.StackEntry.{StackEntry}
 use Rattle.eth_encap.specs.Packet.{entry_of}
 use Rattle.vccv_channel.specs.declared.cc.Cc.{Cc}
@@ -19,7 +20,7 @@ use Rattle.edge_model.specs.Echo.{channel_under}
 use Rattle.edge_model.specs.Local.{ComesInChannel}
 use Rattle.edge_model.specs.Packet.{advertiser, behind_entry, is_alert, is_channel, packet_input}
 use Rattle.edge_model.specs.State.{EdgeState, end_at}
-use Rattle.edge_model.specs.Work.{Work, Answers, beginning}
+use Rattle.edge_model.specs.Work.{Work, beginning}
 
 -- what comes of a packet: it is dropped, its answer goes back to the neighbour and on the wire of the end by which it came, or it is
 -- told as the answer to a ping of that wire

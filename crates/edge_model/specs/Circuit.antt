@@ -3,10 +3,11 @@ use Rattle.std.specs.Prelude.{◌&&◌, not, Bool, true, false, Option, Some, No
 use Rattle.net_base.specs.declared.plan.Plan.{Plan}
 use Rattle.net_base.specs.declared.plan.circuit_plan.CircuitPlan.{CircuitPlan}
 use Rattle.net_base.specs.declared.plan.places.CircuitId.{CircuitId}
+use Rattle.pw_messages.specs.LinkAnswers.{Answers}
 use Rattle.edge_model.specs.Frame.{is_own, port_at}
 use Rattle.edge_model.specs.Mend.{mends}
 use Rattle.edge_model.specs.State.{EdgeState, addresses_of, is_on, with_addresses, with_circuit, without_port}
-use Rattle.edge_model.specs.Work.{Work, Answers, changes, idles}
+use Rattle.edge_model.specs.Work.{Work, changes, idles}
 
 -- the edge with the circuit on, or with it off and without what was learned at it
 abbrev pub turned : Plan → CircuitId → CircuitPlan → Bool → EdgeState → EdgeState

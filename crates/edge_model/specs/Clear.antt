@@ -7,6 +7,7 @@ use Rattle.net_base.specs.declared.plan.wire_plan.WirePlan.{WirePlan}
 use Rattle.net_values.specs.declared.mac.Mac.{Mac}
 use Rattle.net_base.specs.plan.Places.{wire_row}
 use Rattle.pw_tlvs.specs.declared.pw_fec.PwFec.{PwFec}
+use Rattle.pw_messages.specs.LinkAnswers.{Answers}
 use Rattle.hvpls_spokes.specs.declared.edge_role.Role.{Role}
 use Rattle.hvpls_spokes.specs.declared.port.Port.{Port}
 use Rattle.hvpls_spokes.specs.declared.port.Port.TheVariants as port
@@ -23,7 +24,7 @@ use Rattle.edge_model.specs.Mend.{port_of_wire}
 use Rattle.edge_model.specs.Signal.{end_of_fec}
 use Rattle.edge_model.specs.State.{EdgeState, addresses_of, with_addresses}
 use Rattle.edge_model.specs.Withdraw.{tells_pieces}
-use Rattle.edge_model.specs.Work.{Work, Answers, changes}
+use Rattle.edge_model.specs.Work.{Work, changes}
 
 -- ---- what is passed on
 

@@ -9,12 +9,13 @@ use Rattle.net_base.specs.plan.Paths.{are_joined}
 use Rattle.session_core.specs.declared.peers.Peers.{Peers}
 use Rattle.session_core.specs.State.{opened}
 use Rattle.session_core.specs.Table as table
+use Rattle.pw_messages.specs.LinkAnswers.{Answers}
 use Rattle.edge_model.specs.declared.effect.Effect.TheVariants.{Session}
 use Rattle.edge_model.specs.Labels.{keeping_all, meeting}
 use Rattle.edge_model.specs.Mend.{mends}
 use Rattle.edge_model.specs.Session.{happens_with_ends}
 use Rattle.edge_model.specs.State.{EdgeState, Peering, has_end, with_learned, with_peering, without_ends, without_peerings}
-use Rattle.edge_model.specs.Work.{Work, Answers, changes, gives, idles}
+use Rattle.edge_model.specs.Work.{Work, changes, gives, idles}
 
 -- the two ends of a session, as the plan has them
 abbrev pub peers_of : EdgePlan → EdgePlan → Peers

@@ -6,6 +6,7 @@ use Rattle.net_base.specs.declared.trace.arrival.Arrival.TheVariants as arrival
 use Rattle.net_base.specs.declared.trace.drop_cause.DropCause.TheVariants as cause
 use Rattle.net_base.specs.plan.Paths.{offer_of}
 use Rattle.pw_signalling.specs.declared.binding.Binding.{Binding}
+use Rattle.pw_messages.specs.LinkAnswers.{Answers}
 use Rattle.vccv_channel.specs.declared.cc.Cc.{Cc}
 use Rattle.vccv_channel.specs.declared.cc.Cc.TheVariants.{Header, Alert, Expiry}
 use Rattle.vccv_channel.specs.declared.echo.Echo.{Echo}
@@ -19,7 +20,7 @@ use Rattle.vccv_channel.specs.Reading.{ip_packet_of, reading}
 use Rattle.edge_model.specs.declared.effect.Effect.TheVariants.{Pong}
 use Rattle.edge_model.specs.declared.end_place.EndPlace.{EndPlace}
 use Rattle.edge_model.specs.Send.{drops, sends}
-use Rattle.edge_model.specs.Work.{Work, Answers, gives}
+use Rattle.edge_model.specs.Work.{Work, gives}
 
 -- ---- the channel
 

@@ -12,6 +12,7 @@ use Rattle.net_values.specs.declared.mac.Mac.{Mac}
 use Rattle.net_base.specs.plan.Places.{circuit_row}
 use Rattle.net_base.specs.trace.Isolated.{inner_at}
 use Rattle.net_base.specs.trace.Frame.{dress, destination_of, source_of}
+use Rattle.pw_messages.specs.LinkAnswers.{Answers}
 use Rattle.hvpls_spokes.specs.declared.port.Port.{Port}
 use Rattle.hvpls_spokes.specs.declared.port.Port.TheVariants as port
 use Rattle.hvpls_spokes.specs.Port.{ports_of, is_circuit_port}
@@ -20,7 +21,7 @@ use Rattle.edge_model.specs.declared.effect.Effect.TheVariants.{Left}
 use Rattle.edge_model.specs.Ends.{end_forwards, wire_end}
 use Rattle.edge_model.specs.Send.{drops, sends_copy}
 use Rattle.edge_model.specs.State.{EdgeState, addresses_of, is_on, with_addresses}
-use Rattle.edge_model.specs.Work.{Work, Answers, changes, gives, idles}
+use Rattle.edge_model.specs.Work.{Work, changes, gives, idles}
 
 -- a port forwards: its circuit is on, or its wire's end here forwards
 abbrev pub forwards : Plan → EdgeState → Option Port → Bool

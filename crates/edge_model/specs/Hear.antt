@@ -18,13 +18,14 @@ use Rattle.session_core.specs.declared.reply.Reply.TheVariants.{Notice}
 use Rattle.session_core.specs.Phase.{Phase}
 use Rattle.session_core.specs.Phase as phase
 use Rattle.session_core.specs.Table.{Heard, Received, Refused}
+use Rattle.pw_messages.specs.LinkAnswers.{Answers}
 use Rattle.edge_model.specs.Clear.{hears_mac_withdraw}
 use Rattle.edge_model.specs.Mend.{mends}
 use Rattle.edge_model.specs.Put.{put_reply}
 use Rattle.edge_model.specs.Session.{had_said, happens_with_ends}
 use Rattle.edge_model.specs.Signal.{hears_mapping, hears_release, hears_status, hears_withdraw}
 use Rattle.edge_model.specs.State.{Peering, has_end, with_peering}
-use Rattle.edge_model.specs.Work.{Work, Answers, changes, idles}
+use Rattle.edge_model.specs.Work.{Work, changes, idles}
 
 -- ---- a message in a session that is up
 

@@ -4,7 +4,6 @@ pub mod Apart
 pub mod Circuit
 pub mod Clear
 pub mod Connection
-pub mod Content
 pub mod Copies
 pub mod Echo
 pub mod EndPlaces

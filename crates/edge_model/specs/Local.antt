@@ -14,6 +14,7 @@ use Rattle.net_base.specs.plan.Paths.{edge_address, mate}
 use Rattle.net_base.specs.plan.Places.{circuit_row, is_mesh_class, service_of, wire_row}
 use Rattle.net_base.specs.trace.Isolated.{inner_at}
 use Rattle.net_base.specs.trace.Frame.{dress}
+use Rattle.pw_messages.specs.LinkAnswers.{Answers}
 use Rattle.eth_encap.specs.declared.stack_entry.StackEntry.{StackEntry}
 use Rattle.eth_encap.specs.Packet.{entry_of}
 use Rattle.net_base.specs.declared.trace.drop_cause.DropCause.{DropCause}
@@ -38,7 +39,7 @@ use Rattle.edge_model.specs.Packet.{advertiser, behind_entry, is_alert, is_chann
 use Rattle.edge_model.specs.Ping.{far_address, ping_between, ping_input}
 use Rattle.edge_model.specs.Role.{down_at}
 use Rattle.edge_model.specs.State.{EdgeState, end_at}
-use Rattle.edge_model.specs.Work.{Answers, beginning}
+use Rattle.edge_model.specs.Work.{beginning}
 
 -- a frame left at another circuit of the service, as its dress of the inner frame
 pub record LeavesBeside (plan : Plan) (circuit : CircuitId) (octets : List ℕ) (at : CircuitId) (bytes : List ℕ) : Type 0 where

@@ -10,6 +10,8 @@ use Rattle.net_base.specs.declared.trace.down.Down.TheVariants as cause
 use Rattle.net_base.specs.declared.plan.places.EdgeId.{EdgeId}
 use Rattle.net_base.specs.plan.Paths.{edge_address, mate, offer_of}
 use Rattle.net_base.specs.plan.Places.{wire_row}
+use Rattle.pw_messages.specs.Content.{content_of, mapping, status_notification, withdrawal}
+use Rattle.pw_messages.specs.LinkAnswers.{Answers}
 use Rattle.hvpls_spokes.specs.Port.{is_wire_port, ports_of}
 use Rattle.pw_tlvs.specs.declared.pw_status.PwStatus.{PwStatus}
 use Rattle.pw_status.specs.declared.method.Method.{Method}
@@ -26,7 +28,6 @@ use Rattle.session_core.specs.Phase as phase
 use Rattle.edge_model.specs.declared.effect.Effect.TheVariants.{Wire}
 use Rattle.edge_model.specs.declared.end_place.EndPlace.{EndPlace}
 use Rattle.edge_model.specs.Across.{held_of}
-use Rattle.edge_model.specs.Content.{content_of, mapping, status_notification, withdrawal}
 use Rattle.edge_model.specs.EndPlaces.{end_places}
 use Rattle.edge_model.specs.Labels.{giving, label_to_give}
 use Rattle.edge_model.specs.Put.{Spoken, stays}
@@ -35,7 +36,7 @@ use Rattle.edge_model.specs.Session.{says}
 use Rattle.edge_model.specs.Spokes.{choosing}
 use Rattle.edge_model.specs.State.{EdgeState, Peering, addresses_of, end_at, with_addresses, with_end, with_told_down, without_port}
 use Rattle.edge_model.specs.Withdraw.{tells_piece}
-use Rattle.edge_model.specs.Work.{Work, Answers, changes, gives}
+use Rattle.edge_model.specs.Work.{Work, changes, gives}
 
 -- one thing after another at an edge that mends: a message that the link did not take stays known
 abbrev pub and_says : Spoken → (Work → Spoken) → Spoken

@@ -8,8 +8,9 @@ use Rattle.net_base.specs.plan.Accepted.{IsChecked}
 use Rattle.net_base.specs.plan.Paths.{has_repeat}
 use Rattle.net_base.specs.plan.Places.{wire_row}
 use Rattle.net_base.specs.plan.RowFaults.{is_edge_of}
+use Rattle.pw_messages.specs.LinkAnswers.{Answers}
 use Rattle.edge_model.specs.Mend.{mends}
-use Rattle.edge_model.specs.Work.{Work, Answers}
+use Rattle.edge_model.specs.Work.{Work}
 
 -- the paths of a plan's wires have edges of the plan, each once
 pub record HasFitPaths (plan : Plan) : Type 0 where

@@ -12,6 +12,7 @@ use Rattle.net_base.specs.declared.trace.drop_cause.DropCause.TheVariants as cau
 use Rattle.net_base.specs.plan.Paths.{mate, offer_of}
 use Rattle.net_base.specs.plan.Places.{mtu_of, wire_row}
 use Rattle.net_values.specs.Label.{router_alert}
+use Rattle.pw_messages.specs.LinkAnswers.{Answers}
 use Rattle.eth_encap.specs.declared.stack_entry.StackEntry.{StackEntry}
 use Rattle.eth_encap.specs.Packet.{entry_of, unpacked}
 use Rattle.pw_signalling.specs.declared.binding.Binding.{Binding}
@@ -30,7 +31,7 @@ use Rattle.edge_model.specs.Mend.{port_of_wire}
 use Rattle.edge_model.specs.Role.{down_at}
 use Rattle.edge_model.specs.Send.{drops, sends}
 use Rattle.edge_model.specs.State.{EdgeState, end_at}
-use Rattle.edge_model.specs.Work.{Work, Answers}
+use Rattle.edge_model.specs.Work.{Work}
 
 -- ---- whose label it is
 

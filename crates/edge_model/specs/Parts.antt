@@ -4,11 +4,12 @@ use Rattle.std.specs.Prelude.{◌≡◌, ◌≤◌, ◌++◌, ℕ, true, false, 
 use Rattle.net_base.specs.declared.plan.Plan.{Plan}
 use Rattle.net_base.specs.declared.plan.places.EdgeId.{EdgeId}
 use Rattle.net_values.specs.Octets.{AreOctets}
+use Rattle.pw_messages.specs.LinkAnswers.{Answers}
 use Rattle.edge_model.specs.declared.input.Input.{Input}
 use Rattle.edge_model.specs.Hear.{hears, hears_on, octets_input}
 use Rattle.edge_model.specs.State.{EdgeState, Peering, empty_edge, has_end}
 use Rattle.edge_model.specs.Step.{edge_step}
-use Rattle.edge_model.specs.Work.{Work, Answers}
+use Rattle.edge_model.specs.Work.{Work}
 
 -- the maximum of the session with a peer, where it stands, is one that a session can have (RFC 5036 section 3.5.3)
 abbrev pub HasFitMaximum : Option Peering → Type 0

@@ -9,6 +9,7 @@ use Rattle.net_base.specs.plan.Paths.{edge_address, first_edge, is_first, last_e
 use Rattle.net_base.specs.plan.Places.{wire_row}
 use Rattle.net_values.specs.declared.addr.Addr.{Addr}
 use Rattle.pw_signalling.specs.declared.binding.Binding.{Binding}
+use Rattle.pw_messages.specs.LinkAnswers.{Answers}
 use Rattle.pw_stitch.specs.Stitch.{has_told}
 use Rattle.vccv_channel.specs.declared.cc.Cc.{Cc}
 use Rattle.vccv_channel.specs.declared.ping.Ping.{Ping}
@@ -18,7 +19,7 @@ use Rattle.edge_model.specs.Echo.{channel_octets, channel_under, ping_number}
 use Rattle.edge_model.specs.Ends.{wire_end}
 use Rattle.edge_model.specs.Send.{sends}
 use Rattle.edge_model.specs.State.{EdgeState, end_at, with_next_ping}
-use Rattle.edge_model.specs.Work.{Work, Answers, changes, idles}
+use Rattle.edge_model.specs.Work.{Work, changes, idles}
 
 -- ---- what is asked
 

@@ -1,15 +1,15 @@
 -- An edge puts messages to a peer, one after another, as long as its link takes them (RFC 5036 section 2.5).
-use Rattle.std.specs.Prelude.{◌+◌, ◌^◌, ◌-◌, ◌==◌, ℕ, Bool, true, false, List, [], ◌∷◌, Option, Some, None, option_map, if◌then◌else◌}
+use Rattle.std.specs.Prelude.{ℕ, Bool, true, false, List, [], ◌∷◌, Option, Some, None, option_map}
 use Rattle.net_base.specs.declared.plan.places.EdgeId.{EdgeId}
-use Rattle.net_values.specs.declared.addr.Addr.{Addr}
-use Rattle.ldp_grammar.specs.declared.ldp_id.LdpId.{LdpId}
 use Rattle.ldp_grammar.specs.declared.message.Message.{Message}
 use Rattle.ldp_grammar.specs.Written.{written}
 use Rattle.session_core.specs.declared.reply.Reply.{Reply}
 use Rattle.session_core.specs.Messages.{message_of}
+use Rattle.pw_messages.specs.LinkAnswers.{Answers}
+use Rattle.pw_messages.specs.Sender.{following, platform_of}
 use Rattle.edge_model.specs.declared.effect.Effect.TheVariants.{Said}
 use Rattle.edge_model.specs.State.{EdgeState, Peering, with_peering}
-use Rattle.edge_model.specs.Work.{Work, Answers, changes, gives, next_answer, puts}
+use Rattle.edge_model.specs.Work.{Work, changes, gives, next_answer, puts}
 
 -- an edge that put something: all of it was taken, or one message was not and nothing behind it was put
 pub record Spoken : Type 0 where
@@ -19,14 +19,6 @@ pub record Spoken : Type 0 where
 -- nothing is put
 abbrev pub stays : Work → Spoken
 stays work = record { work = work; failed = false }
-
--- the platform's label space of a router (RFC 5036 section 2.2.2)
-abbrev pub platform_of : Addr → LdpId
-platform_of router = record { router = router; space = 0 }
-
--- messages are numbered up to 2^32 - 1, and then from 0 (RFC 5036 section 3.5)
-abbrev pub following : ℕ → ℕ
-following id = if id == 2 ^ 32 - 1 then 0 else id + 1
 
 -- a message was put: the next one has the next number, and no tick has passed since
 abbrev pub having_spoken : Peering → Peering

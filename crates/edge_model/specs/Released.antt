@@ -6,12 +6,13 @@ use Rattle.pw_tlvs.specs.declared.pw_fec.PwFec.{PwFec}
 use Rattle.ldp_grammar.specs.declared.message.Message.TheVariants.{LabelRelease}
 use Rattle.pw_signalling.specs.Laws.{own_label}
 use Rattle.session_core.specs.Table.{Received}
+use Rattle.pw_messages.specs.LinkAnswers.{Answers}
 use Rattle.edge_model.specs.declared.end_place.EndPlace.{EndPlace}
 use Rattle.edge_model.specs.Hear.{acts_on, hears_one}
 use Rattle.edge_model.specs.Session.{happens_with_ends}
 use Rattle.edge_model.specs.Signal.{end_of_fec}
 use Rattle.edge_model.specs.State.{EdgeState, end_at}
-use Rattle.edge_model.specs.Work.{Work, Answers}
+use Rattle.edge_model.specs.Work.{Work}
 
 -- the end that the FEC names, where there is one, does not own the label
 abbrev pub IsOfNoEnd : Plan → EdgeState → EdgeId → PwFec → ℕ → Type 0

@@ -10,12 +10,13 @@ use Rattle.net_base.specs.declared.trace.drop_cause.DropCause.{DropCause}
 use Rattle.net_base.specs.declared.trace.drop_cause.DropCause.TheVariants as cause
 use Rattle.net_base.specs.plan.Paths.{offer_of}
 use Rattle.net_base.specs.plan.Places.{wire_row}
+use Rattle.pw_messages.specs.LinkAnswers.{Answers}
 use Rattle.eth_encap.specs.Packet.{packed}
 use Rattle.pw_signalling.specs.declared.binding.Binding.{Binding}
 use Rattle.edge_model.specs.declared.effect.Effect.TheVariants.{Sent, Dropped}
 use Rattle.edge_model.specs.declared.end_place.EndPlace.{EndPlace}
 use Rattle.edge_model.specs.State.{end_at}
-use Rattle.edge_model.specs.Work.{Work, Answers, gives, next_answer, posts}
+use Rattle.edge_model.specs.Work.{Work, gives, next_answer, posts}
 
 -- a frame or a packet is dropped
 abbrev pub drops : DropCause → Work → Work

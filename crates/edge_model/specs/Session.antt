@@ -11,11 +11,12 @@ use Rattle.session_core.specs.Phase as phase
 use Rattle.session_core.specs.Session.{phase_name}
 use Rattle.session_core.specs.State.{SessionState}
 use Rattle.session_core.specs.Table.{SessionEvent, Outcome, Stay, Goes, Ends, outcome_of}
+use Rattle.pw_messages.specs.LinkAnswers.{Answers}
 use Rattle.edge_model.specs.declared.effect.Effect.TheVariants.{Session, Closed}
 use Rattle.edge_model.specs.Put.{Spoken, message_octets_of, put_octets, put_replies}
 use Rattle.edge_model.specs.Labels.{keeps_lost}
 use Rattle.edge_model.specs.State.{EdgeState, Peering, has_end, with_ends_beside, with_kept, with_peering}
-use Rattle.edge_model.specs.Work.{Work, Answers, changes, gives, next_answer}
+use Rattle.edge_model.specs.Work.{Work, changes, gives, next_answer}
 
 -- the session has ended: it is told, and then that the edge's end of the connection is gone. What was held is given up
 abbrev pub ends : EdgeId → Reason → Work → Work

@@ -13,14 +13,15 @@ use Rattle.pw_signalling.specs.declared.binding.Binding.{Binding}
 use Rattle.pw_signalling.specs.declared.told.Told.{Told}
 use Rattle.pw_signalling.specs.End.{EndState}
 use Rattle.pw_signalling.specs.Rows.{bound, group_stated, group_unbound, stated, unbound}
+use Rattle.pw_messages.specs.Content.{binding_in, pw_status_code, release}
+use Rattle.pw_messages.specs.LinkAnswers.{Answers}
 use Rattle.pw_stitch.specs.Accepting.{accepts}
 use Rattle.edge_model.specs.declared.end_place.EndPlace.{EndPlace}
-use Rattle.edge_model.specs.Content.{binding_in, pw_status_code, release}
 use Rattle.edge_model.specs.EndPlaces.{end_named}
 use Rattle.edge_model.specs.Labels.{releasing}
 use Rattle.edge_model.specs.Session.{says}
 use Rattle.edge_model.specs.State.{EdgeState, end_at, with_end, with_ends_beside}
-use Rattle.edge_model.specs.Work.{Work, Answers, changes}
+use Rattle.edge_model.specs.Work.{Work, changes}
 
 -- the end that a FEC names, beside the peer that sent it; a FEC without a PW ID names none
 abbrev pub end_of_fec : Plan → EdgeState → EdgeId → PwFec → Option EndPlace

@@ -1,6 +1,7 @@
 -- What an edge makes of one input, for any answers of its link.
 use Rattle.net_base.specs.declared.plan.Plan.{Plan}
 use Rattle.net_base.specs.plan.Places.{circuit_row}
+use Rattle.pw_messages.specs.LinkAnswers.{Answers}
 use Rattle.edge_model.specs.declared.input.Input.{Input}
 use Rattle.edge_model.specs.declared.input.Input.TheVariants.{Connected, Octets, Lost, Restart, Tick, Frame, Packet, Wire, Circuit, Status, Priority, Ping}
 use Rattle.edge_model.specs.Circuit.{circuit_input}
@@ -11,7 +12,7 @@ use Rattle.edge_model.specs.Packet.{packet_input}
 use Rattle.edge_model.specs.Ping.{ping_input}
 use Rattle.edge_model.specs.Tick.{tick_input}
 use Rattle.edge_model.specs.Wire.{priority_input, status_input, wire_input}
-use Rattle.edge_model.specs.Work.{Work, Answers}
+use Rattle.edge_model.specs.Work.{Work}
 
 -- A row for each input, and none for the rest
 abbrev pub edge_step : Plan → Answers → Input → Work → Work

@@ -2,6 +2,7 @@
 use Rattle.std.specs.Prelude.{◌+◌, filter, zero, suc, length, ℕ, List, Option, Some, None, slice_get}
 use Rattle.net_base.specs.declared.plan.Plan.{Plan}
 use Rattle.net_base.specs.declared.plan.service_plan.ServicePlan.{ServicePlan}
+use Rattle.pw_messages.specs.LinkAnswers.{Answers}
 use Rattle.mac_table.specs.Addresses.{is_young}
 use Rattle.mac_table.specs.declared.mac_entry.MacEntry.{MacEntry}
 use Rattle.edge_model.specs.Labels.{resting}
@@ -9,7 +10,7 @@ use Rattle.edge_model.specs.State.{EdgeState, later, with_learned, with_ticks}
 use Rattle.session_core.specs.Table.{Ticked}
 use Rattle.edge_model.specs.Mend.{mends}
 use Rattle.edge_model.specs.Session.{happens_with_ends}
-use Rattle.edge_model.specs.Work.{Work, Answers, changes}
+use Rattle.edge_model.specs.Work.{Work, changes}
 
 -- the addresses of a service that came less than its age limit ago (RFC 4762 section 9.1)
 abbrev pub aged : ℕ → Option ServicePlan → List MacEntry → List MacEntry

@@ -6,11 +6,12 @@ use Rattle.net_base.specs.declared.plan.places.WireId.{WireId}
 use Rattle.net_base.specs.declared.plan.wire_plan.WirePlan.{WirePlan}
 use Rattle.net_base.specs.plan.Paths.{is_first}
 use Rattle.net_base.specs.plan.Places.{is_mesh_class, wire_row}
+use Rattle.pw_messages.specs.LinkAnswers.{Answers}
 use Rattle.edge_model.specs.Circuit.{is_same}
 use Rattle.edge_model.specs.EndPlaces.{ends_here, passes}
 use Rattle.edge_model.specs.Mend.{mends}
 use Rattle.edge_model.specs.State.{EdgeState, with_bits, with_priority, with_renewed, with_wire}
-use Rattle.edge_model.specs.Work.{Work, Answers, changes, idles}
+use Rattle.edge_model.specs.Work.{Work, changes, idles}
 
 -- the edge with the wire on, whose ends are declined no longer, or with it off
 abbrev pub turned_wire : WireId → Bool → EdgeState → EdgeState

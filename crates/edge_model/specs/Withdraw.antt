@@ -2,12 +2,13 @@
 use Rattle.std.specs.Prelude.{List, [], ◌∷◌}
 use Rattle.net_values.specs.declared.mac.Mac.{Mac}
 use Rattle.pw_signalling.specs.End.{LocalPart, Advertised}
+use Rattle.pw_messages.specs.Content.{mac_withdrawal}
+use Rattle.pw_messages.specs.LinkAnswers.{Answers}
 use Rattle.edge_model.specs.declared.end_place.EndPlace.{EndPlace}
-use Rattle.edge_model.specs.Content.{mac_withdrawal}
 use Rattle.edge_model.specs.Put.{Spoken, stays}
 use Rattle.edge_model.specs.Session.{says}
 use Rattle.edge_model.specs.State.{end_at}
-use Rattle.edge_model.specs.Work.{Work, Answers}
+use Rattle.edge_model.specs.Work.{Work}
 
 -- one piece is put by an end that advertises its label: its FEC is what the end has told
 abbrev pub tells_piece_by : Answers → EndPlace → List Mac → LocalPart → Work → Spoken

@@ -1,9 +1,10 @@
 -- An edge at work on one input: the edge, the calls that it made on its link, and what it gives out. An edge's work knows
 -- no number of a packet, no origin and no hops; the network gives them.
-use Rattle.std.specs.Prelude.{◌≡◌, ◌<◌, ◌++◌, ℕ, Bool, true, false, List, [], ◌∷◌, length, slice_index_or}
+use Rattle.std.specs.Prelude.{◌≡◌, ◌++◌, ℕ, Bool, true, false, List, [], ◌∷◌, length}
 use Rattle.net_base.specs.declared.outside.link_call.LinkCall.{LinkCall}
 use Rattle.net_base.specs.declared.plan.places.EdgeId.{EdgeId}
 use Rattle.net_base.specs.outside.Link.{call_of}
+use Rattle.pw_messages.specs.LinkAnswers.{Answers}
 use Rattle.edge_model.specs.declared.effect.Effect.{Effect}
 use Rattle.edge_model.specs.State.{EdgeState}
 
@@ -15,10 +16,6 @@ pub record Work : Type 0 where
   pub effects : List Effect
   -- the input does not apply
   pub idle : Bool
-
--- what the link makes of each of its calls: whether the call with a number, counted from 0, is taken
-abbrev pub Answers : Type 0
-Answers = ℕ → Bool
 
 -- before an input, over the calls that the link has taken so far
 abbrev pub beginning : EdgeState → List LinkCall → Work
@@ -56,7 +53,3 @@ idles work = record work { idle = true }
 pub record GoesOn (old new : List LinkCall) : Type 0 where
   pub more : List LinkCall
   pub joined : new ≡ old ++ more
-
--- the link answered its calls like this
-pub record Agrees (told : Answers) (calls : List LinkCall) : Type 0 where
-  pub each : (k : ℕ) (other : LinkCall) → k < length calls → (slice_index_or calls k other).taken ≡ told k

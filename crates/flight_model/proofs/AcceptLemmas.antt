@@ -16,9 +16,9 @@ use Rattle.net_base.proofs.PathLemmas.{joins_turned}
 use Rattle.pw_tlvs.specs.declared.point.Point.{Point}
 use Rattle.pw_tlvs.specs.declared.pw_fec.PwFec.{PwFec}
 use Rattle.pw_signalling.specs.declared.told.Told.{Told}
+use Rattle.pw_messages.specs.Content.{content_of}
 use Rattle.pw_stitch.specs.Accepting.{accepts, is_address, is_point_at}
 use Rattle.pw_stitch.specs.Passing.{own_point, past_point}
-use Rattle.edge_model.specs.Content.{content_of}
 use Rattle.edge_model.specs.declared.end_place.EndPlace.{EndPlace}
 use Rattle.edge_model.specs.EndPlaces.{end_named}
 use Rattle.edge_model.specs.Signal.{accepts_at, takes_content}

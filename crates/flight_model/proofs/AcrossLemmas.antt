@@ -15,11 +15,11 @@ use Rattle.pw_tlvs.specs.declared.pw_status.PwStatus.{PwStatus}
 use Rattle.pw_signalling.specs.declared.binding.Binding.{Binding}
 use Rattle.pw_signalling.specs.declared.told.Told.{Told}
 use Rattle.pw_signalling.specs.End.{EndState, Idle, Advertised}
+use Rattle.pw_messages.specs.Content.{told_with}
 use Rattle.pw_stitch.specs.Change.{without_status}
 use Rattle.pw_stitch.specs.Passing.{own_point, passed_status, past_point, stated_or_clear, wanted}
 use Rattle.pw_stitch.proofs.ChangeLemmas.{same_without_status}
 use Rattle.edge_model.specs.Across.{held_beyond, held_from, held_of, mate_of}
-use Rattle.edge_model.specs.Content.{told_with}
 use Rattle.edge_model.specs.declared.end_place.EndPlace.{EndPlace}
 use Rattle.edge_model.specs.EndPlaces.{end_places, is_named, is_terminal}
 use Rattle.edge_model.specs.Labels.{label_to_give}

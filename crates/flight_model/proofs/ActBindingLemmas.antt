@@ -13,7 +13,7 @@ use Rattle.pw_tlvs.specs.Written.{writable_fec}
 use Rattle.pw_signalling.specs.End.{EndState}
 use Rattle.pw_signalling.specs.Rows.{bound, group_stated, group_unbound, released, stated, unbound}
 use Rattle.session_core.specs.declared.peers.Peers.{Peers}
-use Rattle.edge_model.specs.Content.{binding_in, pw_status_code, release, told_with}
+use Rattle.pw_messages.specs.Content.{binding_in, pw_status_code, release, told_with}
 use Rattle.edge_model.specs.declared.end_place.EndPlace.{EndPlace}
 use Rattle.edge_model.specs.EndPlaces.{end_named}
 use Rattle.edge_model.specs.Hear.{acts_on}

@@ -20,9 +20,9 @@ use Rattle.pw_signalling.specs.declared.binding.Binding.{Binding}
 use Rattle.pw_signalling.specs.declared.told.Told.{Told}
 use Rattle.pw_signalling.specs.End.{EndState, LocalPart, Idle, Advertised, Withdrawing}
 use Rattle.pw_signalling.specs.Rows.{bound, group_stated, group_unbound, is_in_group, names, release_part, released, stated, status_part, unbound, unless_named}
+use Rattle.pw_messages.specs.Content.{binding_in, pw_status_code, release, told_with}
 use Rattle.pw_stitch.specs.Accepting.{is_point_at}
 use Rattle.session_core.specs.declared.peers.Peers.{Peers}
-use Rattle.edge_model.specs.Content.{binding_in, pw_status_code, release, told_with}
 use Rattle.edge_model.specs.declared.end_place.EndPlace.{EndPlace}
 use Rattle.edge_model.specs.EndPlaces.{end_named, end_places, is_named}
 use Rattle.edge_model.specs.Hear.{acts_on}

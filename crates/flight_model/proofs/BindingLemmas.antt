@@ -9,7 +9,7 @@ use Rattle.pw_signalling.specs.declared.binding.Binding.{Binding}
 use Rattle.pw_signalling.specs.declared.told.Told.{Told}
 use Rattle.pw_signalling.specs.End.{LocalPart, Idle, Advertised, Withdrawing}
 use Rattle.pw_signalling.specs.Rows.{release_part, status_part, unless_named, with_status}
-use Rattle.edge_model.specs.Content.{mapping, pw_status_code, status_notification, withdrawal}
+use Rattle.pw_messages.specs.Content.{mapping, pw_status_code, status_notification, withdrawal}
 use Rattle.flight_model.specs.Binding.{advertised_by, bound_after, heard_of, where_named}
 use Rattle.flight_model.specs.Bound.{IsBoundBy, answered_part, has_advertised, is_old, is_release_of, is_silent, is_waited_for, is_withdrawal_of, names_label, names_old, names_other, released_by, releases_old, some_message, withdraws_old}
 use Rattle.flight_model.specs.Flight.{all_messages}

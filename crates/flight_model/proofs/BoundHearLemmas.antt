@@ -7,9 +7,9 @@ use Rattle.net_base.specs.plan.Accepted.{IsChecked}
 use Rattle.ldp_grammar.specs.declared.message.Message.{Message}
 use Rattle.session_core.specs.declared.peers.Peers.{Peers}
 use Rattle.session_core.specs.Table.{SessionEvent, Heard, Received}
+use Rattle.pw_messages.specs.Sender.{platform_of}
 use Rattle.edge_model.specs.Hear.{holds}
 use Rattle.edge_model.specs.Mend.{is_operational}
-use Rattle.edge_model.specs.Put.{platform_of}
 use Rattle.edge_model.specs.Session.{happens_with_ends}
 use Rattle.edge_model.specs.State.{Peering, is_there, with_peering}
 use Rattle.edge_model.specs.Work.{Work, changes}

@@ -6,12 +6,13 @@ use Rattle.net_base.specs.declared.plan.places.EdgeId.{EdgeId}
 use Rattle.net_base.specs.declared.plan.places.ServiceId.{ServiceId}
 use Rattle.net_base.specs.declared.trace.arrival.Arrival.{Arrival}
 use Rattle.net_base.specs.declared.trace.drop_cause.DropCause.{DropCause}
+use Rattle.pw_messages.specs.LinkAnswers.{Answers}
 use Rattle.edge_model.specs.declared.effect.Effect.{Effect}
 use Rattle.edge_model.specs.declared.effect.Effect.TheVariants as effect
 use Rattle.edge_model.specs.Frame.{received}
 use Rattle.edge_model.specs.Packet.{packet_input}
 use Rattle.edge_model.specs.State.{EdgeState}
-use Rattle.edge_model.specs.Work.{Work, Answers}
+use Rattle.edge_model.specs.Work.{Work}
 use Rattle.edge_model.proofs.BridgeLemmas.{BridgesOnly, LearnsOnly, PingsOnly, is_of_bridging, packet_bridges, received_bridges, with_pings}
 use Rattle.edge_model.proofs.SessionLemmas.{are_all, GivesOnly}
 use Rattle.flight_model.specs.Meeting.{IsFine, Spares, TellWell, closes, said_to}

@@ -18,10 +18,10 @@ use Rattle.session_core.specs.Phase as phase
 use Rattle.session_core.specs.Reasons.{is_fatal}
 use Rattle.session_core.specs.State.{SessionState}
 use Rattle.session_core.specs.Table.{SessionEvent, Heard, Received, outcome_of}
-use Rattle.edge_model.specs.Content.{pw_status_code}
+use Rattle.pw_messages.specs.Content.{pw_status_code}
+use Rattle.pw_messages.specs.Sender.{platform_of}
 use Rattle.edge_model.specs.Hear.{acts_on, is_up_phase}
 use Rattle.edge_model.specs.Mend.{is_operational, is_up_with}
-use Rattle.edge_model.specs.Put.{platform_of}
 use Rattle.edge_model.specs.Session.{happens_with_ends}
 use Rattle.edge_model.specs.State.{EdgeState, Peering, is_there}
 use Rattle.edge_model.specs.Work.{Work}

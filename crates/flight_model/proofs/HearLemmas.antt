@@ -8,9 +8,9 @@ use Rattle.ldp_grammar.specs.declared.message.Message.{Message}
 use Rattle.session_core.specs.declared.peers.Peers.{Peers}
 use Rattle.session_core.specs.Phase as phase
 use Rattle.session_core.specs.Table.{SessionEvent, Heard, Received, outcome_of}
+use Rattle.pw_messages.specs.Sender.{platform_of}
 use Rattle.edge_model.specs.Hear.{holds}
 use Rattle.edge_model.specs.Mend.{is_operational}
-use Rattle.edge_model.specs.Put.{platform_of}
 use Rattle.edge_model.specs.Session.{happens, happens_with_ends, says}
 use Rattle.edge_model.specs.State.{Peering, is_there, with_peering}
 use Rattle.edge_model.specs.Work.{Work, changes, gives}

@@ -17,8 +17,8 @@ use Rattle.ldp_grammar.specs.declared.status_code.StatusCode.{StatusCode}
 use Rattle.pw_signalling.specs.declared.binding.Binding.{Binding}
 use Rattle.pw_signalling.specs.End.{EndState, LocalPart}
 use Rattle.pw_signalling.specs.Rows.{bound, group_stated, group_unbound, is_in_group, release_part, released, stated, status_part, unbound, unless_named}
+use Rattle.pw_messages.specs.Content.{bare, binding_in, pw_status_code, release}
 use Rattle.edge_model.specs.declared.end_place.EndPlace.{EndPlace}
-use Rattle.edge_model.specs.Content.{bare, binding_in, pw_status_code, release}
 use Rattle.edge_model.specs.EndPlaces.{end_named}
 use Rattle.edge_model.specs.Signal.{end_of_fec, with_end_changed, with_named, with_released}
 use Rattle.edge_model.specs.State.{EdgeState, end_at, with_end, with_ends_beside, with_kept}

@@ -13,12 +13,13 @@ use Rattle.session_core.specs.Phase.{Phase}
 use Rattle.session_core.specs.Phase as phase
 use Rattle.session_core.specs.Reasons.{is_fatal}
 use Rattle.session_core.specs.Table.{Heard, Received}
+use Rattle.pw_messages.specs.LinkAnswers.{Answers}
+use Rattle.pw_messages.specs.Sender.{platform_of}
 use Rattle.edge_model.specs.Hear.{acts, acts_on, hears_few, hears_message, hears_one, hears_pdu, hears_within, holds, is_up_phase, was_up}
 use Rattle.edge_model.specs.Mend.{mends}
-use Rattle.edge_model.specs.Put.{platform_of}
 use Rattle.edge_model.specs.Session.{clears_ends, ends, happens_with_ends}
 use Rattle.edge_model.specs.State.{Peering, has_end, is_there, with_ends_beside, with_peering, with_kept}
-use Rattle.edge_model.specs.Work.{Work, Answers, changes, gives}
+use Rattle.edge_model.specs.Work.{Work, changes, gives}
 use Rattle.network_model.specs.Absorb.{taken_all}
 use Rattle.flight_model.specs.Messages.{AreSaid, IsSaid, octets_of_all}
 use Rattle.flight_model.specs.Pair.{AreFit}

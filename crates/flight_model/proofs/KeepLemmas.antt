@@ -15,11 +15,12 @@ use Rattle.session_core.specs.Phase as phase
 use Rattle.session_core.specs.Session.{phase_name}
 use Rattle.session_core.specs.State.{SessionState}
 use Rattle.session_core.specs.Table.{SessionEvent, Outcome, Stay, Goes, Ends, Start, Heard, Received, Refused, Spoke, Ticked, Closed, heard_sender, is_expired, is_keep_alive_due, a_tick_later, notified, outcome_of, reason_in, ticked}
+use Rattle.pw_messages.specs.LinkAnswers.{Answers}
 use Rattle.edge_model.specs.declared.effect.Effect.TheVariants as effect
 use Rattle.edge_model.specs.Put.{Spoken, having_spoken, octets_of, put_octets, put_replies, put_reply, put_reply_to, puts_on, with_spoken}
 use Rattle.edge_model.specs.Session.{comes_of, ends, happens, happens_to, is_same_phase, tells_change, with_session}
 use Rattle.edge_model.specs.State.{EdgeState, Peering, with_peering}
-use Rattle.edge_model.specs.Work.{Work, Answers, changes, gives, next_answer, puts}
+use Rattle.edge_model.specs.Work.{Work, changes, gives, next_answer, puts}
 use Rattle.flight_model.proofs.WorkLemmas.{same_place}
 
 -- ---- the rest of the edge

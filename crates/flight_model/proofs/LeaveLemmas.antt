@@ -5,7 +5,8 @@ use Rattle.net_base.specs.declared.plan.places.EdgeId.{EdgeId}
 use Rattle.ldp_grammar.specs.declared.message.Message.{Message}
 use Rattle.pw_signalling.specs.End.{EndState}
 use Rattle.session_core.specs.declared.peers.Peers.{Peers}
-use Rattle.edge_model.specs.Put.{message_octets_of, platform_of}
+use Rattle.pw_messages.specs.Sender.{platform_of}
+use Rattle.edge_model.specs.Put.{message_octets_of}
 use Rattle.edge_model.specs.State.{EdgeState, Peering, is_there}
 use Rattle.edge_model.specs.Work.{Work}
 use Rattle.flight_model.specs.Bound.{AreBound, HasSaid, LeavesBound}

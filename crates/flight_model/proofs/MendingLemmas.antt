@@ -11,9 +11,9 @@ use Rattle.label_space.specs.Labels.{numbers_end}
 use Rattle.pw_tlvs.specs.declared.pw_status.PwStatus.{PwStatus}
 use Rattle.pw_signalling.specs.declared.told.Told.{Told}
 use Rattle.pw_signalling.specs.End.{LocalPart, Idle, Advertised, Withdrawing}
+use Rattle.pw_messages.specs.Content.{mac_withdrawal, mapping}
 use Rattle.edge_model.specs.declared.effect.Effect.TheVariants.{Wire}
 use Rattle.edge_model.specs.declared.end_place.EndPlace.{EndPlace}
-use Rattle.edge_model.specs.Content.{mac_withdrawal, mapping}
 use Rattle.edge_model.specs.EndPlaces.{end_places}
 use Rattle.edge_model.specs.Mend.{advertises_under, advertises_wish, advertising, cause_number, each_end, forgets_down, forgets_downs, forgetting_wire, is_new_choice, mends, mends_again, mends_choice, mends_end, mends_few, mends_local, mends_once, mends_status, mends_status_of, stands, tells_down, tells_downs, tells_new_status, tells_over, wish, withdraws}
 use Rattle.edge_model.specs.Put.{Spoken, stays}

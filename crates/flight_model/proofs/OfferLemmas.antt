@@ -19,6 +19,7 @@ use Rattle.pw_tlvs.specs.Written.{IsFecInRange, IsPointInRange, control_and_kind
 use Rattle.pw_tlvs.proofs.ParameterLemmas.{parameters_length}
 use Rattle.pw_signalling.specs.declared.told.Told.{Told}
 use Rattle.pw_signalling.specs.Rows.{with_status}
+use Rattle.pw_messages.specs.Content.{bare, bare_fec_of, content_of, fec_of, mac_withdrawal, mapping, params_of, pw_status_notice, release, status_notification, told_with, withdrawal}
 use Rattle.pw_stitch.specs.Passing.{own_point, past_point}
 use Rattle.ldp_grammar.specs.Octets.{two, four}
 use Rattle.ldp_grammar.specs.Tlvs.{Tlv}
@@ -26,7 +27,6 @@ use Rattle.ldp_grammar.specs.Written.{IsState, label_tlvs, point_tlvs, status_tl
 use Rattle.ldp_grammar.proofs.OctetLemmas.{AreOctets, octet_front}
 use Rattle.ldp_grammar.proofs.WrittenOctets.{four_octets, no_octets, octets_append, status_are, two_octets}
 use Rattle.session_core.specs.declared.peers.Peers.{Peers}
-use Rattle.edge_model.specs.Content.{bare, bare_fec_of, content_of, fec_of, mac_withdrawal, mapping, params_of, pw_status_notice, release, status_notification, told_with, withdrawal}
 use Rattle.pw_tlvs.specs.Fec.{no_params}
 use Rattle.ldp_grammar.specs.declared.message.Message.{Message}
 use Rattle.ldp_grammar.specs.declared.message.Message.TheVariants.{LabelMapping}

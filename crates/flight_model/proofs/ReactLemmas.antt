@@ -19,7 +19,8 @@ use Rattle.session_core.specs.State.{SessionState, is_active}
 use Rattle.session_core.specs.Table.{Heard, Received, Ticked, Closed, Goes, Ends, enters_phase, a_tick_later, outcome_of, is_expired, is_keep_alive_due, ticked}
 use Rattle.session_core.specs.StatusCodes.{about_none, keep_alive_timer_expired}
 use Rattle.session_core.proofs.LawLemmas.{ends_agree}
-use Rattle.edge_model.specs.Put.{following, having_spoken, octets_of, platform_of}
+use Rattle.pw_messages.specs.Sender.{following, platform_of}
+use Rattle.edge_model.specs.Put.{having_spoken, octets_of}
 use Rattle.edge_model.specs.Session.{with_session}
 use Rattle.edge_model.specs.State.{Peering}
 use Rattle.flight_model.specs.Coming.{and_more, is_talk}

@@ -8,7 +8,7 @@ use Rattle.ldp_grammar.proofs.WrittenOctets.{no_octets, octets_append}
 use Rattle.ldp_stream.specs.FrontOf.{Got, front_of}
 use Rattle.ldp_stream.proofs.FrontOfLemmas.{front_is_read}
 use Rattle.session_core.specs.declared.peers.Peers.{Peers}
-use Rattle.edge_model.specs.Put.{platform_of}
+use Rattle.pw_messages.specs.Sender.{platform_of}
 use Rattle.flight_model.specs.Messages.{AreSaid, octets_of_all}
 use Rattle.flight_model.specs.Pair.{AreFit}
 use Rattle.flight_model.specs.Rules.{AllMessages}

@@ -14,9 +14,9 @@ use Rattle.pw_signalling.specs.declared.binding.Binding.{Binding}
 use Rattle.pw_signalling.specs.declared.told.Told.{Told}
 use Rattle.pw_signalling.specs.End.{EndState, LocalPart, Idle, Advertised}
 use Rattle.pw_signalling.specs.Rows.{advertise_part, advertised, tell_part, telling, withdraw_part, withdrawn}
+use Rattle.pw_messages.specs.Content.{mac_withdrawal, mapping, status_notification, withdrawal}
 use Rattle.edge_model.specs.declared.effect.Effect.TheVariants.{Wire}
 use Rattle.edge_model.specs.declared.end_place.EndPlace.{EndPlace}
-use Rattle.edge_model.specs.Content.{mac_withdrawal, mapping, status_notification, withdrawal}
 use Rattle.edge_model.specs.Mend.{advertising, is_up_with, stands, telling_status, wish, withdrawing}
 use Rattle.edge_model.specs.Role.{status_to_tell}
 use Rattle.edge_model.specs.Session.{says}

@@ -23,11 +23,11 @@ use Rattle.pw_signalling.specs.End.{EndState}
 use Rattle.pw_signalling.specs.Rows.{bound, group_stated, group_unbound, released, stated, status_part, unbound, unless_named}
 use Rattle.session_core.specs.declared.peers.Peers.{Peers}
 use Rattle.session_core.specs.Table.{Heard, Received}
+use Rattle.pw_messages.specs.Content.{bare_fec_of, binding_in, pw_status_code, release, told_with}
+use Rattle.pw_messages.specs.Sender.{platform_of}
 use Rattle.edge_model.specs.declared.end_place.EndPlace.{EndPlace}
-use Rattle.edge_model.specs.Content.{bare_fec_of, binding_in, pw_status_code, release, told_with}
 use Rattle.edge_model.specs.EndPlaces.{end_named}
 use Rattle.edge_model.specs.Hear.{acts_on}
-use Rattle.edge_model.specs.Put.{platform_of}
 use Rattle.edge_model.specs.Signal.{end_of_fec, hears_release, hears_status, maps_to, releases_label, takes_content, with_end_changed, with_named, with_released}
 use Rattle.edge_model.specs.State.{EdgeState, Peering, end_at, with_end, with_kept}
 use Rattle.edge_model.specs.Work.{Work, changes}

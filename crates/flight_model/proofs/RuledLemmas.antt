@@ -9,8 +9,9 @@ use Rattle.ldp_grammar.specs.declared.message.Message.{Message}
 use Rattle.ldp_grammar.specs.Written.{written}
 use Rattle.pw_signalling.specs.End.{EndState}
 use Rattle.session_core.specs.declared.peers.Peers.{Peers}
+use Rattle.pw_messages.specs.Sender.{following, platform_of}
 use Rattle.edge_model.specs.declared.effect.Effect.TheVariants as effect
-use Rattle.edge_model.specs.Put.{following, having_spoken, platform_of}
+use Rattle.edge_model.specs.Put.{having_spoken}
 use Rattle.edge_model.specs.State.{EdgeState, Peering, with_peering}
 use Rattle.edge_model.specs.Work.{Work, changes, gives}
 use Rattle.flight_model.specs.Ends.{ends_at}

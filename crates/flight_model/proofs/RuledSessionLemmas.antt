@@ -16,9 +16,10 @@ use Rattle.session_core.specs.Messages.{message_of}
 use Rattle.session_core.specs.Phase.{Phase}
 use Rattle.session_core.specs.Session.{phase_name}
 use Rattle.session_core.specs.Table.{SessionEvent, Outcome, Stay, Goes, Ends, outcome_of}
+use Rattle.pw_messages.specs.Sender.{platform_of}
 use Rattle.edge_model.specs.declared.effect.Effect.{Effect}
 use Rattle.edge_model.specs.declared.effect.Effect.TheVariants as effect
-use Rattle.edge_model.specs.Put.{Spoken, having_spoken, platform_of, put_octets, put_replies, put_reply, with_spoken}
+use Rattle.edge_model.specs.Put.{Spoken, having_spoken, put_octets, put_replies, put_reply, with_spoken}
 use Rattle.edge_model.specs.Session.{clears_ends, comes_of, ends, happens, happens_to, happens_with_ends, is_same_phase, says, says_to, tells_change, with_session, losing_ends}
 use Rattle.edge_model.specs.State.{EdgeState, Peering, has_end, with_ends_beside, with_peering, with_kept}
 use Rattle.edge_model.specs.Work.{Work, changes, gives, puts}

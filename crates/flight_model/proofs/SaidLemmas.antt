@@ -5,6 +5,7 @@ use Rattle.net_base.specs.declared.trace.state_name.Reason.TheVariants as reason
 use Rattle.net_values.specs.declared.addr.Addr.{Addr}
 use Rattle.net_values.specs.declared.mac.Mac.{Mac}
 use Rattle.pw_tlvs.specs.declared.pw_fec.PwFec.{PwFec}
+use Rattle.pw_messages.specs.Sender.{platform_of}
 use Rattle.mac_withdraw.specs.Pieces.{most_in_piece}
 use Rattle.ldp_grammar.specs.declared.message.Message.{Message}
 use Rattle.ldp_grammar.specs.declared.message.Message.TheVariants.{Notification, Initialization, KeepAlive, AddressWithdraw, LabelMapping, LabelWithdraw, LabelRelease}
@@ -27,7 +28,6 @@ use Rattle.session_core.specs.State.{SessionState, is_active}
 use Rattle.session_core.specs.Table.{Heard, Received, Stay, Goes, Ends, enters_phase, outcome_of}
 use Rattle.session_core.proofs.PutLemmas.{replies_are_put}
 use Rattle.pw_tlvs.specs.Fec.{no_params}
-use Rattle.edge_model.specs.Put.{platform_of}
 use Rattle.flight_model.specs.Flight.{is_initialization}
 use Rattle.flight_model.specs.Messages.{IsLeaving, IsSaid, IsSound, IsStatusNotice, AreSaid, expiry, octets_of_all}
 use Rattle.flight_model.specs.Pair.{AreFit}

@@ -6,7 +6,8 @@ use Rattle.ldp_grammar.specs.Written.{written}
 use Rattle.pw_signalling.specs.Rows.{lost}
 use Rattle.session_core.specs.declared.peers.Peers.{Peers}
 use Rattle.session_core.specs.Phase as phase
-use Rattle.edge_model.specs.Put.{having_spoken, message_octets_of, platform_of}
+use Rattle.pw_messages.specs.Sender.{platform_of}
+use Rattle.edge_model.specs.Put.{having_spoken, message_octets_of}
 use Rattle.edge_model.specs.Session.{clears_ends, says, losing_ends}
 use Rattle.edge_model.specs.State.{Peering, has_end, is_there, with_ends_beside, with_kept}
 use Rattle.edge_model.specs.Work.{Work, changes}

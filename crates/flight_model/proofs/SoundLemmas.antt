@@ -14,11 +14,12 @@ use Rattle.pw_signalling.specs.Rows.{lost, released, renew_part, renewed}
 use Rattle.session_core.specs.Phase.{Phase}
 use Rattle.session_core.specs.Phase as phase
 use Rattle.session_core.specs.Table.{SessionEvent, outcome_of}
+use Rattle.pw_messages.specs.LinkAnswers.{Answers}
 use Rattle.edge_model.specs.declared.end_place.EndPlace.{EndPlace}
 use Rattle.edge_model.specs.Mend.{is_operational, is_up_with}
 use Rattle.edge_model.specs.Session.{clears_ends, happens, happens_with_ends, losing_ends}
 use Rattle.edge_model.specs.State.{EdgeState, Peering, end_at, has_end, is_there, with_end, with_ends_beside, with_next_label, with_kept}
-use Rattle.edge_model.specs.Work.{Work, Answers, changes}
+use Rattle.edge_model.specs.Work.{Work, changes}
 use Rattle.flight_model.specs.Binding.{is_idle}
 use Rattle.flight_model.specs.Sound.{IsSoundEnd, IsSoundHeld, IsSoundPart, TellsSoundly}
 use Rattle.flight_model.proofs.KeepLemmas.{IsInPhase, KeepsEnds, happens_keeps, happens_phase, phase_after, up_after}

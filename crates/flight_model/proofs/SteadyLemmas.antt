@@ -32,11 +32,11 @@ use Rattle.pw_signalling.specs.declared.binding.Binding.{Binding}
 use Rattle.pw_signalling.specs.declared.told.Told.{Told}
 use Rattle.pw_signalling.specs.End.{EndState, LocalPart, Idle, Advertised}
 use Rattle.pw_signalling.specs.Rows.{advertised, telling, withdrawn}
+use Rattle.pw_messages.specs.Content.{content_of, mac_withdrawal, mapping, status_notification, withdrawal}
 use Rattle.pw_stitch.specs.Passing.{own_point, passed_status, past_point, stated_or_clear, wanted}
 use Rattle.session_core.specs.Laws.{IsAddress}
 use Rattle.spoke_redundancy.specs.Telling.{is_not_chosen}
 use Rattle.edge_model.specs.Across.{held_from, held_of, mate_of}
-use Rattle.edge_model.specs.Content.{content_of, mac_withdrawal, mapping, status_notification, withdrawal}
 use Rattle.edge_model.specs.declared.effect.Effect.{Effect}
 use Rattle.edge_model.specs.declared.effect.Effect.TheVariants.{Wire}
 use Rattle.edge_model.specs.declared.end_place.EndPlace.{EndPlace}

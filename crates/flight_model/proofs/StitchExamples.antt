@@ -12,7 +12,7 @@ use Rattle.ldp_grammar.specs.declared.message.Message.TheVariants.{KeepAlive}
 use Rattle.pw_tlvs.specs.declared.point.Point.{Point}
 use Rattle.pw_signalling.specs.declared.told.Told.{Told}
 use Rattle.pw_signalling.specs.End.{Advertised}
-use Rattle.edge_model.specs.Content.{content_of, mapping}
+use Rattle.pw_messages.specs.Content.{content_of, mapping}
 use Rattle.edge_model.specs.State.{with_bits}
 use Rattle.network_model.specs.Calm.{is_calm}
 use Rattle.network_model.specs.State.{NetworkState, empty_network}

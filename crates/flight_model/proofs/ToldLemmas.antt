@@ -23,7 +23,7 @@ use Rattle.session_core.specs.declared.peers.Peers.{Peers}
 use Rattle.session_core.specs.declared.reply.Reply.{Reply}
 use Rattle.session_core.specs.declared.reply.Reply.TheVariants as reply
 use Rattle.session_core.specs.Messages.{message_of}
-use Rattle.edge_model.specs.Content.{bare, bare_fec_of, content_of, mac_withdrawal, mapping, release, status_notification, told_with, withdrawal}
+use Rattle.pw_messages.specs.Content.{bare, bare_fec_of, content_of, mac_withdrawal, mapping, release, status_notification, told_with, withdrawal}
 use Rattle.edge_model.specs.State.{EdgeState}
 use Rattle.flight_model.specs.Rules.{FarTells, NamesTold, NearTells, TellsExpected, TellsOfWire, TellsPlan, told_of}
 use Rattle.flight_model.proofs.NameLemmas.{split}

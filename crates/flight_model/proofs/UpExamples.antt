@@ -27,7 +27,7 @@ use Rattle.pw_signalling.specs.declared.told.Told.{Told}
 use Rattle.pw_signalling.specs.Down.{down}
 use Rattle.session_core.specs.Laws.{IsAddress}
 use Rattle.session_core.specs.Parameters.{proposal}
-use Rattle.edge_model.specs.Content.{content_of, mac_withdrawal, mapping, status_notification}
+use Rattle.pw_messages.specs.Content.{content_of, mac_withdrawal, mapping, status_notification}
 use Rattle.edge_model.specs.Put.{with_spoken}
 use Rattle.edge_model.specs.State.{with_addresses, with_chosen, with_end, with_ends_beside, with_next_label, with_peering, with_priority, with_told_down, with_kept}
 use Rattle.edge_model.specs.Work.{changes, gives, idles, posts, puts}

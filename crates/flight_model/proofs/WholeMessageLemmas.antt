@@ -24,9 +24,9 @@ use Rattle.ldp_grammar.proofs.ReadingLemmas.{octets_behind}
 use Rattle.ldp_grammar.proofs.ReadingOf.{octets_told}
 use Rattle.ldp_stream.specs.FrontOf.{Front, Got, front_of}
 use Rattle.ldp_stream.proofs.FrontOfLemmas.{front_is_read}
+use Rattle.pw_messages.specs.Sender.{platform_of}
 use Rattle.edge_model.specs.Hear.{hears, hears_few, hears_front, hears_pdu, hears_within, holds, octets_input}
 use Rattle.edge_model.specs.Mend.{mends}
-use Rattle.edge_model.specs.Put.{platform_of}
 use Rattle.edge_model.specs.State.{EdgeState, Peering, put_at}
 use Rattle.edge_model.specs.Wire.{priority_input}
 use Rattle.edge_model.specs.Work.{Work}

@@ -10,12 +10,13 @@ use Rattle.session_core.specs.declared.reply.Reply.{Reply}
 use Rattle.session_core.specs.Phase.{Phase}
 use Rattle.session_core.specs.Session.{phase_name}
 use Rattle.session_core.specs.Table.{SessionEvent, Outcome, Stay, Goes, Ends, outcome_of}
+use Rattle.pw_messages.specs.LinkAnswers.{Answers}
 use Rattle.edge_model.specs.declared.effect.Effect.{Effect}
 use Rattle.edge_model.specs.declared.effect.Effect.TheVariants as effect
 use Rattle.edge_model.specs.Put.{Spoken, put_octets, put_reply, put_reply_to, put_replies, puts_on, octets_of, having_spoken, with_spoken}
 use Rattle.edge_model.specs.Session.{comes_of, ends, happens, happens_to, is_same_phase, tells_change, with_session}
 use Rattle.edge_model.specs.State.{Peering, with_peering}
-use Rattle.edge_model.specs.Work.{Work, Answers, changes, gives, next_answer, puts}
+use Rattle.edge_model.specs.Work.{Work, changes, gives, next_answer, puts}
 use Rattle.network_model.specs.Absorb.{taken_all}
 use Rattle.flight_model.specs.Endings.{is_no_refusal}
 use Rattle.flight_model.specs.Meeting.{IsFine, Shows, Spares, TellWell, TellsWell, closes, said_to}

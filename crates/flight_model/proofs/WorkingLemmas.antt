@@ -10,6 +10,7 @@ use Rattle.net_base.specs.declared.trace.arrival.Arrival.{Arrival}
 use Rattle.net_base.specs.declared.trace.drop_cause.DropCause.{DropCause}
 use Rattle.net_base.specs.declared.trace.state_name.Reason.TheVariants as reason
 use Rattle.session_core.specs.Table.{Closed, Ticked}
+use Rattle.pw_messages.specs.LinkAnswers.{Answers}
 use Rattle.edge_model.specs.Circuit.{turned}
 use Rattle.edge_model.specs.Frame.{received}
 use Rattle.edge_model.specs.Mend.{mends}
@@ -18,7 +19,7 @@ use Rattle.edge_model.specs.Session.{happens_with_ends}
 use Rattle.edge_model.specs.State.{EdgeState, with_addresses, with_bits, with_circuit, with_learned, with_priority, with_ticks, with_kept}
 use Rattle.edge_model.specs.Tick.{counted, forgetting, tick_input, ticks_sessions}
 use Rattle.edge_model.specs.Wire.{turned_wire}
-use Rattle.edge_model.specs.Work.{Work, Answers, changes}
+use Rattle.edge_model.specs.Work.{Work, changes}
 use Rattle.edge_model.specs.Ping.{ping_input}
 use Rattle.network_model.specs.Absorb.{taken_all}
 use Rattle.flight_model.proofs.BridgeLemmas.{IsBridged, packet_bridged, received_bridged, pings_are}

@@ -12,8 +12,8 @@ use Rattle.ldp_grammar.specs.declared.message.Message.TheVariants.{LabelMapping}
 use Rattle.pw_signalling.specs.declared.binding.Binding.{Binding}
 use Rattle.pw_signalling.specs.declared.told.Told.{Told}
 use Rattle.pw_signalling.specs.End.{Idle, Advertised}
+use Rattle.pw_messages.specs.Content.{told_with}
 use Rattle.pw_stitch.specs.Passing.{own_point, past_point}
-use Rattle.edge_model.specs.Content.{told_with}
 use Rattle.edge_model.specs.declared.end_place.EndPlace.{EndPlace}
 use Rattle.edge_model.specs.EndPlaces.{end_named}
 use Rattle.edge_model.specs.Labels.{label_to_give}

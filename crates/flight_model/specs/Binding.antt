@@ -8,7 +8,7 @@ use Rattle.ldp_grammar.specs.declared.status_code.StatusCode.{StatusCode}
 use Rattle.pw_signalling.specs.declared.binding.Binding.{Binding}
 use Rattle.pw_signalling.specs.End.{LocalPart, Idle, Advertised, Withdrawing}
 use Rattle.pw_signalling.specs.Rows.{is_in_group, status_part, unless_named}
-use Rattle.edge_model.specs.Content.{binding_in, pw_status_code}
+use Rattle.pw_messages.specs.Content.{binding_in, pw_status_code}
 
 -- what becomes of the binding that is held of the wire with this PW ID, where a FEC names the wire, or without a PW ID the
 -- binding's group

@@ -12,13 +12,13 @@ use Rattle.ldp_grammar.specs.Tlvs.{Tlv}
 use Rattle.ldp_grammar.specs.Written.{Fits, writable, written, written_tlvs}
 use Rattle.pw_tlvs.specs.declared.pw_fec.PwFec.{PwFec}
 use Rattle.pw_tlvs.specs.declared.pw_status.PwStatus.{PwStatus}
+use Rattle.pw_messages.specs.Content.{pw_status_notice}
+use Rattle.pw_messages.specs.Sender.{platform_of}
 use Rattle.mac_withdraw.specs.Pieces.{most_in_piece}
 use Rattle.session_core.specs.declared.peers.Peers.{Peers}
 use Rattle.session_core.specs.Parameters.{proposal}
 use Rattle.session_core.specs.StatusCodes.{keep_alive_timer_expired}
-use Rattle.edge_model.specs.Content.{pw_status_notice}
 use Rattle.pw_tlvs.specs.Fec.{no_params}
-use Rattle.edge_model.specs.Put.{platform_of}
 
 -- the octets of messages of one router, each in a PDU of its own
 abbrev pub octets_of_all : Addr → List Message → List ℕ

@@ -17,7 +17,7 @@ use Rattle.ldp_grammar.specs.declared.message.Message.TheVariants.{Notification,
 use Rattle.pw_signalling.specs.declared.binding.Binding.{Binding}
 use Rattle.pw_signalling.specs.declared.told.Told.{Told}
 use Rattle.pw_signalling.specs.End.{LocalPart, Idle, Advertised, Withdrawing}
-use Rattle.edge_model.specs.Content.{bare_fec_of, content_of, told_with}
+use Rattle.pw_messages.specs.Content.{bare_fec_of, content_of, told_with}
 use Rattle.edge_model.specs.declared.end_place.EndPlace.{EndPlace}
 use Rattle.edge_model.specs.Signal.{end_of_fec}
 use Rattle.edge_model.specs.State.{EdgeState}

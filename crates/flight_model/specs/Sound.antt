@@ -14,7 +14,7 @@ use Rattle.ldp_grammar.specs.Written.{IsState, point_tlvs}
 use Rattle.pw_signalling.specs.declared.binding.Binding.{Binding}
 use Rattle.pw_signalling.specs.declared.told.Told.{Told}
 use Rattle.pw_signalling.specs.End.{EndState, LocalPart, Idle, Advertised, Withdrawing}
-use Rattle.edge_model.specs.Content.{params_of}
+use Rattle.pw_messages.specs.Content.{params_of}
 use Rattle.edge_model.specs.EndPlaces.{is_terminal}
 use Rattle.edge_model.specs.Mend.{is_up_with}
 use Rattle.edge_model.specs.State.{EdgeState}

@@ -1,6 +1,6 @@
 -- What an edge makes of a message about pseudowires, in a session that is up, leaves its ends of the service's mesh wires advertised.
+use Rattle.pw_messages.specs.Content.{binding_in, pw_status_code, release}
 use Rattle.edge_model.proofs.SessionLemmas.{any, says_works}
-use Rattle.edge_model.specs.Content.{binding_in, pw_status_code, release}
 use Rattle.edge_model.specs.EndPlaces.{end_named}
 use Rattle.edge_model.specs.Mend.{is_up_with}
 use Rattle.edge_model.specs.Session.{says}

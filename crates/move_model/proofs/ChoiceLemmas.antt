@@ -1,7 +1,7 @@
 -- A spoke edge that has chosen another one of its spokes says there that all addresses are to be forgotten.
+use Rattle.pw_messages.specs.Content.{mac_withdrawal, status_notification}
 use Rattle.edge_model.proofs.MendLemmas.{mends_takes}
 use Rattle.edge_model.proofs.SessionLemmas.{any, says_works}
-use Rattle.edge_model.specs.Content.{mac_withdrawal, status_notification}
 use Rattle.edge_model.specs.EndPlaces.{end_places}
 use Rattle.edge_model.specs.Mend.{and_says, cause_number, each_end, forgets_down, forgets_downs, forgetting_wire, is_new_choice, is_up_with, mends, mends_choice, mends_end, mends_status, mends_status_of, telling_status, tells_down, tells_downs, tells_new_status, tells_over, then_changes}
 use Rattle.edge_model.specs.Put.{Spoken, stays}

@@ -1,9 +1,9 @@
 -- An edge hears a withdrawal of addresses: it forgets, and passes the withdrawal on.
+use Rattle.pw_messages.specs.Content.{mac_withdrawal}
 use Rattle.edge_model.proofs.SessionLemmas.{any, says_works}
 use Rattle.edge_model.proofs.WalkLemmas.{hears_mac_withdraw_holds}
 use Rattle.edge_model.specs.Across.{end_beyond}
 use Rattle.edge_model.specs.Clear.{clears_at, clears_by, clears_wire, hears_mac_withdraw, passes_on, tells_at, tells_by, withdrawing_at}
-use Rattle.edge_model.specs.Content.{mac_withdrawal}
 use Rattle.edge_model.specs.EndPlaces.{end_named, passes}
 use Rattle.edge_model.specs.Ends.{wire_end}
 use Rattle.edge_model.specs.Frame.{copies}

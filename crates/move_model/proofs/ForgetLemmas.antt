@@ -1,8 +1,8 @@
 -- An edge that mends and hears learns nothing: of what it has learned some entries are left.
+use Rattle.pw_messages.specs.Content.{mac_withdrawal, mapping, release, status_notification, withdrawal}
 use Rattle.edge_model.proofs.SessionLemmas.{advice_works, any, happens_with_ends_works, says_works}
 use Rattle.edge_model.proofs.WalkLemmas.{HearSteps, MendSteps, acts_on_holds, mends_holds}
 use Rattle.edge_model.specs.Clear.{withdrawing_at}
-use Rattle.edge_model.specs.Content.{mac_withdrawal, mapping, release, status_notification, withdrawal}
 use Rattle.edge_model.specs.EndPlaces.{end_named}
 use Rattle.edge_model.specs.Hear.{acts_on}
 use Rattle.edge_model.specs.Mend.{advertising, forgetting_wire, mends, port_of_wire, telling_status, withdrawing}

@@ -1,9 +1,9 @@
 -- An edge that hears octets of a neighbour goes on to heal.
+use Rattle.pw_messages.specs.Sender.{platform_of}
 use Rattle.address_model.specs.Sites.{Sites}
 use Rattle.edge_model.proofs.MendLemmas.{SpeaksOn, clears_not, having_spoken_times, mends_speaks}
 use Rattle.edge_model.specs.Hear.{acts, hears_few, hears_one, holds, octets_input, was_up}
 use Rattle.edge_model.specs.Mend.{is_up_with, mends}
-use Rattle.edge_model.specs.Put.{platform_of}
 use Rattle.edge_model.specs.Session.{clears_ends, comes_of, happens_to, happens_with_ends, is_same_phase, with_session}
 use Rattle.edge_model.specs.State.{Peering, is_there, with_peering}
 use Rattle.edge_model.specs.Work.{Work, changes, gives}

@@ -1,6 +1,7 @@
 -- An edge at work in a network that heals speaks mildly: to each place with which the service has a session up it says what leaves the
 -- labels of mesh wires as they are, and its own ends of those stay advertised.
-use Rattle.edge_model.specs.Put.{following, having_spoken, message_octets_of, platform_of, stays, with_spoken}
+use Rattle.pw_messages.specs.Sender.{following, platform_of}
+use Rattle.edge_model.specs.Put.{having_spoken, message_octets_of, stays, with_spoken}
 use Rattle.edge_model.specs.Session.{says}
 use Rattle.edge_model.specs.State.{EdgeState, Peering, with_peering}
 use Rattle.edge_model.specs.Work.{Work, changes, gives, puts}

@@ -1,5 +1,5 @@
 -- An edge that mends, or hears a MAC withdraw, goes on to speak mildly, and what it has learned it only forgets.
-use Rattle.edge_model.specs.Content.{content_of, mac_withdrawal, mapping, status_notification, withdrawal}
+use Rattle.pw_messages.specs.Content.{content_of, mac_withdrawal, mapping, status_notification, withdrawal}
 use Rattle.edge_model.specs.EndPlaces.{is_terminal}
 use Rattle.edge_model.specs.Mend.{advertising, is_up_with, mends, passed_wish, stands, status_held, status_offered, telling_status, tells_new_status, tells_status, terminal_wish, wish, wish_by, wish_of, withdrawing, withdraws}
 use Rattle.edge_model.specs.Put.{stays}

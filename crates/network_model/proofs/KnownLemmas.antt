@@ -15,6 +15,7 @@ use Rattle.net_base.specs.plan.Paths.{offer_of}
 use Rattle.net_base.specs.plan.Places.{wire_row}
 use Rattle.net_base.specs.trace.Isolated.{inner_at}
 use Rattle.net_base.specs.trace.Frame.{dress}
+use Rattle.pw_messages.specs.LinkAnswers.{Answers}
 use Rattle.eth_encap.specs.declared.stack_entry.StackEntry.{StackEntry}
 use Rattle.eth_encap.specs.Packet.{entry_of}
 use Rattle.hvpls_spokes.specs.declared.port.Port.{Port}
@@ -44,7 +45,7 @@ use Rattle.edge_model.specs.Packet.{advertiser, alerted, alerts_by, alerts_end, 
 use Rattle.edge_model.specs.Role.{down_at}
 use Rattle.edge_model.specs.Send.{drops, had_posted, packet_of, sends_copy, sends_under}
 use Rattle.edge_model.specs.State.{EdgeState, addresses_of, end_at, is_on}
-use Rattle.edge_model.specs.Work.{Work, Answers, changes, gives, idles, next_answer, posts}
+use Rattle.edge_model.specs.Work.{Work, changes, gives, idles, next_answer, posts}
 use Rattle.network_model.specs.declared.packet.Packet.{Packet}
 use Rattle.network_model.specs.Absorb.{absorb_one, all_entries_of, begin_at, idle, taken_all}
 use Rattle.network_model.specs.Frame.{entering, frame_event, frame_work, next_origin}

@@ -4,9 +4,10 @@ use Rattle.std.specs.Prelude.{◌+◌, ◌++◌, ℕ, true, List, [], ◌∷◌,
 use Rattle.net_base.specs.declared.plan.places.EdgeId.{EdgeId}
 use Rattle.net_base.specs.declared.trace.entry.Entry.{Entry}
 use Rattle.net_base.specs.declared.trace.entry.Entry.TheVariants as entry
+use Rattle.pw_messages.specs.LinkAnswers.{Answers}
 use Rattle.edge_model.specs.declared.effect.Effect.{Effect}
 use Rattle.edge_model.specs.declared.effect.Effect.TheVariants as effect
-use Rattle.edge_model.specs.Work.{Work, Answers, beginning}
+use Rattle.edge_model.specs.Work.{Work, beginning}
 use Rattle.network_model.specs.State.{NetworkState, edge_at, stands, with_edge, with_packet, with_pipe}
 
 -- what an event makes of a network, and what it tells

@@ -9,10 +9,10 @@ use Rattle.net_base.specs.declared.plan.wire_plan.WirePlan.{WirePlan}
 use Rattle.net_base.specs.plan.Paths.{PassedPoint, expected, offer_of}
 use Rattle.pw_signalling.specs.declared.binding.Binding.{Binding}
 use Rattle.pw_signalling.specs.declared.told.Told.{Told}
+use Rattle.pw_messages.specs.Content.{icmp_ping}
 use Rattle.vccv_channel.specs.declared.cc.Cc.{Cc}
 use Rattle.vccv_channel.specs.declared.cc.Cc.TheVariants.{Header, Alert, Expiry}
 use Rattle.vccv_channel.specs.Pick.{offers, offers_ping, picked, shared}
-use Rattle.edge_model.specs.Content.{icmp_ping}
 use Rattle.edge_model.specs.Echo.{channel_under}
 use Rattle.flight_model.specs.Rules.{TellsExpected, point_of}
 use Rattle.flight_model.proofs.TellLemmas.{TellsOwnOffer}

@@ -10,13 +10,13 @@ use Rattle.net_base.specs.plan.Accepted.{IsChecked, IsOffer, IsWireOf}
 use Rattle.net_base.specs.plan.Faults.{is_told_within}
 use Rattle.net_base.specs.plan.Paths.{expected, follows, points_on, up_to, way_from}
 use Rattle.net_base.specs.plan.Places.{wire_row}
+use Rattle.pw_messages.specs.Content.{ethernet_raw, ethernet_tagged}
 use Rattle.eth_encap.specs.Packet.{IsVlan}
 use Rattle.pw_signalling.specs.declared.end_role.EndRole.{EndRole}
 use Rattle.pw_signalling.specs.declared.told.Told.{Told}
 use Rattle.pw_signalling.specs.Down.{down}
 use Rattle.pw_signalling.specs.Laws.{BothAgree}
 use Rattle.pw_signalling.proofs.LawLemmas.{forwards_where_both_agree}
-use Rattle.edge_model.specs.Content.{ethernet_raw, ethernet_tagged}
 use Rattle.edge_model.specs.Send.{pushed_vlan}
 use Rattle.network_model.specs.State.{NetworkState}
 use Rattle.flight_model.specs.Rules.{TellsExpected}

@@ -9,13 +9,13 @@ use Rattle.net_base.specs.plan.Paths.{edge_address, expected, first_edge, follow
 use Rattle.net_base.specs.plan.Places.{wire_row}
 use Rattle.net_values.specs.Label.{IsLabel, router_alert}
 use Rattle.net_values.specs.declared.addr.Addr.{Addr}
+use Rattle.pw_messages.specs.Content.{icmp_ping}
 use Rattle.vccv_channel.specs.declared.cc.Cc.{Cc}
 use Rattle.vccv_channel.specs.declared.cc.Cc.TheVariants.{Header, Alert, Expiry}
 use Rattle.vccv_channel.specs.Channel.{payload}
 use Rattle.vccv_channel.specs.Echo.{answer_packet, request_packet}
 use Rattle.vccv_channel.specs.LabelStack.{stack_entry}
 use Rattle.vccv_channel.specs.Pick.{picked}
-use Rattle.edge_model.specs.Content.{icmp_ping}
 use Rattle.edge_model.specs.Ping.{ping_between}
 use Rattle.flight_model.specs.Rules.{MayCarry}
 use Rattle.network_model.specs.declared.packet.Packet.{Packet}

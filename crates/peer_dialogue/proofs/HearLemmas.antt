@@ -17,10 +17,11 @@ use Rattle.ldp_stream.specs.FrontOf.{Front, More, Got, Bad, front_of}
 use Rattle.ldp_stream.specs.State.{Passes, StreamState, Waits, IsStreamRefused, IsFaultOf, empty}
 use Rattle.ldp_stream.proofs.FrontOfLemmas.{front_is_read}
 use Rattle.session_core.specs.Table.{Refused}
+use Rattle.pw_messages.specs.LinkAnswers.{Answers}
 use Rattle.edge_model.specs.Hear.{hears, hears_few, hears_front, hears_message, hears_messages, hears_pdu, hears_within}
 use Rattle.edge_model.specs.Session.{happens_with_ends}
 use Rattle.edge_model.specs.State.{Peering, with_peering}
-use Rattle.edge_model.specs.Work.{Answers, Work, changes}
+use Rattle.edge_model.specs.Work.{Work, changes}
 use Rattle.peer_dialogue.specs.Hearing.{HearsOn, IsAtFault, IsAtPdu, IsReady, IsWaiting, Within}
 use Rattle.peer_dialogue.proofs.HeardLemmas.{spelled_heard}
 

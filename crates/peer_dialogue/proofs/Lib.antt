@@ -4,4 +4,3 @@ pub mod FrontLemmas
 pub mod HeardLemmas
 pub mod SettleLemmas
 pub mod SpeakerLemmas
-pub mod TellLemmas

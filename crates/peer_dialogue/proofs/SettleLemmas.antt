@@ -19,12 +19,13 @@ use Rattle.session_core.specs.State.{SessionState, SessionView, Stands, EndedBy,
 use Rattle.session_core.specs.StatusCodes.{about_none, data_of}
 use Rattle.session_core.specs.Table.{SessionEvent, Start, Heard, Received, Refused, Spoke, Ticked, Closed, Outcome, Stay, Goes, Ends, next_of, outcome_of, replies_of, table, view_after, view_next, view_said}
 use Rattle.session_core.proofs.PutLemmas.{replies_are_put}
+use Rattle.pw_messages.specs.LinkAnswers.{Answers}
 use Rattle.edge_model.specs.declared.effect.Effect.{Effect}
 use Rattle.edge_model.specs.declared.effect.Effect.TheVariants.{Session, Closed as Gone}
 use Rattle.edge_model.specs.Put.{Spoken, put_replies}
 use Rattle.edge_model.specs.Session.{comes_of, ends, happens, happens_to, is_same_phase, tells_change, went_on}
 use Rattle.edge_model.specs.State.{EdgeState, Peering}
-use Rattle.edge_model.specs.Work.{Answers, Work, changes, gives}
+use Rattle.edge_model.specs.Work.{Work, changes, gives}
 use Rattle.peer_dialogue.specs.Peering.{IsBetween, StandsBetween, at_peer, ending_reason, had_spoken, having_put, next_state, settled, state_of}
 use Rattle.peer_dialogue.proofs.SpeakerLemmas.{changed_at, peer_of, put_twice}
 

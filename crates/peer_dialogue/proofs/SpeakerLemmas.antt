@@ -12,11 +12,13 @@ use Rattle.session_core.specs.declared.peers.Peers.{Peers}
 use Rattle.session_core.specs.declared.reply.Reply.{Reply}
 use Rattle.session_core.specs.Messages.{HasData, message_of}
 use Rattle.session_core.specs.State.{SessionState}
+use Rattle.pw_messages.specs.LinkAnswers.{Agrees, Answers}
+use Rattle.pw_messages.specs.Sender.{following, platform_of}
 use Rattle.edge_model.specs.declared.effect.Effect.{Effect}
 use Rattle.edge_model.specs.declared.effect.Effect.TheVariants.{Said}
-use Rattle.edge_model.specs.Put.{Spoken, following, having_spoken, message_octets_of, octets_of, platform_of, put_octets, put_replies, put_reply, put_reply_to, puts_on, with_spoken}
+use Rattle.edge_model.specs.Put.{Spoken, having_spoken, message_octets_of, octets_of, put_octets, put_replies, put_reply, put_reply_to, puts_on, with_spoken}
 use Rattle.edge_model.specs.State.{EdgeState, Peering, with_peering}
-use Rattle.edge_model.specs.Work.{Agrees, Answers, GoesOn, Work, changes, gives, puts}
+use Rattle.edge_model.specs.Work.{GoesOn, Work, changes, gives, puts}
 use Rattle.peer_dialogue.specs.Peering.{at_peer, having_put, put_message, put_message_to}
 
 -- ---- what is kept for one neighbour
@@ -117,25 +119,6 @@ message_by_octets told peer peers message next bytes held s edge calls out put o
     message_at told peer message kept edge calls out
     ∙ (ap (λ (o : List ℕ). put_octets peer o (told (length calls)) (at_peer peer (Some kept) edge calls out)) (ap (λ (p : Peers). written (message next) (platform_of p.me)) between ∙ sym octets)
     ∙ is)
-
--- the front of a buffer in which octets were written
-take_front : (w rest : List ℕ) → take (length w) (w ++ rest) ≡ w
-take_front [] rest = refl
-take_front (x ∷ w) rest = ap (λ (l : List ℕ). x ∷ l) (take_front w rest)
-
-long_both : (w rest : List ℕ) → length (w ++ rest) ≡ length w + length rest
-long_both [] rest = omega arith
-long_both (x ∷ w) rest = omega (arith, long_both w rest)
-
-long_drop : (n : ℕ) (xs : List ℕ) → n ≤ length xs → length (drop n xs) ≡ length xs - n
-long_drop zero xs within = omega arith
-long_drop (suc n) [] within = absurd (omega arith)
-long_drop (suc n) (x ∷ xs) within = omega (arith, long_drop n xs (omega arith))
-
-pub front_is : (w old now front : List ℕ) (count : ℕ) → now ≡ w ++ drop count old → length now ≡ length old → count ≤ length old → front ≡ take count now → front ≡ w
-front_is w old now front count is long within taken =
-    let count_is : count ≡ length w = omega (arith, long_both w (drop count old), long_drop count old within, ap length is) in
-    taken ∙ (ap (take count) is ∙ (ap (λ (n : ℕ). take n (w ++ drop count old)) count_is ∙ take_front w (drop count old)))
 
 -- ---- calls that go on
 

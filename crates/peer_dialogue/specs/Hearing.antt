@@ -8,9 +8,10 @@ use Rattle.ldp_grammar.specs.declared.fault.Fault.{Fault}
 use Rattle.net_values.specs.Octets.{AreOctets}
 use Rattle.ldp_stream.specs.Front.{HasFront, IsFrontFault, IsPending}
 use Rattle.ldp_stream.specs.State.{IsFaultOf, StreamState}
+use Rattle.pw_messages.specs.LinkAnswers.{Answers}
 use Rattle.edge_model.specs.Hear.{hears_few}
 use Rattle.edge_model.specs.State.{Peering}
-use Rattle.edge_model.specs.Work.{Answers, Work}
+use Rattle.edge_model.specs.Work.{Work}
 use Rattle.ldp_codec.specs.Views.{IsPduOf, SeenPdu}
 use Rattle.ldp_grammar.specs.declared.ldp_id.LdpId.{LdpId}
 use Rattle.ldp_grammar.specs.declared.message.Message.TheVariants as message

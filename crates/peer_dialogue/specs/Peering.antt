@@ -11,12 +11,13 @@ use Rattle.session_core.specs.declared.peers.Peers.{Peers}
 use Rattle.session_core.specs.Phase.{Phase}
 use Rattle.session_core.specs.Session.{phase_name}
 use Rattle.session_core.specs.State.{SessionState, SessionView, Stands, EndedBy, opened}
+use Rattle.pw_messages.specs.LinkAnswers.{Answers}
 use Rattle.edge_model.specs.Connection.{peers_of}
 use Rattle.edge_model.specs.declared.effect.Effect.{Effect}
 use Rattle.edge_model.specs.Put.{Spoken, message_octets_of, put_octets}
 use Rattle.edge_model.specs.Session.{ends, had_put, went_on}
 use Rattle.edge_model.specs.State.{EdgeState, Peering, with_peering}
-use Rattle.edge_model.specs.Work.{Work, Answers, next_answer}
+use Rattle.edge_model.specs.Work.{Work, next_answer}
 
 -- ---- what calls of an edge tell
 

@@ -2,7 +2,7 @@
 use Rattle.std.specs.Prelude.{◌≡◌, ◌≤◌, true, ℕ, length}
 use Rattle.pw_tlvs.specs.Written.{has_vlan}
 use Rattle.ldp_grammar.specs.declared.message.Message.{Message}
-use Rattle.edge_model.specs.Content.{mac_withdrawal, mapping, release, status_notification, withdrawal}
+use Rattle.pw_messages.specs.Content.{mac_withdrawal, mapping, release, status_notification, withdrawal}
 use Rattle.peer_dialogue.specs.declared.pw_message.PwMessage.{PwMessage}
 use Rattle.peer_dialogue.specs.declared.pw_message.PwMessage.TheVariants as message
 

@@ -5,7 +5,7 @@ use Rattle.pw_tlvs.specs.declared.pw_status.PwStatus.{PwStatus}
 use Rattle.pw_status.specs.Status.{method_by}
 use Rattle.pw_signalling.specs.declared.binding.Binding.{Binding}
 use Rattle.pw_signalling.specs.declared.told.Told.{Told}
-use Rattle.edge_model.specs.Content.{content_of}
+use Rattle.pw_messages.specs.Content.{content_of}
 use Rattle.edge_model.specs.Mend.{status_held, tells_status}
 
 -- the same as `terminal_wish` of an edge

@@ -1,15 +1,12 @@
 //! What an edge and one neighbour say to each other: what the edge works with, what it keeps of the neighbour (the session that
-//! stands, and the octets that are held), and what is told of a pseudowire with the messages that carry it (RFC 5036 section 3.5,
-//! RFC 8077 section 6).
+//! stands, and the octets that are held), and what it puts to it (RFC 5036 section 3.5, RFC 8077 section 6).
 #![tactic(auto)]
 
 mod advice;
 mod at_work;
-mod content;
 mod event;
 mod front;
 mod held;
-mod messages;
 mod moved;
 mod next;
 mod peering;
@@ -19,7 +16,6 @@ mod wish;
 
 pub use advice::advice_of;
 pub use at_work::AtWork;
-pub use content::{binding_in, content_of, fec_of};
 pub use event::Event;
 pub use held::Held;
 pub use next::Next;

@@ -3,9 +3,9 @@ ghost use Rattle.std.specs.Prelude.{◌≡◌, ◌≤◌, ◌+◌, true, length,
 ghost use Rattle.ldp_grammar.specs.Written.{message_octets, writable};
 ghost use Rattle.peer_dialogue.specs.PwMessage.{CanBeSaid, numbered};
 
-use crate::messages::{mac_withdrawal, mapping, release, status_notification, withdrawal};
 use ldp_grammar::Message;
 use net_base::{Label, List, Mac, NoMemory};
+use pw_messages::{mac_withdrawal, mapping, release, status_notification, withdrawal};
 use pw_signalling::Told;
 use pw_tlvs::{PwFec, PwStatus};
 use std::alloc::Global;

@@ -1,12 +1,14 @@
 //! Who puts messages to a neighbour.
 ghost use Rattle.std.specs.Prelude.{◌≡◌, ◌≤◌, ◌+◌, ◌++◌, ◌∷◌, [], ℕ, List, Some, length, true, false, not, IfOk};
 ghost use Rattle.std.specs.List.{AllByRecursion};
-ghost use Rattle.ldp_grammar.specs.Written.{message_octets, writable, written};
+ghost use Rattle.ldp_grammar.specs.Written.{written};
 ghost use Rattle.session_core.specs.Messages.{HasData, message_of};
 ghost use Rattle.session_core.specs.State.{SessionState};
-ghost use Rattle.edge_model.specs.Put.{following, platform_of, put_octets, put_replies, put_reply};
+ghost use Rattle.pw_messages.specs.LinkAnswers.{Agrees, Answers};
+ghost use Rattle.pw_messages.specs.Sender.{following, platform_of};
+ghost use Rattle.edge_model.specs.Put.{put_octets, put_replies, put_reply};
 ghost use Rattle.edge_model.specs.State.{EdgeState};
-ghost use Rattle.edge_model.specs.Work.{Agrees, Answers, GoesOn};
+ghost use Rattle.edge_model.specs.Work.{GoesOn};
 ghost use Rattle.peer_dialogue.specs.AtWork.{WorkGoes};
 ghost use Rattle.peer_dialogue.specs.Peering.{at_peer, having_put, put_message};
 ghost use Rattle.peer_dialogue.specs.PwMessage.{CanBeSaid, numbered};
@@ -14,14 +16,10 @@ ghost use Rattle.peer_dialogue.specs.PwMessage.{CanBeSaid, numbered};
 use crate::at_work::AtWork;
 use crate::pw_message::PwMessage;
 use edge_model::Effect;
-use ldp_codec::encode_into;
-use ldp_grammar::{LdpId, Message};
-use net_base::{Addr, EdgeId, Link, LinkStop, List, NoMemory, Octets};
+use net_base::{EdgeId, Link, LinkStop, NoMemory, Octets};
+use pw_messages::{following, pdu_octets};
 use session_core::{Peers, Replies, Reply};
 use std::alloc::Global;
-
-/// The most octets of a PDU that a session puts: 4 before the PDU Length counts, and then at most 256.
-const LONGEST: usize = 260;
 
 /// One who puts messages to a neighbour: the two ends of the session, and the number of the next message.
 #[derive(Clone, Copy)]
@@ -143,8 +141,7 @@ impl Speaker {
         ensures { IfOk result (λ octets. octets ≡ written (message_of reply self.now.next_id self.now.peers) (platform_of self.now.peers.me)) }
     {
         let message = reply.message(self.next_id, &self.peers);
-        let mut out = [0u8; LONGEST];
-        encoded(alloc, &message, platform_of(self.peers.me), &mut out)
+        pdu_octets(alloc, &message, self.peers.me)
     }
 
     // The octets of a message about a pseudowire, in a PDU of its own.
@@ -153,22 +150,8 @@ impl Speaker {
         ensures { IfOk result (λ octets. octets ≡ written (numbered message.now self.now.next_id) (platform_of self.now.peers.me)) }
     {
         let message = message.with_id(alloc, self.next_id)?;
-        let mut out = [0u8; LONGEST];
-        encoded(alloc, &message, platform_of(self.peers.me), &mut out)
+        pdu_octets(alloc, &message, self.peers.me)
     }
-}
-
-// The octets of a message, in a PDU of its own; `out` has room for them.
-#[tactic(auto, using(crate::proofs::SpeakerLemmas::front_is))]
-fn encoded(alloc: Global, message: &Message, id: LdpId, out: &mut [u8]) -> Result<Octets, NoMemory>
-    requires writable { writable message.now ≡ true }
-    requires short { 6 + length (message_octets message.now) ≤ 256 }
-    requires room { 260 ≤ length out.old }
-    ensures { IfOk result (λ octets. octets ≡ written message.now id) }
-{
-    let count = encode_into(message, id, out);
-    let (octets, _) = out.split_at(count);
-    List::from_bytes(alloc, octets)
 }
 
 // Puts octets, and answers whether the link took them.
@@ -181,18 +164,4 @@ fn put_bytes<L: Link>(peer: EdgeId, bytes: &[u8], link: &mut L) -> Result<bool, 
         Err(LinkStop::Failed) => Ok(false),
         Err(LinkStop::NoMemory) => Err(NoMemory),
     }
-}
-
-// The platform's label space of a router (RFC 5036 section 2.2.2).
-fn platform_of(router: Addr) -> LdpId
-    ensures { result ≡ platform_of router }
-{
-    LdpId { router, space: 0 }
-}
-
-// The number behind a message's number (RFC 5036 section 3.5).
-fn following(id: u32) -> u32
-    ensures { result ≡ following id }
-{
-    if id == u32::MAX { 0 } else { id + 1 }
 }

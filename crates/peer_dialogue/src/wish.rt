@@ -6,8 +6,8 @@ ghost use Rattle.pw_status.specs.Status.{method_by};
 ghost use Rattle.edge_model.specs.Mend.{status_held, tells_status};
 ghost use Rattle.peer_dialogue.specs.Wish.{wish_by};
 
-use crate::content::content_of;
 use net_base::Offer;
+use pw_messages::content_of;
 use pw_signalling::{Binding, Told};
 use pw_status::{Method, method_of};
 use pw_tlvs::PwStatus;

@@ -9,12 +9,13 @@ use Rattle.pw_signalling.specs.declared.binding.Binding.{Binding}
 use Rattle.pw_tlvs.specs.declared.point.Point.{Point}
 use Rattle.pw_tlvs.specs.declared.pw_fec.PwFec.{PwFec}
 use Rattle.pw_tlvs.specs.declared.pw_status.PwStatus.{PwStatus}
-use Rattle.edge_model.specs.Content.{binding_in}
+use Rattle.pw_messages.specs.Content.{binding_in}
+use Rattle.pw_messages.specs.LinkAnswers.{Answers}
 use Rattle.edge_model.specs.declared.effect.Effect.{Effect}
 use Rattle.edge_model.specs.Hear.{acts, acts_on, advice_of, advises}
 use Rattle.edge_model.specs.Signal.{end_of_fec, maps_to, with_released}
 use Rattle.edge_model.specs.State.{EdgeState, has_end}
-use Rattle.edge_model.specs.Work.{Answers, Work}
+use Rattle.edge_model.specs.Work.{Work}
 use Rattle.peer_dialogue.specs.Peering.{at_edge}
 use Rattle.provider_edge.proofs.RowLemmas.{mapping_heard, release_heard}
 

@@ -17,6 +17,7 @@ use Rattle.net_base.specs.outside.Link.{call_of}
 use Rattle.net_base.specs.plan.Paths.{offer_of}
 use Rattle.net_base.specs.plan.Places.{wire_row}
 use Rattle.net_base.specs.trace.Frame.{dress}
+use Rattle.pw_messages.specs.LinkAnswers.{Agrees, Answers}
 use Rattle.hvpls_spokes.specs.declared.port.Port.{Port}
 use Rattle.hvpls_spokes.specs.declared.port.Port.TheVariants as port
 use Rattle.hvpls_spokes.specs.Port.{ports_of}
@@ -31,7 +32,7 @@ use Rattle.edge_model.specs.Frame.{copies, copy_by, destination, forwarded, hear
 use Rattle.edge_model.specs.Send.{drops, had_posted, packet_of, sends, sends_copy, sends_under}
 use Rattle.edge_model.specs.State.{EdgeState, end_at, with_addresses}
 use Rattle.edge_model.specs.Synced.{InSync}
-use Rattle.edge_model.specs.Work.{Agrees, Answers, Work, changes, gives, posts}
+use Rattle.edge_model.specs.Work.{Work, changes, gives, posts}
 use Rattle.pw_ends.specs.Ends.{end_in, place_of}
 use Rattle.edge_forwarding.specs.Forwarding.{ForwardingLists, KeepsForwarding, domain_of, entries_of, open_ports, with_forwarding}
 use Rattle.peer_dialogue.specs.Peering.{at_edge}

@@ -13,6 +13,7 @@ use Rattle.pw_tlvs.specs.declared.pw_fec.PwFec.{PwFec}
 use Rattle.ldp_grammar.specs.declared.address_list.AddressList.{AddressList}
 use Rattle.ldp_grammar.specs.declared.message.Message.{Message}
 use Rattle.ldp_grammar.specs.declared.message.Message.TheVariants.{AddressWithdraw}
+use Rattle.pw_messages.specs.LinkAnswers.{Answers}
 use Rattle.hvpls_spokes.specs.declared.edge_role.Role.{Role}
 use Rattle.hvpls_spokes.specs.declared.port.Port.{Port}
 use Rattle.hvpls_spokes.specs.declared.port.Port.TheVariants as port
@@ -32,7 +33,7 @@ use Rattle.edge_model.specs.Hear.{acts_on}
 use Rattle.edge_model.specs.Signal.{end_of_fec}
 use Rattle.edge_model.specs.State.{EdgeState}
 use Rattle.edge_model.specs.Withdraw.{tells_pieces}
-use Rattle.edge_model.specs.Work.{Answers, Work, changes}
+use Rattle.edge_model.specs.Work.{Work, changes}
 use Rattle.peer_dialogue.specs.Peering.{at_edge}
 use Rattle.edge_forwarding.proofs.OpenLemmas.{same_tests}
 use Rattle.provider_edge.proofs.MendLemmas.{me_at}

@@ -1,9 +1,10 @@
 -- What an edge makes of what came in a control channel, and of a ping, exit by exit.
+use Rattle.pw_messages.specs.LinkAnswers.{Answers}
 use Rattle.edge_model.specs.Echo.{channel_octets, channel_under, echoes, is_picked, ping_number, verifies}
 use Rattle.edge_model.specs.Ping.{asks, far_address, ping_input, pinging, pings_at, pings_by, pings_in, pings_under}
 use Rattle.edge_model.specs.Send.{drops, sends}
 use Rattle.edge_model.specs.State.{EdgeState, end_at}
-use Rattle.edge_model.specs.Work.{Answers, Work, beginning, changes, gives, idles}
+use Rattle.edge_model.specs.Work.{Work, beginning, changes, gives, idles}
 use Rattle.edge_model.specs.Ends.{wire_end}
 use Rattle.edge_model.specs.declared.effect.Effect.{Effect}
 use Rattle.edge_model.specs.declared.effect.Effect.TheVariants.{Dropped, Pong}

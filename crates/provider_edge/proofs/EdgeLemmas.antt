@@ -17,6 +17,7 @@ use Rattle.net_base.specs.plan.Paths.{are_joined}
 use Rattle.pw_signalling.specs.End.{EndState}
 use Rattle.session_core.specs.declared.peers.Peers.{Peers}
 use Rattle.session_core.specs.Table.{Closed}
+use Rattle.pw_messages.specs.LinkAnswers.{Answers}
 use Rattle.edge_model.specs.declared.effect.Effect.{Effect}
 use Rattle.edge_model.specs.declared.effects.Effects.{Effects}
 use Rattle.edge_model.specs.Circuit.{is_same, turned}
@@ -32,7 +33,7 @@ use Rattle.edge_model.specs.Synced.{InSync}
 use Rattle.provider_edge.specs.Tidy.{IsTidy}
 use Rattle.edge_model.specs.Tick.{counted, forgetting, ticks_sessions}
 use Rattle.edge_model.specs.Wire.{is_own_spoke, priority_input, status_input, turned_wire, wire_input}
-use Rattle.edge_model.specs.Work.{Answers, Work, beginning, changes, idles}
+use Rattle.edge_model.specs.Work.{Work, beginning, changes, idles}
 use Rattle.peer_dialogue.specs.Peering.{at_edge, connection_with, peers_between}
 use Rattle.provider_edge.proofs.WorkLemmas.{other_before, same_already}
 use Rattle.provider_edge.specs.declared.end_marks.EndMarks.{EndMarks}

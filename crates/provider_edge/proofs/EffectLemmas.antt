@@ -47,6 +47,8 @@ use Rattle.session_core.specs.Phase.{Phase}
 use Rattle.session_core.specs.Session.{phase_name}
 use Rattle.session_core.specs.Table.{SessionEvent, Heard, Received, Refused, Ticked, Outcome, Stay, Goes, Ends, outcome_of}
 use Rattle.session_core.specs.Table as table
+use Rattle.pw_messages.specs.Content.{binding_in, mac_withdrawal, mapping, pw_status_code, release, status_notification, withdrawal}
+use Rattle.pw_messages.specs.LinkAnswers.{Agrees, Answers}
 use Rattle.hvpls_spokes.specs.declared.port.Port.{Port}
 use Rattle.hvpls_spokes.specs.declared.port.Port.TheVariants as port
 use Rattle.hvpls_spokes.specs.Port.{ports_of}
@@ -95,7 +97,6 @@ use Rattle.edge_model.specs.Put.{Spoken, message_octets_of, octets_of, put_octet
 use Rattle.edge_model.specs.Labels.{label_to_give, meeting}
 use Rattle.edge_model.specs.Session.{clears_ends, comes_of, losing_ends, ends, had_put, had_said, happens, happens_to, happens_with_ends, says, says_to, is_same_phase, tells_change, went_on, with_session}
 use Rattle.edge_model.specs.declared.end_place.EndPlace.{EndPlace}
-use Rattle.edge_model.specs.Content.{binding_in, mac_withdrawal, mapping, pw_status_code, release, status_notification, withdrawal}
 use Rattle.edge_model.specs.EndPlaces.{end_places, ends_here, is_at, is_end_of_wire, passes}
 use Rattle.edge_model.specs.Ends.{is_up, wire_end}
 use Rattle.edge_model.specs.Mend.{advertises_under, advertises_wish, advertising, and_says, cause_number, each_end, forgets_down, forgets_downs, forgetting_wire, is_new_choice, mends, mends_choice, mends_end, mends_few, mends_local, mends_once, mends_status, mends_status_of, port_of_wire, stands, telling_status, tells_down, tells_downs, tells_new_status, tells_over, then_changes, wish, withdrawing, withdraws, withdraws_unless}
@@ -106,7 +107,7 @@ use Rattle.edge_model.specs.Wire.{is_own_spoke, turned_wire}
 use Rattle.edge_model.specs.State.{EdgeState, Peering, end_at, has_end, is_on, is_there, with_bits, with_peering, with_priority, with_told_down}
 use Rattle.edge_model.specs.Step.{edge_step}
 use Rattle.edge_model.specs.Tick.{counted, forgetting, ticks_sessions}
-use Rattle.edge_model.specs.Work.{Agrees, Answers, Work, beginning, changes, gives, idles, next_answer, posts, puts}
+use Rattle.edge_model.specs.Work.{Work, beginning, changes, gives, idles, next_answer, posts, puts}
 use Rattle.edge_model.proofs.SyncLemmas.{step_synced}
 use Rattle.edge_model.proofs.PlaceLemmas.{IsEndOf, all-map, places_are}
 use Rattle.edge_forwarding.specs.Views.{view}

@@ -6,6 +6,7 @@ use Rattle.net_base.specs.declared.trace.state_name.StateName.TheVariants as nam
 use Rattle.session_core.specs.Table.{SessionEvent, Start}
 use Rattle.ldp_grammar.specs.declared.message.Message.{Message}
 use Rattle.session_core.specs.declared.reply.Reply.{Reply}
+use Rattle.pw_messages.specs.LinkAnswers.{Answers}
 use Rattle.edge_model.specs.declared.effect.Effect.{Effect}
 use Rattle.edge_model.specs.declared.effect.Effect.TheVariants.{Session}
 use Rattle.edge_model.specs.Connection.{connects, lost_input}
@@ -14,7 +15,7 @@ use Rattle.edge_model.specs.Labels.{meeting}
 use Rattle.edge_model.specs.Put.{Spoken, put_reply}
 use Rattle.edge_model.specs.Session.{clears_ends, had_put, happens, happens_to, happens_with_ends, says, says_to}
 use Rattle.edge_model.specs.State.{EdgeState, Peering, has_end, is_there, with_peering}
-use Rattle.edge_model.specs.Work.{Answers, Work, beginning, changes, gives}
+use Rattle.edge_model.specs.Work.{Work, beginning, changes, gives}
 use Rattle.peer_dialogue.specs.Peering.{at_edge, at_peer, had_spoken, is_over, put_message, put_message_to}
 use Rattle.peer_dialogue.proofs.SpeakerLemmas.{put_same, put_twice}
 use Rattle.provider_edge.proofs.EdgeLemmas.{lost_idle}

@@ -7,6 +7,7 @@ use Rattle.net_base.specs.declared.plan.places.EdgeId.{EdgeId}
 use Rattle.net_base.specs.declared.plan.places.WireId.{WireId}
 use Rattle.pw_signalling.specs.declared.told.Told.{Told}
 use Rattle.pw_signalling.specs.End.{EndState, fresh}
+use Rattle.pw_messages.specs.LinkAnswers.{Answers}
 use Rattle.edge_model.specs.declared.effect.Effect.{Effect}
 use Rattle.edge_model.specs.declared.end_place.EndPlace.{EndPlace}
 use Rattle.edge_model.specs.EndPlaces.{end_places}
@@ -17,7 +18,7 @@ use Rattle.edge_model.specs.Session.{clears_ends}
 use Rattle.edge_model.specs.Hear.{was_up}
 use Rattle.edge_model.specs.Spokes.{choice}
 use Rattle.edge_model.specs.State.{EdgeState, Peering, put_at, with_chosen, with_ends_beside, with_peering}
-use Rattle.edge_model.specs.Work.{Answers, Work}
+use Rattle.edge_model.specs.Work.{Work}
 use Rattle.peer_dialogue.specs.Peering.{at_edge}
 use Rattle.provider_edge.specs.declared.end_marks.EndMarks.{EndMarks}
 use Rattle.provider_edge.specs.Invariant.{IsEdge}

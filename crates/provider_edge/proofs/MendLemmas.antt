@@ -21,6 +21,7 @@ use Rattle.pw_signalling.specs.declared.binding.Binding.{Binding}
 use Rattle.pw_signalling.specs.declared.end_role.EndRole.{EndRole}
 use Rattle.pw_signalling.specs.declared.pw_end.PwEnd.{PwEnd}
 use Rattle.pw_signalling.specs.declared.told.Told.{Told}
+use Rattle.pw_messages.specs.LinkAnswers.{Answers}
 use Rattle.pw_stitch.specs.Stitch.{has_told}
 use Rattle.pw_tlvs.specs.declared.pw_status.PwStatus.{PwStatus}
 use Rattle.pw_ends.specs.Ends.{end_in, no_place, place_of}
@@ -35,7 +36,7 @@ use Rattle.edge_model.specs.Role.{down_at, is_chosen_wire, role_at, status_to_te
 use Rattle.edge_model.specs.Spokes.{choosing}
 use Rattle.edge_model.specs.State.{EdgeState, end_at, with_addresses, with_told_down}
 use Rattle.edge_model.specs.Withdraw.{tells_piece}
-use Rattle.edge_model.specs.Work.{Answers, Work, changes, gives}
+use Rattle.edge_model.specs.Work.{Work, changes, gives}
 use Rattle.peer_dialogue.specs.Peering.{at_edge}
 use Rattle.provider_edge.specs.Lists.{EdgeLists, Keeps, seen}
 use Rattle.provider_edge.specs.Mending.{forgotten_down, may_tell_end, mended_down}

@@ -12,6 +12,7 @@ use Rattle.ldp_grammar.specs.declared.message.Message.TheVariants as message
 use Rattle.ldp_grammar.specs.declared.pdu.Pdu.{Pdu}
 use Rattle.net_values.specs.Octets.{AreOctets}
 use Rattle.session_core.specs.Table.{Heard, Received, Refused, Ticked}
+use Rattle.pw_messages.specs.LinkAnswers.{Answers}
 use Rattle.edge_model.specs.declared.effect.Effect.{Effect}
 use Rattle.edge_model.specs.Hear.{acts, hears, hears_message, hears_messages, hears_on, hears_one, hears_pdu, holds, was_up}
 use Rattle.edge_model.specs.Mend.{mends}
@@ -19,7 +20,7 @@ use Rattle.edge_model.proofs.HeldLemmas.{hears_few_held, held_is}
 use Rattle.edge_model.specs.Session.{clears_ends, happens_with_ends, losing_ends}
 use Rattle.edge_model.specs.State.{EdgeState, Peering, has_end, is_there, with_ends_beside, with_kept, with_peering}
 use Rattle.edge_model.specs.Tick.{ticks_sessions}
-use Rattle.edge_model.specs.Work.{Answers, Work, changes}
+use Rattle.edge_model.specs.Work.{Work, changes}
 use Rattle.peer_dialogue.specs.Heard.{CanBeHeard}
 use Rattle.peer_dialogue.specs.Hearing.{HearsOn, IsAtFault, IsAtPdu, IsWaitingFor, alive}
 use Rattle.peer_dialogue.specs.Peering.{at_edge}

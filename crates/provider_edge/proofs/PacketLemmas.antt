@@ -14,6 +14,7 @@ use Rattle.net_base.specs.declared.trace.drop_cause.DropCause.{DropCause}
 use Rattle.net_base.specs.declared.trace.drop_cause.DropCause.TheVariants as cause
 use Rattle.net_base.specs.plan.Paths.{offer_of}
 use Rattle.net_base.specs.plan.Places.{mtu_of, wire_row}
+use Rattle.pw_messages.specs.LinkAnswers.{Answers}
 use Rattle.eth_encap.specs.declared.stack_entry.StackEntry.{StackEntry}
 use Rattle.eth_encap.specs.Packet.{entry_of, unpacked}
 use Rattle.hvpls_spokes.specs.Port.{is_wire_port, ports_of}
@@ -29,7 +30,7 @@ use Rattle.edge_model.specs.Packet.{advertiser, advertises_label, alerted, alert
 use Rattle.edge_model.specs.Role.{down_at}
 use Rattle.edge_model.specs.Send.{drops}
 use Rattle.edge_model.specs.State.{EdgeState, end_at}
-use Rattle.edge_model.specs.Work.{Answers, Work, gives}
+use Rattle.edge_model.specs.Work.{Work, gives}
 use Rattle.pw_ends.specs.Ends.{end_in, end_there, place_of}
 use Rattle.peer_dialogue.specs.Peering.{at_edge}
 use Rattle.provider_edge.proofs.BridgeLemmas.{dropped_at}

@@ -16,8 +16,9 @@ use Rattle.pw_signalling.specs.Rows.{bound, group_stated, group_unbound, release
 use Rattle.pw_tlvs.specs.declared.point.Point.{Point}
 use Rattle.pw_tlvs.specs.declared.pw_fec.PwFec.{PwFec}
 use Rattle.pw_tlvs.specs.declared.pw_status.PwStatus.{PwStatus}
+use Rattle.pw_messages.specs.Content.{binding_in, mapping, pw_status_code, status_notification, withdrawal}
+use Rattle.pw_messages.specs.LinkAnswers.{Answers}
 use Rattle.pw_ends.specs.Ends.{EndLists, place_of}
-use Rattle.edge_model.specs.Content.{binding_in, mapping, pw_status_code, status_notification, withdrawal}
 use Rattle.edge_model.specs.declared.effect.Effect.{Effect}
 use Rattle.edge_model.specs.declared.effect.Effect.TheVariants.{Wire}
 use Rattle.edge_model.specs.declared.end_place.EndPlace.{EndPlace}
@@ -28,7 +29,7 @@ use Rattle.edge_model.specs.Put.{Spoken, stays}
 use Rattle.edge_model.specs.Session.{says}
 use Rattle.edge_model.specs.Signal.{end_of_fec, hears_mapping, hears_release, hears_status, hears_withdraw, maps_to, releases_label, takes_content, with_end_changed, with_named, with_released}
 use Rattle.edge_model.specs.State.{EdgeState, with_told_down}
-use Rattle.edge_model.specs.Work.{Answers, Work, changes, gives}
+use Rattle.edge_model.specs.Work.{Work, changes, gives}
 use Rattle.peer_dialogue.specs.Peering.{at_edge}
 use Rattle.provider_edge.specs.Changes.{changing}
 use Rattle.provider_edge.specs.Lists.{EdgeLists, seen}

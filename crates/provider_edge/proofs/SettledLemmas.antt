@@ -12,6 +12,8 @@ use Rattle.net_base.specs.declared.trace.down.Down.{Down}
 use Rattle.net_base.specs.plan.Paths.{is_first, is_last, mate, offer_of}
 use Rattle.net_base.specs.plan.Places.{is_mesh_class, wire_row}
 use Rattle.net_base.specs.plan.Roles.{is_spoke_from}
+use Rattle.pw_messages.specs.Content.{content_of}
+use Rattle.pw_messages.specs.LinkAnswers.{Answers}
 use Rattle.hvpls_spokes.specs.Port.{is_wire_port, ports_of}
 use Rattle.label_space.specs.declared.kept.Kept.{Kept}
 use Rattle.label_space.specs.Kept.{least_free}
@@ -30,7 +32,6 @@ use Rattle.spoke_redundancy.specs.declared.spoke.Spoke.{Spoke}
 use Rattle.spoke_redundancy.specs.Choice.{chosen}
 use Rattle.spoke_redundancy.specs.Telling.{is_not_chosen}
 use Rattle.edge_model.specs.Across.{held_beyond, held_from, held_of, mate_of}
-use Rattle.edge_model.specs.Content.{content_of}
 use Rattle.edge_model.specs.declared.effect.Effect.{Effect}
 use Rattle.edge_model.specs.declared.end_place.EndPlace.{EndPlace}
 use Rattle.edge_model.specs.EndPlaces.{end_places, is_at, is_terminal}
@@ -42,7 +43,7 @@ use Rattle.edge_model.specs.Session.{clears_ends, losing_ends}
 use Rattle.edge_model.specs.Settled.{IsForgotten, IsSettled, is_down_told, is_mended, is_told, tells_now, tells_wish}
 use Rattle.edge_model.specs.Spokes.{choice, is_spoke_row, spoke_at, spoke_places}
 use Rattle.edge_model.specs.State.{EdgeState, Peering, addresses_of, end_at, has_end, put_at, with_bits, with_chosen, with_end, with_ends_beside, with_kept, with_next_label, with_peering, with_priority, with_renewed, with_told_down, with_wire, without_port}
-use Rattle.edge_model.specs.Work.{Answers, Work, changes}
+use Rattle.edge_model.specs.Work.{Work, changes}
 use Rattle.edge_model.proofs.MendedLemmas.{IsMended, forgets_down_not, mends_end_not, mends_not, mends_status_not, tells_down_not}
 use Rattle.edge_model.proofs.PlaceLemmas.{IsEndOf, places_are}
 use Rattle.pw_ends.specs.Ends.{place_of, seen_ends}

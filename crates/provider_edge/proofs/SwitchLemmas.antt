@@ -11,6 +11,7 @@ use Rattle.net_base.specs.declared.trace.drop_cause.DropCause.TheVariants as cau
 use Rattle.net_base.specs.plan.Paths.{mate}
 use Rattle.net_base.specs.plan.Places.{wire_row}
 use Rattle.byteorder.specs.Endian.{big_bytes, big_number}
+use Rattle.pw_messages.specs.LinkAnswers.{Answers}
 use Rattle.eth_encap.specs.declared.stack_entry.StackEntry.{StackEntry}
 use Rattle.pw_signalling.specs.End.{EndState, fresh}
 use Rattle.pw_stitch.specs.declared.swap_drop.SwapDrop.{SwapDrop}
@@ -23,7 +24,7 @@ use Rattle.edge_model.specs.declared.end_place.EndPlace.{EndPlace}
 use Rattle.edge_model.specs.Packet.{switched, switched_by, switched_to, switched_under, towards}
 use Rattle.edge_model.specs.Send.{drops, had_posted, sends}
 use Rattle.edge_model.specs.State.{EdgeState}
-use Rattle.edge_model.specs.Work.{Answers, Work, gives, next_answer, posts}
+use Rattle.edge_model.specs.Work.{Work, gives, next_answer, posts}
 use Rattle.pw_ends.specs.Ends.{end_in, place_of, seen_ends}
 use Rattle.peer_dialogue.specs.Peering.{at_edge}
 use Rattle.provider_edge.proofs.BridgeLemmas.{dropped_at}

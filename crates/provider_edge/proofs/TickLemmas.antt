@@ -4,11 +4,11 @@ use Rattle.std.specs.List.{list_all}
 use Rattle.net_base.specs.declared.outside.link_call.LinkCall.{LinkCall}
 use Rattle.net_base.specs.declared.plan.places.EdgeId.{EdgeId}
 use Rattle.session_core.specs.Table.{SessionEvent, Ticked}
+use Rattle.pw_messages.specs.LinkAnswers.{Answers}
 use Rattle.edge_model.specs.declared.effect.Effect.{Effect}
 use Rattle.edge_model.specs.Session.{losing_ends, happens, happens_to, happens_with_ends}
 use Rattle.edge_model.specs.State.{EdgeState, Peering, has_end, is_there}
 use Rattle.edge_model.specs.Tick.{ticks_sessions}
-use Rattle.edge_model.specs.Work.{Answers}
 use Rattle.edge_model.proofs.LocalLemmas.{and_left, and_right, is_not}
 use Rattle.peer_dialogue.specs.Peering.{at_edge}
 use Rattle.provider_edge.proofs.LiftLemmas.{happened}

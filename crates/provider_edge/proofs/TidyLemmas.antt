@@ -15,6 +15,7 @@ use Rattle.net_values.specs.declared.mac.Mac.{Mac}
 use Rattle.net_base.specs.plan.Places.{wire_row}
 use Rattle.label_space.specs.declared.kept.Kept.{Kept}
 use Rattle.label_space.specs.Kept.{met}
+use Rattle.pw_messages.specs.LinkAnswers.{Answers}
 use Rattle.mac_table.specs.Addresses.{entry_stays, is_young}
 use Rattle.mac_table.specs.declared.mac_entry.MacEntry.{MacEntry}
 use Rattle.pw_signalling.specs.declared.told.Told.{Told}
@@ -33,7 +34,7 @@ use Rattle.edge_model.specs.Session.{clears_ends, losing_ends}
 use Rattle.edge_model.specs.Settled.{IsSettled, is_mended}
 use Rattle.edge_model.specs.State.{EdgeState, Peering, addresses_of, end_at, has_end, is_there, put_at, with_addresses, with_circuit, with_kept, with_learned, with_next_ping, with_peering, with_ticks, without_port}
 use Rattle.edge_model.specs.Tick.{aged, forgetting}
-use Rattle.edge_model.specs.Work.{Answers, Work, changes}
+use Rattle.edge_model.specs.Work.{Work, changes}
 use Rattle.edge_model.proofs.AgainLemmas.{mends_at_once, one_end}
 use Rattle.edge_model.proofs.MendedLemmas.{IsMended, round_mends}
 use Rattle.peer_dialogue.specs.Peering.{at_edge}

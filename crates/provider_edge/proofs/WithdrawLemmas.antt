@@ -6,14 +6,15 @@ use Rattle.std.proofs.Math.Seq.{drop-nil}
 use Rattle.net_values.specs.declared.mac.Mac.{Mac}
 use Rattle.pw_signalling.specs.End.{LocalPart, Idle, Advertised, Withdrawing}
 use Rattle.pw_signalling.specs.declared.told.Told.{Told}
+use Rattle.pw_messages.specs.Content.{mac_withdrawal}
+use Rattle.pw_messages.specs.LinkAnswers.{Answers}
 use Rattle.mac_withdraw.specs.Pieces.{piece_count, pieces_from}
-use Rattle.edge_model.specs.Content.{mac_withdrawal}
 use Rattle.edge_model.specs.declared.end_place.EndPlace.{EndPlace}
 use Rattle.edge_model.specs.Put.{Spoken, stays}
 use Rattle.edge_model.specs.Session.{says}
 use Rattle.edge_model.specs.State.{end_at}
 use Rattle.edge_model.specs.Withdraw.{tells_piece, tells_piece_by, tells_pieces}
-use Rattle.edge_model.specs.Work.{Answers, Work}
+use Rattle.edge_model.specs.Work.{Work}
 
 -- ---- one piece
 

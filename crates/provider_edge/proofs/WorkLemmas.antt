@@ -11,6 +11,7 @@ use Rattle.net_base.specs.declared.plan.places.ServiceId.{ServiceId}
 use Rattle.net_base.specs.declared.trace.arrival.Arrival.TheVariants as arrival
 use Rattle.net_base.specs.plan.Places.{circuit_row}
 use Rattle.net_base.specs.trace.Isolated.{inner_at}
+use Rattle.pw_messages.specs.LinkAnswers.{Agrees, Answers}
 use Rattle.hvpls_spokes.specs.Port.{is_circuit_port, ports_of}
 use Rattle.edge_model.specs.declared.effects.Effects.{Effects}
 use Rattle.edge_model.specs.declared.input.Input.{Input}
@@ -19,7 +20,7 @@ use Rattle.edge_model.specs.Frame.{frame_input, is_own, received}
 use Rattle.edge_model.specs.Mend.{mends}
 use Rattle.edge_model.specs.State.{EdgeState, addresses_of, is_on, with_addresses, with_circuit, without_port}
 use Rattle.edge_model.specs.Step.{edge_step}
-use Rattle.edge_model.specs.Work.{Agrees, Answers, Work, beginning, changes, idles}
+use Rattle.edge_model.specs.Work.{Work, beginning, changes, idles}
 use Rattle.edge_forwarding.specs.Forwarding.{own_service}
 use Rattle.edge_forwarding.proofs.ForwardingLemmas.{OwnRow, own_row, other_row}
 use Rattle.provider_edge.specs.Lists.{EdgeLists, Keeps, seen, worked}

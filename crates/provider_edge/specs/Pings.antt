@@ -10,6 +10,7 @@ use Rattle.net_base.specs.plan.Paths.{edge_address}
 use Rattle.net_base.specs.plan.Places.{wire_row}
 use Rattle.net_values.specs.declared.addr.Addr.{Addr}
 use Rattle.pw_signalling.specs.declared.binding.Binding.{Binding}
+use Rattle.pw_messages.specs.LinkAnswers.{Answers}
 use Rattle.pw_stitch.specs.Stitch.{has_told}
 use Rattle.vccv_channel.specs.declared.cc.Cc.{Cc}
 use Rattle.vccv_channel.specs.declared.ping.Ping.{Ping}
@@ -19,7 +20,7 @@ use Rattle.edge_model.specs.Echo.{channel_octets, channel_under, verifies_in}
 use Rattle.edge_model.specs.Ping.{far_address, ping_between, pinging}
 use Rattle.edge_model.specs.Send.{drops, sends}
 use Rattle.edge_model.specs.State.{EdgeState, end_at, first_ping}
-use Rattle.edge_model.specs.Work.{Answers, Work, changes, idles}
+use Rattle.edge_model.specs.Work.{Work, changes, idles}
 
 -- the wire counts as not pinged
 abbrev pub unpinged : ℕ → ℕ

@@ -2,6 +2,7 @@
 use Rattle.std.specs.Prelude.{◌≡◌, ◌<◌, ℕ, Bool, true, false, not, length, List, Option, Some, None}
 use Rattle.net_base.specs.declared.outside.link_call.LinkCall.{LinkCall}
 use Rattle.net_base.specs.declared.plan.Plan.{Plan}
+use Rattle.pw_messages.specs.LinkAnswers.{Answers}
 use Rattle.edge_model.specs.declared.effect.Effect.{Effect}
 use Rattle.edge_model.specs.declared.end_place.EndPlace.{EndPlace}
 use Rattle.edge_model.specs.EndPlaces.{end_places}
@@ -10,7 +11,6 @@ use Rattle.edge_model.specs.Mend.{mends}
 use Rattle.edge_model.specs.Settled.{IsSettled}
 use Rattle.edge_model.specs.Spokes.{choice}
 use Rattle.edge_model.specs.State.{EdgeState, Peering}
-use Rattle.edge_model.specs.Work.{Answers}
 use Rattle.peer_dialogue.specs.Peering.{at_edge}
 use Rattle.provider_edge.specs.declared.end_marks.EndMarks.{EndMarks}
 use Rattle.provider_edge.specs.Marks.{IsUnmarked, MarksEach, MarksWire, place_at}

@@ -3,6 +3,7 @@ ghost use Rattle.std.specs.Prelude.{◌≡◌, ◌<◌, ◌≤◌, ◌↔◌, �
 ghost use Rattle.std.specs.List.{find};
 ghost use Rattle.net_base.specs.plan.Accepted.{IsChecked};
 ghost use Rattle.net_base.specs.plan.Places.{service_row};
+ghost use Rattle.pw_messages.specs.LinkAnswers.{Agrees, Answers};
 ghost use Rattle.hvpls_spokes.specs.Port.{ports_of};
 ghost use Rattle.pw_signalling.specs.AnyEnd.{end_of};
 ghost use Rattle.edge_model.specs.EndPlaces.{end_places, ends_here, is_end_of_wire};
@@ -10,7 +11,7 @@ ghost use Rattle.edge_model.specs.Role.{down_at};
 ghost use Rattle.edge_model.specs.State.{addresses_of, empty_edge, end_at, has_end, is_on};
 ghost use Rattle.edge_model.specs.Step.{edge_step};
 ghost use Rattle.edge_model.specs.Synced.{InSync};
-ghost use Rattle.edge_model.specs.Work.{Agrees, Answers, GoesOn, beginning};
+ghost use Rattle.edge_model.specs.Work.{GoesOn, beginning};
 ghost use Rattle.edge_forwarding.specs.Domain.{age_of};
 ghost use Rattle.provider_edge.specs.Bounds.{IsBounded};
 ghost use Rattle.provider_edge.specs.EndOf.{is_of_segment};

@@ -8,6 +8,7 @@ use Rattle.net_base.specs.declared.plan.places.WireId.{WireId}
 use Rattle.net_base.specs.declared.trace.entry.Entry.{Entry}
 use Rattle.net_base.specs.declared.trace.entry.Entry.TheVariants.{Idle}
 use Rattle.net_base.specs.plan.Places.{circuit_row}
+use Rattle.pw_messages.specs.LinkAnswers.{Answers}
 use Rattle.edge_model.specs.Circuit.{circuit_input}
 use Rattle.edge_model.specs.declared.effect.Effect.{Effect}
 use Rattle.edge_model.specs.declared.effects.Effects.{Effects}
@@ -19,7 +20,7 @@ use Rattle.network_model.specs.Absorb.{idle as idle_event}
 use Rattle.network_model.specs.Circuit.{circuit_event}
 use Rattle.edge_model.proofs.BridgeLemmas.{PingGoes, PingIdles, PingOutcome, ping_outcome}
 use Rattle.edge_model.specs.Ping.{ping_input}
-use Rattle.edge_model.specs.Work.{Answers, idles}
+use Rattle.edge_model.specs.Work.{idles}
 use Rattle.network_model.specs.Ping.{ping_event}
 use Rattle.network_model.specs.State.{NetworkState, edge_at, with_edge}
 use Rattle.network_model.specs.Wire.{priority_event, status_event, wire_event}

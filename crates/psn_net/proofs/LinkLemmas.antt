@@ -1,7 +1,7 @@
 -- A link that takes every call.
 use Rattle.std.proofs.Common.{◌≡◌, ◌<◌, ◌++◌, ◌∷◌, [], ℕ, suc, zero, List, true, arith, length, slice_index_or}
 use Rattle.net_base.specs.declared.outside.link_call.LinkCall.{LinkCall}
-use Rattle.edge_model.specs.Work.{Agrees}
+use Rattle.pw_messages.specs.LinkAnswers.{Agrees}
 use Rattle.network_model.specs.Absorb.{taken_all}
 
 pub agrees_none : Agrees taken_all []

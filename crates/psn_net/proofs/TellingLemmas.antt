@@ -25,10 +25,11 @@ use Rattle.session_core.specs.Phase.{Phase}
 use Rattle.session_core.specs.Session.{phase_name}
 use Rattle.session_core.specs.Table as table
 use Rattle.session_core.specs.Table.{SessionEvent, Outcome, Stay, Goes, Ends, outcome_of}
+use Rattle.pw_messages.specs.Content.{mac_withdrawal, mapping, release, status_notification, withdrawal}
+use Rattle.pw_messages.specs.LinkAnswers.{Answers}
 use Rattle.edge_model.specs.Circuit.{circuit_input, is_same, turned}
 use Rattle.edge_model.specs.Clear.{withdrawing_at}
 use Rattle.edge_model.specs.Connection.{connected_input, connects_between, lost_input, opened_with}
-use Rattle.edge_model.specs.Content.{mac_withdrawal, mapping, release, status_notification, withdrawal}
 use Rattle.edge_model.specs.declared.effect.Effect.{Effect}
 use Rattle.edge_model.specs.declared.effect.Effect.TheVariants as effect
 use Rattle.edge_model.specs.declared.end_place.EndPlace.{EndPlace}
@@ -47,7 +48,7 @@ use Rattle.edge_model.specs.Spokes.{choosing}
 use Rattle.edge_model.specs.State.{EdgeState, Peering, has_end, is_on, is_there, with_addresses, with_bits, with_chosen, with_circuit, with_end, with_ends_beside, with_learned, with_next_label, with_peering, with_priority, with_renewed, with_ticks, with_kept, with_told_down, with_wire}
 use Rattle.edge_model.specs.Tick.{counted, forgetting, tick_input, ticks_sessions}
 use Rattle.edge_model.specs.Wire.{is_own_spoke, priority_input, status_input, turned_wire, wire_input}
-use Rattle.edge_model.specs.Work.{Work, Answers, beginning, changes, gives, idles, next_answer, puts}
+use Rattle.edge_model.specs.Work.{Work, beginning, changes, gives, idles, next_answer, puts}
 use Rattle.edge_model.proofs.BridgeLemmas.{BridgesInput, BridgesOnly, PingsInput, forgetting_only, frame_bridges, is_of_bridging, packet_bridges, ping_bridges}
 use Rattle.edge_model.proofs.SessionLemmas.{GivesOnly, are_all, are_all-append}
 use Rattle.edge_model.proofs.WalkLemmas.{HearSteps, MendSteps, hears_on_holds, mends_holds, ticks_hold}

@@ -1,6 +1,6 @@
 //! The link of an edge in the network.
 ghost use Rattle.std.specs.Prelude.{◌≡◌, ◌++◌, ◌∷◌, [], true, false};
-ghost use Rattle.edge_model.specs.Work.{Agrees};
+ghost use Rattle.pw_messages.specs.LinkAnswers.{Agrees};
 ghost use Rattle.network_model.specs.Absorb.{taken_all};
 ghost use Rattle.net_base.specs.outside.Link.{call_of};
 
@@ -19,7 +19,7 @@ pub struct PsnLink {
 impl Model for PsnLink {
     ghost use Rattle.std.specs.Prelude.{List};
     ghost use Rattle.net_base.specs.declared.outside.link_call.LinkCall.{LinkCall};
-    ghost use Rattle.edge_model.specs.Work.{Agrees};
+    ghost use Rattle.pw_messages.specs.LinkAnswers.{Agrees};
     ghost use Rattle.network_model.specs.Absorb.{taken_all};
 
     ghost Value = { List LinkCall };

@@ -4,8 +4,8 @@ ghost use Rattle.net_base.specs.plan.Accepted.{IsChecked};
 
 use crate::edges::plans::{A, B, C, PATH, TWO_WIRES, plan_of};
 use net_base::{EdgeId, Label, Offer, Plan, Text, WireId};
-use peer_dialogue::content_of;
 use pw_ends::PwEnds;
+use pw_messages::content_of;
 use pw_signalling::{Binding, PwEnd, Told};
 use pw_tlvs::PwStatus;
 use std::alloc::Global;

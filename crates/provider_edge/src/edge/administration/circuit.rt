@@ -2,8 +2,9 @@
 ghost use Rattle.std.specs.Prelude.{◌≡◌, [], Some, true, false, OnOk};
 ghost use Rattle.net_base.specs.declared.plan.circuit_plan.CircuitPlan.{CircuitPlan};
 ghost use Rattle.net_base.specs.plan.Places.{circuit_row};
+ghost use Rattle.pw_messages.specs.LinkAnswers.{Agrees, Answers};
 ghost use Rattle.edge_model.specs.Circuit.{circuit_input, turned};
-ghost use Rattle.edge_model.specs.Work.{Agrees, Answers, beginning};
+ghost use Rattle.edge_model.specs.Work.{beginning};
 ghost use Rattle.edge_forwarding.specs.Forwarding.{own_service};
 ghost use Rattle.provider_edge.specs.AtWork.{Takes, worked_at};
 ghost use Rattle.provider_edge.specs.Lists.{Keeps, seen};

@@ -1,6 +1,7 @@
 //! An inner frame is bridged: copies of it leave at circuits and are sent on wires (RFC 4762 sections 4.1, 4.4 and 7.1).
 ghost use Rattle.std.specs.Prelude.{◌≡◌, ◌≤◌, ◌<◌, ◌+◌, ◌++◌, [], ℕ, List, Result, None, Ok, Err, true, length, slice_get, if◌then◌else◌, IfOk, IfSome, OnOk, MatchResult};
 ghost use Rattle.net_base.specs.declared.trace.drop_cause.DropCause.{DropCause as Cause};
+ghost use Rattle.pw_messages.specs.LinkAnswers.{Agrees, Answers};
 ghost use Rattle.eth_encap.specs.Fault.{cause_of};
 ghost use Rattle.hvpls_spokes.specs.Port.{ports_of};
 ghost use Rattle.hvpls_spokes.specs.PortSet.{has};
@@ -9,7 +10,6 @@ ghost use Rattle.edge_model.specs.Ends.{wire_end};
 ghost use Rattle.edge_model.specs.Frame.{copies, copy_by, forwarded, hearing, received, targets_of};
 ghost use Rattle.edge_model.specs.Send.{sends, sends_copy};
 ghost use Rattle.edge_model.specs.Synced.{InSync};
-ghost use Rattle.edge_model.specs.Work.{Agrees, Answers};
 ghost use Rattle.pw_ends.specs.Ends.{end_in, place_of};
 ghost use Rattle.edge_forwarding.specs.Forwarding.{open_ports};
 ghost use Rattle.provider_edge.specs.Taking.{copied_by};

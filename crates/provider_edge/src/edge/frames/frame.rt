@@ -1,10 +1,11 @@
 //! A customer's frame comes by a circuit.
 ghost use Rattle.std.specs.Prelude.{◌≡◌, ◌==◌, [], Result, Ok, Some, true, false, OnOk};
 ghost use Rattle.net_base.specs.plan.Places.{circuit_row};
+ghost use Rattle.pw_messages.specs.LinkAnswers.{Agrees, Answers};
 ghost use Rattle.edge_model.specs.Frame.{frame_input};
 ghost use Rattle.edge_model.specs.State.{is_on};
 ghost use Rattle.edge_model.specs.Synced.{InSync};
-ghost use Rattle.edge_model.specs.Work.{Agrees, Answers, beginning};
+ghost use Rattle.edge_model.specs.Work.{beginning};
 ghost use Rattle.edge_forwarding.specs.Forwarding.{own_service};
 ghost use Rattle.provider_edge.specs.AtWork.{Takes, worked_at};
 ghost use Rattle.provider_edge.specs.Lists.{seen};

@@ -1,9 +1,9 @@
 //! An edge mends its ends (RFC 8077 sections 6 and 6.3): all steps, in the order of its ends.
 ghost use Rattle.std.specs.Prelude.{◌≡◌, ◌<◌, ◌+◌, List, None, length, false, IfOk, OnOk, true};
 ghost use Rattle.net_base.specs.declared.outside.link_call.LinkCall.{LinkCall};
+ghost use Rattle.pw_messages.specs.LinkAnswers.{Agrees, Answers};
 ghost use Rattle.edge_model.specs.EndPlaces.{end_places};
 ghost use Rattle.edge_model.specs.Mend.{each_end, forgets_downs, mends, mends_choice, mends_end, mends_once, mends_status, tells_downs};
-ghost use Rattle.edge_model.specs.Work.{Agrees, Answers};
 ghost use Rattle.edge_forwarding.specs.Views.{view};
 ghost use Rattle.peer_dialogue.specs.Peering.{at_edge};
 ghost use Rattle.provider_edge.specs.AtWork.{Works, at_work};

@@ -4,6 +4,7 @@ ghost use Rattle.std.specs.Prelude.{◌≡◌, ◌==◌, ◌&&◌, ◌≤◌, �
 ghost use Rattle.net_base.specs.declared.plan.wire_plan.WirePlan.{WirePlan};
 ghost use Rattle.net_base.specs.plan.Paths.{offer_of};
 ghost use Rattle.net_base.specs.plan.Places.{mtu_of, wire_row};
+ghost use Rattle.pw_messages.specs.LinkAnswers.{Agrees, Answers};
 ghost use Rattle.eth_encap.specs.Fault.{cause_of};
 ghost use Rattle.eth_encap.specs.Packet.{entry_of};
 ghost use Rattle.hvpls_spokes.specs.Port.{is_wire_port, ports_of};
@@ -13,7 +14,6 @@ ghost use Rattle.edge_model.specs.Ends.{is_up};
 ghost use Rattle.edge_model.specs.Packet.{advertiser, alerted, by_control_word, enters, is_alert, is_channel, labelled, packet_input, terminated, unpacked_at};
 ghost use Rattle.edge_model.specs.Role.{down_at};
 ghost use Rattle.edge_model.specs.Synced.{InSync};
-ghost use Rattle.edge_model.specs.Work.{Agrees, Answers};
 ghost use Rattle.pw_ends.specs.Ends.{end_in, place_of};
 ghost use Rattle.edge_forwarding.specs.Forwarding.{open_ports};
 ghost use Rattle.peer_dialogue.specs.AtWork.{WorkGoes};

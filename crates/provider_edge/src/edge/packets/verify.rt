@@ -3,6 +3,7 @@ ghost use Rattle.std.specs.Prelude.{◌≡◌, ◌<◌, ◌≤◌, true, Some, l
 ghost use Rattle.net_base.specs.declared.plan.wire_plan.WirePlan.{WirePlan};
 ghost use Rattle.net_base.specs.plan.Places.{wire_row};
 ghost use Rattle.net_base.specs.declared.trace.arrival.Arrival.TheVariants.{Own};
+ghost use Rattle.pw_messages.specs.LinkAnswers.{Agrees, Answers};
 ghost use Rattle.pw_ends.specs.Ends.{end_in, place_of};
 ghost use Rattle.pw_signalling.specs.declared.binding.Binding.{Binding as Bound};
 ghost use Rattle.vccv_channel.specs.Channel.{has_header};
@@ -10,7 +11,6 @@ ghost use Rattle.vccv_channel.specs.Pick.{picked};
 ghost use Rattle.vccv_channel.specs.Reading.{behind_header};
 ghost use Rattle.edge_model.specs.Echo.{is_picked, ping_number, verifies};
 ghost use Rattle.edge_model.specs.declared.effect.Effect.TheVariants.{Pong};
-ghost use Rattle.edge_model.specs.Work.{Agrees, Answers};
 ghost use Rattle.peer_dialogue.specs.AtWork.{WorkGoes};
 ghost use Rattle.provider_edge.specs.AtWork.{at_work};
 ghost use Rattle.provider_edge.specs.Pings.{channel_by, verified_by};

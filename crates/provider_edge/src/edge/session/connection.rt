@@ -3,9 +3,10 @@ ghost use Rattle.std.specs.Prelude.{◌≡◌, ◌<◌, [], true, false, List, l
 ghost use Rattle.std.specs.List.{list_any};
 ghost use Rattle.net_base.specs.plan.Paths.{are_joined};
 ghost use Rattle.session_core.specs.State.{IsProper};
+ghost use Rattle.pw_messages.specs.LinkAnswers.{Agrees, Answers};
 ghost use Rattle.edge_model.specs.Connection.{connected_input, connects, lost_input, restart_input};
 ghost use Rattle.edge_model.specs.Labels.{meeting};
-ghost use Rattle.edge_model.specs.Work.{Agrees, Answers, beginning};
+ghost use Rattle.edge_model.specs.Work.{beginning};
 ghost use Rattle.net_base.specs.declared.outside.link_call.LinkCall.{LinkCall};
 ghost use Rattle.peer_dialogue.specs.Peering.{connection_with, gone, peers_between};
 ghost use Rattle.provider_edge.specs.AtWork.{Takes, Works, at_work, worked_at};

@@ -1,4 +1,5 @@
 //! Octets of LDP are heard (RFC 5036 section 3.5.3): one PDU after another, and each message of a PDU in turn.
+ghost use Rattle.pw_messages.specs.LinkAnswers.{Agrees, Answers};
 ghost use Rattle.edge_model.specs.declared.effect.Effect.{Effect};
 ghost use Rattle.net_base.specs.declared.outside.link_call.LinkCall.{LinkCall};
 ghost use Rattle.std.specs.Prelude.{◌≡◌, ◌<◌, ◌+◌, ◌++◌, List, ℕ, true, Some, OnOk, false, []};
@@ -6,7 +7,7 @@ ghost use Rattle.std.specs.List.{AllByRecursion};
 ghost use Rattle.net_values.specs.Octets.{AreOctets};
 ghost use Rattle.edge_model.specs.Hear.{acts_on, advice_of, advises, hears, hears_message, hears_pdu, octets_input, holds};
 ghost use Rattle.edge_model.specs.State.{has_end};
-ghost use Rattle.edge_model.specs.Work.{Agrees, Answers, beginning};
+ghost use Rattle.edge_model.specs.Work.{beginning};
 ghost use Rattle.peer_dialogue.specs.Heard.{CanBeHeard};
 ghost use Rattle.peer_dialogue.specs.Hearing.{HearsOn, IsWaitingFor, alive};
 ghost use Rattle.peer_dialogue.specs.Peering.{at_edge};
@@ -17,7 +18,8 @@ ghost use Rattle.provider_edge.specs.Lists.{Keeps, seen};
 use crate::Edge;
 use ldp_grammar::{LdpId, Message, Pdu};
 use net_base::{EdgeId, Link, NoMemory};
-use peer_dialogue::{AtWork, Event, Held, Next, advice_of, binding_in};
+use peer_dialogue::{AtWork, Event, Held, Next, advice_of};
+use pw_messages::binding_in;
 
 impl Edge {
     // Octets of LDP come from a peer.

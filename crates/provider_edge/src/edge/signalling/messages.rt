@@ -2,9 +2,9 @@
 //! 6.3.2), one call a message.
 ghost use Rattle.std.specs.Prelude.{◌≡◌, ◌≤◌, ◌<◌, Some, None, List, length, OnOk, option_copied, true, false};
 ghost use Rattle.net_base.specs.declared.outside.link_call.LinkCall.{LinkCall};
+ghost use Rattle.pw_messages.specs.LinkAnswers.{Agrees, Answers};
 ghost use Rattle.edge_model.specs.declared.effect.Effect.{Effect};
 ghost use Rattle.edge_model.specs.Signal.{end_of_fec, hears_status, hears_withdraw, maps_to, releases_label, with_released};
-ghost use Rattle.edge_model.specs.Work.{Agrees, Answers};
 ghost use Rattle.peer_dialogue.specs.Heard.{CanBeTold};
 ghost use Rattle.peer_dialogue.specs.Peering.{at_edge};
 ghost use Rattle.provider_edge.specs.AtWork.{Works, at_work};
@@ -15,11 +15,9 @@ use ldp_grammar::StatusCode;
 use net_base::{EdgeId, Label, Link, NoMemory};
 use peer_dialogue::{AtWork, PwMessage};
 use pw_ends::EndChange;
+use pw_messages::PW_STATUS_CODE;
 use pw_signalling::Binding;
 use pw_tlvs::{PwFec, PwStatus};
-
-// The status data of a Notification that tells the status of a pseudowire (RFC 8077 section 6.3.2).
-const PW_STATUS_CODE: u32 = 0x28;
 
 impl Edge {
     // Label Mapping: a known pseudowire is bound; the label of an unknown one is released.

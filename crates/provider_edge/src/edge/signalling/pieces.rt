@@ -1,9 +1,9 @@
 //! An edge tells a neighbour that addresses are to be forgotten: a MAC withdraw on an end, in pieces (RFC 4762 section 6.2).
 ghost use Rattle.std.specs.Prelude.{◌≡◌, ◌<◌, ◌≤◌, ◌*◌, length, take, drop, IfOk, OnOk, true};
+ghost use Rattle.pw_messages.specs.LinkAnswers.{Agrees, Answers};
 ghost use Rattle.mac_withdraw.specs.Pieces.{pieces_of};
 ghost use Rattle.pw_ends.specs.Ends.{place_of};
 ghost use Rattle.edge_model.specs.Withdraw.{tells_piece, tells_pieces};
-ghost use Rattle.edge_model.specs.Work.{Agrees, Answers};
 ghost use Rattle.provider_edge.specs.AtWork.{Works, at_work};
 
 use crate::Edge;

@@ -1,8 +1,8 @@
 use Rattle.std.proofs.Common.{◌≡◌, ℕ, List, Some, drop}
 use Rattle.session_core.specs.State.{SessionState}
+use Rattle.pw_messages.specs.LinkAnswers.{Agrees, Answers}
 use Rattle.edge_model.specs.Put.{put_replies}
 use Rattle.edge_model.specs.State.{EdgeState}
-use Rattle.edge_model.specs.Work.{Agrees, Answers}
 use Rattle.peer_dialogue.specs.AtWork.{WorkGoes}
 use Rattle.peer_dialogue.specs.Peering.{at_peer, having_put}
 use Rattle.peer_dialogue.proofs.speaker.Speaker.put_replies.Given as goal

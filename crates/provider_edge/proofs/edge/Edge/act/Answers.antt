@@ -1,6 +1,7 @@
 use Rattle.std.proofs.Common.{◌≡◌, ◌∙◌, refl}
+use Rattle.pw_messages.specs.LinkAnswers.{Answers}
 use Rattle.edge_model.specs.Hear.{acts_on, advice_of, advises}
-use Rattle.edge_model.specs.Work.{Answers, Work}
+use Rattle.edge_model.specs.Work.{Work}
 use Rattle.peer_dialogue.proofs.SettleLemmas.{map_on}
 use Rattle.provider_edge.proofs.ActLemmas.{is_advised, mapping_acts, release_acts, split}
 use Rattle.provider_edge.proofs.ClearLemmas.{withdraw_acts}

@@ -1,7 +1,7 @@
 use Rattle.std.proofs.Common.{◌≡◌, drop}
+use Rattle.pw_messages.specs.LinkAnswers.{Agrees, Answers}
 use Rattle.hvpls_spokes.specs.PortSet.{has}
 use Rattle.edge_model.specs.Frame.{copies, copy_by}
-use Rattle.edge_model.specs.Work.{Agrees, Answers}
 use Rattle.peer_dialogue.specs.AtWork.{WorkGoes}
 use Rattle.provider_edge.specs.AtWork.{at_work}
 use Rattle.provider_edge.proofs.edge.Edge.bridge_octets.Given as goal

@@ -1,6 +1,6 @@
 use Rattle.std.proofs.Common.{◌++◌, ◌≤◌, ◌-◌, drop, length}
+use Rattle.pw_messages.specs.LinkAnswers.{Agrees, Answers}
 use Rattle.peer_dialogue.specs.Hearing.{HearsOn}
-use Rattle.edge_model.specs.Work.{Agrees, Answers}
 use Rattle.provider_edge.specs.AtWork.{Works, at_work}
 use Rattle.provider_edge.proofs.edge.Edge.hear.Given as goal
 

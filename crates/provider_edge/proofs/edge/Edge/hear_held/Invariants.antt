@@ -1,7 +1,7 @@
 use Rattle.std.proofs.Common.{◌++◌, ℕ, List, length}
 use Rattle.net_values.specs.Octets.{AreOctets}
+use Rattle.pw_messages.specs.LinkAnswers.{Agrees, Answers}
 use Rattle.peer_dialogue.specs.Hearing.{HearsOn}
-use Rattle.edge_model.specs.Work.{Agrees, Answers}
 use Rattle.provider_edge.specs.AtWork.{Works, at_work}
 use Rattle.provider_edge.proofs.edge.Edge.hear_held.Given as goal
 

@@ -1,6 +1,6 @@
 use Rattle.std.proofs.Common.{◌≡◌, ◌∙◌, true, false, refl, sym}
+use Rattle.pw_messages.specs.LinkAnswers.{Agrees, Answers}
 use Rattle.edge_model.specs.Hear.{hears_one}
-use Rattle.edge_model.specs.Work.{Agrees, Answers}
 use Rattle.peer_dialogue.proofs.SettleLemmas.{map_on}
 use Rattle.peer_dialogue.proofs.SpeakerLemmas.{agrees_before}
 use Rattle.provider_edge.proofs.ActLemmas.{acts_not, acts_there}

@@ -1,6 +1,6 @@
 use Rattle.std.proofs.Common.{◌≡◌, ◌-◌}
+use Rattle.pw_messages.specs.LinkAnswers.{Agrees, Answers}
 use Rattle.edge_model.specs.Mend.{mends_few}
-use Rattle.edge_model.specs.Work.{Agrees, Answers}
 use Rattle.provider_edge.specs.AtWork.{Works, at_work}
 use Rattle.provider_edge.proofs.edge.Edge.mend.Given as goal
 

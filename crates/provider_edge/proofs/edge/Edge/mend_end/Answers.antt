@@ -1,6 +1,6 @@
 use Rattle.std.proofs.Common.{◌∙◌, ℕ, Option, ap, refl, sym}
+use Rattle.pw_messages.specs.Content.{withdrawal}
 use Rattle.edge_model.specs.declared.end_place.EndPlace.{EndPlace}
-use Rattle.edge_model.specs.Content.{withdrawal}
 use Rattle.edge_model.specs.Mend.{stands, wish}
 use Rattle.edge_model.specs.Put.{Spoken}
 use Rattle.edge_model.specs.Session.{says}

@@ -1,7 +1,7 @@
 use Rattle.std.proofs.Common.{◌∙◌, ap, sym}
 use Rattle.std.proofs.lemmas.Bool.{eq-eqb, ne_eqb}
+use Rattle.pw_messages.specs.Content.{status_notification}
 use Rattle.edge_model.specs.declared.end_place.EndPlace.{EndPlace}
-use Rattle.edge_model.specs.Content.{status_notification}
 use Rattle.edge_model.specs.Put.{Spoken}
 use Rattle.edge_model.specs.Role.{status_to_tell}
 use Rattle.edge_model.specs.Session.{says}

@@ -1,7 +1,7 @@
 use Rattle.std.proofs.Common.{◌≡◌, drop}
+use Rattle.pw_messages.specs.LinkAnswers.{Agrees, Answers}
 use Rattle.edge_model.specs.EndPlaces.{end_places}
 use Rattle.edge_model.specs.Mend.{each_end, mends_status}
-use Rattle.edge_model.specs.Work.{Agrees, Answers}
 use Rattle.provider_edge.specs.AtWork.{Works, at_work}
 use Rattle.provider_edge.proofs.edge.Edge.mend_statuses.Given as goal
 

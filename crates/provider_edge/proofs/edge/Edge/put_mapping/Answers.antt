@@ -1,6 +1,6 @@
 use Rattle.std.proofs.Common.{◌∙◌, ap}
+use Rattle.pw_messages.specs.Content.{mapping}
 use Rattle.edge_model.specs.declared.end_place.EndPlace.{EndPlace}
-use Rattle.edge_model.specs.Content.{mapping}
 use Rattle.edge_model.specs.Mend.{wish}
 use Rattle.edge_model.specs.Session.{says}
 use Rattle.peer_dialogue.proofs.SettleLemmas.{map_ok}

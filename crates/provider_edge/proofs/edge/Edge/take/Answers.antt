@@ -1,11 +1,12 @@
 use Rattle.std.proofs.Common.{rules, ◌≡◌, ◌∙◌, List, true, false, ap, sym, subst}
 use Rattle.net_base.specs.declared.outside.link_call.LinkCall.{LinkCall}
 use Rattle.net_base.specs.declared.plan.Plan.{Plan}
+use Rattle.pw_messages.specs.LinkAnswers.{Agrees, Answers}
 use Rattle.edge_model.specs.declared.effects.Effects.{Effects}
 use Rattle.edge_model.specs.State.{EdgeState}
 use Rattle.edge_model.specs.Step.{edge_step}
 use Rattle.edge_model.specs.Synced.{InSync}
-use Rattle.edge_model.specs.Work.{Agrees, Answers, beginning}
+use Rattle.edge_model.specs.Work.{beginning}
 use Rattle.provider_edge.specs.contracts.edge.Edge.{the_view}
 use Rattle.provider_edge.proofs.EdgeLemmas.{edge_begins, edge_going, seen_stopped, worked_stopped}
 use Rattle.provider_edge.proofs.EffectLemmas.{Steps, steps_fit, steps_synced, steps_tell}

@@ -1,9 +1,9 @@
 use Rattle.std.proofs.Common.{◌∙◌, ap, sym}
+use Rattle.pw_messages.specs.Content.{mac_withdrawal}
 use Rattle.pw_ends.specs.Ends.{place_of}
 use Rattle.pw_signalling.specs.End.{Advertised}
 use Rattle.pw_signalling.specs.declared.told.Told.{Told}
 use Rattle.edge_model.specs.declared.end_place.EndPlace.{EndPlace}
-use Rattle.edge_model.specs.Content.{mac_withdrawal}
 use Rattle.edge_model.specs.Session.{says}
 use Rattle.peer_dialogue.proofs.SettleLemmas.{map_ok}
 use Rattle.provider_edge.proofs.MendLemmas.{local_is}

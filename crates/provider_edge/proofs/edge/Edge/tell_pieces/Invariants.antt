@@ -1,7 +1,7 @@
 use Rattle.std.proofs.Common.{◌≡◌, ◌-◌, ◌*◌, length, drop}
+use Rattle.pw_messages.specs.LinkAnswers.{Agrees, Answers}
 use Rattle.mac_withdraw.specs.Pieces.{piece_count, pieces_from, pieces_of}
 use Rattle.edge_model.specs.Withdraw.{tells_pieces}
-use Rattle.edge_model.specs.Work.{Agrees, Answers}
 use Rattle.pw_ends.specs.Ends.{place_of}
 use Rattle.provider_edge.specs.AtWork.{Works, at_work}
 use Rattle.provider_edge.proofs.edge.Edge.tell_pieces.Given as goal

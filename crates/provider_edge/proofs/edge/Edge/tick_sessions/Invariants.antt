@@ -1,6 +1,6 @@
 use Rattle.std.proofs.Common.{◌≡◌, ◌-◌, length}
+use Rattle.pw_messages.specs.LinkAnswers.{Agrees, Answers}
 use Rattle.edge_model.specs.Tick.{ticks_sessions}
-use Rattle.edge_model.specs.Work.{Agrees, Answers}
 use Rattle.provider_edge.specs.AtWork.{Works, at_work}
 use Rattle.provider_edge.proofs.edge.Edge.tick_sessions.Given as goal
 

@@ -1,8 +1,8 @@
 //! The messages about a pseudowire.
 ghost use Rattle.std.specs.Prelude.{◌≡◌, ◌≤◌, ◌+◌, true, length};
-ghost use Rattle.edge_model.specs.Content.{mac_withdrawal, mapping, release, status_notification, withdrawal};
 ghost use Rattle.ldp_grammar.specs.Written.{address_octets, mac_count, message_octets, writable};
 ghost use Rattle.pw_tlvs.specs.Written.{has_vlan};
+ghost use Rattle.pw_messages.specs.Content.{mac_withdrawal, mapping, release, status_notification, withdrawal};
 
 use crate::content::{bare, bare_fec_of, fec_of};
 use ldp_grammar::{Message, StatusCode, points_size};
@@ -10,8 +10,8 @@ use net_base::{Label, List, Mac};
 use pw_signalling::Told;
 use pw_tlvs::{PwFec, PwStatus, fec_size, macs_size};
 
-// The status data of a Notification that tells the status of a pseudowire (RFC 8077 section 6.3.2).
-const PW_STATUS_CODE: u32 = 0x28;
+/// The status data of a Notification that tells the status of a pseudowire (RFC 8077 section 6.3.2).
+pub const PW_STATUS_CODE: u32 = 0x28;
 
 /// A Label Mapping with this Message ID (RFC 5036 section 3.5.7): it binds the label to the pseudowire with this content. It
 /// can be written where the PW type has 15 bits and the VLAN ID 12, and a PDU with it alone has a PDU Length of at most 256.

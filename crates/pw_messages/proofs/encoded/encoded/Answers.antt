@@ -1,8 +1,8 @@
 use Rattle.std.proofs.Common.{List, ℕ, ◌≡◌, subst, arith}
 use Rattle.std.specs.Prelude.{IfOk}
 use Rattle.ldp_grammar.specs.Written.{written}
-use Rattle.peer_dialogue.proofs.SpeakerLemmas.{front_is}
-use Rattle.peer_dialogue.proofs.speaker.encoded.Goals as goal
+use Rattle.pw_messages.proofs.EncodedLemmas.{front_is}
+use Rattle.pw_messages.proofs.encoded.encoded.Goals as goal
 
 pub returns : goal.returns
 returns c = subst (λ (l : List ℕ). IfOk c.from_bytes.result (λ octets. octets ≡ l))

@@ -1,8 +1,8 @@
 //! What is told of a pseudowire.
 ghost use Rattle.std.specs.Prelude.{◌≡◌, ◌≤◌, true};
-ghost use Rattle.edge_model.specs.Content.{bare, bare_fec_of, binding_in, content_of, fec_of};
 ghost use Rattle.net_base.specs.plan.Accepted.{IsOffer};
 ghost use Rattle.pw_tlvs.specs.Written.{has_vlan};
+ghost use Rattle.pw_messages.specs.Content.{bare, bare_fec_of, binding_in, content_of, fec_of};
 
 use net_base::{Label, Offer};
 use pw_signalling::{Binding, Told};

@@ -13,12 +13,12 @@ use Rattle.pw_tlvs.specs.declared.pw_status.PwStatus.{PwStatus}
 use Rattle.pw_tlvs.specs.Macs.{mac_octets}
 use Rattle.pw_tlvs.specs.Written.{has_vlan, written_fec}
 use Rattle.pw_signalling.specs.declared.told.Told.{Told}
-use Rattle.edge_model.specs.Content.{bare_fec_of}
 use Rattle.ldp_grammar.specs.declared.message.Message.TheVariants.{AddressWithdraw, LabelMapping}
 use Rattle.ldp_grammar.specs.Octets.{four}
 use Rattle.ldp_grammar.specs.Rows.{fec, label, mac_list}
 use Rattle.ldp_grammar.specs.Tlvs.{Tlv, spell_tlv}
 use Rattle.ldp_grammar.specs.Written.{ignorable, message_octets, point_tlvs, status_tlvs, tlv}
+use Rattle.pw_messages.specs.Content.{bare_fec_of}
 
 first_length : (t : Tlv) (ts : List Tlv) → length (flat_map spell_tlv (t ∷ ts)) ≡ 4 + length t.value + length (flat_map spell_tlv ts)
 first_length t ts = omega (arith, length-append t.value (flat_map spell_tlv ts))

@@ -1,0 +1,2 @@
+pub mod EncodedLemmas
+pub mod TellLemmas

@@ -1,0 +1,3 @@
+pub mod Content
+pub mod LinkAnswers
+pub mod Sender
