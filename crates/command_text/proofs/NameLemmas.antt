@@ -11,7 +11,7 @@ use Rattle.std.specs.Map.{lookup}
 use Rattle.std.specs.Str.{bytes_eq}
 use Rattle.std.specs.Cmp.Lexicographic.{nat_list_eq_equiv}
 use Rattle.net_base.specs.plan.Faults.{clash_after}
-use Rattle.net_base.proofs.ClashLemmas.{clash_passed}
+use Rattle.net_base.proofs.ClashLemmas.{clash_found, clash_passed}
 use Rattle.command_text.specs.Names.{place_in, FindsNames}
 use denote.Ref.{Bor}
 
@@ -118,3 +118,13 @@ pub passed_at : (names : List (List ℕ)) (at : ℕ) → at < length names → n
     → clash_after bytes_eq (take (at + 1) names) (at + 1) (drop (at + 1) names) ≡ clash_after bytes_eq (take at names) at (drop at names)
 passed_at names at within e =
     clash_passed bytes_eq [] names at (get_or names at []) (get_or_default names at [] (get_or names at []) within) within (not_true _ e)
+
+not_false : (b : Bool) → not b ≡ false → b ≡ true
+not_false true e = refl
+not_false false e = absurd (cc)
+
+-- the name at a place stands before it, so the search ends there
+pub found_at : (names : List (List ℕ)) (at : ℕ) → at < length names → not (list_any (λ old. bytes_eq old (get_or names at [])) (take at names)) ≡ false
+    → clash_after bytes_eq (take at names) at (drop at names) ≡ Some at
+found_at names at within e =
+    clash_found bytes_eq [] names at (get_or names at []) (get_or_default names at [] (get_or names at []) within) within (not_false _ e)

@@ -211,6 +211,15 @@ fn command(
     }
 }
 
+/// The command that a text is, of which `play` may be one. `BadWord` comes exactly where a word is missing, one too many, or not what
+/// has to stand there.
+pub fn read_one(alloc: Global, names: &PlanNames<'_>, text: &str) -> Result<Command, ScenarioFault>
+    ensures exact { Gives result (command_in names.now 1 0 text.now) }
+    ensures named { IfOk result (IsInPlanNames names.now) }
+{
+    command(alloc, names, EventPlace { event: 1, plays: 0 }, text)
+}
+
 // The command that an item is.
 fn item(
     alloc: Global,

@@ -20,7 +20,7 @@ mod scenario_fault;
 mod words;
 
 pub use command::Command;
-pub use commands::read_commands;
+pub use commands::{read_commands, read_one};
 pub use name_index::NameIndex;
 pub use plan_names::PlanNames;
 pub use row_place::RowPlace;

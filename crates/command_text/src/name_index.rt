@@ -2,6 +2,7 @@
 ghost use Rattle.std.specs.Prelude.{◌≡◌, ◌<◌, ◌≤◌, [], not, length, take, get_or, IfOk, IfSome};
 ghost use Rattle.std.specs.List.{list_any};
 ghost use Rattle.std.specs.Str.{bytes_eq};
+ghost use Rattle.net_base.specs.plan.Faults.{first_clash};
 ghost use Rattle.command_text.specs.Names.{place_in, are_distinct, FindsNames};
 
 use indexmap::IndexMap;
@@ -31,7 +32,7 @@ impl<'a> Model for NameIndex<'a> {
 impl<'a> NameIndex<'a> {
     /// The names in order. One may stand more than once.
     pub fn of(alloc: Global, names: &'a [Name]) -> Result<NameIndex<'a>, NoMemory>
-        requires { length names.now ≤ 1664 }
+        requires { length names.now ≤ 2048 }
         ensures { IfOk result (λ index. index ≡ names.now) }
     {
         let places = places_of(alloc, names)?;
@@ -46,11 +47,19 @@ impl<'a> NameIndex<'a> {
         self.first_place(name)
     }
 
+    /// The place of the first name that stood before.
+    pub fn first_repeat(&self) -> Option<usize>
+        ensures place { result ≡ first_clash bytes_eq self.now }
+        ensures within { IfSome result (λ place. place < length self.now) }
+    {
+        first_again(self.names, &self.places)
+    }
+
     /// Whether each name stands once.
     pub fn are_distinct(&self) -> bool
         ensures { result ≡ are_distinct self.now }
     {
-        stand_once(self.names, &self.places)
+        self.first_repeat().is_none()
     }
 
     // The place that the map gives a name.
@@ -66,7 +75,7 @@ impl<'a> NameIndex<'a> {
 
 // The first place of each name. A later place is put in first, and gives way.
 fn places_of<'a>(alloc: Global, names: &'a [Name]) -> Result<IndexMap<&'a [u8], u16>, NoMemory>
-    requires { length names.now ≤ 1664 }
+    requires { length names.now ≤ 2048 }
     ensures { IfOk result (λ places. FindsNames names.now places.entries) }
 {
     let mut places = IndexMap::with_capacity(alloc, names.len())?;
@@ -78,17 +87,18 @@ fn places_of<'a>(alloc: Global, names: &'a [Name]) -> Result<IndexMap<&'a [u8], 
     Ok(places)
 }
 
-// Whether each name stands once, where the map gives each its first place.
-fn stand_once(names: &[Name], places: &IndexMap<&[u8], u16>) -> bool
+// The place of the first name that stood before, where the map gives each its first place.
+fn first_again(names: &[Name], places: &IndexMap<&[u8], u16>) -> Option<usize>
     requires { FindsNames names.now places.now.entries }
-    ensures { result ≡ are_distinct names.now }
+    ensures place { result ≡ first_clash bytes_eq names.now }
+    ensures within { IfSome result (λ place. place < length names.now) }
 {
     for (at, _name) in names.iter().enumerate() {
         if !is_first(names, places, at) {
-            return false;
+            return Some(at);
         }
     }
-    true
+    None
 }
 
 // Whether the name at a place stands nowhere before it.

@@ -71,4 +71,11 @@ impl RowPlace {
     {
         ScenarioFault::Plan(PlanFault::UnknownName(self.place(key)))
     }
+
+    /// The fault that the name at the key stood before.
+    pub fn repeated_name(self, key: &str) -> ScenarioFault
+        ensures { result ≡ ScenarioFault.Plan (PlanFault.RepeatedName (place_at self key.now)) }
+    {
+        ScenarioFault::Plan(PlanFault::RepeatedName(self.place(key)))
+    }
 }

@@ -26,7 +26,7 @@ pub enum ScenarioFault {
     /// A table has more rows, or the document more events, than the limit.
     #[error("TooMany")]
     TooMany { table: Table, limit: u32 },
-    /// The version is not 1.
+    /// The version is neither 1 nor 2.
     #[error("Version")]
     Version,
     /// A value outside its range, a name that no row has, or a fault of the plan as a whole.

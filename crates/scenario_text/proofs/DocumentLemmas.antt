@@ -36,3 +36,13 @@ planned_all plan names commands same named =
     subst (λ (n : ℕ). All (IsInRows n (length plan.circuits) (length plan.wires)) commands) edges
     (subst (λ (n : ℕ). All (IsInRows (length names.edges) n (length plan.wires)) commands) circuits
     (subst (λ (n : ℕ). All (IsInRows (length names.edges) (length names.circuits) n) commands) wires named))
+
+-- the same of one command
+pub planned_one : (plan : Plan) (names : PlanNames) (command : Command) → names ≡ names_of plan → IsInPlanNames names command → IsPlanned plan command
+planned_one plan names command same named =
+    let edges : length names.edges ≡ length plan.edges = ap (λ (n : PlanNames). length n.edges) same ∙ length-map plan.edges (λ row. row.name) in
+    let circuits : length names.circuits ≡ length plan.circuits = ap (λ (n : PlanNames). length n.circuits) same ∙ length-map plan.circuits (λ row. row.name) in
+    let wires : length names.wires ≡ length plan.wires = ap (λ (n : PlanNames). length n.wires) same ∙ length-map plan.wires (λ row. row.name) in
+    subst (λ (n : ℕ). IsInRows n (length plan.circuits) (length plan.wires) command) edges
+    (subst (λ (n : ℕ). IsInRows (length names.edges) n (length plan.wires) command) circuits
+    (subst (λ (n : ℕ). IsInRows (length names.edges) (length names.circuits) n command) wires named))

@@ -4,15 +4,16 @@ use Rattle.toml.specs.Data.{Items, no_items, Members, as_array, get_member}
 use Rattle.toml.specs.View.{view, items_view}
 use Rattle.toml.specs.declared.value.Value.{Value}
 use Rattle.net_base.specs.declared.plan.place.Place.{Place}
-use Rattle.net_base.specs.declared.plan.table.Table.TheVariants.{Top, Events, Edge, Service, Circuit, Wire}
+use Rattle.net_base.specs.declared.plan.table.Table.TheVariants.{Top, Events, Edge, Service, Group, Circuit, Wire}
 use Rattle.command_text.specs.declared.scenario_fault.ScenarioFault.{ScenarioFault}
 use Rattle.command_text.specs.declared.scenario_fault.ScenarioFault.TheVariants.{WrongKind, TooMany}
 use Rattle.command_text.specs.Reading.{◌>>=◌, checked, found}
 use Rattle.command_text.specs.Events.{most_events}
 use Rattle.command_text.specs.Places.{place_at, top_row}
+use Rattle.scenario_text.specs.declared.document_version.DocumentVersion.{DocumentVersion}
 use Rattle.scenario_text.specs.Values.{all_items, an_array, is_string, needed, defaulted, read_or}
 use Rattle.scenario_text.specs.Rows.{items_length}
-use Rattle.scenario_text.specs.Top.{Arrays, a_version, is_table, most_edges, most_services, most_circuits, most_wires, few, arrays_at, arrays_in, few_in}
+use Rattle.scenario_text.specs.Top.{Arrays, a_version, is_table, most_edges, most_services, most_groups, most_circuits, most_wires, few, groups_at, arrays_at, arrays_in, few_in}
 use Rattle.scenario_text.specs.Keys.{only_known}
 use Rattle.scenario_text.proofs.RowLemmas.{items_length_view}
 
@@ -34,21 +35,22 @@ AreFew arrays = items_length arrays.events ≤ most_events
 abbrev AreFound : Members → Arrays → Type 0
 AreFound ms arrays = StandAt ms arrays × AreFew arrays
 
-stand_in : (events edges services circuits wires : Result Items ScenarioFault)
-    → IfOk (events >>= (λ a. edges >>= (λ b. services >>= (λ c. circuits >>= (λ d. wires >>= (λ e. Ok (record { events = a; edges = b; services = c; circuits = d; wires = e })))))))
+stand_in : (version : DocumentVersion) (events edges services groups circuits wires : Result Items ScenarioFault)
+    → IfOk (events >>= (λ a. edges >>= (λ b. services >>= (λ c. groups >>= (λ g. circuits >>= (λ d. wires >>= (λ e. Ok (record { version = version; events = a; edges = b; services = c; groups = g; circuits = d; wires = e }))))))))
     (λ (arrays : Arrays). events ≡ Ok arrays.events)
-stand_in (Err f) edges services circuits wires = tt
-stand_in (Ok a) (Err f) services circuits wires = tt
-stand_in (Ok a) (Ok b) (Err f) circuits wires = tt
-stand_in (Ok a) (Ok b) (Ok c) (Err f) wires = tt
-stand_in (Ok a) (Ok b) (Ok c) (Ok d) (Err f) = tt
-stand_in (Ok a) (Ok b) (Ok c) (Ok d) (Ok e) = refl
+stand_in version (Err f) edges services groups circuits wires = tt
+stand_in version (Ok a) (Err f) services groups circuits wires = tt
+stand_in version (Ok a) (Ok b) (Err f) groups circuits wires = tt
+stand_in version (Ok a) (Ok b) (Ok c) (Err f) circuits wires = tt
+stand_in version (Ok a) (Ok b) (Ok c) (Ok g) (Err f) wires = tt
+stand_in version (Ok a) (Ok b) (Ok c) (Ok g) (Ok d) (Err f) = tt
+stand_in version (Ok a) (Ok b) (Ok c) (Ok g) (Ok d) (Ok e) = refl
 
-stand_at : (ms : Members) → IfOk (arrays_at ms) (StandAt ms)
+stand_at : (version : DocumentVersion) (ms : Members) → IfOk (arrays_at version ms) (StandAt ms)
 unfolding arrays_at
-stand_at ms =
-    stand_in (defaulted no_items (an_array is_string) top_row (codes "events") ms) (defaulted no_items (an_array is_table) top_row (codes "edge") ms)
-    (defaulted no_items (an_array is_table) top_row (codes "service") ms) (defaulted no_items (an_array is_table) top_row (codes "circuit") ms)
+stand_at version ms =
+    stand_in version (defaulted no_items (an_array is_string) top_row (codes "events") ms) (defaulted no_items (an_array is_table) top_row (codes "edge") ms)
+    (defaulted no_items (an_array is_table) top_row (codes "service") ms) (groups_at version ms) (defaulted no_items (an_array is_table) top_row (codes "circuit") ms)
     (defaulted no_items (an_array is_table) top_row (codes "wire") ms)
 
 few_first : (test : Bool) (fault : ScenarioFault) (rest : Result Bool ScenarioFault) → IfOk (checked fault test >>= (λ few. rest)) (λ _. test ≡ true)
@@ -60,23 +62,29 @@ are_few : (arrays : Arrays) → IfOk (few_in arrays) (λ _. AreFew arrays)
 unfolding few_in
 are_few arrays =
     mapped (few_in arrays) (λ _. nat_le (items_length arrays.events) most_events ≡ true) (λ _. AreFew arrays) (λ b is. leb-true (items_length arrays.events) most_events is)
-    (few_first (nat_le (items_length arrays.events) most_events) (TooMany Events most_events) (few most_edges Edge arrays.edges >>= (λ edges. few most_services Service arrays.services >>= (λ services. few most_circuits Circuit arrays.circuits >>= (λ circuits. few most_wires Wire arrays.wires)))))
+    (few_first (nat_le (items_length arrays.events) most_events) (TooMany Events most_events) (few most_edges Edge arrays.edges >>= (λ edges. few most_services Service arrays.services >>= (λ services. few most_groups Group arrays.groups >>= (λ groups. few most_circuits Circuit arrays.circuits >>= (λ circuits. few most_wires Wire arrays.wires))))))
 
-are_in : (version : Result Bool ScenarioFault) (read : Result Arrays ScenarioFault) (known : Result Bool ScenarioFault) (limits : Arrays → Result Bool ScenarioFault) (P Q : Arrays → Type 0)
-    → IfOk read P → ((arrays : Arrays) → IfOk (limits arrays) (λ _. Q arrays))
-    → IfOk (version >>= (λ v. read >>= (λ arrays. known >>= (λ k. limits arrays >>= (λ few. Ok arrays))))) (λ arrays. P arrays × Q arrays)
+are_in : (version : Result DocumentVersion ScenarioFault) (read : DocumentVersion → Result Arrays ScenarioFault) (known : DocumentVersion → Result Bool ScenarioFault) (limits : Arrays → Result Bool ScenarioFault)
+    (P Q : Arrays → Type 0) → ((v : DocumentVersion) → IfOk (read v) P) → ((arrays : Arrays) → IfOk (limits arrays) (λ _. Q arrays))
+    → IfOk (version >>= (λ v. read v >>= (λ arrays. known v >>= (λ k. limits arrays >>= (λ few. Ok arrays))))) (λ arrays. P arrays × Q arrays)
 are_in (Err e) read known limits P Q p q = tt
-are_in (Ok v) (Err e) known limits P Q p q = tt
-are_in (Ok v) (Ok arrays) (Err e) limits P Q p q = tt
-are_in (Ok v) (Ok arrays) (Ok k) limits P Q p q = of_limits (limits arrays) (q arrays)
+are_in (Ok v) read known limits P Q p q = of_read (read v) (p v)
   where
-    of_limits : (r : Result Bool ScenarioFault) → IfOk r (λ _. Q arrays) → IfOk (r >>= (λ few. Ok arrays)) (λ a. P a × Q a)
-    of_limits (Ok b) h = (p, h)
-    of_limits (Err e) h = tt
+    of_limits : (arrays : Arrays) (r : Result Bool ScenarioFault) → P arrays → IfOk r (λ _. Q arrays) → IfOk (r >>= (λ few. Ok arrays)) (λ a. P a × Q a)
+    of_limits arrays (Ok b) is h = (is, h)
+    of_limits arrays (Err e) is h = tt
+
+    of_known : (arrays : Arrays) (k : Result Bool ScenarioFault) → P arrays → IfOk (k >>= (λ _. limits arrays >>= (λ few. Ok arrays))) (λ a. P a × Q a)
+    of_known arrays (Ok b) is = of_limits arrays (limits arrays) is (q arrays)
+    of_known arrays (Err e) is = tt
+
+    of_read : (r : Result Arrays ScenarioFault) → IfOk r P → IfOk (r >>= (λ arrays. known v >>= (λ k. limits arrays >>= (λ few. Ok arrays)))) (λ a. P a × Q a)
+    of_read (Ok arrays) is = of_known arrays (known v) is
+    of_read (Err e) is = tt
 
 are_found : (ms : Members) → IfOk (arrays_in ms) (AreFound ms)
 unfolding arrays_in
-are_found ms = are_in (needed a_version top_row (codes "version") ms) (arrays_at ms) (only_known Top top_row ms) few_in (StandAt ms) AreFew (stand_at ms) are_few
+are_found ms = are_in (needed a_version top_row (codes "version") ms) (λ v. arrays_at v ms) (λ v. only_known v Top top_row ms) few_in (StandAt ms) AreFew (λ v. stand_at v ms) are_few
 
 of_test : (place : Place) (test : Bool) (items xs : Items) → (checked (WrongKind place) test >>= (λ all. Ok items)) ≡ Ok xs → items ≡ xs
 of_test place true items xs is = same_of items xs is

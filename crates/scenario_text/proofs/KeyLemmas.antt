@@ -8,6 +8,7 @@ use Rattle.std.specs.Ordering.{nat_cmp, is_le}
 use Rattle.toml.specs.View.{members_view}
 use Rattle.toml.specs.declared.value.Value.{Value}
 use Rattle.net_base.specs.declared.plan.table.Table.{Table}
+use Rattle.scenario_text.specs.declared.document_version.DocumentVersion.{DocumentVersion}
 use Rattle.scenario_text.specs.Keys.{is_known_key, unknown_keys, unknown_key, lesser, least}
 
 -- the key comes before another one
@@ -39,25 +40,25 @@ least_is_first key keys each = of_two (least keys) refl
     of_two (Some other) found = rw (least_holds key keys each other found) refl
 
 -- what is before each key of a map is before each unknown one
-before_unknown : (table : Table) (key : String Global) (es : List (String Global × Value)) → AllByRecursion (λ k. string_cmp key k ≡ Less) (keys_of es)
-    → AllByRecursion (Precedes (string_bytes key)) (unknown_keys table (members_view es))
-before_unknown table key [] each = tt
-before_unknown table key (e ∷ es) each = of_known (before_unknown table key es each.1) (is_known_key table (string_bytes e.0))
+before_unknown : (version : DocumentVersion) (table : Table) (key : String Global) (es : List (String Global × Value)) → AllByRecursion (λ k. string_cmp key k ≡ Less) (keys_of es)
+    → AllByRecursion (Precedes (string_bytes key)) (unknown_keys version table (members_view es))
+before_unknown version table key [] each = tt
+before_unknown version table key (e ∷ es) each = of_known (before_unknown version table key es each.1) (is_known_key version table (string_bytes e.0))
   where
-    of_known : AllByRecursion (Precedes (string_bytes key)) (unknown_keys table (members_view es)) → (known : Bool)
-        → AllByRecursion (Precedes (string_bytes key)) (if not known then string_bytes e.0 ∷ unknown_keys table (members_view es) else unknown_keys table (members_view es))
+    of_known : AllByRecursion (Precedes (string_bytes key)) (unknown_keys version table (members_view es)) → (known : Bool)
+        → AllByRecursion (Precedes (string_bytes key)) (if not known then string_bytes e.0 ∷ unknown_keys version table (members_view es) else unknown_keys version table (members_view es))
     of_known later true = later
     of_known later false = (each.0, later)
 
 -- the first unknown key of the map, whose keys ascend, is the least one of the members
-pub unknown_view : (table : Table) (es : List (String Global × Value)) → IsStrictlySortedBy string_cmp (keys_of es)
-    → option_map string_bytes (find (λ k. not (is_known_key table (string_bytes k))) (keys_of es)) ≡ unknown_key table (members_view es)
+pub unknown_view : (version : DocumentVersion) (table : Table) (es : List (String Global × Value)) → IsStrictlySortedBy string_cmp (keys_of es)
+    → option_map string_bytes (find (λ k. not (is_known_key version table (string_bytes k))) (keys_of es)) ≡ unknown_key version table (members_view es)
 unfolding IsStrictlySortedBy
-unknown_view table [] ascend = refl
-unknown_view table (e ∷ es) ascend = of_known (unknown_view table es ascend.1) (is_known_key table (string_bytes e.0))
+unknown_view version table [] ascend = refl
+unknown_view version table (e ∷ es) ascend = of_known (unknown_view version table es ascend.1) (is_known_key version table (string_bytes e.0))
   where
-    of_known : option_map string_bytes (find (λ k. not (is_known_key table (string_bytes k))) (keys_of es)) ≡ least (unknown_keys table (members_view es)) → (known : Bool)
-        → option_map string_bytes (if not known then Some e.0 else find (λ k. not (is_known_key table (string_bytes k))) (keys_of es))
-        ≡ least (if not known then string_bytes e.0 ∷ unknown_keys table (members_view es) else unknown_keys table (members_view es))
+    of_known : option_map string_bytes (find (λ k. not (is_known_key version table (string_bytes k))) (keys_of es)) ≡ least (unknown_keys version table (members_view es)) → (known : Bool)
+        → option_map string_bytes (if not known then Some e.0 else find (λ k. not (is_known_key version table (string_bytes k))) (keys_of es))
+        ≡ least (if not known then string_bytes e.0 ∷ unknown_keys version table (members_view es) else unknown_keys version table (members_view es))
     of_known later true = later
-    of_known later false = ap Some (sym (least_is_first (string_bytes e.0) (unknown_keys table (members_view es)) (before_unknown table e.0 es ascend.0)))
+    of_known later false = ap Some (sym (least_is_first (string_bytes e.0) (unknown_keys version table (members_view es)) (before_unknown version table e.0 es ascend.0)))

@@ -5,12 +5,15 @@ use Rattle.std.specs.Ordering.{nat_cmp, is_le}
 use Rattle.std.specs.Str.{bytes_eq}
 use Rattle.toml.specs.Data.{Members, no_members, member}
 use Rattle.net_base.specs.declared.plan.table.Table.{Table}
-use Rattle.net_base.specs.declared.plan.table.Table.TheVariants.{Top, Events, Edge, Service, Circuit, Wire}
+use Rattle.net_base.specs.declared.plan.table.Table.TheVariants.{Top, Events, Edge, Service, Group, Circuit, Wire, Near, Far}
 use Rattle.command_text.specs.declared.row_place.RowPlace.{RowPlace}
 use Rattle.command_text.specs.declared.scenario_fault.ScenarioFault.{ScenarioFault}
 use Rattle.command_text.specs.declared.scenario_fault.ScenarioFault.TheVariants.{UnknownKey}
 use Rattle.command_text.specs.Places.{place_at}
+use Rattle.scenario_text.specs.declared.document_version.DocumentVersion.{DocumentVersion}
+use Rattle.scenario_text.specs.declared.document_version.DocumentVersion.TheVariants.{One, Two}
 
+-- the keys of the top in both versions
 abbrev pub is_top_key : List ℕ → Bool
 is_top_key key =
     ((((bytes_eq key (codes "version") || bytes_eq key (codes "events")) || bytes_eq key (codes "edge")) || bytes_eq key (codes "service")) || bytes_eq key (codes "circuit"))
@@ -22,6 +25,9 @@ is_edge_key key =
 
 abbrev pub is_service_key : List ℕ → Bool
 is_service_key key = (bytes_eq key (codes "name") || bytes_eq key (codes "mtu")) || bytes_eq key (codes "age")
+
+abbrev pub is_group_key : List ℕ → Bool
+is_group_key key = bytes_eq key (codes "name") || bytes_eq key (codes "number")
 
 abbrev pub is_circuit_key : List ℕ → Bool
 is_circuit_key key = ((bytes_eq key (codes "name") || bytes_eq key (codes "edge")) || bytes_eq key (codes "service")) || bytes_eq key (codes "tag")
@@ -44,19 +50,33 @@ is_far_key key =
     ((((((bytes_eq key (codes "far_mode") || bytes_eq key (codes "far_control_word")) || bytes_eq key (codes "far_mtu")) || bytes_eq key (codes "far_vlan")) || bytes_eq key (codes "far_vccv"))
     || bytes_eq key (codes "far_status")) || bytes_eq key (codes "far_group")) || bytes_eq key (codes "far_description")
 
+-- the key of the groups, which version 2 alone has
+abbrev pub is_groups_key : DocumentVersion → List ℕ → Bool
+is_groups_key One key = false
+is_groups_key Two key = bytes_eq key (codes "group")
+
+-- what the ends of a wire offer: by keys of the wire in version 1, and by two tables of their own in version 2
+abbrev pub is_ends_key : DocumentVersion → List ℕ → Bool
+is_ends_key One key = is_offer_key key || is_far_key key
+is_ends_key Two key = bytes_eq key (codes "near") || bytes_eq key (codes "far")
+
 -- a row of this table may have the key
-abbrev pub is_known_key : Table → List ℕ → Bool
-is_known_key Top key = is_top_key key
-is_known_key Events key = false
-is_known_key Edge key = is_edge_key key
-is_known_key Service key = is_service_key key
-is_known_key Circuit key = is_circuit_key key
-is_known_key Wire key = (is_wire_key key || is_offer_key key) || is_far_key key
+abbrev pub is_known_key : DocumentVersion → Table → List ℕ → Bool
+is_known_key version Top key = is_top_key key || is_groups_key version key
+is_known_key version Events key = false
+is_known_key version Edge key = is_edge_key key
+is_known_key version Service key = is_service_key key
+is_known_key version Group key = is_group_key key
+is_known_key version Circuit key = is_circuit_key key
+is_known_key version Wire key = is_wire_key key || is_ends_key version key
+is_known_key version Near key = is_offer_key key
+is_known_key version Far key = is_offer_key key
 
 -- the keys that rows of this table lack
-abbrev pub unknown_keys : Table → Members → List (List ℕ)
-unknown_keys table no_members = []
-unknown_keys table (member key value rest) = if not (is_known_key table key) then key ∷ unknown_keys table rest else unknown_keys table rest
+abbrev pub unknown_keys : DocumentVersion → Table → Members → List (List ℕ)
+unknown_keys version table no_members = []
+unknown_keys version table (member key value rest) =
+    if not (is_known_key version table key) then key ∷ unknown_keys version table rest else unknown_keys version table rest
 
 -- the one of two keys that comes first in byte order
 abbrev pub lesser : List ℕ → Option (List ℕ) → List ℕ
@@ -69,13 +89,13 @@ least [] = None
 least (key ∷ keys) = Some (lesser key (least keys))
 
 -- the least key in byte order that rows of this table lack
-abbrev pub unknown_key : Table → Members → Option (List ℕ)
-unknown_key table ms = least (unknown_keys table ms)
+abbrev pub unknown_key : DocumentVersion → Table → Members → Option (List ℕ)
+unknown_key version table ms = least (unknown_keys version table ms)
 
 abbrev pub none_unknown : RowPlace → Option (List ℕ) → Result Bool ScenarioFault
 none_unknown row None = Ok true
 none_unknown row (Some key) = Err (UnknownKey (place_at row key))
 
 -- the row has known keys alone
-abbrev pub only_known : Table → RowPlace → Members → Result Bool ScenarioFault
-only_known table row ms = none_unknown row (unknown_key table ms)
+abbrev pub only_known : DocumentVersion → Table → RowPlace → Members → Result Bool ScenarioFault
+only_known version table row ms = none_unknown row (unknown_key version table ms)

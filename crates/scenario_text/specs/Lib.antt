@@ -6,3 +6,4 @@ pub mod References
 pub mod Rows
 pub mod Top
 pub mod Values
+pub mod WordReading

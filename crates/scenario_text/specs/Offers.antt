@@ -7,4 +7,3 @@ pub record HasRanges (offer : OfferRow) : Type 0 where
   pub mtu : IfSome offer.mtu (λ n. (0 ≤ n) × (n ≤ 65535))
   pub vlan : IfSome offer.vlan (λ n. (0 ≤ n) × (n ≤ 4095))
   pub vccv : offer.vccv ≤ 7
-  pub group : offer.group ≤ 4294967295

@@ -7,37 +7,42 @@ ghost use Rattle.command_text.specs.Events.{most_events};
 ghost use Rattle.command_text.specs.Places.{place_at, top_row};
 ghost use Rattle.command_text.specs.Reading.{MapsTo};
 ghost use Rattle.scenario_text.specs.Values.{is_string, an_array, all_items, needed, defaulted};
-ghost use Rattle.scenario_text.specs.Top.{is_table, a_version, few, few_in, arrays_at, arrays_in};
+ghost use Rattle.scenario_text.specs.Top.{is_table, a_version, few, few_in, groups_at, arrays_at, arrays_in};
 ghost use Rattle.scenario_text.specs.Arrays.{arrays_of, HasLimits};
 
+use crate::document_version::DocumentVersion;
 use crate::keys::only_known_keys;
-use crate::limits::{MOST_CIRCUITS, MOST_EDGES, MOST_EVENTS, MOST_SERVICES, MOST_WIRES};
-use crate::members::{member, needed_member};
-use crate::table_row::TableRow;
+use crate::limits::{
+    MOST_CIRCUITS, MOST_EDGES, MOST_EVENTS, MOST_GROUPS, MOST_SERVICES, MOST_WIRES,
+};
+use crate::members::{member, needed_value};
 use crate::values::strings;
 use command_text::{RowPlace, ScenarioFault};
 use net_base::Table as TableKind;
 use std::alloc::Global;
 use toml::{Table, Value};
 
-/// The arrays of a document, each in the order of its rows.
+/// The version and the arrays of a document, each in the order of its rows.
 #[derive(Clone, Copy)]
 pub struct Arrays<'a> {
+    pub version: DocumentVersion,
     pub events: &'a [Value],
     pub edges: &'a [Value],
     pub services: &'a [Value],
+    pub groups: &'a [Value],
     pub circuits: &'a [Value],
     pub wires: &'a [Value],
 }
 
-// Refuses a version that is not 1.
-fn version(table: &Table) -> Result<(), ScenarioFault>
-    ensures { MapsTo (λ _. true) result (needed a_version top_row (codes "version") (table_view table.now)) }
+// The version; one that is neither 1 nor 2 is refused.
+fn version(table: &Table) -> Result<DocumentVersion, ScenarioFault>
+    ensures { result ≡ (needed a_version top_row (codes "version") (table_view table.now)) }
 {
     let place = RowPlace::top();
-    match needed_member(TableRow { place, table }, "version") {
+    match needed_value(place, table, "version") {
         Ok(value) => match value.as_integer() {
-            Some(1) => Ok(()),
+            Some(1) => Ok(DocumentVersion::One),
+            Some(2) => Ok(DocumentVersion::Two),
             Some(_) => Err(ScenarioFault::Version),
             None => Err(place.wrong_kind("version")),
         },
@@ -95,21 +100,34 @@ fn strings_at<'a>(row: RowPlace, table: &'a Table, key: &str) -> Result<&'a [Val
     }
 }
 
+// The groups, which version 2 alone has.
+fn groups(version: DocumentVersion, table: &Table) -> Result<&[Value], ScenarioFault>
+    ensures { MapsTo (λ items. items_view items.now) result (groups_at version (table_view table.now)) }
+{
+    match version {
+        DocumentVersion::One => Ok(&[]),
+        DocumentVersion::Two => tables_at(RowPlace::top(), table, "group"),
+    }
+}
+
 // The arrays that stand at the keys of the top.
 #[tactic(auto, unfolding(crate::specs::Top::arrays_at))]
-fn top_arrays(table: &Table) -> Result<Arrays<'_>, ScenarioFault>
-    ensures { MapsTo arrays_of result (arrays_at (table_view table.now)) }
+fn top_arrays(version: DocumentVersion, table: &Table) -> Result<Arrays<'_>, ScenarioFault>
+    ensures { MapsTo arrays_of result (arrays_at version (table_view table.now)) }
 {
     let row = RowPlace::top();
     let events = strings_at(row, table, "events")?;
     let edges = tables_at(row, table, "edge")?;
     let services = tables_at(row, table, "service")?;
+    let groups = groups(version, table)?;
     let circuits = tables_at(row, table, "circuit")?;
     let wires = tables_at(row, table, "wire")?;
     Ok(Arrays {
+        version,
         events,
         edges,
         services,
+        groups,
         circuits,
         wires,
     })
@@ -136,6 +154,7 @@ fn check_limits(arrays: &Arrays<'_>) -> Result<(), ScenarioFault>
     check_few(MOST_EVENTS, TableKind::Events, arrays.events)?;
     check_few(MOST_EDGES, TableKind::Edge, arrays.edges)?;
     check_few(MOST_SERVICES, TableKind::Service, arrays.services)?;
+    check_few(MOST_GROUPS, TableKind::Group, arrays.groups)?;
     check_few(MOST_CIRCUITS, TableKind::Circuit, arrays.circuits)?;
     match check_few(MOST_WIRES, TableKind::Wire, arrays.wires) {
         Ok(()) => Ok(()),
@@ -143,15 +162,15 @@ fn check_limits(arrays: &Arrays<'_>) -> Result<(), ScenarioFault>
     }
 }
 
-/// The arrays of a document of version 1.
+/// The arrays of a document of version 1 or 2.
 #[tactic(auto, unfolding(crate::specs::Top::arrays_in))]
 pub fn document_arrays(table: &Table) -> Result<Arrays<'_>, ScenarioFault>
     ensures exact { MapsTo arrays_of result (arrays_in (table_view table.now)) }
     ensures few { IfOk result HasLimits }
 {
-    version(table)?;
-    let arrays = top_arrays(table)?;
-    only_known_keys(TableKind::Top, RowPlace::top(), table)?;
+    let version = version(table)?;
+    let arrays = top_arrays(version, table)?;
+    only_known_keys(version, TableKind::Top, RowPlace::top(), table)?;
     check_limits(&arrays)?;
     Ok(arrays)
 }

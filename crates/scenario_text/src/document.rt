@@ -13,48 +13,15 @@ ghost use Rattle.scenario_text.specs.Document.{plan_in, scenario_in, scenario_or
 use crate::Scenario;
 use crate::arrays::{Arrays, document_arrays, take_events};
 use crate::circuit_row::CircuitRow;
-use crate::names::{names_of_circuits, names_of_edges, names_of_wires};
+use crate::group_row::GroupRow;
+use crate::name_lists::NameLists;
 use crate::plan::plan;
 use crate::rows::rows;
 use crate::wire_row::WireRow;
-use command_text::{Command, NameIndex, PlanNames, ScenarioFault, read_commands};
-use net_base::{EdgePlan, List, Name, NoMemory, Plan, ServicePlan, Table as TableKind};
+use command_text::{Command, ScenarioFault, read_commands};
+use net_base::{EdgePlan, List, NoMemory, Plan, ServicePlan, Table as TableKind};
 use std::alloc::Global;
 use toml::{Table, Value};
-
-// The names of a plan, each list with its index. An index is given to `drop`, since its end at a brace proves
-// slowly.
-fn plan_names<'a>(
-    alloc: Global,
-    edges: &'a [Name],
-    circuits: &'a [Name],
-    wires: &'a [Name],
-) -> Result<PlanNames<'a>, NoMemory>
-    requires few_edges { length edges.now ≤ 1664 }
-    requires few_circuits { length circuits.now ≤ 1664 }
-    requires few_wires { length wires.now ≤ 1664 }
-    ensures { IfOk result (λ names. names ≡ record { edges = edges.now; circuits = circuits.now; wires = wires.now }) }
-{
-    let edges = NameIndex::of(alloc, edges)?;
-    match NameIndex::of(alloc, circuits) {
-        Ok(circuits) => match NameIndex::of(alloc, wires) {
-            Ok(wires) => Ok(PlanNames {
-                edges,
-                circuits,
-                wires,
-            }),
-            Err(NoMemory) => {
-                drop(edges);
-                drop(circuits);
-                Err(NoMemory)
-            }
-        },
-        Err(NoMemory) => {
-            drop(edges);
-            Err(NoMemory)
-        }
-    }
-}
 
 // The commands at a plan.
 #[tactic(auto, using(crate::proofs::DocumentLemmas::planned_all))]
@@ -69,15 +36,8 @@ fn plan_commands(
     ensures many { IfOk result (λ commands. length commands ≡ length events.items) }
     ensures planned { IfOk result (λ commands. All (IsPlanned plan.now) commands) }
 {
-    let edges = names_of_edges(alloc, plan.edges.as_slice())?;
-    let circuits = names_of_circuits(alloc, plan.circuits.as_slice())?;
-    let wires = names_of_wires(alloc, plan.wires.as_slice())?;
-    match plan_names(
-        alloc,
-        edges.as_slice(),
-        circuits.as_slice(),
-        wires.as_slice(),
-    ) {
+    let lists = NameLists::of(alloc, plan)?;
+    match lists.indexed(alloc) {
         Ok(names) => {
             let commands = read_commands(alloc, &names, events);
             drop(names);
@@ -94,14 +54,17 @@ fn arrays_plan(alloc: Global, arrays: &Arrays<'_>) -> Result<Plan, ScenarioFault
     ensures exact { Gives result (plan_in (arrays_of arrays.now)) }
     ensures checked { IfOk result IsChecked }
 {
-    let edges = rows::<EdgePlan>(alloc, TableKind::Edge, arrays.edges)?;
-    let services = rows::<ServicePlan>(alloc, TableKind::Service, arrays.services)?;
-    let circuit_rows = rows::<CircuitRow>(alloc, TableKind::Circuit, arrays.circuits)?;
-    let wire_rows = rows::<WireRow>(alloc, TableKind::Wire, arrays.wires)?;
+    let version = arrays.version;
+    let edges = rows::<EdgePlan>(alloc, version, TableKind::Edge, arrays.edges)?;
+    let services = rows::<ServicePlan>(alloc, version, TableKind::Service, arrays.services)?;
+    let groups = rows::<GroupRow>(alloc, version, TableKind::Group, arrays.groups)?;
+    let circuit_rows = rows::<CircuitRow>(alloc, version, TableKind::Circuit, arrays.circuits)?;
+    let wire_rows = rows::<WireRow>(alloc, version, TableKind::Wire, arrays.wires)?;
     plan(
         alloc,
         edges,
         services,
+        groups.as_slice(),
         circuit_rows.as_slice(),
         wire_rows.as_slice(),
     )
@@ -147,15 +110,17 @@ fn read_text(alloc: Global, text: &str) -> Result<Scenario, ScenarioFault>
     }
 }
 
-/// The scenario that a document of version 1 is, or its first fault.
+/// The scenario that a document of version 1 or 2 is, or its first fault.
 ///
 /// The faults come in this order. `NotToml` where the bytes are no TOML document, not UTF-8 among them.
 /// `Missing`, `WrongKind` and `Version` of the key `version`. `WrongKind` of `events`, `edge`, `service`,
-/// `circuit` and `wire`, then `UnknownKey` of the top, then `TooMany`: at most 100,000 events, 64 edges, 64
-/// services, 512 circuits and 1,024 wires. Row by row, `Missing`, `WrongKind` and `OutOfRange` of each key, and
-/// then the row's `UnknownKey`. `UnknownName` of what circuits and then wires name. The faults of
-/// `Plan::check`. Last, event by event, `BadWord`. `NoMemory` comes where memory was refused, and says nothing
-/// of the bytes.
+/// `group` (which version 2 alone has), `circuit` and `wire`, then `UnknownKey` of the top, then `TooMany`: at
+/// most 100,000 events, 64 edges, 64 services, 2,048 groups, 512 circuits and 1,024 wires. Row by row, in the
+/// same order of the tables, `Missing`, `WrongKind` and `OutOfRange` of each key, and then the row's
+/// `UnknownKey`; in version 2 the keys of a wire's `near` and then of its `far` come behind those of the wire,
+/// each table with its own `UnknownKey`. `UnknownName` of what circuits and then wires name. `RepeatedName` of
+/// a group. The faults of `Plan::check`. Last, event by event, `BadWord`. `NoMemory` comes where memory was
+/// refused, and says nothing of the bytes.
 pub fn read_scenario(alloc: Global, bytes: &[u8]) -> Result<Scenario, ScenarioFault>
     ensures document { Gives result (document bytes.now) }
     ensures checked { IfOk result (λ scenario. IsChecked scenario.plan) }

@@ -5,8 +5,9 @@ ghost use Rattle.std.specs.List.Sorted.{IsStrictlySortedBy};
 ghost use Rattle.std.specs.Map.{keys_of};
 ghost use Rattle.toml.specs.View.{table_view};
 ghost use Rattle.command_text.specs.Reading.{MapsTo};
-ghost use Rattle.scenario_text.specs.Keys.{is_top_key, is_edge_key, is_service_key, is_circuit_key, is_wire_key, is_offer_key, is_far_key, is_known_key, unknown_key, only_known};
+ghost use Rattle.scenario_text.specs.Keys.{is_top_key, is_edge_key, is_service_key, is_group_key, is_circuit_key, is_wire_key, is_offer_key, is_far_key, is_groups_key, is_ends_key, is_known_key, unknown_key, only_known};
 
+use crate::document_version::DocumentVersion;
 use command_text::{RowPlace, ScenarioFault, is_same};
 use net_base::Table as TableKind;
 use toml::Table;
@@ -36,6 +37,12 @@ fn is_service(key: &str) -> bool
     ensures { result ≡ is_service_key key.now }
 {
     is_same(key, "name") || is_same(key, "mtu") || is_same(key, "age")
+}
+
+fn is_group(key: &str) -> bool
+    ensures { result ≡ is_group_key key.now }
+{
+    is_same(key, "name") || is_same(key, "number")
 }
 
 fn is_circuit(key: &str) -> bool
@@ -84,44 +91,69 @@ fn is_far(key: &str) -> bool
         || is_same(key, "far_description")
 }
 
+// Whether this is the key of the groups, which version 2 alone has.
+fn is_groups(version: DocumentVersion, key: &str) -> bool
+    ensures { result ≡ is_groups_key version key.now }
+{
+    match version {
+        DocumentVersion::One => false,
+        DocumentVersion::Two => is_same(key, "group"),
+    }
+}
+
+// Whether this is a key of what the ends of a wire offer.
+fn is_ends(version: DocumentVersion, key: &str) -> bool
+    ensures { result ≡ is_ends_key version key.now }
+{
+    match version {
+        DocumentVersion::One => is_offer(key) || is_far(key),
+        DocumentVersion::Two => is_same(key, "near") || is_same(key, "far"),
+    }
+}
+
 // Whether a row of the table may have the key.
-fn is_known(table: TableKind, key: &str) -> bool
-    ensures { result ≡ is_known_key table key.now }
+fn is_known(version: DocumentVersion, table: TableKind, key: &str) -> bool
+    ensures { result ≡ is_known_key version table key.now }
 {
     match table {
-        TableKind::Top => is_top(key),
+        TableKind::Top => is_top(key) || is_groups(version, key),
         TableKind::Events => false,
         TableKind::Edge => is_edge(key),
         TableKind::Service => is_service(key),
+        TableKind::Group => is_group(key),
         TableKind::Circuit => is_circuit(key),
-        TableKind::Wire => is_wire(key) || is_offer(key) || is_far(key),
+        TableKind::Wire => is_wire(key) || is_ends(version, key),
+        TableKind::Near | TableKind::Far => is_offer(key),
     }
 }
 
 // The first key that rows of the table lack, by the map's own keys, which ascend.
-fn unknown_among(table: TableKind, members: &Table) -> Option<&String>
+fn unknown_among(version: DocumentVersion, table: TableKind, members: &Table) -> Option<&String>
     ensures ascend { IsStrictlySortedBy string_cmp (keys_of members.now.entries) }
-    ensures first { option_map (λ k. string_bytes k.now) result ≡ option_map string_bytes (find (λ k. not (is_known_key table (string_bytes k))) (keys_of members.now.entries)) }
+    ensures first { option_map (λ k. string_bytes k.now) result ≡ option_map string_bytes (find (λ k. not (is_known_key version table (string_bytes k))) (keys_of members.now.entries)) }
 {
-    members.keys().find(|key| !is_known(table, key.as_str()))
+    members
+        .keys()
+        .find(|key| !is_known(version, table, key.as_str()))
 }
 
 // The least key that rows of the table lack.
-fn unknown(table: TableKind, members: &Table) -> Option<&String>
-    ensures { option_map (λ k. string_bytes k.now) result ≡ unknown_key table (table_view members.now) }
+fn unknown(version: DocumentVersion, table: TableKind, members: &Table) -> Option<&String>
+    ensures { option_map (λ k. string_bytes k.now) result ≡ unknown_key version table (table_view members.now) }
 {
-    unknown_among(table, members)
+    unknown_among(version, table, members)
 }
 
 /// Refuses the least key that rows of the table lack.
 pub fn only_known_keys(
+    version: DocumentVersion,
     table: TableKind,
     row: RowPlace,
     members: &Table,
 ) -> Result<(), ScenarioFault>
-    ensures { MapsTo (λ _. true) result (only_known table row (table_view members.now)) }
+    ensures { MapsTo (λ _. true) result (only_known version table row (table_view members.now)) }
 {
-    match unknown(table, members) {
+    match unknown(version, table, members) {
         Some(key) => Err(row.unknown_key(key.as_str())),
         None => Ok(()),
     }

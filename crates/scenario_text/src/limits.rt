@@ -9,6 +9,9 @@ pub const MOST_EDGES: u32 = 64;
 /// The most services.
 pub const MOST_SERVICES: u32 = 64;
 
+/// The most groups.
+pub const MOST_GROUPS: u32 = 2_048;
+
 /// The most circuits.
 pub const MOST_CIRCUITS: u32 = 512;
 

@@ -1,14 +1,17 @@
 //! Members of a table.
-ghost use Rattle.std.specs.Prelude.{◌≡◌, ◌≤◌, option_map, IfOk, IfSome};
+ghost use Rattle.std.specs.Prelude.{◌≡◌, ◌≤◌, None, option_map, IfOk, IfSome};
 ghost use Rattle.toml.specs.Data.{get_member};
 ghost use Rattle.toml.specs.View.{view, table_view};
 ghost use Rattle.command_text.specs.Places.{place_at};
 ghost use Rattle.command_text.specs.Reading.{Gives, MapsTo, found};
 ghost use Rattle.scenario_text.specs.Values.{a_name, an_address, a_number, a_boolean, a_class, a_mode, a_description, a_path, needed, defaulted, optional};
+ghost use Rattle.scenario_text.specs.Rows.{a_group, a_table};
 
+use crate::document_version::DocumentVersion;
+use crate::group_use::GroupUse;
 use crate::table_row::TableRow;
 use crate::values::{address, boolean, class, description, mode, name, number, path};
-use command_text::ScenarioFault;
+use command_text::{RowPlace, ScenarioFault};
 use net_base::{Addr, Class, List, Name, Text};
 use std::alloc::Global;
 use toml::{Table, Value};
@@ -20,14 +23,25 @@ pub fn member<'a>(table: &'a Table, key: &str) -> Option<&'a Value>
     table.get(key)
 }
 
+/// The value at a key that the table at a place has to have.
+pub fn needed_value<'a>(
+    place: RowPlace,
+    table: &'a Table,
+    key: &str,
+) -> Result<&'a Value, ScenarioFault>
+    ensures { MapsTo (λ v. view v.now) result (found (ScenarioFault.Missing (place_at place key.now)) (get_member key.now (table_view table.now))) }
+{
+    match member(table, key) {
+        Some(value) => Ok(value),
+        None => Err(place.missing(key)),
+    }
+}
+
 /// The value at a key that the row has to have.
 pub fn needed_member<'a>(row: TableRow<'a>, key: &str) -> Result<&'a Value, ScenarioFault>
     ensures { MapsTo (λ v. view v.now) result (found (ScenarioFault.Missing (place_at row.entry.place key.now)) (get_member key.now (table_view row.entry.table.now))) }
 {
-    match member(row.table, key) {
-        Some(value) => Ok(value),
-        None => Err(row.place.missing(key)),
-    }
+    needed_value(row.place, row.table, key)
 }
 
 /// The name at a key.
@@ -153,5 +167,64 @@ pub fn description_or(
     match member(row.table, key) {
         Some(value) => description(row.place, key, value),
         None => Ok(*default),
+    }
+}
+
+// The group that a value is.
+fn group(
+    version: DocumentVersion,
+    row: RowPlace,
+    key: &str,
+    value: &Value,
+) -> Result<GroupUse, ScenarioFault>
+    ensures { result ≡ a_group version (place_at row key.now) (view value.now) }
+{
+    match version {
+        DocumentVersion::One => match number(row, key, value, 0, 4294967295) {
+            Ok(number) => Ok(GroupUse::Number(number)),
+            Err(fault) => Err(fault),
+        },
+        DocumentVersion::Two => match name(row, key, value) {
+            Ok(name) => Ok(GroupUse::Named(name)),
+            Err(fault) => Err(fault),
+        },
+    }
+}
+
+/// The group at a key, or the default.
+pub fn group_or(
+    version: DocumentVersion,
+    default: GroupUse,
+    row: TableRow<'_>,
+    key: &str,
+) -> Result<GroupUse, ScenarioFault>
+    ensures { result ≡ defaulted default (a_group version) row.entry.place key.now (table_view row.entry.table.now) }
+{
+    match member(row.table, key) {
+        Some(value) => group(version, row.place, key, value),
+        None => Ok(default),
+    }
+}
+
+// A table.
+fn table<'a>(row: RowPlace, key: &str, value: &'a Value) -> Result<&'a Table, ScenarioFault>
+    ensures { MapsTo (λ t. table_view t.now) result (a_table (place_at row key.now) (view value.now)) }
+{
+    match value.as_table() {
+        Some(table) => Ok(table),
+        None => Err(row.wrong_kind(key)),
+    }
+}
+
+/// The table at a key that may be left out.
+pub fn optional_table<'a>(row: TableRow<'a>, key: &str) -> Result<Option<&'a Table>, ScenarioFault>
+    ensures { MapsTo (λ o. option_map (λ t. table_view t.now) o) result (optional None a_table row.entry.place key.now (table_view row.entry.table.now)) }
+{
+    match member(row.table, key) {
+        Some(value) => match table(row.place, key, value) {
+            Ok(table) => Ok(Some(table)),
+            Err(fault) => Err(fault),
+        },
+        None => Ok(None),
     }
 }

@@ -1,8 +1,10 @@
 //! The names of rows in order.
 ghost use Rattle.std.specs.Prelude.{◌≡◌, ◌++◌, IfOk, IsOkAnd};
 ghost use Rattle.net_base.specs.plan.Accepted.{plan_names};
+ghost use Rattle.scenario_text.specs.References.{group_names};
 ghost use Rattle.net_base.specs.plan.NameFaults.{edge_names, service_names, circuit_names, wire_names};
 
+use crate::group_row::GroupRow;
 use net_base::{CircuitPlan, EdgePlan, Name, Plan, ServicePlan, WirePlan};
 use std::alloc::{AllocError, Global};
 
@@ -18,6 +20,13 @@ pub fn names_of_services(alloc: Global, services: &[ServicePlan]) -> Result<Vec<
     ensures { IfOk result (λ names. names.items ≡ service_names services.now) }
 {
     services.iter().map(|service| service.name).collect(alloc)
+}
+
+/// The names of groups in order.
+pub fn names_of_groups(alloc: Global, groups: &[GroupRow]) -> Result<Vec<Name>, AllocError>
+    ensures { IfOk result (λ names. names.items ≡ group_names groups.now) }
+{
+    groups.iter().map(|group| group.name).collect(alloc)
 }
 
 /// The names of circuits in order.

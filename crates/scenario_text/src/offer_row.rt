@@ -1,5 +1,6 @@
 //! What a row of the table `wire` says of one end.
 
+use crate::group_use::GroupUse;
 use net_base::Text;
 
 /// What one end of a wire offers, before the service is looked up.
@@ -14,6 +15,6 @@ pub struct OfferRow {
     /// 0 where it is not told.
     pub vccv: u8,
     pub status: bool,
-    pub group: u32,
+    pub group: GroupUse,
     pub description: Text<80>,
 }

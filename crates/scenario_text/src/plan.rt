@@ -4,12 +4,15 @@ ghost use Rattle.net_base.specs.plan.Accepted.{IsWithinLimits, IsChecked, plan_n
 ghost use Rattle.net_base.specs.plan.NameFaults.{edge_names, service_names};
 ghost use Rattle.command_text.specs.Names.{are_distinct};
 ghost use Rattle.command_text.specs.Reading.{Gives};
-ghost use Rattle.scenario_text.specs.References.{passed, sound, placed_rows, plan_of};
-ghost use Rattle.scenario_text.specs.Top.{most_edges, most_services, most_circuits, most_wires};
+ghost use Rattle.scenario_text.specs.References.{group_names, passed, sound, sound_with, placed_rows, plan_of};
+ghost use Rattle.scenario_text.specs.Top.{most_edges, most_services, most_groups, most_circuits, most_wires};
 
 use crate::circuit_row::CircuitRow;
 use crate::circuits::circuits;
-use crate::names::{names_of_edges, names_of_plan, names_of_services};
+use crate::group_row::GroupRow;
+use crate::group_rows::GroupRows;
+use crate::groups::check_groups;
+use crate::names::{names_of_edges, names_of_groups, names_of_plan, names_of_services};
 use crate::service_rows::ServiceRows;
 use crate::wire_row::WireRow;
 use crate::wires::wires;
@@ -65,28 +68,31 @@ fn placed_rows(
     alloc: Global,
     edges: &NameIndex<'_>,
     services: ServiceRows<'_, '_>,
+    groups: GroupRows<'_, '_>,
     circuit_rows: &[CircuitRow],
     wire_rows: &[WireRow],
 ) -> Result<PlacedRows, ScenarioFault>
     requires few_circuits { length circuit_rows.now ≤ most_circuits }
     requires few_wires { length wire_rows.now ≤ most_wires }
     requires same { services.index.now ≡ service_names services.rows.now }
-    ensures exact { Gives result (placed_rows edges.now services.entry.rows.now circuit_rows.now wire_rows.now) }
+    requires named { groups.index.now ≡ group_names groups.rows.now }
+    ensures exact { Gives result (placed_rows edges.now services.entry.rows.now groups.entry.rows.now circuit_rows.now wire_rows.now) }
     ensures circuits { IfOk result (λ rows. length rows.circuits ≡ length circuit_rows.now) }
     ensures wires { IfOk result (λ rows. length rows.wires ≡ length wire_rows.now) }
 {
     let circuits = circuits(alloc, edges, services.index, circuit_rows)?;
-    match wires(alloc, edges, services, wire_rows) {
+    match wires(alloc, edges, services, groups, wire_rows) {
         Ok(wires) => Ok(PlacedRows { circuits, wires }),
         Err(fault) => Err(fault),
     }
 }
 
-// The circuits and the wires of these rows, over these edges and services.
+// The circuits and the wires of these rows, over these edges, services and groups.
 fn rows_over(
     alloc: Global,
     edges: &[EdgePlan],
     services: &[ServicePlan],
+    groups: GroupRows<'_, '_>,
     circuit_rows: &[CircuitRow],
     wire_rows: &[WireRow],
 ) -> Result<PlacedRows, ScenarioFault>
@@ -94,7 +100,8 @@ fn rows_over(
     requires few_services { length services.now ≤ most_services }
     requires few_circuits { length circuit_rows.now ≤ most_circuits }
     requires few_wires { length wire_rows.now ≤ most_wires }
-    ensures exact { Gives result (placed_rows (edge_names edges.now) services.now circuit_rows.now wire_rows.now) }
+    requires named { groups.index.now ≡ group_names groups.rows.now }
+    ensures exact { Gives result (placed_rows (edge_names edges.now) services.now groups.entry.rows.now circuit_rows.now wire_rows.now) }
     ensures circuits { IfOk result (λ rows. length rows.circuits ≡ length circuit_rows.now) }
     ensures wires { IfOk result (λ rows. length rows.wires ≡ length wire_rows.now) }
 {
@@ -107,7 +114,7 @@ fn rows_over(
                     index: &index,
                     rows: services,
                 };
-                let rows = placed_rows(alloc, &edges, services, circuit_rows, wire_rows);
+                let rows = placed_rows(alloc, &edges, services, groups, circuit_rows, wire_rows);
                 drop(index);
                 drop(edges);
                 rows
@@ -121,26 +128,44 @@ fn rows_over(
     }
 }
 
-/// The plan of these rows.
+// Refuses a plan over groups of which one has the name of an earlier one, and a plan that has a fault.
+fn check_with(alloc: Global, groups: GroupRows<'_, '_>, plan: &Plan) -> Result<(), ScenarioFault>
+    requires named { groups.index.now ≡ group_names groups.rows.now }
+    requires few_groups { length groups.rows.now ≤ most_groups }
+    requires limits { IsWithinLimits plan.now }
+    ensures exact { Gives (passed plan.now result) (sound_with groups.entry.rows.now plan.now) }
+    ensures checked { IfOk result (λ _. IsChecked plan.now) }
+{
+    match check_groups(groups) {
+        Ok(()) => check(alloc, plan),
+        Err(fault) => Err(fault),
+    }
+}
+
+// The plan of these rows, where groups are found by their index.
 #[tactic(auto, unfolding(crate::specs::References::plan_of))]
-pub fn plan(
+fn plan_over(
     alloc: Global,
     edges: List<EdgePlan>,
     services: List<ServicePlan>,
+    groups: GroupRows<'_, '_>,
     circuit_rows: &[CircuitRow],
     wire_rows: &[WireRow],
 ) -> Result<Plan, ScenarioFault>
     requires few_edges { length edges ≤ most_edges }
     requires few_services { length services ≤ most_services }
+    requires few_groups { length groups.rows.now ≤ most_groups }
     requires few_circuits { length circuit_rows.now ≤ most_circuits }
     requires few_wires { length wire_rows.now ≤ most_wires }
-    ensures exact { Gives result (plan_of edges services circuit_rows.now wire_rows.now) }
+    requires named { groups.index.now ≡ group_names groups.rows.now }
+    ensures exact { Gives result (plan_of edges services groups.entry.rows.now circuit_rows.now wire_rows.now) }
     ensures checked { IfOk result IsChecked }
 {
     let rows = rows_over(
         alloc,
         edges.as_slice(),
         services.as_slice(),
+        groups,
         circuit_rows,
         wire_rows,
     );
@@ -152,11 +177,43 @@ pub fn plan(
                 circuits: rows.circuits,
                 wires: rows.wires,
             };
-            match check(alloc, &plan) {
+            match check_with(alloc, groups, &plan) {
                 Ok(()) => Ok(plan),
                 Err(fault) => Err(fault),
             }
         }
         Err(fault) => Err(fault),
+    }
+}
+
+/// The plan of these rows.
+pub fn plan(
+    alloc: Global,
+    edges: List<EdgePlan>,
+    services: List<ServicePlan>,
+    groups: &[GroupRow],
+    circuit_rows: &[CircuitRow],
+    wire_rows: &[WireRow],
+) -> Result<Plan, ScenarioFault>
+    requires few_edges { length edges ≤ most_edges }
+    requires few_services { length services ≤ most_services }
+    requires few_groups { length groups.now ≤ most_groups }
+    requires few_circuits { length circuit_rows.now ≤ most_circuits }
+    requires few_wires { length wire_rows.now ≤ most_wires }
+    ensures exact { Gives result (plan_of edges services groups.now circuit_rows.now wire_rows.now) }
+    ensures checked { IfOk result IsChecked }
+{
+    let names = names_of_groups(alloc, groups)?;
+    match NameIndex::of(alloc, names.as_slice()) {
+        Ok(index) => {
+            let groups = GroupRows {
+                index: &index,
+                rows: groups,
+            };
+            let plan = plan_over(alloc, edges, services, groups, circuit_rows, wire_rows);
+            drop(index);
+            plan
+        }
+        Err(NoMemory) => Err(ScenarioFault::NoMemory),
     }
 }

@@ -3,11 +3,12 @@ ghost use Rattle.toml.specs.View.{table_view};
 ghost use Rattle.command_text.specs.Reading.{Gives};
 
 use crate::circuit_row::CircuitRow;
+use crate::group_row::GroupRow;
 use crate::keys::only_known_keys;
 use crate::members::{
     address_at, class_at, name_at, number_at, number_or, optional_number, path_at,
 };
-use crate::offers::{far_offer, near_offer};
+use crate::offers::ends;
 use crate::table_row::TableRow;
 use crate::wire_row::WireRow;
 use command_text::ScenarioFault;
@@ -20,13 +21,14 @@ pub trait Row: Sized + Drop {
     ghost use Rattle.toml.specs.Data.{Members};
     ghost use Rattle.command_text.specs.declared.row_place.RowPlace.{RowPlace};
     ghost use Rattle.command_text.specs.declared.scenario_fault.ScenarioFault.{ScenarioFault};
+    ghost use Rattle.scenario_text.specs.declared.document_version.DocumentVersion.{DocumentVersion};
 
     /// What the members of a row say.
-    ghost row_of: { RowPlace → Members → Result Self ScenarioFault };
+    ghost row_of: { DocumentVersion → RowPlace → Members → Result Self ScenarioFault };
 
     /// The row that a table is.
     fn read(alloc: Global, row: TableRow<'_>) -> Result<Self, ScenarioFault>
-        ensures { Gives result (row_of row.entry.place (table_view row.entry.table.now)) };
+        ensures { Gives result (row_of row.entry.version row.entry.place (table_view row.entry.table.now)) };
 }
 
 impl Row for EdgePlan {
@@ -34,14 +36,14 @@ impl Row for EdgePlan {
 
     ghost row_of = { edge_in };
 
-    #[tactic(auto, unfolding(crate::specs::Rows::edge_in, crate::specs::Rows::edge_with))]
+    #[tactic(auto, unfolding(crate::specs::Rows::edge_in))]
     fn read(_alloc: Global, row: TableRow<'_>) -> Result<EdgePlan, ScenarioFault> {
         let name = name_at(row, "name")?;
         let address = address_at(row, "address")?;
         let first_label = number_or(16, row, "first_label", 16, 1048575)?;
         let keepalive = number_or(180, row, "keepalive", 3, 65535)? as u16;
         let max_pdu = number_or(4096, row, "max_pdu", 256, 4096)? as u16;
-        match only_known_keys(TableKind::Edge, row.place, row.table) {
+        match only_known_keys(row.version, TableKind::Edge, row.place, row.table) {
             Ok(()) => Ok(EdgePlan {
                 name,
                 address,
@@ -64,8 +66,24 @@ impl Row for ServicePlan {
         let name = name_at(row, "name")?;
         let mtu = number_or(1500, row, "mtu", 64, 9198)? as u16;
         let age = number_or(300, row, "age", 1, 1000000)?;
-        match only_known_keys(TableKind::Service, row.place, row.table) {
+        match only_known_keys(row.version, TableKind::Service, row.place, row.table) {
             Ok(()) => Ok(ServicePlan { name, mtu, age }),
+            Err(fault) => Err(fault),
+        }
+    }
+}
+
+impl Row for GroupRow {
+    ghost use Rattle.scenario_text.specs.Rows.{group_row_in};
+
+    ghost row_of = { group_row_in };
+
+    #[tactic(auto, unfolding(crate::specs::Rows::group_row_in))]
+    fn read(_alloc: Global, row: TableRow<'_>) -> Result<GroupRow, ScenarioFault> {
+        let name = name_at(row, "name")?;
+        let number = number_at(row, "number", 1, 4294967295)?;
+        match only_known_keys(row.version, TableKind::Group, row.place, row.table) {
+            Ok(()) => Ok(GroupRow { name, number }),
             Err(fault) => Err(fault),
         }
     }
@@ -82,7 +100,7 @@ impl Row for CircuitRow {
         let edge = name_at(row, "edge")?;
         let service = name_at(row, "service")?;
         let tag = optional_number(None, row, "tag", 1, 4094)?;
-        match only_known_keys(TableKind::Circuit, row.place, row.table) {
+        match only_known_keys(row.version, TableKind::Circuit, row.place, row.table) {
             Ok(()) => Ok(CircuitRow {
                 name,
                 edge,
@@ -99,7 +117,7 @@ impl Row for WireRow {
 
     ghost row_of = { wire_row_in };
 
-    #[tactic(auto, unfolding(crate::specs::Rows::wire_row_in, crate::specs::Rows::wire_row_with))]
+    #[tactic(auto, unfolding(crate::specs::Rows::wire_row_in))]
     fn read(alloc: Global, row: TableRow<'_>) -> Result<WireRow, ScenarioFault> {
         let name = name_at(row, "name")?;
         let service = name_at(row, "service")?;
@@ -107,18 +125,16 @@ impl Row for WireRow {
         let path = path_at(alloc, row, "path")?;
         let pw_id = number_at(row, "pw_id", 1, 4294967295)?;
         let priority = number_or(100, row, "priority", 0, 255)? as u8;
-        let near = near_offer(row)?;
-        let far = far_offer(&near, row)?;
-        match only_known_keys(TableKind::Wire, row.place, row.table) {
-            Ok(()) => Ok(WireRow {
+        match ends(row) {
+            Ok(ends) => Ok(WireRow {
                 name,
                 service,
                 class,
                 path,
                 pw_id,
                 priority,
-                near,
-                far,
+                near: ends.near,
+                far: ends.far,
             }),
             Err(fault) => Err(fault),
         }

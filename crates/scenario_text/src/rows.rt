@@ -3,8 +3,9 @@ ghost use Rattle.std.specs.Prelude.{◌≡◌, ◌≤◌, length, IfOk};
 ghost use Rattle.toml.specs.View.{view, items_view};
 ghost use Rattle.command_text.specs.Reading.{Gives};
 ghost use Rattle.scenario_text.specs.Rows.{row_in, rows_in};
-ghost use Rattle.scenario_text.specs.Top.{most_wires};
+ghost use Rattle.scenario_text.specs.Top.{most_groups};
 
+use crate::document_version::DocumentVersion;
 use crate::row::Row;
 use crate::table_row::TableRow;
 use command_text::{RowPlace, ScenarioFault};
@@ -13,11 +14,23 @@ use std::alloc::Global;
 use toml::Value;
 
 // The row that a value is.
-fn row_at<T: Row>(alloc: Global, place: RowPlace, value: &Value) -> Result<T, ScenarioFault>
-    ensures { Gives result (row_in T.row_of place (view value.now)) }
+fn row_at<T: Row>(
+    alloc: Global,
+    version: DocumentVersion,
+    place: RowPlace,
+    value: &Value,
+) -> Result<T, ScenarioFault>
+    ensures { Gives result (row_in (T.row_of version) place (view value.now)) }
 {
     match value.as_table() {
-        Some(table) => T::read(alloc, TableRow { place, table }),
+        Some(table) => T::read(
+            alloc,
+            TableRow {
+                version,
+                place,
+                table,
+            },
+        ),
         None => Err(place.wrong_kind("")),
     }
 }
@@ -25,11 +38,12 @@ fn row_at<T: Row>(alloc: Global, place: RowPlace, value: &Value) -> Result<T, Sc
 /// The rows of an array of tables.
 pub fn rows<T: Row>(
     alloc: Global,
+    version: DocumentVersion,
     table: TableKind,
     array: &[Value],
 ) -> Result<List<T>, ScenarioFault>
-    requires { length array.now ≤ most_wires }
-    ensures exact { Gives result (rows_in table T.row_of 1 (items_view array.now)) }
+    requires { length array.now ≤ most_groups }
+    ensures exact { Gives result (rows_in table (T.row_of version) 1 (items_view array.now)) }
     ensures many { IfOk result (λ rows. length rows ≡ length array.now) }
 {
     let mut rows = List::new(alloc);
@@ -38,7 +52,7 @@ pub fn rows<T: Row>(
             table,
             index: i as u32 + 1,
         };
-        let row = row_at::<T>(alloc, place, value)?;
+        let row = row_at::<T>(alloc, version, place, value)?;
         rows.push(row)?;
     }
     Ok(rows)

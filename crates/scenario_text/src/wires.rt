@@ -3,8 +3,11 @@ ghost use Rattle.std.specs.Prelude.{◌≡◌, ◌≤◌, length, IfOk};
 ghost use Rattle.net_base.specs.plan.NameFaults.{service_names};
 ghost use Rattle.command_text.specs.Reading.{Gives};
 ghost use Rattle.scenario_text.specs.Top.{most_wires};
-ghost use Rattle.scenario_text.specs.References.{offer_from, mtu_at, path_in, wire_in, wires_in};
+ghost use Rattle.scenario_text.specs.References.{offer_from, mtu_at, number_at, group_names, group_in, path_in, wire_in, wires_in};
 
+use crate::group_row::GroupRow;
+use crate::group_rows::GroupRows;
+use crate::group_use::GroupUse;
 use crate::named::named_place;
 use crate::offer_row::OfferRow;
 use crate::service_rows::ServiceRows;
@@ -13,9 +16,33 @@ use command_text::{NameIndex, RowPlace, ScenarioFault};
 use net_base::{EdgeId, List, Name, Offer, ServiceId, ServicePlan, Table as TableKind, WirePlan};
 use std::alloc::Global;
 
-// The offer of an end, where the service has this MTU. An MTU and VCCV bits of zero are not told.
-fn offer(mtu: u16, row: &OfferRow) -> Offer
-    ensures { result ≡ offer_from mtu row.now }
+// The number of the group at a place.
+fn group_number(groups: &[GroupRow], place: u16) -> u32
+    ensures { result ≡ number_at groups.now place }
+{
+    match groups.get(place as usize) {
+        Some(row) => row.number,
+        None => 0,
+    }
+}
+
+// The Group ID of an end. `UnknownName` comes exactly where no group has the name that is given.
+fn group_id(groups: GroupRows<'_, '_>, end: RowPlace, group: GroupUse) -> Result<u32, ScenarioFault>
+    requires { groups.index.now ≡ group_names groups.rows.now }
+    ensures { result ≡ group_in groups.entry.rows.now end group }
+{
+    match group {
+        GroupUse::Number(number) => Ok(number),
+        GroupUse::Named(name) => match named_place(end, "group", groups.index, &name) {
+            Ok(place) => Ok(group_number(groups.rows, place)),
+            Err(fault) => Err(fault),
+        },
+    }
+}
+
+// The offer of an end, where the service has this MTU and the end this Group ID. An MTU and VCCV bits of zero are not told.
+fn offer(mtu: u16, group: u32, row: &OfferRow) -> Offer
+    ensures { result ≡ offer_from mtu group row.now }
 {
     Offer {
         tagged: row.tagged,
@@ -30,7 +57,7 @@ fn offer(mtu: u16, row: &OfferRow) -> Offer
             bits => Some(bits),
         },
         status: row.status,
-        group: row.group,
+        group,
         description: row.description,
     }
 }
@@ -68,14 +95,26 @@ fn wire(
     alloc: Global,
     edges: &NameIndex<'_>,
     services: ServiceRows<'_, '_>,
+    groups: GroupRows<'_, '_>,
     place: RowPlace,
     row: &WireRow,
 ) -> Result<WirePlan, ScenarioFault>
-    requires { services.index.now ≡ service_names services.rows.now }
-    ensures { Gives result (wire_in edges.now services.entry.rows.now place row.now) }
+    requires same { services.index.now ≡ service_names services.rows.now }
+    requires named { groups.index.now ≡ group_names groups.rows.now }
+    ensures { Gives result (wire_in edges.now services.entry.rows.now groups.entry.rows.now place row.now) }
 {
     let service = named_place(place, "service", services.index, &row.service)?;
     let path = path(alloc, edges, place, row.path.as_slice())?;
+    let near = RowPlace {
+        table: TableKind::Near,
+        index: place.index,
+    };
+    let near_group = group_id(groups, near, row.near.group)?;
+    let far = RowPlace {
+        table: TableKind::Far,
+        index: place.index,
+    };
+    let far_group = group_id(groups, far, row.far.group)?;
     let mtu = service_mtu(services.rows, service);
     Ok(WirePlan {
         name: row.name,
@@ -83,8 +122,8 @@ fn wire(
         class: row.class,
         path,
         pw_id: row.pw_id,
-        near: offer(mtu, &row.near),
-        far: offer(mtu, &row.far),
+        near: offer(mtu, near_group, &row.near),
+        far: offer(mtu, far_group, &row.far),
         priority: row.priority,
     })
 }
@@ -95,11 +134,13 @@ pub fn wires(
     alloc: Global,
     edges: &NameIndex<'_>,
     services: ServiceRows<'_, '_>,
+    groups: GroupRows<'_, '_>,
     rows: &[WireRow],
 ) -> Result<List<WirePlan>, ScenarioFault>
     requires few { length rows.now ≤ most_wires }
     requires same { services.index.now ≡ service_names services.rows.now }
-    ensures exact { Gives result (wires_in edges.now services.entry.rows.now 1 rows.now) }
+    requires named { groups.index.now ≡ group_names groups.rows.now }
+    ensures exact { Gives result (wires_in edges.now services.entry.rows.now groups.entry.rows.now 1 rows.now) }
     ensures many { IfOk result (λ wires. length wires ≡ length rows.now) }
 {
     let mut wires = List::new(alloc);
@@ -108,7 +149,7 @@ pub fn wires(
             table: TableKind::Wire,
             index: i as u32 + 1,
         };
-        let wire = wire(alloc, edges, services, place, row)?;
+        let wire = wire(alloc, edges, services, groups, place, row)?;
         wires.push(wire)?;
     }
     Ok(wires)

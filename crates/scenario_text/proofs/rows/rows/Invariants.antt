@@ -7,5 +7,5 @@ use Rattle.scenario_text.proofs.rows.rows.Given as goal
 
 abbrev pub invariant-loop-i : goal.invariant-loop-i
 invariant-loop-i g l =
-    (with_front l.rows (rows_in l.table g.T.Row.row_of (l.i + 1) (items_view (drop l.i l.array))) ≡ rows_in l.table g.T.Row.row_of 1 (items_view l.array))
+    (with_front l.rows (rows_in l.table (g.T.Row.row_of l.version) (l.i + 1) (items_view (drop l.i l.array))) ≡ rows_in l.table (g.T.Row.row_of l.version) 1 (items_view l.array))
     × (length l.rows ≡ l.i)

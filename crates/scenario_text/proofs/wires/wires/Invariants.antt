@@ -6,5 +6,5 @@ use Rattle.scenario_text.proofs.wires.wires.Given as goal
 
 abbrev pub invariant-loop-i : goal.invariant-loop-i
 invariant-loop-i l =
-    (with_front l.wires (wires_in l.edges l.services.rows.now (l.i + 1) (drop l.i l.rows)) ≡ wires_in l.edges l.services.rows.now 1 l.rows)
+    (with_front l.wires (wires_in l.edges l.services.rows.now l.groups.rows.now (l.i + 1) (drop l.i l.rows)) ≡ wires_in l.edges l.services.rows.now l.groups.rows.now 1 l.rows)
     × (length l.wires ≡ l.i)
