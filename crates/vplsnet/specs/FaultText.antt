@@ -15,8 +15,11 @@ table_name table.Top = codes "top"
 table_name table.Events = codes "events"
 table_name table.Edge = codes "edge"
 table_name table.Service = codes "service"
+table_name table.Group = codes "group"
 table_name table.Circuit = codes "circuit"
 table_name table.Wire = codes "wire"
+table_name table.Near = codes "near"
+table_name table.Far = codes "far"
 
 -- the table, the row and the key, with `?` for what cannot be printed
 abbrev pub place_words : Place → List (List ℕ)

@@ -75,8 +75,11 @@ fn table_text(table: Table) -> &'static str
         Table::Events => "events",
         Table::Edge => "edge",
         Table::Service => "service",
+        Table::Group => "group",
         Table::Circuit => "circuit",
         Table::Wire => "wire",
+        Table::Near => "near",
+        Table::Far => "far",
     }
 }
 
