@@ -110,7 +110,7 @@ edge = [{},{},{},{},{},{},{},{},{},{},{},{},{},{},{},{},{},{},{},{},{},{},{},{},
 
 version = => NotToml
 
-version = 2 => Version
+version = 3 => Version
 
 version = -1
 zebra = 1 => Version
@@ -154,7 +154,7 @@ fn repeats(rt: &impl Abort, alloc: Global, front: &str, piece: &str, count: u32,
 type Crowd = (&'static str, &'static str, u32, &'static str);
 
 // So many events may be, of which each is at fault here, and one more may not; the rows of each table are one too many.
-const CROWDS: [Crowd; 6] = [
+const CROWDS: [Crowd; 7] = [
     (
         "version = 1\nevents = [",
         "'',",
@@ -190,6 +190,12 @@ const CROWDS: [Crowd; 6] = [
         "{},",
         1025,
         "TooMany { table: Wire, limit: 1024 }",
+    ),
+    (
+        "version = 2\ngroup = [",
+        "{},",
+        2049,
+        "TooMany { table: Group, limit: 2048 }",
     ),
 ];
 
