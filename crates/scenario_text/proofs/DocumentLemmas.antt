@@ -1,5 +1,5 @@
 -- A document is the scenario of its text, where its bytes are UTF-8.
-use Rattle.std.proofs.Common.{◌≡◌, ◌∙◌, ℕ, List, Result, Err, if◌then◌else◌, length, sym, ap, subst}
+use Rattle.std.proofs.Common.{◌≡◌, ◌∙◌, ℕ, true, List, Result, Err, if◌then◌else◌, length, sym, ap, subst}
 use Rattle.std.proofs.lemmas.Bool.{false_from_ne_true}
 use Rattle.std.proofs.lemmas.Str.{is_utf8-from_IsUtf8, IsUtf8-from_is_utf8}
 use Rattle.std.proofs.lemmas.List.{length-map}
@@ -23,6 +23,10 @@ document_text bytes text = ap (λ b. if b then scenario_or (parse_document bytes
 pub document_other : (bytes : List ℕ) → ¬ (IsUtf8 bytes) → document bytes ≡ Err NotToml
 unfolding document
 document_other bytes other = ap (λ b. if b then scenario_or (parse_document bytes) else Err NotToml) (false_from_ne_true (is_utf8 bytes) (λ h. other (IsUtf8-from_is_utf8 bytes h)))
+
+-- a text is UTF-8
+pub text_is_utf8 : (text : List ℕ) → IsUtf8 text → is_utf8 text ≡ true
+text_is_utf8 text utf8 = is_utf8-from_IsUtf8 text utf8
 
 pub gives_document : (bytes text : List ℕ) (result : Result Scenario ScenarioFault) → text ≡ bytes → IsUtf8 bytes → Gives result (scenario_or (parse_document text)) → Gives result (document bytes)
 gives_document bytes text result same utf8 gives = subst (λ (d : Result Scenario ScenarioFault). Gives result d) (ap (λ t. scenario_or (parse_document t)) same ∙ sym (document_text bytes utf8)) gives

@@ -1,6 +1,6 @@
 -- The kinds of values that stand at keys, and keys that are needed or have a default.
 use Rattle.std.specs.Prelude.{◌&&◌, nat_le, not, codes, length, ℕ, ℤ, pos, negsuc, Bool, true, false, List, [], ◌∷◌, Option, Some, None, is_some, Result, Ok, Err, if◌then◌else◌}
-use Rattle.std.specs.Str.{bytes_eq}
+use Rattle.std.specs.Str.{bytes_eq, is_utf8}
 use Rattle.std.specs.Net.Reader.{read_ipv4}
 use Rattle.toml.specs.Data.{Data, Items, no_items, item, Members, as_str, as_integer, as_bool, as_array, get_member}
 use Rattle.net_values.specs.Name.{is_name_text}
@@ -80,9 +80,9 @@ mode_of text = if bytes_eq text (codes "raw") then Some false else if bytes_eq t
 abbrev pub a_mode : Place → Data → Result Bool ScenarioFault
 a_mode place value = a_text place value >>= (λ text. meant place (mode_of text))
 
--- a string of at most 80 octets
+-- a string of at most 80 octets, which is UTF-8 as each string of TOML
 abbrev pub a_description : Place → Data → Result (List ℕ) ScenarioFault
-a_description place value = a_text place value >>= (λ text. in_range place (nat_le (length text) 80) text)
+a_description place value = a_text place value >>= (λ text. in_range place (is_utf8 text && nat_le (length text) 80) text)
 
 -- every item passes the test
 abbrev pub all_items : (Data → Bool) → Items → Bool

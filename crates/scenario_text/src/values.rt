@@ -122,6 +122,7 @@ pub fn mode(row: RowPlace, key: &str, value: &Value) -> Result<bool, ScenarioFau
 }
 
 /// A string of at most 80 octets.
+#[tactic(auto, using(crate::proofs::DocumentLemmas::text_is_utf8))]
 pub fn description(row: RowPlace, key: &str, value: &Value) -> Result<Text<80>, ScenarioFault>
     ensures { result ≡ a_description (place_at row key.now) (view value.now) }
 {
