@@ -7,11 +7,13 @@
 mod ending;
 mod entry;
 mod event;
+mod event_words;
 mod last_line;
 mod names;
 mod report;
 
 pub use ending::Ending;
+pub use event_words::{EventWords, words_of_event};
 pub use last_line::{Counted, put_last_line};
 pub use names::{
     arrival_word, cause_text, circuit_word, edge_word, state_text, wire_end_text, wire_word,

@@ -1,0 +1,8 @@
+-- The words of an event as they are put.
+use Rattle.std.specs.Prelude.{ℕ, List, map, take, min}
+use Rattle.text_lines.specs.Lines.{word_octets}
+use Rattle.report_text.specs.declared.event_words.EventWords.{EventWords}
+
+-- the octets of each word, in order
+abbrev pub told_words : EventWords → List (List ℕ)
+told_words words = map word_octets (take (min words.count 4) words.words)
