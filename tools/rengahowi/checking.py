@@ -3,7 +3,7 @@
 import re
 from typing import NamedTuple
 
-from .keys import MOST_PORTS, MOST_ROWS, TABLES, allowed
+from .keys import ENDS, MOST_PORTS, MOST_ROWS, NEWEST, OFFER, TABLES, allowed, arrays
 
 NAME = re.compile(r"[a-z0-9_]{1,32}")
 
@@ -37,6 +37,8 @@ def has_kind(key, value):
         return isinstance(value, bool)
     if key.kind == "path":
         return isinstance(value, list) and all(isinstance(one, str) for one in value)
+    if key.kind == "table":
+        return isinstance(value, dict)
     return isinstance(value, str)
 
 
@@ -57,6 +59,7 @@ def is_in_range(key, value):
         "path": lambda: all(NAME.fullmatch(one) for one in value),
         "class": lambda: value in ("mesh", "spoke"),
         "mode": lambda: value in ("raw", "tagged"),
+        "table": lambda: True,
     }
     return bool(tests[key.kind]())
 
@@ -72,23 +75,28 @@ def wide_numbers(value, path=()):
 def top_faults(document):
     """The faults of the top of the document."""
     if "version" not in document:
-        yield Finding("Missing top 0 version", (), 0, "the first line is version = 1")
+        yield Finding("Missing top 0 version", (), 0, f"the first line is version = {NEWEST}")
         return
-    if not is_number(document["version"]):
-        yield Finding("WrongKind top 0 version", ("version",), 0, "version is the number 1")
+    version = document["version"]
+    if not is_number(version):
+        yield Finding("WrongKind top 0 version", ("version",), 0, f"version is the number {NEWEST}, or 1")
         return
-    if document["version"] != 1:
-        yield Finding("Version", ("version",), 0, "version is 1")
+    if version not in TABLES:
+        yield Finding("Version", ("version",), 0, f"version is {NEWEST}, or 1")
         return
-    for table in MOST_ROWS:
+    tables = arrays(version)
+    for table in tables:
         rows, kind = document.get(table, []), str if table == "events" else dict
         if not isinstance(rows, list) or not all(isinstance(row, kind) for row in rows):
             right = "an array of texts" if table == "events" else f"rows, each under its own [[{table}]], with two brackets"
             yield Finding(f"WrongKind top 0 {table}", (table,), 0, f"{table} is {right}")
-    for key in unknown(document, ["version", *MOST_ROWS]):
-        text = f"{key!r} is no key here; there are version, {', '.join(MOST_ROWS)}"
+    for key in unknown(document, ["version", *tables]):
+        text = f"{key!r} is no key here; there are version, {', '.join(tables)}"
+        if key in arrays(NEWEST):
+            text = f"{key} is a table of version {NEWEST}, and this scenario is of version {version}"
         yield Finding(f"UnknownKey {place('top', 0, key)}", (key,), None, text)
-    for table, most in MOST_ROWS.items():
+    for table in tables:
+        most = MOST_ROWS[table]
         if isinstance(document.get(table), list) and len(document[table]) > most:
             yield Finding(f"TooMany {table} {most}", (table,), 0, f"at most {most} rows of {table}, and not {len(document[table])}")
 
@@ -100,51 +108,72 @@ def unknown(row, known):
 
 def row_faults(document):
     """The faults of rows by themselves."""
-    for table, keys in TABLES.items():
+    for table, keys in TABLES[document["version"]].items():
         for number, row in enumerate(document.get(table, [])):
-            yield from faults_of_row(table, number, row, keys)
+            yield from faults_of_row(document["version"], table, number, row, keys, (table, number))
+            for end in ENDS if table == "wire" and document["version"] == NEWEST else ():
+                if isinstance(row.get(end), dict):
+                    yield from faults_of_row(document["version"], end, number, row[end], OFFER, (table, number, end))
 
 
-def faults_of_row(table, number, row, keys):
-    """The faults of one row, key by key."""
+def faults_of_row(version, table, number, row, keys, path):
+    """The faults of one row, or of one end of a wire, key by key. `path` is where it stands."""
     for key in keys:
-        at, path = place(table, number + 1, key.name), (table, number, key.name)
+        at = place(table, number + 1, key.name)
         if key.name not in row:
             if key.needed:
-                yield Finding(f"Missing {at}", (table, number), 0, f"this {table} has no {key.name}: {allowed(key)}")
+                yield Finding(f"Missing {at}", path, 0, f"this {table} has no {key.name}: {allowed(key)}")
         elif not has_kind(key, row[key.name]):
-            yield Finding(f"WrongKind {at}", path, 0, f"{key.name} is {allowed(key)}")
+            yield Finding(f"WrongKind {at}", (*path, key.name), 0, f"{key.name} is {allowed(key)}")
         elif not is_in_range(key, row[key.name]):
-            yield Finding(f"Plan OutOfRange {at}", path, 0, f"{key.name} is {allowed(key)}, and not {row[key.name]!r}")
+            text = f"{key.name} is {allowed(key)}, and not {row[key.name]!r}"
+            yield Finding(f"Plan OutOfRange {at}", (*path, key.name), 0, text)
     names = [key.name for key in keys]
     for key in unknown(row, names):
-        yield Finding(f"UnknownKey {place(table, number + 1, key)}", (table, number, key), None, unknown_text(table, key, names))
+        yield Finding(f"UnknownKey {place(table, number + 1, key)}", (*path, key), None, unknown_text(version, table, key, names))
 
 
-def unknown_text(table, key, names):
+def unknown_text(version, table, key, names):
     """What an unknown key was meant to be."""
-    if key in ("version", *MOST_ROWS):
+    plain = key.removeprefix("far_")
+    if table == "wire" and version == NEWEST and plain in [one.name for one in OFFER]:
+        end = "near" if plain == key else "far"
+        return f"what an end offers stands in a table of its own: {end} = {{ {plain} = .. }}"
+    if table == "wire" and key in ENDS:
+        return f"{key} is a table of version {NEWEST}; in version {version} its keys stand in the wire, those of far with the prefix far_"
+    if table not in ENDS and key in ("version", *arrays(version)):
         return f"{key} stands behind a [[{table}]] and belongs to it so: move it above the first table"
     return f"{key!r} is no key of {table}; these are: {', '.join(names)}"
 
 
 def references(document):
     """Names that no row has."""
-    edges, services = ({row["name"] for row in document.get(table, [])} for table in ("edge", "service"))
-    for table, keys in (("circuit", ("edge", "service")), ("wire", ("service", "path"))):
-        for number, row in enumerate(document.get(table, [])):
-            for key in keys:
-                known, of = (services, "service") if key == "service" else (edges, "edge")
-                names = row[key] if key == "path" else [row[key]]
-                missing = [name for name in names if name not in known]
-                if missing:
-                    text = f"there is no {of} {missing[0]!r}; there are: {', '.join(sorted(known)[:20]) or 'none'}"
-                    yield Finding(f"Plan UnknownName {place(table, number + 1, key)}", (table, number, key), 0, text)
+    names = {table: {row["name"] for row in document.get(table, [])} for table in ("edge", "service", "group")}
+    for number, row in enumerate(document.get("circuit", [])):
+        yield from missing(names["edge"], "edge", [row["edge"]], "circuit", number, ("circuit", number, "edge"))
+        yield from missing(names["service"], "service", [row["service"]], "circuit", number, ("circuit", number, "service"))
+    for number, row in enumerate(document.get("wire", [])):
+        yield from missing(names["service"], "service", [row["service"]], "wire", number, ("wire", number, "service"))
+        yield from missing(names["edge"], "edge", row["path"], "wire", number, ("wire", number, "path"))
+        for end in ENDS:
+            if "group" in row.get(end, ()):
+                yield from missing(names["group"], "group", [row[end]["group"]], end, number, ("wire", number, end, "group"))
+
+
+def missing(known, kind, used, table, number, path):
+    """The first of the names that a key uses which no row of this kind has."""
+    for name in used:
+        if name not in known:
+            text = f"there is no {kind} {name!r}; there are: {', '.join(sorted(known)[:20]) or 'none'}"
+            yield Finding(f"Plan UnknownName {place(table, number + 1, path[-1])}", path, 0, text)
+            return
 
 
 def name_faults(document):
-    """Names and addresses that stood before, and paths by themselves."""
-    yield from repeated(document)
+    """Names and addresses that stood before, and paths by themselves. Groups have names of their own."""
+    yield from repeated(document, ["group"], "among the groups")
+    yield from repeated(document, ["edge", "service", "circuit", "wire"], "in all tables together")
+    yield from repeated_addresses(document)
     yield from path_faults(enumerate(document.get("wire", [])))
 
 
@@ -161,16 +190,20 @@ def plan_fault(kind, table, number, key, text):
     return Finding(f"Plan {kind} {place(table, number + 1, key)}", (table, number, key), 0, text)
 
 
-def repeated(document):
-    """Names and addresses that stood before."""
+def repeated(document, tables, among):
+    """Names that stood before in these tables."""
     seen = {}
-    for table in TABLES:
+    for table in tables:
         for number, row in enumerate(document.get(table, [])):
             if row["name"] in seen:
                 first, before = seen[row["name"]]
-                text = f"{row['name']!r} is the name of {first} {before + 1} already; a name stands once in all tables together"
+                text = f"{row['name']!r} is the name of {first} {before + 1} already; a name stands once {among}"
                 yield plan_fault("RepeatedName", table, number, "name", text)
             seen.setdefault(row["name"], (table, number))
+
+
+def repeated_addresses(document):
+    """Addresses that stood before."""
     addresses = {}
     for number, row in enumerate(document.get("edge", [])):
         if row["address"] in addresses:

@@ -129,9 +129,9 @@ class FrrPlan:
         row = {"name": name, "service": service["name"], "class": "mesh", "path": [a, b], "pw_id": near[2].pw_id}
         offers = [{**DEFAULTS, **section.offer, **wire.offer} for _, section, wire in (near, far)]
         usual = {**DEFAULTS, "mtu": service["mtu"]}
-        for key in DEFAULTS:
-            if offers[0][key] != usual[key]:
-                row[key] = offers[0][key]
-            if offers[1][key] != offers[0][key]:
-                row[f"far_{key}"] = offers[1][key]
+        ends = [{key: it for key, it in offer.items() if it != usual[key]} for offer in offers]
+        if ends[0]:
+            row["near"] = ends[0]
+        if ends[1] != ends[0]:
+            row["far"] = ends[1]
         self.rows["wire"].append(row)

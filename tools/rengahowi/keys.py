@@ -1,4 +1,4 @@
-"""The tables of a scenario of version 1: their keys, the values that are allowed, and the defaults (docs/FORMATS.md)."""
+"""The tables of a scenario, of both versions: their keys, the values that are allowed, and the defaults (docs/FORMATS.md)."""
 
 from typing import NamedTuple
 
@@ -8,7 +8,7 @@ class Key(NamedTuple):
     where nothing is told."""
 
     name: str
-    kind: str  # name, address, number, text, flag, path, class or mode
+    kind: str  # name, address, number, text, flag, path, class, mode or table
     least: int = 0
     most: int = 0
     default: object = None
@@ -16,7 +16,30 @@ class Key(NamedTuple):
 
 
 NAME = Key("name", "name", needed=True)
-# Keys that may also come with the prefix far_, and then hold for the last edge of the path.
+EDGE = [
+    NAME,
+    Key("address", "address", needed=True),
+    Key("first_label", "number", 16, 1048575, default=16),
+    Key("keepalive", "number", 3, 65535, default=180),
+    Key("max_pdu", "number", 256, 4096, default=4096),
+]
+SERVICE = [NAME, Key("mtu", "number", 64, 9198, default=1500), Key("age", "number", 1, 1000000, default=300)]
+GROUP = [NAME, Key("number", "number", 1, 4294967295, needed=True)]
+CIRCUIT = [
+    NAME,
+    Key("edge", "name", needed=True),
+    Key("service", "name", needed=True),
+    Key("tag", "number", 1, 4094),
+]
+WIRE = [
+    NAME,
+    Key("service", "name", needed=True),
+    Key("class", "class", needed=True),
+    Key("path", "path", needed=True),
+    Key("pw_id", "number", 1, 4294967295, needed=True),
+    Key("priority", "number", 0, 255, default=100),
+]
+# What a terminal edge of a wire offers, as a table `near` or `far` of version 2 has it. An absent MTU is the service's.
 OFFER = [
     Key("mode", "mode", default="raw"),
     Key("control_word", "flag", default=True),
@@ -24,36 +47,26 @@ OFFER = [
     Key("vlan", "number", 0, 4095),
     Key("vccv", "number", 0, 7, default=0),
     Key("status", "flag", default=True),
-    Key("group", "number", 0, 4294967295, default=0),
+    Key("group", "name"),
     Key("description", "text", 0, 80, default=""),
 ]
+# The same as keys of a wire of version 1, where a group is a number. With the prefix far_ they hold for the last edge of the path.
+PLAIN_OFFER = [Key("group", "number", 0, 4294967295, default=0) if key.name == "group" else key for key in OFFER]
+FAR_OFFER = [key._replace(name=f"far_{key.name}", default=None) for key in PLAIN_OFFER]
+ENDS = ("near", "far")
+NEWEST = 2
+# The tables of each version, in the order in which their rows are looked at.
 TABLES = {
-    "edge": [
-        NAME,
-        Key("address", "address", needed=True),
-        Key("first_label", "number", 16, 1048575, default=16),
-        Key("keepalive", "number", 3, 65535, default=180),
-        Key("max_pdu", "number", 256, 4096, default=4096),
-    ],
-    "service": [NAME, Key("mtu", "number", 64, 9198, default=1500), Key("age", "number", 1, 1000000, default=300)],
-    "circuit": [
-        NAME,
-        Key("edge", "name", needed=True),
-        Key("service", "name", needed=True),
-        Key("tag", "number", 1, 4094),
-    ],
-    "wire": [
-        NAME,
-        Key("service", "name", needed=True),
-        Key("class", "class", needed=True),
-        Key("path", "path", needed=True),
-        Key("pw_id", "number", 1, 4294967295, needed=True),
-        Key("priority", "number", 0, 255, default=100),
-        *OFFER,
-        *(key._replace(name=f"far_{key.name}", default=None) for key in OFFER),
-    ],
+    1: {"edge": EDGE, "service": SERVICE, "circuit": CIRCUIT, "wire": [*WIRE, *PLAIN_OFFER, *FAR_OFFER]},
+    2: {
+        "edge": EDGE,
+        "service": SERVICE,
+        "group": GROUP,
+        "circuit": CIRCUIT,
+        "wire": [*WIRE, *(Key(end, "table") for end in ENDS)],
+    },
 }
-MOST_ROWS = {"events": 100_000, "edge": 64, "service": 64, "circuit": 512, "wire": 1024}
+MOST_ROWS = {"events": 100_000, "edge": 64, "service": 64, "group": 2048, "circuit": 512, "wire": 1024}
 MOST_PORTS = 512
 MOST_PLAYS = 4
 
@@ -69,4 +82,10 @@ def allowed(key):
         "path": 'an array of the names of 2 to 5 edges, such as ["a", "b"]',
         "class": '"mesh" or "spoke"',
         "mode": '"raw" or "tagged"',
+        "table": "a table of what that end offers, such as { mtu = 1400 }",
     }[key.kind]
+
+
+def arrays(version):
+    """The arrays of a version, in the order in which their kinds and numbers of rows are looked at."""
+    return ["events", *TABLES[version]]

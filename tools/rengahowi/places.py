@@ -14,7 +14,7 @@ class Places:
 
     def __init__(self, text):
         self.text, self.at, self.found = text.removeprefix("\ufeff"), 0, {}
-        self.key_places = {}
+        self.key_places, self.ends = {}, {}
         base, counts = (), {}
         while self.skip(BLANK) < len(self.text):
             if self.text[self.at] == "[":
@@ -28,18 +28,27 @@ class Places:
         return self.at
 
     def header(self, counts):
-        """The path of a table's header."""
+        """The path of a table's header. A part of it that is an array of tables means the last row there is."""
         start = self.at
         many = self.text.startswith("[[", self.at)
         self.at += 1 + many
         keys = self.keys()
         self.at += 1 + many
-        path = tuple(keys)
-        if many:
-            path += (counts.setdefault(path, 0),)
-            counts[path[:-1]] += 1
-        self.found[path] = start
+        path = ()
+        for place, key in enumerate(keys):
+            path += (key,)
+            self.stands(path, start)
+            if many and place == len(keys) - 1:
+                counts[path] = counts.get(path, 0) + 1
+            if path in counts:
+                path += (counts[path] - 1,)
+                self.stands(path, start)
         return path
+
+    def stands(self, path, place):
+        """A part of a header or of a key stands where it is named first."""
+        self.found.setdefault(path, place)
+        self.key_places.setdefault(path, place)
 
     def keys(self):
         """The keys of a header or a statement, parted by dots."""
@@ -53,13 +62,16 @@ class Places:
             self.at += 1
 
     def statement(self, base):
-        """A key with its value."""
+        """A key with its value. Of a key with dots, each part has the place of the whole."""
         start = BLANK.match(self.text, self.at).end()
-        path = base + tuple(self.keys())
-        self.key_places[path] = start
+        path = base
+        for key in self.keys():
+            path += (key,)
+            self.stands(path, start)
         self.at += 1
         self.skip(SPACE)
         self.value(path)
+        self.ends[path] = self.at
 
     def value(self, path):
         """A value, and all in it."""

@@ -4,7 +4,7 @@ import tomllib
 from typing import NamedTuple
 
 from .command import Fault, text_of
-from .keys import OFFER, TABLES
+from .keys import ENDS, OFFER, PLAIN_OFFER, TABLES
 
 
 class Wire(NamedTuple):
@@ -36,19 +36,31 @@ class Plan:
     """The rows of a scenario by their names, in its order."""
 
     def __init__(self, rows):
-        self.edges, self.services, self.circuits = (
-            {row["name"]: filled(table, row) for row in rows.get(table, [])} for table in ("edge", "service", "circuit")
+        self.version = rows["version"]
+        self.edges, self.services, self.groups, self.circuits = (
+            {row["name"]: self.filled(table, row) for row in rows.get(table, [])} for table in ("edge", "service", "group", "circuit")
         )
         self.wires = {row["name"]: self.wire_of(row) for row in rows.get("wire", [])}
         self.events = rows.get("events", [])
 
+    def filled(self, table, row):
+        """A row with its defaults."""
+        return {key.name: row.get(key.name, key.default) for key in TABLES[self.version][table]}
+
     def wire_of(self, row):
-        """A wire of its row: an MTU that is not told is 0, and an absent one the service's."""
-        keys = filled("wire", row)
-        near = {key.name: keys[key.name] for key in OFFER}
-        if near["mtu"] is None:
-            near["mtu"] = self.services[keys["service"]]["mtu"]
-        far = {name: value if keys[f"far_{name}"] is None else keys[f"far_{name}"] for name, value in near.items()}
+        """A wire of its row: an MTU that is not told is 0, and an absent one the service's; a group is its number."""
+        keys = self.filled("wire", row)
+        if self.version == 1:
+            near = {key.name: keys[key.name] for key in PLAIN_OFFER}
+            far = {name: value if keys[f"far_{name}"] is None else keys[f"far_{name}"] for name, value in near.items()}
+        else:
+            near, far = ({key.name: (keys[end] or {}).get(key.name, key.default) for key in OFFER} for end in ENDS)
+            for offer in (near, far):
+                offer["group"] = 0 if offer["group"] is None else self.groups[offer["group"]]["number"]
+            far = near if keys["far"] is None else far
+        for offer in (near, far):
+            if offer["mtu"] is None:
+                offer["mtu"] = self.services[keys["service"]]["mtu"]
         path, number = tuple(keys["path"]), keys["pw_id"]
         return Wire(keys["name"], keys["service"], keys["class"], path, number, keys["priority"], near, far)
 
@@ -77,11 +89,6 @@ class Plan:
             for a, b in wire.segments() if service in (None, wire.service) else ():
                 found[tuple(sorted((a, b), key=list(self.edges).index))] = None
         return list(found)
-
-
-def filled(table, row):
-    """A row with its defaults."""
-    return {key.name: row.get(key.name, key.default) for key in TABLES[table]}
 
 
 def read_plan(path):

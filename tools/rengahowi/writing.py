@@ -1,7 +1,9 @@
-"""Writes scenarios: the text of rows and events, and plans of real size."""
+"""Writes scenarios of version 2: the text of rows and events, and plans of real size."""
+
+import re
 
 from .command import Fault
-from .keys import MOST_ROWS
+from .keys import MOST_ROWS, NEWEST
 
 
 def value(it):
@@ -12,17 +14,25 @@ def value(it):
         return str(it)
     if isinstance(it, (list, tuple)):
         return "[" + ", ".join(value(one) for one in it) + "]"
-    return '"' + it.replace("\\", "\\\\").replace('"', '\\"') + '"'
+    if isinstance(it, dict):
+        return "{ " + ", ".join(f"{key} = {value(one)}" for key, one in it.items()) + " }" if it else "{}"
+    return '"' + re.sub(r'[\x00-\x1f"\\\x7f]', escaped, it) + '"'
+
+
+def escaped(found):
+    """A character that a text of TOML cannot have as it is."""
+    return f"\\{found[0]}" if found[0] in '"\\' else f"\\u{ord(found[0]):04x}"
 
 
 def scenario(rows, events, comment=""):
-    """The text of a scenario: `rows` has for each table a list of rows, each a dict of its keys."""
+    """The text of a scenario: `rows` has for each table a list of rows, each a dict of its keys; an end of
+    a wire is a dict in it."""
     for table, most in MOST_ROWS.items():
         count = len(events) if table == "events" else len(rows.get(table, ()))
         if count > most:
             raise Fault(f"{count} rows of {table}: a scenario has at most {most}")
     text = "".join(f"# {line}\n" for line in comment.splitlines())
-    text += "version = 1\nevents = [\n" + "".join(f"  {value(event)},\n" for event in events) + "]\n"
+    text += f"version = {NEWEST}\nevents = [\n" + "".join(f"  {value(event)},\n" for event in events) + "]\n"
     for table, found in rows.items():
         for row in found:
             text += f"\n[[{table}]]\n" + "".join(f"{key} = {value(it)}\n" for key, it in row.items())
