@@ -78,8 +78,10 @@ class Run:
         self.plan, self.report, self.network = plan, report, Network(plan)
         self.frames, self.heard = {}, {service: set() for service in plan.services}
         self.open_frames = {}
-        self.ever_up, self.ever_carried, self.carrying = set(), set(), set()
+        self.of_packet, self.entered, self.touched = {}, [], []
+        self.ever_up, self.ever_carried = set(), set()
         self.joined = {service: set() for service in plan.services}
+        self.ever_joined = {service: set() for service in plan.services}
         self.spans = {service: [] for service in plan.services}
         self.open_spans = {}
         self.pings, self.drops, self.deliveries = Pings(), [], 0
@@ -95,8 +97,9 @@ class Run:
                 self.enter(event, entry)
                 self.network.take(entry)
             self.deliveries += event.kind == "deliver" and not event.is_idle()
-            self.hear(event)
-            if any(entry.kind in ("wire", "session") for entry in event.entries) or event.kind == "restart":
+            self.hear()
+            if self.network.told:
+                self.look_at_sessions(event)
                 self.look_at_wires(event)
         for span in self.open_spans.values():
             span.close(None, self.deliveries)
@@ -112,8 +115,10 @@ class Run:
         """A packet arrives or is lost: it is under way no more."""
         if event.kind in ("arrive", "drop") and not event.is_idle():
             packet = event.words[0]
-            for frame in [frame for frame in self.open_frames.values() if packet in frame.under_way]:
+            frame = self.of_packet.pop(packet, None)
+            if frame is not None:
                 frame.under_way.discard(packet)
+                self.touched.append(frame)
                 if event.kind == "drop":
                     frame.lost.append(packet)
 
@@ -121,7 +126,8 @@ class Run:
         """What an entry tells of a frame, and what it counts of drops."""
         kind, words, origin = entry.kind, entry.words, self.origin_of(entry)
         if kind == "in":
-            self.frames[origin] = self.open_frames[origin] = Frame(self.network, event, entry)
+            frame = self.frames[origin] = self.open_frames[origin] = Frame(self.network, event, entry)
+            self.entered.append(frame)
         elif kind == "dropped":
             self.drops.append(words)
         if origin != 0:
@@ -133,13 +139,13 @@ class Run:
             return self.network.packets[entry.words[-1]][4]
         return entry.words[ORIGIN[entry.kind]] if entry.kind in ORIGIN else 0
 
-    @staticmethod
-    def enter_copy(event, kind, words, frame):
+    def enter_copy(self, event, kind, words, frame):
         """What an entry tells of a frame's copy."""
+        self.touched.append(frame)
         if kind == "sent":
-            frame.under_way.add(words[0])
+            self.put_under_way(words[0], frame)
         elif kind == "copied":
-            frame.under_way.add(words[0])
+            self.put_under_way(words[0], frame)
             frame.repeated.append(words[1])
         elif kind == "aged":
             frame.under_way.discard(words[0])
@@ -150,33 +156,46 @@ class Run:
         elif kind == "dropped":
             frame.dropped.append((event, words[0], words[2]))
 
-    def hear(self, event):
-        """Whose station is heard, and whose window is over, behind an event."""
-        for entry in event.entries:
-            if entry.kind == "in":
-                frame = self.frames[entry.words[1]]
-                if frame.is_formed():
-                    self.heard[frame.service].add(frame.source)
-        for origin, frame in list(self.open_frames.items()):
+    def put_under_way(self, packet, frame):
+        """A packet of a frame is under way from here on."""
+        frame.under_way.add(packet)
+        self.of_packet[packet] = frame
+
+    def hear(self):
+        """Whose station is heard, and whose window is over, behind an event: of the frames that it told something of."""
+        for frame in self.entered:
+            heard = self.heard[frame.service]
+            if frame.is_formed() and frame.source not in heard:
+                heard.add(frame.source)
+                for other in self.open_frames.values():
+                    other.heard = other.heard or other.service == frame.service and other.to == frame.source
+        for frame in self.entered:
             frame.heard = frame.heard or frame.to in self.heard[frame.service]
+        for frame in self.touched:
             if not frame.under_way:
-                del self.open_frames[origin]
+                self.open_frames.pop(frame.origin, None)
+        self.entered.clear()
+        self.touched.clear()
+
+    def look_at_sessions(self, event):
+        """Which sessions came up."""
+        for entry in event.entries:
+            if entry.kind == "session" and self.network.is_up(*entry.words[:2]):
+                self.ever_up.add(frozenset(entry.words[:2]))
 
     def look_at_wires(self, event):
-        """Which wires and sessions are up by now, and which edges lost or found each other."""
-        network = self.network
-        self.ever_up |= {pair for pair in self.plan.pairs() if network.is_up(*pair)}
-        carrying = {wire.name for wire in self.plan.wires.values() if network.carries(wire)}
-        if carrying == self.carrying:
+        """Which wires came up, and which edges lost or found each other."""
+        changed = self.network.look()
+        if not changed:
             return
-        self.carrying = carrying
-        self.ever_carried |= carrying
-        for service in self.plan.services:
-            joined = network.joined(service)
+        self.ever_carried |= self.network.carrying
+        for service in changed:
+            joined = self.network.joined(service)
             for pair in self.joined[service] - joined:
                 span = self.open_spans[service, pair] = Span(event, self.deliveries)
                 self.spans[service].append((pair, span))
             for pair in joined - self.joined[service]:
+                self.ever_joined[service].add(pair)
                 if (service, pair) in self.open_spans:
                     self.open_spans.pop((service, pair)).close(event, self.deliveries)
             self.joined[service] = joined

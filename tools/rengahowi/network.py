@@ -22,6 +22,12 @@ class Pipe:
             self.heard = 0
         return before - len(self.pdus)
 
+    def copy(self):
+        """A pipe with the same in it."""
+        made = Pipe()
+        made.pdus, made.heard = self.pdus.copy(), self.heard
+        return made
+
     def octets(self):
         """How many octets are on their way."""
         return sum(self.pdus) - self.heard
@@ -35,15 +41,26 @@ class Network:
     """The state that the events and entries of a report come to."""
 
     def __init__(self, plan):
-        self.plan = plan
+        self.plan, self.shape = plan, Shape(plan)
         self.stands = set()
-        self.pipes = {way: Pipe() for a, b in plan.pairs() for way in ((a, b), (b, a))}
+        self.pipes = {way: Pipe() for a, b in self.shape.pairs for way in ((a, b), (b, a))}
         self.sessions = {way: NEVER for way in self.pipes}
         self.ends = {(edge, wire.name): "NoLocal" for wire in plan.wires.values() for edge in wire.ends()}
         self.on = {circuit: True for circuit in plan.circuits}
         self.packets = {}
         self.heard = 0  # PDUs that were delivered whole
         self.calm = {}
+        # The wires that carried frames when they were looked at last, and those whose ends or sessions told something since.
+        self.carrying, self.told = set(), set()
+
+    def copy(self):
+        """The same network, to which other things may happen."""
+        made = Network.__new__(Network)
+        made.plan, made.shape, made.heard = self.plan, self.shape, self.heard
+        made.pipes = {way: pipe.copy() for way, pipe in self.pipes.items()}
+        for name in ("stands", "sessions", "ends", "on", "packets", "calm", "carrying", "told"):
+            setattr(made, name, getattr(self, name).copy())
+        return made
 
     def begin(self, event):
         """What an event does by itself, before its entries."""
@@ -71,9 +88,11 @@ class Network:
             if way[0] == edge:
                 self.close(way)
                 self.sessions[way] = NEVER
+                self.told.update(self.shape.over[frozenset(way)])
         for end in self.ends:
             if end[0] == edge:
                 self.ends[end] = "NoLocal"
+                self.told.add(end[1])
 
     def close(self, way):
         """An edge's end of a connection is lost, and what is on its way to it."""
@@ -87,10 +106,12 @@ class Network:
             self.pipes[words[:2]].pdus.append(len(words[2]) // 2)
         elif kind == "session":
             self.sessions[words[:2]] = words[2]
+            self.told.update(self.shape.over[frozenset(words[:2])])
             if words[2].startswith("Ended:"):
                 self.close(words[:2])
         elif kind == "wire":
             self.ends[words[:2]] = words[2]
+            self.told.add(words[1])
         elif kind == "sent":
             self.packets[words[0]] = words[1:6]
         elif kind == "copied" and words[1] in self.packets:
@@ -109,6 +130,18 @@ class Network:
     def carries(self, wire):
         """Whether a wire is up at both terminal edges, and each session along it at both ends."""
         return all(self.ends[edge, wire.name] == UP for edge in wire.ends()) and all(self.is_up(a, b) for a, b in wire.segments())
+
+    def look(self):
+        """Looks at the wires of which something was told since the last time, and answers the services of those that carry frames
+        now and did not then, or the other way round."""
+        changed = set()
+        for name in self.told:
+            wire = self.plan.wires[name]
+            if self.carries(wire) != (name in self.carrying):
+                self.carrying ^= {name}
+                changed.add(wire.service)
+        self.told.clear()
+        return changed
 
     def is_up(self, a, b):
         """Whether the sessions of two edges are up at both ends."""
@@ -129,25 +162,47 @@ class Network:
 
     def looks_calm(self, service):
         """The same, looked at anew."""
-        carrying = [wire for wire in self.plan.wires_of(service) if self.carries(wire)]
+        shape = self.shape.of[service]
+        carrying = [wire for wire in shape.wires if self.carries(wire)]
         meshed = {frozenset(wire.ends()) for wire in carrying if wire.kind == "mesh"}
         spokes = [wire.path[0] for wire in carrying if wire.kind == "spoke"]
-        cores = self.plan.core_edges(service)
         return (
-            all(self.is_settled(a, b) for a, b in self.plan.pairs(service))
-            and all(frozenset((a, b)) in meshed for a in cores for b in cores if a != b)
-            and all(spokes.count(edge) == 1 for edge in self.plan.spoke_edges(service))
+            all(self.is_settled(a, b) for a, b in shape.pairs)
+            and all(pair in meshed for pair in shape.mesh)
+            and all(spokes.count(edge) == 1 for edge in shape.spoke_edges)
         )
 
     def joined(self, service):
         """The pairs of edges of a service between which a flooded frame finds its way by wires that carry frames: it does not go
         back on the wire by which it came, and from no mesh wire to another one. Each pair is a set of two edges."""
         ways = {}
-        for wire in self.plan.wires_of(service):
+        for wire in self.shape.of[service].wires:
             if self.carries(wire):
                 for edge, far in (wire.ends(), wire.ends()[::-1]):
                     ways.setdefault(edge, []).append((far, wire))
         return {frozenset((start, edge)) for start in ways for edge in reached(ways, start) if edge != start}
+
+
+class ShapeOfService:
+    """What does not change of a service: its wires, its neighbours, its spoke edges, and the pairs that its core edges are."""
+
+    def __init__(self, plan, service):
+        self.wires, self.pairs = plan.wires_of(service), plan.pairs(service)
+        self.spoke_edges = plan.spoke_edges(service)
+        cores = plan.core_edges(service)
+        self.mesh = [frozenset((a, b)) for place, a in enumerate(cores) for b in cores[place + 1 :]]
+
+
+class Shape:
+    """What does not change of a plan: its neighbours, the names of the wires over each two of them, and its services."""
+
+    def __init__(self, plan):
+        self.pairs = plan.pairs()
+        self.over = {frozenset(pair): [] for pair in self.pairs}
+        for wire in plan.wires.values():
+            for pair in wire.segments():
+                self.over[frozenset(pair)].append(wire.name)
+        self.of = {service: ShapeOfService(plan, service) for service in plan.services}
 
 
 def reached(ways, start):

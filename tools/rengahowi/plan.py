@@ -84,10 +84,10 @@ class Plan:
 
     def pairs(self, service=None):
         """The pairs of edges that a segment of a wire joins, of one service or of all, each once, in the plan's order."""
-        found = {}
+        found, places = {}, {name: place for place, name in enumerate(self.edges)}
         for wire in self.wires.values():
             for a, b in wire.segments() if service in (None, wire.service) else ():
-                found[tuple(sorted((a, b), key=list(self.edges).index))] = None
+                found[tuple(sorted((a, b), key=places.get))] = None
         return list(found)
 
 

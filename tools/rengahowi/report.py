@@ -1,5 +1,6 @@
 """A report of `replay`: its events in order, each with the entries that it told (docs/FORMATS.md)."""
 
+import re
 from typing import NamedTuple
 
 from .command import Fault, text_of
@@ -48,13 +49,13 @@ class Entry(NamedTuple):
 class Event:
     """An event of the run, counted from 1 as the report does, with the entries that it told."""
 
-    def __init__(self, number, line, words, text):
-        self.number, self.line, self.kind, self.words, self.text = number, line, words[0], words[1:], text
+    def __init__(self, number, line, kind, words, text):
+        self.number, self.line, self.kind, self.words, self.text = number, line, kind, words, text
         self.entries = []
 
     def is_idle(self):
         """Whether it did not apply, and changed nothing."""
-        return any(entry.kind == "idle" for entry in self.entries)
+        return bool(self.entries) and self.entries[0].kind == "idle"
 
 
 class Report(NamedTuple):
@@ -62,6 +63,32 @@ class Report(NamedTuple):
 
     events: list
     ending: str
+
+
+# How a word of each kind looks; a name is looked up in the plan.
+LOOKS = {"number": r"(\d+)", "octets": "([0-9a-f]*)"}
+
+
+class Look(NamedTuple):
+    """How a line of words of some kinds looks, the places of its numbers and of its octets, and the kind of name at each place that
+    has one."""
+
+    kinds: tuple
+    pattern: re.Pattern
+    numbers: list
+    octets: list
+    names: list
+
+
+def look_of(kinds):
+    """How a line of words of these kinds looks."""
+    text = "".join(" " + LOOKS.get(kind, r"(\S+)") for kind in kinds)
+    numbers, octets = ([place for place, kind in enumerate(kinds) if kind == one] for one in ("number", "octets"))
+    names = [(place, kind) for place, kind in enumerate(kinds) if kind in ("edge", "circuit", "wire")]
+    return Look(kinds, re.compile(text, re.ASCII), numbers, octets, names)
+
+
+EVENT_LOOKS, ENTRY_LOOKS = ({kind: look_of(kinds) for kind, kinds in table.items()} for table in (EVENTS, ENTRIES))
 
 
 class Words:
@@ -75,24 +102,36 @@ class Words:
         """A fault with its place."""
         return Fault(f"{self.path}, line {line}: {text}")
 
-    def read(self, line, kinds, text):
-        """The words of a line, by what each of them is."""
-        words = text.split(" ")
-        if len(words) != len(kinds) + 1:
-            raise self.fault(line, f"{words[0]!r} has {len(kinds)} words behind it, and not {len(words) - 1}")
-        return (words[0], *(self.word(line, kind, word) for kind, word in zip(kinds, words[1:])))
+    def read(self, line, look, kind, text):
+        """The words of a line behind its first one, by what each of them is: of a number the number."""
+        match = look.pattern.fullmatch(text, len(kind))
+        if match is None:
+            raise self.bad_line(line, look, text)
+        words = match.groups()
+        for place, of in look.names:
+            if words[place] not in self.known[of]:
+                raise self.fault(line, f"the scenario has no {of} {words[place]!r}: is this the report of another scenario?")
+        for place in look.octets:
+            if len(words[place]) % 2:
+                raise self.bad_line(line, look, text)
+        if look.numbers:
+            words = list(words)
+            for place in look.numbers:
+                words[place] = int(words[place])
+            words = tuple(words)
+        return words
 
-    def word(self, line, kind, word):
-        """One word: a number, the digits of octets, or a name that the plan has."""
-        if kind == "number":
-            if not (word.isascii() and word.isdigit()):
-                raise self.fault(line, f"{word!r} is no number")
-            return int(word)
-        if kind == "octets" and (len(word) % 2 or set(word) - set("0123456789abcdef")):
-            raise self.fault(line, f"{word[:20]!r} has no pairs of lower-case hexadecimal digits")
-        if kind in self.known and word not in self.known[kind]:
-            raise self.fault(line, f"the scenario has no {kind} {word!r}: is this the report of another scenario?")
-        return word
+    def bad_line(self, line, look, text):
+        """What is wrong with a line whose words are not those of its kind."""
+        words, kinds = text.split(" "), look.kinds
+        if len(words) != len(kinds) + 1:
+            return self.fault(line, f"{words[0]!r} has {len(kinds)} words behind it, and not {len(words) - 1}")
+        for kind, word in zip(kinds, words[1:]):
+            if kind == "number" and not (word.isascii() and word.isdigit()):
+                return self.fault(line, f"{word!r} is no number")
+            if kind == "octets" and (len(word) % 2 or set(word) - set("0123456789abcdef")):
+                return self.fault(line, f"{word[:20]!r} has no pairs of lower-case hexadecimal digits")
+        return self.fault(line, "a word is empty")
 
 
 def read_report(path, plan):
@@ -104,14 +143,16 @@ def read_report(path, plan):
         raise Fault(f"{path} has no last line 'end ..' or 'stop ..': it is not whole")
     events = []
     for line, text in enumerate(lines[1:-2], 2):
-        if text.startswith("> "):
-            kind = text[2:].partition(" ")[0]
+        kind = text.partition(" ")[0]
+        if kind == ">":
+            text = text[2:]
+            kind = text.partition(" ")[0]
             if kind not in EVENTS:
                 raise words.fault(line, f"{kind!r} is no event")
-            events.append(Event(len(events) + 1, line, words.read(line, EVENTS[kind], text[2:]), text[2:]))
-            continue
-        kind = text.partition(" ")[0]
-        if kind not in ENTRIES or not events:
+            event = Event(len(events) + 1, line, kind, words.read(line, EVENT_LOOKS[kind], kind, text), text)
+            events.append(event)
+        elif kind in ENTRIES and events:
+            event.entries.append(Entry(line, kind, words.read(line, ENTRY_LOOKS[kind], kind, text)))
+        else:
             raise words.fault(line, f"{kind!r} is no entry that may stand here")
-        events[-1].entries.append(Entry(line, kind, words.read(line, ENTRIES[kind], text)[1:]))
     return Report(events, lines[-2])

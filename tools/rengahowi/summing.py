@@ -21,7 +21,7 @@ def sum_up(plan, run):
 def session_row(run, a, b):
     """A session, as both ends see it."""
     sessions = run.network.sessions
-    return {"edges": [a, b], "states": [sessions[a, b], sessions[b, a]], "was_up": (a, b) in run.ever_up}
+    return {"edges": [a, b], "states": [sessions[a, b], sessions[b, a]], "was_up": frozenset((a, b)) in run.ever_up}
 
 
 def wire_row(run, wire):

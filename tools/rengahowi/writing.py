@@ -48,42 +48,52 @@ def connected(rows):
     return [f"connect {a} {b}" for a, b in pairs.values()] + ["settle 10000"] * bool(pairs)
 
 
-def rows_of(count, circuits):
-    """So many edges, e0 and on, one service, and so many circuits at each edge: c0 and on where there is one, else c0_0 and on."""
-    places = [(edge, number) for edge in range(count) for number in range(circuits)]
-    return {
+def rows_of(count, circuits, services=1, tags=False):
+    """So many edges, e0 and on, so many services, s or s1 and on, and so many circuits of each service at each edge: c0 and on where
+    there is one of one service, else c0_0, c0_s1 or c0_s1_0 and on. With tags each service has a VLAN ID of its own, from 101 on."""
+    names = ["s"] if services == 1 else [f"s{number + 1}" for number in range(services)]
+    rows = {
         "edge": [{"name": f"e{edge}", "address": f"10.0.0.{edge + 1}"} for edge in range(count)],
-        "service": [{"name": "s"}],
-        "circuit": [
-            {"name": f"c{edge}" if circuits == 1 else f"c{edge}_{number}", "edge": f"e{edge}", "service": "s"} for edge, number in places
-        ],
+        "service": [{"name": name} for name in names],
+        "circuit": [],
         "wire": [],
     }
+    for edge in range(count):
+        for place, service in enumerate(names):
+            for number in range(circuits):
+                name = f"c{edge}" + (f"_{service}" if services > 1 else "") + (f"_{number}" if circuits > 1 else "")
+                row = {"name": name, "edge": f"e{edge}", "service": service}
+                rows["circuit"].append({**row, "tag": 101 + place} if tags else row)
+    return rows
 
 
-def add_wires(rows, kind, pairs, priorities=None, service="s"):
-    """Adds wires of a service between pairs of edges, whose names and PW IDs go on from those that are there."""
-    for place, (a, b) in enumerate(pairs):
+def add_wires(rows, kind, paths, priorities=None, service="s"):
+    """Adds wires of a service along paths of edges, whose names and PW IDs go on from those that are there."""
+    for place, path in enumerate(paths):
         number = len(rows["wire"]) + 1
-        row = {"name": f"w{number}", "service": service, "class": kind, "path": [f"e{a}", f"e{b}"], "pw_id": number}
+        row = {"name": f"w{number}", "service": service, "class": kind, "path": [f"e{edge}" for edge in path], "pw_id": number}
         if priorities:
             row["priority"] = priorities[place]
         rows["wire"].append(row)
 
 
-def mesh(count, circuits):
+def mesh(count, circuits, services=1, tags=False):
     """A full mesh of so many edges."""
-    rows = rows_of(count, circuits)
-    add_wires(rows, "mesh", [(a, b) for a in range(count) for b in range(a + 1, count)])
+    rows = rows_of(count, circuits, services, tags)
+    for service in rows["service"]:
+        add_wires(rows, "mesh", [(a, b) for a in range(count) for b in range(a + 1, count)], service=service["name"])
     return rows
 
 
-def hierarchy(cores, spoke_edges, circuits, spokes=1):
+def hierarchy(cores, spoke_edges, circuits, spokes=1, services=1, tags=False, stitched=False):
     """A full mesh of core edges, and spoke edges that hang on them in turn, each by so many spokes to cores next to each other,
-    the first of them with the least priority number."""
-    rows = rows_of(cores + spoke_edges, circuits)
-    add_wires(rows, "mesh", [(a, b) for a in range(cores) for b in range(a + 1, cores)])
+    the first of them with the least priority number. Where they are stitched, a later spoke passes the first one's core edge."""
+    rows = rows_of(cores + spoke_edges, circuits, services, tags)
     ends = [(edge, number) for edge in range(spoke_edges) for number in range(spokes)]
-    pairs = [(cores + edge, (edge + number) % cores) for edge, number in ends]
-    add_wires(rows, "spoke", pairs, [10 * (number + 1) for _, number in ends])
+    paths = [
+        (cores + edge, *([edge % cores] if stitched and number > 0 else []), (edge + number) % cores) for edge, number in ends
+    ]
+    for service in rows["service"]:
+        add_wires(rows, "mesh", [(a, b) for a in range(cores) for b in range(a + 1, cores)], service=service["name"])
+        add_wires(rows, "spoke", paths, [min(255, 10 * (number + 1)) for _, number in ends], service["name"])
     return rows
