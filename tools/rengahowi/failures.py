@@ -1,0 +1,117 @@
+"""The failures of a plan, one after another or two at once: what brings each about, and what mends it."""
+
+from itertools import combinations
+from typing import NamedTuple
+
+from .network import Network
+
+# What fails, in the order of the table.
+KINDS = ["session", "wire", "restart", "circuit", "priority", "status"]
+# The number by which a spoke is the last one that is used, and the bit of a failure (RFC 4446 section 3.5: not forwarding).
+LAST, FAILED = 255, 1
+
+
+class Case(NamedTuple):
+    """A failure: its name, its kind, the events that bring it about, and those that mend it."""
+
+    name: str
+    kind: str
+    failure: tuple
+    mending: tuple
+
+
+class Settings:
+    """What the set-up leaves switched: wires, circuits, priorities and statuses, each as its last event set it."""
+
+    def __init__(self, plan, events):
+        self.plan, self.last = plan, {}
+        for event in events:
+            if event.kind in ("wire", "status", "priority") and not event.is_idle():
+                self.last[event.kind, *event.words[:2]] = event.words[2]
+            elif event.kind == "circuit" and not event.is_idle():
+                self.last[event.kind, event.words[0]] = event.words[1]
+
+    def of(self, *key):
+        """How something is set: a wire or a circuit on or off, a number of a priority or a status."""
+        usual = {"wire": "on", "circuit": "on", "status": 0}
+        return self.last.get(key, self.plan.wires[key[2]].priority if key[0] == "priority" else usual[key[0]])
+
+
+def cases_of(plan, network: Network, events, kinds):
+    """The cases of these kinds: those that change something in the network that the events of the set-up left."""
+    settings = Settings(plan, events)
+    makers = {"session": sessions, "wire": wires, "restart": restarts, "circuit": circuits, "priority": priorities, "status": statuses}
+    return [case for kind in KINDS if kind in kinds for case in makers[kind](plan, network, settings)]
+
+
+def case(kind, failure, *mending):
+    """A case of one failure, which has its name."""
+    return Case(failure, kind, (failure,), mending)
+
+
+def sessions(plan, network, _settings):
+    """Each session that stands is lost, at the end that comes first in the plan."""
+    for a, b in plan.pairs():
+        if network.is_up(a, b):
+            yield case("session", f"lose {a} {b}", f"connect {a} {b}")
+
+
+def wires(plan, _network, settings):
+    """Each wire goes off at either end."""
+    for wire in plan.wires.values():
+        for edge in wire.ends():
+            if settings.of("wire", edge, wire.name) == "on":
+                yield case("wire", f"wire {edge} {wire.name} off", f"wire {edge} {wire.name} on")
+
+
+def restarts(plan, network, _settings):
+    """Each edge with a session restarts; all its connections come back."""
+    for edge in plan.edges:
+        pairs = [pair for pair in plan.pairs() if edge in pair and network.is_up(*pair)]
+        if pairs:
+            yield case("restart", f"restart {edge}", *(f"connect {a} {b}" for a, b in pairs))
+
+
+def circuits(plan, network, _settings):
+    """Each circuit goes off."""
+    for name in plan.circuits:
+        if network.on[name]:
+            yield case("circuit", f"circuit {name} off", f"circuit {name} on")
+
+
+def priorities(plan, _network, settings):
+    """Each of several spokes of a spoke edge is the last one where it was the first, and the first one where it was not."""
+    for wire, others in rivals(plan):
+        number = settings.of("priority", wire.path[0], wire.name)
+        least = min(settings.of("priority", other.path[0], other.name) for other in others)
+        new = LAST if number <= least else max(0, least - 1)
+        if new != number:
+            yield case("priority", f"priority {wire.path[0]} {wire.name} {new}", f"priority {wire.path[0]} {wire.name} {number}")
+
+
+def rivals(plan):
+    """Each spoke that is one of several of its edge and service, with the others."""
+    spokes = [wire for wire in plan.wires.values() if wire.kind == "spoke"]
+    found = {}
+    for wire in spokes:
+        found.setdefault((wire.service, wire.path[0]), []).append(wire)
+    for wire in spokes:
+        others = [other for other in found[wire.service, wire.path[0]] if other is not wire]
+        if others:
+            yield wire, others
+
+
+def statuses(plan, _network, settings):
+    """Each spoke fails at its spoke edge, which tells it by a status."""
+    for wire in plan.wires.values():
+        if wire.kind == "spoke":
+            edge = wire.path[0]
+            bits = settings.of("status", edge, wire.name)
+            if bits & FAILED == 0:
+                yield case("status", f"status {edge} {wire.name} {bits | FAILED}", f"status {edge} {wire.name} {bits}")
+
+
+def pairs_of(cases):
+    """Each two cases at once."""
+    for a, b in combinations(cases, 2):
+        yield Case(f"{a.name} + {b.name}", "pair", a.failure + b.failure, a.mending + b.mending)

@@ -1,0 +1,76 @@
+"""What is tried around a failure: broadcasts and frames for known stations, in four phases, and rounds of deliveries between them."""
+
+from typing import NamedTuple
+
+from .command import Fault
+from .keys import MOST_ROWS
+
+# Before the failure; behind it, with nothing of LDP delivered yet; once all is delivered; once it is mended and all is delivered.
+PHASES = ["before", "at once", "failed", "mended"]
+TAG, TYPE = "8100%04x", "88b5"
+BROADCAST = "ff" * 6
+ALL = 65535
+# So many deliveries of LDP, or arrivals of packets, at most, behind which none is left.
+REST = 10000
+
+
+class Frame(NamedTuple):
+    """A frame that is tried: where it enters, and the one circuit that it is for; None of a broadcast."""
+
+    circuit: str
+    to: str | None
+
+
+class Probes:
+    """The frames of a phase, and the events around a failure."""
+
+    def __init__(self, plan):
+        self.plan = plan
+        self.station = {name: f"02000000{place:04x}" for place, name in enumerate(plan.circuits)}
+        self.ways = [way for a, b in plan.pairs() for way in ((a, b), (b, a))]
+        self.round = [f"deliver {a} {b} {ALL}" for a, b in self.ways]
+        broadcasts = [Frame(name, None) for name in plan.circuits]
+        known = [Frame(name, other) for name, other in self.neighbours()]
+        # What was learned before stands while frames for known stations enter: so they come first, but in the first phase.
+        self.frames = {phase: known + broadcasts for phase in PHASES}
+        self.frames["before"] = broadcasts + known
+
+    def neighbours(self):
+        """Each circuit with the next one of its service, and the last one with the first."""
+        for service in self.plan.services:
+            sites = self.plan.circuits_of(service)
+            yield from zip(sites, sites[1:] + sites[:1]) if len(sites) > 1 else ()
+
+    def octets(self, frame):
+        """The octets of a frame, as they enter at its circuit."""
+        tag = self.plan.circuits[frame.circuit]["tag"]
+        to = BROADCAST if frame.to is None else self.station[frame.to]
+        return to + self.station[frame.circuit] + (TAG % tag if tag else "") + TYPE
+
+    def phase(self, name):
+        """The events of a phase: each frame enters, and all its copies arrive before the next one."""
+        return [event for frame in self.frames[name] for event in (f"frame {frame.circuit} {self.octets(frame)}", f"flow {REST}")]
+
+    def before(self, events):
+        """The set-up, delivered to its end, and the first phase."""
+        return [*events, *self.rest(), *self.phase("before")]
+
+    def rest(self):
+        """Everything is delivered, and arrives."""
+        return ([f"settle {REST}"] if self.ways else []) + [f"flow {REST}"]
+
+    def rounds(self, count):
+        """So many rounds: in each one delivery from each edge to each neighbour, of all that is on its way; and what is left then."""
+        return self.round * count + self.rest()
+
+    def after(self, case, rounds):
+        """A case's own events, behind those of `before`."""
+        events = [*case.failure, *self.phase("at once"), *self.rounds(rounds), *self.phase("failed")]
+        return [*events, *case.mending, *self.rounds(rounds), *self.phase("mended")]
+
+    def most_rounds(self, events):
+        """How many rounds a scenario has room for, behind a set-up of so many events."""
+        left = MOST_ROWS["events"] - events - 4 * len(self.phase("before")) - 4096
+        if left < 2 * len(self.round):
+            raise Fault(f"the set-up has {events} events, and with its cases a scenario would have more than {MOST_ROWS['events']}")
+        return min(1000, left // (2 * len(self.round))) if self.round else 1

@@ -1,0 +1,3 @@
+"""page"""
+def ladder_of(*a): return None
+def page(*a): return ""
