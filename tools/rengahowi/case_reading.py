@@ -20,6 +20,8 @@ class Reading:
         self.found = {name: {"never": Counter(), "twice": Counter()} for name in PHASES[self.phase :]}
         # The frame that is tried: the circuits that it is due at, and how often it left at each.
         self.frame, self.due, self.left = None, NOTHING, {}
+        # How many frames have come, and those that something is wrong with: their number, and the sites.
+        self.frames, self.faulty = 0, []
         # Events that switch something, deliveries since the last one of them, and the round in which one stands.
         self.switches, self.delivered, self.round = 0, 0, 0
         self.is_mended, self.is_late, self.last = False, False, {"failed": 0, "mended": 0}
@@ -62,7 +64,7 @@ class Reading:
             self.phase, self.place = self.phase + 1, 0
             frames = self.base.probes.frames[PHASES[self.phase]]
         self.frame = frames[self.place]
-        self.place += 1
+        self.place, self.frames = self.place + 1, self.frames + 1
 
     def enter(self):
         """It enters: its circuit is on."""
@@ -76,9 +78,12 @@ class Reading:
     def end_frame(self):
         """What became of the frame before."""
         if self.left != self.due:
-            found = self.found[PHASES[self.phase]]
-            found["never"].update(site for site in self.due if site not in self.left)
-            found["twice"].update(site for site, count in self.left.items() if count > 1 or site == self.frame.circuit)
+            never = [site for site in self.due if site not in self.left]
+            twice = [site for site, count in self.left.items() if count > 1 or site == self.frame.circuit]
+            self.found[PHASES[self.phase]]["never"].update(never)
+            self.found[PHASES[self.phase]]["twice"].update(twice)
+            if never or twice:
+                self.faulty.append((self.frames, self.phase, never, twice))
         self.frame, self.due, self.left = None, NOTHING, {}
 
     def control(self, text, lines):

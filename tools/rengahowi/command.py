@@ -19,6 +19,8 @@ def words_of(about, *words):
     )
     for names, more in words:
         parser.add_argument(*names, **more)
+    if sys.stdout is None:
+        raise Fault("standard output is closed")
     return parser.parse_args()
 
 
@@ -29,33 +31,59 @@ def name():
 
 def say(text):
     """Tells a line on standard error."""
-    print(f"{name()}: {text}", file=sys.stderr)
+    if sys.stderr is not None:
+        print(f"{name()}: {text}", file=sys.stderr)
 
 
 def end(work):
     """Does the work of a tool and ends with the status that it answers; a fault, a file that cannot be read or written, an
-    interrupt and a closed pipe end it without a traceback."""
+    interrupt, a standard output that is full or closed, and texts that are nested too deep end it without a traceback."""
     try:
+        if sys.stdout is None:
+            raise Fault("standard output is closed")
         status = work()
         sys.stdout.flush()
     except Fault as fault:
         say(fault)
         status = 1
     except BrokenPipeError:
-        os.dup2(os.open(os.devnull, os.O_WRONLY), sys.stdout.fileno())
         status = 1
     except OSError as fault:
-        say(f"{fault.filename or 'a file'}: {fault.strerror or fault}")
+        say(f"{fault.filename or 'standard output'}: {fault.strerror or fault}")
+        status = 1
+    except UnicodeEncodeError as fault:
+        say(f"standard output cannot take {fault.object[fault.start]!r} in {fault.encoding}: set PYTHONUTF8=1")
+        status = 1
+    except RecursionError:
+        say("a file is nested too deep")
+        status = 1
+    except MemoryError:
+        say("out of memory")
         status = 1
     except KeyboardInterrupt:
         status = 130
+    except SystemExit as ended:
+        status = ended.code
+    leave(status)
+
+
+def leave(status):
+    """Ends the tool with a status. What standard output does not take is given up, so that nothing more is told of it."""
+    try:
+        if sys.stdout is not None:
+            sys.stdout.flush()
+    except OSError as fault:
+        if status == 0:
+            say(f"standard output: {fault.strerror}")
+        status = status or 1
+        os.dup2(os.open(os.devnull, os.O_WRONLY), sys.stdout.fileno())
     sys.exit(status)
 
 
 def text_of(path):
     """The text of a file, which has to be UTF-8."""
     try:
-        return pathlib.Path(path).read_text(encoding="utf-8")
+        return pathlib.Path(path).read_text(encoding="utf-8-sig")
     except UnicodeDecodeError as fault:
         raise Fault(f"{path} is no UTF-8, at octet {fault.start}") from None
 

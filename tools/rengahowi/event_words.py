@@ -77,5 +77,5 @@ class EventWords:
         if isinstance(kind, tuple):
             return f"a number from {kind[0]} to {kind[1]}, without leading zeros"
         if kind in self.names:
-            return f"the name of a {kind}; there are: {', '.join(self.names[kind][:20]) or 'none'}"
+            return f"the name of {'an' if kind == 'edge' else 'a'} {kind}; there are: {', '.join(self.names[kind][:20]) or 'none'}"
         return {"octets": "1 to 9,216 octets, two hexadecimal digits each", "switch": "on or off", "file": "the name of a capture"}[kind]

@@ -4,6 +4,7 @@ import fnmatch
 import tomllib
 
 from .command import Fault, text_of
+from .summary_text import counted
 from .what_if_text import lost, stays_split
 
 KINDS = {"split": bool, "rounds": int, "twice": bool, "never": bool, "calm": bool, "except": list}
@@ -40,7 +41,7 @@ def faults_of(expected, row):
         yield f"sites are split while it stands ({lost(row['lost'])}), and split = false"
     late = [one for one in row["lost"] if one["rounds"] is None or one["rounds"] > expected.get("rounds", one["rounds"])]
     if "rounds" in expected and late:
-        took = "for good" if late[0]["rounds"] is None else f"for {late[0]['rounds']} rounds"
+        took = "for good" if late[0]["rounds"] is None else f"for {counted(late[0]['rounds'], 'round')}"
         yield f"{lost(late)} {took}, and rounds = {expected['rounds']}"
     for kind, text in (("twice", "a frame arrives twice"), ("never", "a frame never arrives")):
         if expected.get(kind) is False and (row[kind] or orders.get(kind)):

@@ -35,9 +35,12 @@ def frame_of(origin):
 class Rows:
     """Makes the rows, and the lanes beside them."""
 
-    def __init__(self, plan, report):
-        self.network, self.report = Network(plan), report
+    def __init__(self, plan, report, network=None):
+        self.network, self.report = network or Network(plan), report
         self.lanes = lanes(plan)
+        for lane in self.lanes if network else ():
+            states = network.sessions if lane["kind"] == "session" else network.ends
+            lane["states"] = [[0, states[lane["edge"], lane["name"]]]]
         self.lane_of = {(lane["kind"], lane["edge"], lane["name"]): lane for lane in self.lanes}
         self.column = {(column["kind"], column["name"]): place for place, column in enumerate(columns(plan))}
         self.rows, self.frame_of = [], {}
@@ -45,15 +48,21 @@ class Rows:
     def make(self):
         """All rows. The names of the messages are added at the end, by one call of `decode` for all of them."""
         for event in self.report.events:
-            self.rows.append(self.event_row(event))
+            self.add(event.line, self.event_row(event))
             self.network.begin(event)
             if event.kind == "restart":
                 self.states_anew(event.words[0])
             for entry in event.entries:
-                self.rows.append(getattr(self, entry.kind)(*entry.words))
+                self.add(entry.line, getattr(self, entry.kind)(*entry.words))
                 self.network.take(entry)
         self.name_messages()
         return self.rows
+
+    def add(self, line, row):
+        """Adds a row; where lines were left out before it, with its own line."""
+        if line != len(self.rows) + 2:
+            row["l"] = line
+        self.rows.append(row)
 
     def row(self, kind, text, where=(), **more):
         """A row: its kind, its text, the columns that it goes from and to, and what else is told."""

@@ -3,6 +3,7 @@
 import tomllib
 from typing import NamedTuple
 
+from .checking import is_address
 from .command import Fault, text_of
 from .keys import ENDS, OFFER, PLAIN_OFFER, TABLES
 
@@ -99,6 +100,8 @@ def read_plan(path):
         whole = all(row["edge"] in known and row["service"] in plan.services for row in plan.circuits.values())
         if not whole or not all(len(wire.path) > 1 and known.issuperset(wire.path) for wire in plan.wires.values()):
             raise ValueError("a row names what is not there")
+        if not all(is_address(row["address"]) for row in plan.edges.values()):
+            raise ValueError("an address is none")
         return plan
-    except (tomllib.TOMLDecodeError, KeyError, TypeError, ValueError, AttributeError) as fault:
+    except (tomllib.TOMLDecodeError, KeyError, TypeError, ValueError, AttributeError, RecursionError) as fault:
         raise Fault(f"{path} is no scenario that the program accepts ({fault}); tools/check-scenario {path} says more") from None

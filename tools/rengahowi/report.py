@@ -141,18 +141,23 @@ def read_report(path, plan):
         raise words.fault(1, "a report begins with 'vplsnet 1'")
     if len(lines) < 3 or lines[-1] or not lines[-2].startswith(("end ", "stop ")):
         raise Fault(f"{path} has no last line 'end ..' or 'stop ..': it is not whole")
+    return Report(events_of(words, enumerate(lines[1:-2], 2), 1), lines[-2])
+
+
+def events_of(words, lines, first):
+    """The events of lines, each with its number in the report; the first one has this number."""
     events = []
-    for line, text in enumerate(lines[1:-2], 2):
+    for line, text in lines:
         kind = text.partition(" ")[0]
         if kind == ">":
             text = text[2:]
             kind = text.partition(" ")[0]
             if kind not in EVENTS:
                 raise words.fault(line, f"{kind!r} is no event")
-            event = Event(len(events) + 1, line, kind, words.read(line, EVENT_LOOKS[kind], kind, text), text)
+            event = Event(len(events) + first, line, kind, words.read(line, EVENT_LOOKS[kind], kind, text), text)
             events.append(event)
         elif kind in ENTRIES and events:
             event.entries.append(Entry(line, kind, words.read(line, ENTRY_LOOKS[kind], kind, text)))
         else:
             raise words.fault(line, f"{kind!r} is no entry that may stand here")
-    return Report(events, lines[-2])
+    return events

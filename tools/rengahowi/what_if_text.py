@@ -48,7 +48,7 @@ def rounds(row):
         return "for good"
     alone = [one["rounds"] for one in row["lost"] if one["from"]["stage"] == one["to"]["stage"]]
     mended = [one["rounds"] for one in row["lost"] if one["from"]["stage"] != one["to"]["stage"]]
-    return ", ".join(([str(max(alone))] if alone else []) + ([f"mended + {max(mended)}"] if mended else []))
+    return ", ".join(([str(max(alone) or "<1")] if alone else []) + ([f"mended + {max(mended)}"] if mended else []))
 
 
 def frames(row, kind):
