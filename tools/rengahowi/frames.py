@@ -129,7 +129,7 @@ class Run:
             frame = self.frames[origin] = self.open_frames[origin] = Frame(self.network, event, entry)
             self.entered.append(frame)
         elif kind == "dropped":
-            self.drops.append(words)
+            self.drops.append((event, words))
         if origin != 0:
             self.enter_copy(event, kind, words, self.frames[origin])
 

@@ -6,12 +6,13 @@ MOST = 25
 def text_of(summary):
     """The whole text."""
     parts = [
-        [f"{summary['events']} events; {summary['ending']}"],
+        [f"{summary['events']} events; {summary['ending']}" + (f"; from event {summary['from']} on" if summary["from"] > 1 else "")],
         sessions(summary["sessions"]),
         wires(summary["wires"]),
         *(service(row) for row in summary["services"]),
         frames(summary["frames"]),
         pings(summary["pings"]),
+        idle(summary["idle"]),
         drops(summary["drops"]),
         under_way(summary["under_way"]),
     ]
@@ -45,13 +46,15 @@ def wires(rows):
     """How many wires carry frames, and why each other one does not."""
     if not rows:
         return []
-    down = [row for row in rows if not row["carries"]]
+    standing_by = sum(row["stands_by"] for row in rows)
+    down = [row for row in rows if not row["carries"] and not row["stands_by"]]
     lines = []
     for row in down:
         ends = [f"{edge} says {state}" for edge, state in zip((row["path"][0], row["path"][-1]), row["states"])]
         mtu = f" (MTU {row['mtu'][0]} and {row['mtu'][1]})" if "mtu" in row else ""
         lines.append(f"  {row['wire']}, {row['class']} of {row['service']}: {', '.join(ends)}{mtu}{never(row)}")
-    return [f"Wires: {len(rows) - len(down)} of {len(rows)} carry frames", *cut(lines)]
+    carrying = f"Wires: {len(rows) - len(down) - standing_by} of {len(rows)} carry frames"
+    return [carrying + (f", {standing_by} stand by" if standing_by else ""), *cut(lines)]
 
 
 def service(row):
@@ -64,7 +67,9 @@ def service(row):
         lines.append(f"  from {start} to {until}, over {counted(lost['deliveries'], 'delivery', 'deliveries')}:")
         lines += [f"    {names(part['sites'])} lost {names(part['lost'])}" for part in lost["sites"]]
     head = f"Service {row['service']}: {counted(len(row['sites']), 'site')}, {calm} at the end; "
-    return [head + ("sites that lost each other" if lines else "no sites lost each other"), *cut(lines)]
+    never = [f"  {names(part['sites'])} never had {names(part['lost'])}" for part in row["never"]]
+    spokes = [f"  of the {left['spokes']} spokes of {left['edge']}, {left['usable'] or 'none'} can be used" for left in row["redundancy"]]
+    return [head + ("sites that lost each other" if lines else "no sites lost each other"), *cut(lines), *cut(never), *cut(spokes)]
 
 
 def frames(rows):
@@ -132,6 +137,13 @@ def why_unanswered(row):
     if row["idle"]:
         return "idle"
     return why_nowhere(row) or "still under way"
+
+
+def idle(rows):
+    """The events that did not apply."""
+    if not rows:
+        return []
+    return ["Idle events, which changed nothing", *cut(f"  event {row['event']} (line {row['line']} of the report): {row['words']}" for row in rows)]
 
 
 def drops(rows):

@@ -2,20 +2,35 @@
 
 from collections import Counter
 
+from .network import UP
 
-def sum_up(plan, run):
-    """All of it."""
+
+def sum_up(plan, run, first=1):
+    """All of it; of losses, frames, pings, idle events and drops those from an event on, by its number."""
     return {
         "events": len(run.report.events),
+        "from": first,
         "ending": run.report.ending,
         "sessions": [session_row(run, *pair) for pair in plan.pairs()],
         "wires": [wire_row(run, wire) for wire in plan.wires.values()],
-        "services": [service_row(plan, run, service) for service in plan.services],
-        "frames": [frame_row(frame) for frame in run.frames.values()],
-        "pings": [ping_row(run, ping) for ping in run.pings.all],
-        "drops": drop_rows(run),
+        "services": [service_row(plan, run, service, first) for service in plan.services],
+        "frames": [frame_row(frame) for frame in run.frames.values() if frame.event.number >= first],
+        "pings": [ping_row(run, ping) for ping in run.pings.all if ping.event.number >= first],
+        "idle": [
+            {"event": event.number, "words": event.text, "line": event.line}
+            for event in run.report.events
+            if event.number >= first and event.is_idle()
+        ],
+        "drops": drop_rows(run, first),
         "under_way": under_way(run.network),
     }
+
+
+def event_from(report, words):
+    """The number of the event that somebody means by its number or its words; None where there is none."""
+    if words.isascii() and words.isdigit() and 1 <= int(words) <= len(report.events):
+        return int(words)
+    return next((event.number for event in report.events if event.text == words), None)
 
 
 def session_row(run, a, b):
@@ -29,17 +44,26 @@ def wire_row(run, wire):
     states = [run.network.ends[edge, wire.name] for edge in wire.ends()]
     row = {"wire": wire.name, "service": wire.service, "class": wire.kind, "path": list(wire.path), "states": states}
     row["carries"], row["was_up"] = run.network.carries(wire), wire.name in run.ever_carried
+    row["stands_by"] = stands_by(run.network, wire)
     if "Mtu" in states:
         row["mtu"] = [wire.near["mtu"], wire.far["mtu"]]
     return row
 
 
-def service_row(plan, run, service):
-    """A service: its sites, whether it is calm at the end, and which sites lost each other when."""
+def stands_by(network, wire):
+    """Whether a spoke is one that could be used, and is not since another one is."""
+    states = {network.ends[edge, wire.name] for edge in wire.ends()}
+    return wire.kind == "spoke" and "Standby" in states and states <= {"Standby", UP} and all(network.is_up(*pair) for pair in wire.segments())
+
+
+def service_row(plan, run, service, first):
+    """A service: its sites, whether it is calm at the end, which sites lost each other when, which never had each other, and the
+    spoke edges of which not all spokes can be used at the end."""
     spans = {}
     for pair, span in run.spans[service]:
-        times = (span.start, span.end, span.deliveries)
-        spans.setdefault(times, []).append(pair)
+        if span.start.number >= first:
+            times = (span.start, span.end, span.deliveries)
+            spans.setdefault(times, []).append(pair)
     lost = [
         {
             "from": told(start),
@@ -51,7 +75,26 @@ def service_row(plan, run, service):
     ]
     sites = [site for site in plan.circuits_of(service) if run.network.on[site]]
     lost = [row for row in lost if row["sites"]]
-    return {"service": service, "sites": sites, "calm": run.network.is_calm(service), "lost": lost}
+    edges = [edge for edge in plan.edges if edge in {plan.circuits[site]["edge"] for site in plan.circuits_of(service)}]
+    pairs = {frozenset((a, b)) for place, a in enumerate(edges) for b in edges[place + 1 :]} - run.ever_joined[service]
+    return {
+        "service": service,
+        "sites": sites,
+        "calm": run.network.is_calm(service),
+        "lost": lost,
+        "never": parted(plan, service, pairs),
+        "redundancy": [row for row in spokes_left(plan, run.network, service) if row["usable"] < row["spokes"]],
+    }
+
+
+def spokes_left(plan, network, service):
+    """How many spokes each spoke edge of several ones has, and how many of them could be used."""
+    spokes = [wire for wire in plan.wires_of(service) if wire.kind == "spoke"]
+    for edge in plan.edges:
+        own = [wire for wire in spokes if wire.path[0] == edge]
+        if len(own) > 1:
+            usable = sum(network.carries(wire) or stands_by(network, wire) for wire in own)
+            yield {"edge": edge, "spokes": len(own), "usable": usable}
 
 
 def told(event):
@@ -123,9 +166,9 @@ def ping_row(run, ping):
     }
 
 
-def drop_rows(run):
+def drop_rows(run, first):
     """How often frames were dropped, by cause and edge."""
-    counts = Counter((cause, edge) for edge, _, cause in run.drops)
+    counts = Counter((cause, edge) for event, (edge, _, cause) in run.drops if event.number >= first)
     return [{"cause": cause, "edge": edge, "count": count} for (cause, edge), count in sorted(counts.items())]
 
 
