@@ -1,0 +1,4 @@
+pub mod CommandLemmas
+pub mod SaidLemmas
+pub mod ShallowLemmas
+pub mod TextLemmas
