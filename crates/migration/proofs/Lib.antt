@@ -1,0 +1,13 @@
+pub mod ReadLemmas
+pub mod RowLemmas
+pub mod GroupNameLemmas
+pub mod OfferLemmas
+pub mod WireLemmas
+pub mod NamedLemmas
+pub mod UseLemmas
+pub mod PlanLemmas
+pub mod TopLemmas
+pub mod SaidLemmas
+pub mod ReadPlanLemmas
+pub mod AcceptedLemmas
+pub mod JoinLemmas
