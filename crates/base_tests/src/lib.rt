@@ -20,6 +20,8 @@ mod links;
 #[cfg(test)]
 mod messages;
 #[cfg(test)]
+mod migrations;
+#[cfg(test)]
 mod pings;
 #[cfg(test)]
 mod plans;
