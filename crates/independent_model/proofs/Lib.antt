@@ -1,0 +1,3 @@
+pub mod ParsedLemmas
+pub mod StopLemmas
+pub mod WireLemmas

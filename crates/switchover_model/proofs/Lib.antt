@@ -1,0 +1,8 @@
+pub mod AgreeLemmas
+pub mod DoesLemmas
+mod Examples
+pub mod FlightLemmas
+pub mod NetworkLemmas
+pub mod PartLemmas
+pub mod RunLemmas
+pub mod TwoLemmas

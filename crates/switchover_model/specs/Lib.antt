@@ -1,0 +1,4 @@
+pub mod After
+pub mod Laws
+pub mod Network
+pub mod Text
