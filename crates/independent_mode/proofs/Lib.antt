@@ -1,0 +1,4 @@
+pub mod ReceiverLemmas
+pub mod HearLemmas
+pub mod ListLemmas
+pub mod TellLemmas

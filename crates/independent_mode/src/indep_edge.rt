@@ -1,0 +1,175 @@
+//! An edge in independent mode.
+ghost use Rattle.std.specs.Prelude.{◌≡◌, ◌<◌, ◌↔◌, ℕ, Some, None, Ok, Err, true, false, is_some, length, IfOk, OnOk};
+ghost use Rattle.net_base.specs.plan.Accepted.{IsChecked};
+ghost use Rattle.pw_messages.specs.LinkAnswers.{Agrees, Answers};
+ghost use Rattle.status_exchange.specs.Wish.{is_same_wish};
+ghost use Rattle.independent_model.specs.Calls.{connects, hears, is_connected, loses, sets, uses};
+ghost use Rattle.independent_mode.specs.Lists.{Keeps, seen};
+ghost use Rattle.independent_model.specs.State.{first_state};
+ghost use Rattle.independent_model.specs.Stops.{EndsBy};
+ghost use Rattle.independent_model.specs.Wires.{other_end};
+ghost use Rattle.independent_model.specs.Work.{Comes, GoesOn, NeverRefused};
+
+mod hearing;
+mod opening;
+mod parts;
+mod telling;
+
+use crate::connection::Connection;
+use crate::{IndepStop, Wish};
+use net_base::{EdgeId, Link, NoMemory, Plan, WireId};
+use pw_tlvs::PwStatus;
+use std::alloc::Global;
+use std::marker::Model;
+use std::rc::Rc;
+
+/// An edge of a plan in independent mode: what it calls its wires of two edges, the last status that it has heard of the other end of
+/// each, and its connections. Contracts see it as lists by the plan's places, and by `seen` as maps.
+#[derive(Drop)]
+pub struct IndepEdge {
+    plan: Rc<Plan>,
+    me: EdgeId,
+    wishes: Vec<Wish>,
+    remotes: Vec<Option<PwStatus>>,
+    connections: Vec<Option<Connection>>,
+}
+
+impl Model for IndepEdge {
+    ghost use Rattle.independent_mode.specs.Lists.{IndepLists, IsIndep};
+
+    ghost Value = { IndepLists };
+
+    ghost view = { λ e. record { plan = e.plan.value; me = e.me; wishes = e.wishes.items; remotes = e.remotes.items; connections = e.connections.items } };
+
+    ghost invariant = { λ e. IsIndep (record { plan = e.plan.value; me = e.me; wishes = e.wishes.items; remotes = e.remotes.items; connections = e.connections.items }) };
+}
+
+impl IndepEdge {
+    /// A connection with a peer stands: each wire with it is told, in the order of the plan, with messages that are numbered from 1. A peer
+    /// is connected from this call on until `lost`, also where this call is refused. The peer shares a wire of two edges, and is not
+    /// connected. `Link` comes exactly where a `put` of this call has failed, which is then the last one.
+    pub fn connected<L: Link>(
+        &mut self,
+        alloc: Global,
+        peer: EdgeId,
+        link: &mut L,
+    ) -> Result<(), IndepStop>
+        requires within { peer.0 < length self.old.plan.edges }
+        ensures keeps { Keeps self.old self.new }
+        ensures goes { GoesOn (L.calls link.old) (L.calls link.new) }
+        ensures never { NeverRefused result }
+        ensures ends { EndsBy (L.calls link.old) (L.calls link.new) result }
+        ensures step { (told : Answers) → Agrees told (L.calls link.new) → Comes result (seen self.new) (L.calls link.new) (connects self.old.plan told self.old.me.0 peer (seen self.old) (L.calls link.old)) }
+    {
+        let connection = Connection::new(alloc)?;
+        self.put_connection(peer, Some(connection));
+        self.tell_all(alloc, peer, link)
+    }
+
+    /// Octets of a peer come, with which the edge is connected. Of the messages that they spell each one that tells the status of a wire with
+    /// the peer is heard, and all others are ignored. `Refused` comes exactly where no `put` of this call has failed and the octets of the
+    /// connection have this fault; from then on it comes at each call.
+    #[tactic(auto, using(crate::proofs::HearLemmas::hears_none, crate::proofs::HearLemmas::heard_comes, crate::proofs::TellLemmas::same_calls, independent_model::proofs::StopLemmas::none_ends))]
+    pub fn hear<L: Link>(
+        &mut self,
+        alloc: Global,
+        peer: EdgeId,
+        bytes: &[u8],
+        link: &mut L,
+    ) -> Result<(), IndepStop>
+        requires within { peer.0 < length self.old.plan.edges }
+        ensures keeps { Keeps self.old self.new }
+        ensures goes { GoesOn (L.calls link.old) (L.calls link.new) }
+        ensures ends { EndsBy (L.calls link.old) (L.calls link.new) result }
+        ensures step { (told : Answers) → Agrees told (L.calls link.new) → Comes result (seen self.new) (L.calls link.new) (hears self.old.plan told self.old.me.0 peer bytes.now (seen self.old) (L.calls link.old)) }
+    {
+        let Some(mut receiver) = self.take_receiver(peer) else {
+            return Ok(());
+        };
+        let heard = self.hear_octets(&mut receiver, alloc, peer, bytes, link);
+        self.keep_receiver(peer, receiver, &heard);
+        heard
+    }
+
+    /// A connection with a peer is lost, and what is known by it.
+    pub fn lost(&mut self, peer: EdgeId)
+        requires within { peer.0 < length self.old.plan.edges }
+        ensures keeps { Keeps self.old self.new }
+        ensures step { seen self.new ≡ loses self.old.plan self.old.me.0 peer (seen self.old) }
+    {
+        self.put_connection(peer, None);
+        self.forget(peer);
+    }
+
+    /// The edge calls a wire something else, and tells it where it is connected. It answers false, with no change, exactly where it calls
+    /// the wire so already. `Link` comes exactly where the `put` of this call has failed; the edge calls the wire so all the same. The wire
+    /// has two edges and ends here.
+    #[tactic(auto, using(independent_model::proofs::WireLemmas::wire_within, crate::proofs::TellLemmas::same_calls, independent_model::proofs::StopLemmas::none_ends, independent_model::proofs::StopLemmas::comes_err, independent_model::proofs::StopLemmas::never_err))]
+    pub fn set<L: Link>(
+        &mut self,
+        alloc: Global,
+        wire: WireId,
+        to: Wish,
+        link: &mut L,
+    ) -> Result<bool, IndepStop>
+        requires ends { is_some (other_end self.old.plan self.old.me.0 wire.0) ≡ true }
+        ensures keeps { Keeps self.old self.new }
+        ensures goes { GoesOn (L.calls link.old) (L.calls link.new) }
+        ensures never { NeverRefused result }
+        ensures ends { EndsBy (L.calls link.old) (L.calls link.new) result }
+        ensures same { (result ≡ Ok false) ↔ (is_same_wish ((seen self.old).local wire.0) to ≡ true) }
+        ensures step { (told : Answers) → Agrees told (L.calls link.new) → Comes result (seen self.new) (L.calls link.new) (sets self.old.plan told self.old.me.0 wire.0 to (seen self.old) (L.calls link.old)) }
+    {
+        let wire = wire.0 as usize;
+        if self.wish(wire) == to {
+            return Ok(false);
+        }
+        self.set_wish(wire, to);
+        match self.tell_other(alloc, wire, link) {
+            Ok(()) => Ok(true),
+            Err(stop) => Err(stop),
+        }
+    }
+
+    /// Whether the edge uses a wire of the plan: the wire has two edges and ends here, the edge is connected with the other end and calls
+    /// the wire active, and the last status that it has heard on this connection is without standby.
+    pub fn uses(&self, wire: WireId) -> bool
+        requires wire { wire.0 < length self.now.plan.wires }
+        ensures { result ≡ uses self.now.plan self.now.me.0 (seen self.now) wire.0 }
+    {
+        let wire = wire.0 as usize;
+        match self.other_end(wire) {
+            Some(peer) => self.uses_with(wire, peer),
+            None => false,
+        }
+    }
+
+    /// Whether the edge calls a wire of the plan so already; `set` then answers false.
+    pub fn calls_so(&self, wire: WireId, wish: Wish) -> bool
+        requires wire { wire.0 < length self.now.plan.wires }
+        ensures { result ≡ is_same_wish ((seen self.now).local wire.0) wish }
+    {
+        self.wish(wire.0 as usize) == wish
+    }
+
+    /// Whether the edge is connected with a peer.
+    pub fn is_connected(&self, peer: EdgeId) -> bool
+        ensures { result ≡ is_connected (seen self.now) peer.0 }
+    {
+        self.next_id(peer).is_some()
+    }
+
+    /// The plan.
+    pub fn plan(&self) -> &Plan
+        ensures { result.now ≡ self.now.plan }
+    {
+        &self.plan
+    }
+
+    /// The edge's place in the plan.
+    pub fn me(&self) -> EdgeId
+        ensures { result ≡ self.now.me }
+    {
+        self.me
+    }
+}

@@ -1,0 +1,252 @@
+//! Octets of a peer are heard.
+ghost use Rattle.std.specs.Prelude.{◌≡◌, ◌<◌, ◌++◌, ℕ, List, Some, None, Ok, Err, [], true, false, length, drop, IfOk, OnOk, option_copied};
+ghost use Rattle.net_values.specs.Octets.{AreOctets};
+ghost use Rattle.pw_messages.specs.LinkAnswers.{Agrees, Answers};
+ghost use Rattle.independent_mode.specs.Receiver.{IsTakenOut, IsWaiting, receiver_of, kept_after};
+ghost use Rattle.independent_model.specs.Hear.{hears_at, hears_message, hears_messages, hears_notice, hears_status};
+ghost use Rattle.independent_mode.specs.Heard.{HearsTo};
+ghost use Rattle.independent_mode.specs.Lists.{Keeps, seen};
+ghost use Rattle.independent_model.specs.State.{with_receiver, with_remote, without_remotes};
+ghost use Rattle.independent_model.specs.Wires.{is_between};
+ghost use Rattle.independent_model.specs.Work.{Comes, GoesOn, NeverRefused};
+
+use crate::connection::PeerStream;
+use crate::{IndepEdge, IndepStop};
+use ldp_grammar::Message;
+use net_base::{EdgeId, Link};
+use pw_messages::PW_STATUS_CODE;
+use pw_tlvs::{PwFec, PwStatus};
+use status_exchange::{becomes, is_told};
+use std::alloc::Global;
+
+impl IndepEdge {
+    // The status of a wire with a peer is heard.
+    pub(crate) fn hear_status<L: Link>(
+        &mut self,
+        alloc: Global,
+        peer: EdgeId,
+        wire: usize,
+        status: PwStatus,
+        link: &mut L,
+    ) -> Result<(), IndepStop>
+        requires wire { wire < length self.old.plan.wires }
+        requires within { peer.0 < length self.old.plan.edges }
+        ensures keeps { Keeps self.old self.new }
+        ensures goes { GoesOn (L.calls link.old) (L.calls link.new) }
+        ensures never { NeverRefused result }
+        ensures step { (told : Answers) → Agrees told (L.calls link.new) → Comes result (seen self.new) (L.calls link.new) (hears_status self.old.plan told self.old.me.0 peer wire status (seen self.old) (L.calls link.old)) }
+    {
+        let wish = self.wish(wire);
+        self.set_remote(wire, Some(status));
+        self.set_wish(wire, becomes(status, wish));
+        if is_told(status, wish) {
+            self.tell(alloc, peer, wire, link)
+        } else {
+            Ok(())
+        }
+    }
+
+    // A Notification is heard that may tell the status of a wire with the peer.
+    fn hear_notice<L: Link>(
+        &mut self,
+        alloc: Global,
+        peer: EdgeId,
+        code: u32,
+        status: Option<PwStatus>,
+        fec: Option<PwFec>,
+        link: &mut L,
+    ) -> Result<(), IndepStop>
+        requires within { peer.0 < length self.old.plan.edges }
+        ensures keeps { Keeps self.old self.new }
+        ensures goes { GoesOn (L.calls link.old) (L.calls link.new) }
+        ensures never { NeverRefused result }
+        ensures step { (told : Answers) → Agrees told (L.calls link.new) → Comes result (seen self.new) (L.calls link.new) (hears_notice self.old.plan told self.old.me.0 peer code status fec (seen self.old) (L.calls link.old)) }
+    {
+        let Some(status) = status else {
+            return Ok(());
+        };
+        let Some(fec) = fec else {
+            return Ok(());
+        };
+        if code != PW_STATUS_CODE {
+            return Ok(());
+        }
+        match self.named(peer, fec.pw_id) {
+            Some(wire) => self.hear_status(alloc, peer, wire, status, link),
+            None => Ok(()),
+        }
+    }
+
+    // A message is heard.
+    fn hear_message<L: Link>(
+        &mut self,
+        alloc: Global,
+        peer: EdgeId,
+        message: &Message,
+        link: &mut L,
+    ) -> Result<(), IndepStop>
+        requires within { peer.0 < length self.old.plan.edges }
+        ensures keeps { Keeps self.old self.new }
+        ensures goes { GoesOn (L.calls link.old) (L.calls link.new) }
+        ensures never { NeverRefused result }
+        ensures step { (told : Answers) → Agrees told (L.calls link.new) → Comes result (seen self.new) (L.calls link.new) (hears_message self.old.plan told self.old.me.0 peer message.now (seen self.old) (L.calls link.old)) }
+    {
+        match message {
+            Message::Notification {
+                status,
+                pw_status,
+                fec,
+                ..
+            } => self.hear_notice(alloc, peer, status.code, *pw_status, *fec, link),
+            _ => Ok(()),
+        }
+    }
+
+    // Messages are heard in turn.
+    #[tactic(auto, using(crate::proofs::HearLemmas::messages_more, crate::proofs::HearLemmas::messages_end, crate::proofs::TellLemmas::same_calls))]
+    fn hear_messages<L: Link>(
+        &mut self,
+        alloc: Global,
+        peer: EdgeId,
+        messages: &[Message],
+        link: &mut L,
+    ) -> Result<(), IndepStop>
+        requires within { peer.0 < length self.old.plan.edges }
+        ensures keeps { Keeps self.old self.new }
+        ensures goes { GoesOn (L.calls link.old) (L.calls link.new) }
+        ensures never { NeverRefused result }
+        ensures step { (told : Answers) → Agrees told (L.calls link.new) → Comes result (seen self.new) (L.calls link.new) (hears_messages self.old.plan told self.old.me.0 peer messages.now (seen self.old) (L.calls link.old)) }
+    {
+        for place in 0..messages.len() {
+            match self.hear_message(alloc, peer, &messages[place], link) {
+                Ok(()) => {}
+                Err(stop) => return Err(stop),
+            }
+        }
+        Ok(())
+    }
+
+    // All the PDUs that are held are heard.
+    #[tactic(auto, using(crate::proofs::HearLemmas::at_got, crate::proofs::TellLemmas::same_calls))]
+    fn hear_held<L: Link>(
+        &mut self,
+        receiver: &mut PeerStream,
+        alloc: Global,
+        peer: EdgeId,
+        link: &mut L,
+    ) -> Result<(), IndepStop>
+        requires within { peer.0 < length self.old.plan.edges }
+        ensures keeps { Keeps self.old self.new }
+        ensures goes { GoesOn (L.calls link.old) (L.calls link.new) }
+        ensures waits { OnOk result (IsWaiting receiver.new) }
+        ensures step { (told : Answers) (more : List ℕ) → Agrees told (L.calls link.new) → AreOctets more
+            → HearsTo self.old.plan told self.old.me.0 peer result receiver.new more (seen self.new) (L.calls link.new) (hears_at self.old.plan told self.old.me.0 peer (receiver_of receiver.old) more (seen self.old) (L.calls link.old)) }
+    {
+        'pdus: loop {
+            match receiver.next(alloc) {
+                Ok(Some(pdu)) => {
+                    match self.hear_messages(alloc, peer, pdu.messages.as_slice(), link) {
+                        Ok(()) => {}
+                        Err(stop) => return Err(stop),
+                    }
+                }
+                Ok(None) => return Ok(()),
+                Err(stop) => return Err(stop),
+            }
+        }
+    }
+
+    // Octets are heard behind those that are held; those behind the last PDU are then held.
+    #[tactic(auto, using(crate::proofs::HearLemmas::all_heard, crate::proofs::TellLemmas::same_calls))]
+    pub(crate) fn hear_octets<L: Link>(
+        &mut self,
+        receiver: &mut PeerStream,
+        alloc: Global,
+        peer: EdgeId,
+        octets: &[u8],
+        link: &mut L,
+    ) -> Result<(), IndepStop>
+        requires within { peer.0 < length self.old.plan.edges }
+        ensures keeps { Keeps self.old self.new }
+        ensures goes { GoesOn (L.calls link.old) (L.calls link.new) }
+        ensures step { (told : Answers) → Agrees told (L.calls link.new)
+            → Comes result (kept_after peer.0 receiver.new result (seen self.new)) (L.calls link.new) (hears_at self.old.plan told self.old.me.0 peer (receiver_of receiver.old) octets.now (seen self.old) (L.calls link.old)) }
+    {
+        let mut at = 0;
+        'hearing: loop {
+            match self.hear_held(receiver, alloc, peer, link) {
+                Ok(()) => {}
+                Err(stop) => return Err(stop),
+            }
+            if at == octets.len() {
+                return Ok(());
+            }
+            at += receiver.feed_from(octets, at);
+        }
+    }
+
+    // Takes out what the edge hears a peer with; none where nothing is heard.
+    pub(crate) fn take_receiver(&mut self, peer: EdgeId) -> Option<PeerStream>
+        requires within { peer.0 < length self.old.plan.edges }
+        ensures keeps { Keeps self.old self.new }
+        ensures step { IsTakenOut peer.0 (seen self.old) (seen self.new) result }
+    {
+        let Some(connection) = self.take_connection(peer) else {
+            return None;
+        };
+        let (receiver, rest) = connection.take_receiver();
+        self.put_connection(peer, Some(rest));
+        receiver
+    }
+
+    // Puts it back.
+    fn put_receiver(&mut self, peer: EdgeId, receiver: PeerStream)
+        requires within { peer.0 < length self.old.plan.edges }
+        ensures keeps { Keeps self.old self.new }
+        ensures step { seen self.new ≡ with_receiver peer.0 (receiver_of receiver) (seen self.old) }
+    {
+        if let Some(connection) = self.take_connection(peer) {
+            self.put_connection(peer, Some(connection.with_receiver(receiver)));
+        }
+    }
+
+    // Puts it back where all was heard or refused; where a message was not taken, nothing more is heard.
+    pub(crate) fn keep_receiver(
+        &mut self,
+        peer: EdgeId,
+        receiver: PeerStream,
+        heard: &Result<(), IndepStop>,
+    )
+        requires within { peer.0 < length self.old.plan.edges }
+        ensures keeps { Keeps self.old self.new }
+        ensures step { seen self.new ≡ kept_after peer.0 receiver heard.now (seen self.old) }
+    {
+        match heard {
+            Ok(()) | Err(IndepStop::Refused(_)) => self.put_receiver(peer, receiver),
+            Err(IndepStop::Link | IndepStop::NoMemory) => {}
+        }
+    }
+
+    // The last status of a wire goes, where it is one with the peer.
+    fn forget_place(&mut self, wire: usize, peer: EdgeId)
+        requires { wire < length self.old.plan.wires }
+        ensures keeps { Keeps self.old self.new }
+        ensures with { is_between self.old.plan wire self.old.me.0 peer.0 ≡ true → seen self.new ≡ with_remote wire None (seen self.old) }
+        ensures without { is_between self.old.plan wire self.old.me.0 peer.0 ≡ false → seen self.new ≡ seen self.old }
+    {
+        if self.is_with(wire, peer) {
+            self.set_remote(wire, None);
+        }
+    }
+
+    // The last statuses of the wires with a peer go.
+    pub(crate) fn forget(&mut self, peer: EdgeId)
+        ensures keeps { Keeps self.old self.new }
+        ensures step { seen self.new ≡ without_remotes (λ wire. is_between self.old.plan wire self.old.me.0 peer.0) (seen self.old) }
+    {
+        let count = self.plan.wires.len();
+        for wire in 0..count {
+            self.forget_place(wire, peer);
+        }
+    }
+}

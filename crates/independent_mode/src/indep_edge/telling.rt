@@ -1,0 +1,148 @@
+//! What an edge calls its wires is told.
+ghost use Rattle.std.specs.Prelude.{◌≡◌, ◌<◌, ℕ, Some, None, Ok, Err, length, slice_get, IfOk};
+ghost use Rattle.net_base.specs.declared.plan.wire_plan.WirePlan.{WirePlan};
+ghost use Rattle.pw_messages.specs.LinkAnswers.{Agrees, Answers};
+ghost use Rattle.independent_model.specs.Calls.{tells_other};
+ghost use Rattle.independent_mode.specs.Lists.{Keeps, seen};
+ghost use Rattle.independent_model.specs.State.{ConnectionState, spoken, with_connection};
+ghost use Rattle.independent_model.specs.Tell.{octets_on, tells, tells_from, tells_place};
+ghost use Rattle.independent_model.specs.Wires.{other_end};
+ghost use Rattle.independent_model.specs.Work.{Comes, GoesOn, IsPut, NeverRefused};
+
+use crate::notification::notification_octets;
+use crate::{IndepEdge, IndepStop};
+use net_base::{EdgeId, Link, LinkStop, NoMemory, Octets};
+use std::alloc::Global;
+
+impl IndepEdge {
+    // The octets that tell what the edge calls a wire, in a message with this number.
+    fn octets_of(&self, alloc: Global, wire: usize, id: u32) -> Result<Octets, NoMemory>
+        requires { wire < length self.now.plan.wires }
+        ensures { IfOk result (λ octets. (row : WirePlan) → slice_get self.now.plan.wires wire ≡ Some row → octets ≡ octets_on self.now.plan self.now.me.0 row ((seen self.now).local wire) id) }
+    {
+        let router = self.plan.edges.as_slice()[self.me.0 as usize].address;
+        let row = &self.plan.wires.as_slice()[wire];
+        notification_octets(alloc, row, self.me, router, self.wish(wire), id)
+    }
+
+    // The next message to a peer has the next number.
+    fn count(&mut self, peer: EdgeId)
+        requires within { peer.0 < length self.old.plan.edges }
+        ensures keeps { Keeps self.old self.new }
+        ensures step { (kept : ConnectionState) → (seen self.old).connection peer.0 ≡ Some kept → seen self.new ≡ with_connection peer.0 (Some (spoken kept)) (seen self.old) }
+    {
+        if let Some(connection) = self.take_connection(peer) {
+            self.put_connection(peer, Some(connection.spoken()));
+        }
+    }
+
+    // What the edge calls a wire is told to a peer, where it is connected.
+    #[tactic(auto, using(crate::proofs::TellLemmas::told_none, crate::proofs::TellLemmas::told_ok, crate::proofs::TellLemmas::told_err, crate::proofs::TellLemmas::same_calls))]
+    pub(crate) fn tell<L: Link>(
+        &mut self,
+        alloc: Global,
+        peer: EdgeId,
+        wire: usize,
+        link: &mut L,
+    ) -> Result<(), IndepStop>
+        requires wire { wire < length self.old.plan.wires }
+        requires within { peer.0 < length self.old.plan.edges }
+        ensures keeps { Keeps self.old self.new }
+        ensures goes { GoesOn (L.calls link.old) (L.calls link.new) }
+        ensures never { NeverRefused result }
+        ensures step { (told : Answers) → Agrees told (L.calls link.new) → Comes result (seen self.new) (L.calls link.new) (tells self.old.plan told self.old.me.0 peer wire (seen self.old) (L.calls link.old)) }
+    {
+        let Some(id) = self.next_id(peer) else {
+            return Ok(());
+        };
+        let octets = match self.octets_of(alloc, wire, id) {
+            Ok(octets) => octets,
+            Err(NoMemory) => return Err(IndepStop::NoMemory),
+        };
+        match put_bytes(peer, octets.as_slice(), link) {
+            Ok(()) => {
+                self.count(peer);
+                Ok(())
+            }
+            Err(stop) => Err(stop),
+        }
+    }
+
+    // The same to the edge at the other end of the wire.
+    pub(crate) fn tell_other<L: Link>(
+        &mut self,
+        alloc: Global,
+        wire: usize,
+        link: &mut L,
+    ) -> Result<(), IndepStop>
+        requires wire { wire < length self.old.plan.wires }
+        ensures keeps { Keeps self.old self.new }
+        ensures goes { GoesOn (L.calls link.old) (L.calls link.new) }
+        ensures never { NeverRefused result }
+        ensures step { (told : Answers) → Agrees told (L.calls link.new) → Comes result (seen self.new) (L.calls link.new) (tells_other self.old.plan told self.old.me.0 wire (other_end self.old.plan self.old.me.0 wire) (seen self.old) (L.calls link.old)) }
+    {
+        match self.other_end(wire) {
+            Some(peer) => self.tell(alloc, peer, wire, link),
+            None => Ok(()),
+        }
+    }
+
+    // The same of a wire that joins the edge and the peer, and nothing of another one.
+    fn tell_place<L: Link>(
+        &mut self,
+        alloc: Global,
+        peer: EdgeId,
+        wire: usize,
+        link: &mut L,
+    ) -> Result<(), IndepStop>
+        requires wire { wire < length self.old.plan.wires }
+        requires within { peer.0 < length self.old.plan.edges }
+        ensures keeps { Keeps self.old self.new }
+        ensures goes { GoesOn (L.calls link.old) (L.calls link.new) }
+        ensures never { NeverRefused result }
+        ensures step { (told : Answers) → Agrees told (L.calls link.new) → Comes result (seen self.new) (L.calls link.new) (tells_place self.old.plan told self.old.me.0 peer wire (seen self.old) (L.calls link.old)) }
+    {
+        if self.is_with(wire, peer) {
+            self.tell(alloc, peer, wire, link)
+        } else {
+            Ok(())
+        }
+    }
+
+    // The same of each wire, in the order of the plan.
+    #[tactic(auto, using(crate::proofs::TellLemmas::from_more, crate::proofs::TellLemmas::from_end, crate::proofs::TellLemmas::same_calls))]
+    pub(crate) fn tell_all<L: Link>(
+        &mut self,
+        alloc: Global,
+        peer: EdgeId,
+        link: &mut L,
+    ) -> Result<(), IndepStop>
+        requires within { peer.0 < length self.old.plan.edges }
+        ensures keeps { Keeps self.old self.new }
+        ensures goes { GoesOn (L.calls link.old) (L.calls link.new) }
+        ensures never { NeverRefused result }
+        ensures step { (told : Answers) → Agrees told (L.calls link.new) → Comes result (seen self.new) (L.calls link.new) (tells_from self.old.plan told self.old.me.0 peer 0 (length self.old.plan.wires) (seen self.old) (L.calls link.old)) }
+    {
+        let count = self.plan.wires.len();
+        for wire in 0..count {
+            match self.tell_place(alloc, peer, wire, link) {
+                Ok(()) => {}
+                Err(stop) => return Err(stop),
+            }
+        }
+        Ok(())
+    }
+}
+
+// Puts octets.
+fn put_bytes<L: Link>(peer: EdgeId, bytes: &[u8], link: &mut L) -> Result<(), IndepStop>
+    ensures called { IsPut peer bytes.now (L.calls link.old) (L.calls link.new) result }
+    ensures goes { GoesOn (L.calls link.old) (L.calls link.new) }
+    ensures never { NeverRefused result }
+{
+    match link.put(peer, bytes) {
+        Ok(()) => Ok(()),
+        Err(LinkStop::Failed) => Err(IndepStop::Link),
+        Err(LinkStop::NoMemory) => Err(IndepStop::NoMemory),
+    }
+}
