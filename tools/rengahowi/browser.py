@@ -1,14 +1,16 @@
 #!/usr/bin/env python3
-"""Opens a ladder in a real browser and tries what a reader does with it.
+"""Opens a ladder, or a page of what-if, in a real browser and tries what a reader does with it.
 
 Usage: browser.py PAGE [PICTURE]
 
 Prints, a line each: how many rows are drawn; what the first packet's octets are, once it was clicked; the frames of the rows that
 are shown once the frame's number was clicked; and how many texts overlap another one of their row, or the edge of the page. Needs
-python3-selenium and chromium-driver.
+python3-selenium and chromium-driver. Of a page of what-if: how many cases and cells of a fault it has, and whether a click on the
+first such cell opens a ladder with rows.
 """
 
 import sys
+import time
 
 from selenium import webdriver
 from selenium.webdriver.chrome.options import Options
@@ -58,10 +60,37 @@ def click(browser, found):
     return bool(elements)
 
 
+def try_cases(browser):
+    """What a page of what-if shows."""
+    print("cases", len(browser.find_elements("css selector", "tbody tr")))
+    print("cells", len(browser.find_elements("css selector", "td[data-site]")))
+    click(browser, "td[data-site]")
+    frame = browser.find_element("id", "frame")
+    for _ in range(100):
+        if (frame.get_attribute("src") or "").startswith("blob:"):
+            break
+        time.sleep(0.1)
+    browser.switch_to.frame(frame)
+    for _ in range(100):
+        rows = browser.find_elements("css selector", "g.row")
+        if rows:
+            break
+        time.sleep(0.1)
+    print("ladder", bool(rows))
+    if len(sys.argv) > 2:
+        browser.switch_to.default_content()
+        browser.save_screenshot(sys.argv[2])
+
+
 def main():
     """Opens the page, tries it, and prints what it saw."""
     browser = opened(sys.argv[1])
     try:
+        if browser.find_elements("id", "over"):
+            try_cases(browser)
+            for line in browser.get_log("browser"):
+                print("log", line["message"])
+            return
         print("rows", len(browser.find_elements("css selector", "g.row")))
         print("overlaps", browser.execute_script(OVERLAPS))
         place = browser.execute_script(GO)

@@ -5,6 +5,7 @@ import os
 import pathlib
 import shutil
 import sys
+import traceback
 
 
 class Fault(Exception):
@@ -64,6 +65,10 @@ def end(work):
         status = 130
     except SystemExit as ended:
         status = ended.code
+    except Exception as fault:  # pylint: disable=broad-exception-caught
+        place = traceback.extract_tb(fault.__traceback__)[-1]
+        say(f"this is a fault of the tool: {type(fault).__name__} at line {place.lineno} of {pathlib.Path(place.filename).name}: {fault}")
+        status = 1
     leave(status)
 
 

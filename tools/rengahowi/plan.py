@@ -100,6 +100,8 @@ def read_plan(path):
         whole = all(row["edge"] in known and row["service"] in plan.services for row in plan.circuits.values())
         if not whole or not all(len(wire.path) > 1 and known.issuperset(wire.path) for wire in plan.wires.values()):
             raise ValueError("a row names what is not there")
+        if not isinstance(plan.events, list) or not all(isinstance(event, str) for event in plan.events):
+            raise ValueError("events is no array of texts")
         if not all(is_address(row["address"]) for row in plan.edges.values()):
             raise ValueError("an address is none")
         return plan

@@ -1,0 +1,199 @@
+"""The checks of `tools/what-if`: counts by hand, what `tools/summary` says of each case, orders, expectations, its page."""
+
+import json
+import pathlib
+import re
+import shlex
+import signal
+import subprocess
+import tempfile
+import time
+import xml.etree.ElementTree
+from collections import Counter
+
+from .cases import Base
+from .failures import KINDS, cases_of
+from .frames import follow
+from .plan import read_plan
+from .report import read_report
+from .summing import event_from, sum_up
+from .trying import HTML, PROGRAM, TOP, compare, run, tool
+
+EXAMPLES = TOP / "examples"
+MOVES = ("spoke-moves", "priority x xb 5")
+# A scenario, its first event behind the set-up, a case, and its row as it is counted by hand: who lost whom, the rounds, and how many
+# frames never came to whom while the failure stood. Frames for known stations go round: to the next circuit of the service.
+BY_HAND = [
+    ("frames-cross", "3", "lose a b", [({"paris"}, {"lyon", "metz"}, "mended", 3)], {"paris": 3, "lyon": 2, "metz": 1}),
+    ("session-lost", "lose b c", "lose b c", [({"cb"}, {"cc", "cy"}, "mended", 3)], {"cb": 2, "cc": 2, "cy": 1}),
+    (*MOVES, "priority x xb 9", [({"cx"}, {"ca", "cc"}, "failed", 1), ({"cx"}, {"ca", "cc"}, "mended", 1)], {}),
+]
+
+
+def what_ifs(folder, gone):
+    """All of them."""
+    yield from by_hand()
+    yield from as_summed("frames-cross", "3")
+    yield from as_summed(*MOVES)
+    yield from ordered(folder)
+    yield from expected(folder)
+    yield from compared(folder)
+    yield from collected(folder)
+    yield from paged(folder)
+    yield from refused(folder)
+    yield from interrupted()
+
+
+def tried(name, begin, *words):
+    """What `--json` tells of an example."""
+    return json.loads(tool("what-if", EXAMPLES / f"{name}.toml", "--from", begin, "--json", *words)[1])
+
+
+def by_hand():
+    """Counts by hand, for three small plans."""
+    for name, begin, case, lost, never in BY_HAND:
+        found = tried(name, begin, "--case", case)
+        (row,) = found["cases"]
+        seen = [(pairs_in(one), one["to"]["stage"], one["rounds"]) for one in row["lost"]]
+        right = [(Counter(frozenset((a, b)) for a in left for b in others), *end) for left, others, *end in lost]
+        yield compare(f"what-if {name}, {case}", seen, right)
+        yield compare(f"what-if {name}, {case}, never", (row["never"].get("failed", {}), row["twice"], row["calm"]), (never, {}, True))
+        yield compare(f"what-if {name}, before", found["before"], {"never": {}, "twice": {}})
+
+
+def pairs_in(row):
+    """The pairs of sites that lost each other in a row."""
+    return Counter(frozenset((a, b)) for part in row["sites"] for a in part["sites"] for b in part["lost"])
+
+
+def as_summed(name, begin):
+    """Each case of a plan, beside what the summary of its own report counts."""
+    path = EXAMPLES / f"{name}.toml"
+    plan = read_plan(path)
+    events = plan.events[: int(begin) - 1 if begin.isdigit() else plan.events.index(begin)]
+    base = Base(plan, path.read_text(encoding="utf-8"), events)
+    wrong = []
+    with tempfile.TemporaryDirectory() as folder:
+        for case in cases_of(plan, base.network, base.report.events, KINDS):
+            reading, _ = base.try_case(case, folder)
+            row = reading.row()
+            report = pathlib.Path(folder, "case.txt")
+            report.write_bytes(base.replay(pathlib.Path(folder, "case.toml"), base.events_of(case, row["given_rounds"])))
+            report = read_report(report, plan)
+            summary = sum_up(plan, follow(plan, report), event_from(report, case.failure[0]))
+            here = sum((pairs_in(one) for one in row["lost"]), Counter())
+            there = sum((pairs_in(one) for service in summary["services"] for one in service["lost"]), Counter())
+            twice = sum(len(frame["twice"]) for frame in summary["frames"])
+            missed = sum(len(frame["missed"]) for frame in summary["frames"] if frame["flooded"] and frame["to"] == "ff" * 6)
+            seen = sum(sum(sites.values()) for sites in row["never"].values())
+            if here != there or twice != sum(sum(sites.values()) for sites in row["twice"].values()) or missed > seen:
+                wrong.append(case.name)
+    yield compare(f"what-if {name}, beside summary", wrong, [])
+
+
+def ordered(folder):
+    """A frame arrives twice in some order, and the shortest scenario that shows it replays."""
+    saved = folder / "saved"
+    found = tried(*MOVES, "--case", "priority x xb 9", "--orders", 12, "--seed", 1, "--save", saved)
+    orders = found["cases"][0]["orders"]
+    yield compare("what-if --orders", (orders["tried"], orders["twice"] > 0, list(orders["shortest"])), (12, True, ["twice"]))
+    path, report = saved / "priority-x-xb-9-twice.toml", folder / "twice.txt"
+    report.write_bytes(run([PROGRAM, "replay", path], folder).stdout)
+    frames = json.loads(tool("summary", "--json", path, report)[1])["frames"]
+    yield compare("what-if --orders, replayed", any(frame["twice"] for frame in frames), True)
+    events = orders["shortest"]["twice"]["events"]
+    yield compare("what-if --orders, the shortest", (len(events) < 25, events == read_plan(path).events), (True, True))
+
+
+def expected(folder):
+    """Expectations that are met, that are not, and that are none."""
+    path, file = EXAMPLES / "spoke-moves.toml", folder / "expect.toml"
+    words = [path, "--from", MOVES[1], "--kinds", "session,priority", "--expect", file]
+    for text, status, said in [
+        ("rounds = 9\ntwice = false\ncalm = true\n", 0, ""),
+        ('split = false\nexcept = ["lose a c"]\n', 0, ""),
+        ("split = false\n", 3, "1 of 7 cases are not as expected; the first is 'lose a c'"),
+        ("rounds = 2\n", 3, "cc lost ca, cx for 3 rounds, and rounds = 2"),
+        ("never = false\n", 3, "a frame never arrives"),
+        ("splits = false\n", 1, "'splits' is no expectation"),
+        ("rounds = -1\n", 1, "a number of rounds"),
+        ("rounds = \n", 1, "is no TOML"),
+    ]:
+        file.write_text(text, encoding="utf-8")
+        done = tool("what-if", *words)
+        yield compare(f"what-if --expect {text!r}", (done[0], said in done[2], done[2].count("\n")), (status, True, int(status > 0)))
+
+
+def compared(folder):
+    """Two designs: the same one, and one without a spoke."""
+    path, other = EXAMPLES / "spoke-moves.toml", folder / "other.toml"
+    status, text, _ = tool("what-if", path, "--from", MOVES[1], "--kinds", "session", "--against", path)
+    yield compare("what-if --against itself", (status, text), (0, "5 cases alike, 0 cases not\n"))
+    text = path.read_text(encoding="utf-8")
+    tables = text.split("\n[[wire]]\n")
+    kept = [table for table in tables if 'name = "xb"' not in table]
+    other.write_text("\n[[wire]]\n".join(kept).replace('"connect b x",', "").replace('"priority x xb 5",', ""), encoding="utf-8")
+    status, text, fault = tool("what-if", path, "--from", MOVES[1], "--kinds", "session", "--against", other)
+    yield compare("what-if --against", (status, fault, "spoke-moves.toml" in text), (1, fault, False))
+    text = tool("what-if", other, "--kinds", "session", "--against", path)[1]
+    seen = ("lose a x\n  other.toml: who lost whom cx lost ca, cc, rounds mended + 3" in text, "alone: lose b x" in text)
+    yield compare("what-if --against another", seen, (True, True))
+
+
+def collected(folder):
+    """Cases as lines for GNU parallel, and what they wrote."""
+    path, rows = EXAMPLES / "frames-cross.toml", folder / "rows"
+    words = [path, "--from", "3", "--kinds", "session,restart"]
+    lines = tool("what-if", *words, "--jobs-for", "parallel")[1].splitlines()
+    yield compare("what-if --jobs-for", (len(lines), [shlex.split(line)[-1] for line in lines]), (3, ["lose a b", "restart a", "restart b"]))
+    rows.write_bytes(b"".join(run(["bash", "-c", line], folder).stdout for line in lines))
+    yield compare("what-if --collect", tool("what-if", *words, "--collect", rows), tool("what-if", *words))
+    rows.write_text("no line\n", encoding="utf-8")
+    status, said, fault = tool("what-if", *words, "--collect", rows)
+    yield compare("what-if --collect of no lines", (status, said, "line 1" in fault, fault.count("\n")), (1, "", True, 1))
+
+
+def paged(folder):
+    """The page is XML, has its cases, and a browser opens the ladder of a cell."""
+    page = folder / "page.html"
+    words = [EXAMPLES / "spoke-moves.toml", "--from", MOVES[1], "--kinds", "session,priority", "--page", page]
+    status, _, fault = tool("what-if", *words)
+    scripts = xml.etree.ElementTree.fromstring(page.read_text(encoding="utf-8")).iter(f"{HTML}script")
+    data = json.loads(next(script.text for script in scripts if script.get("id") == "data"))
+    yield compare("what-if --page", (status, fault, len(data["cases"]), len(data["ladders"])), (0, "", 7, 7))
+    yield compare("what-if --page, the frame of a cell", data["ladders"][3]["frames"].keys() >= {"ca", "cx"}, True)
+    python = "/usr/bin/python3"
+    if not pathlib.Path("/usr/bin/chromedriver").exists() or run([python, "-c", "import selenium"], folder).returncode != 0:
+        print("python3-selenium or chromium-driver is missing, and no page of what-if is opened in a browser")
+        return
+    seen = run([python, TOP / "tools" / "rengahowi" / "browser.py", page], folder, text=True).stdout.splitlines()
+    yield compare("what-if --page in a browser", [line for line in seen if not line.startswith("wide")], ["cases 7", "cells 12", "ladder True"])
+
+
+def refused(folder):
+    """Words and files that are none."""
+    path, none = EXAMPLES / "frames-cross.toml", folder / "none.toml"
+    none.write_text("version = 1\nevents = 3\n", encoding="utf-8")
+    for words, right in [
+        ((none,), "no scenario"),
+        ((folder / "absent.toml",), "No such file"),
+        ((path, "--kinds", "edges"), "no kind of failure"),
+        ((path, "--case", "lose a c"), "has no case"),
+        ((path, "--from", "lose b a"), "has no event"),
+        ((path, "--orders", "-1"), "0 or more"),
+        ((path, "--against", none), "no scenario"),
+    ]:
+        status, said, fault = tool("what-if", *words)
+        yield compare(f"what-if {words[1:]}", (status, said, right in fault, fault.count("\n")), (1, "", True, 1))
+
+
+def interrupted():
+    """An interrupt leaves what is done."""
+    words = [TOP / "tools" / "what-if", EXAMPLES / "hierarchy.toml", "--pairs", "--lines"]
+    begun = subprocess.Popen(words, stdin=subprocess.DEVNULL, stdout=subprocess.PIPE, stderr=subprocess.PIPE, text=True)
+    time.sleep(5)
+    begun.send_signal(signal.SIGINT)
+    said, fault = begun.communicate(timeout=120)
+    told = re.search(r"interrupted: (\d+) of 703 cases", fault)
+    seen = (begun.returncode, told is not None and int(told[1]) == said.count("\n"), "Traceback" in fault)
+    yield compare("what-if, interrupted", seen, (130, True, False))
