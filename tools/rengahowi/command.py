@@ -4,6 +4,7 @@ import argparse
 import os
 import pathlib
 import shutil
+import signal
 import sys
 import traceback
 
@@ -12,10 +13,18 @@ class Fault(Exception):
     """What a caller is told in one line. The tool then ends with status 1."""
 
 
+class Parser(argparse.ArgumentParser):
+    """A reader of words whose help is written as all else is: where that is refused, the tool says so."""
+
+    def print_help(self, file=None):
+        """Writes the help."""
+        (file or sys.stdout).write(self.format_help())
+
+
 def words_of(about, *words):
     """Reads the words of a call. `about` is the tool's own docstring; each word is a pair of names and what argparse is told
     of it."""
-    parser = argparse.ArgumentParser(
+    parser = Parser(
         description=about.strip(), epilog="This tool is no part of what is proved.", formatter_class=argparse.RawDescriptionHelpFormatter
     )
     for names, more in words:
@@ -39,6 +48,8 @@ def say(text):
 def end(work):
     """Does the work of a tool and ends with the status that it answers; a fault, a file that cannot be read or written, an
     interrupt, a standard output that is full or closed, and texts that are nested too deep end it without a traceback."""
+    if signal.getsignal(signal.SIGINT) is signal.SIG_DFL:
+        signal.signal(signal.SIGINT, signal.default_int_handler)
     try:
         if sys.stdout is None:
             raise Fault("standard output is closed")

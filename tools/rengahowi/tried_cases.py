@@ -189,9 +189,14 @@ def refused(folder):
 
 def interrupted():
     """An interrupt leaves what is done."""
-    words = [TOP / "tools" / "what-if", EXAMPLES / "hierarchy.toml", "--pairs", "--lines"]
-    begun = subprocess.Popen(words, stdin=subprocess.DEVNULL, stdout=subprocess.PIPE, stderr=subprocess.PIPE, text=True)
-    time.sleep(5)
+    words = [TOP / "tools" / "what-if", EXAMPLES / "hierarchy.toml", "--pairs", "--lines", "--jobs", "2"]
+    streams = {"stdin": subprocess.DEVNULL, "stdout": subprocess.PIPE, "stderr": subprocess.PIPE}
+    begun = subprocess.Popen(words, text=True, preexec_fn=lambda: signal.signal(signal.SIGINT, signal.SIG_DFL), **streams)
+    for _ in range(600):
+        if len(pathlib.Path(f"/proc/{begun.pid}/task/{begun.pid}/children").read_text(encoding="ascii").split()) >= 2:
+            break
+        time.sleep(0.1)
+    time.sleep(1)
     begun.send_signal(signal.SIGINT)
     said, fault = begun.communicate(timeout=120)
     told = re.search(r"interrupted: (\d+) of 703 cases", fault)
