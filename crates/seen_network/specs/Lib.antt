@@ -1,0 +1,4 @@
+pub mod Calm
+pub mod Laws
+pub mod Once
+pub mod Seen

@@ -1,0 +1,11 @@
+//! What the trace of a run shows of the network. This crate runs nothing: its definitions stand in `specs/`, and the function below has
+//! an empty body and a law as its contract.
+#![tactic(auto)]
+
+ghost use Rattle.seen_network.specs.Laws.{ReadsOn};
+
+/// Entries behind others are read from what those showed, so that a trace can be read as it comes.
+#[tactic(auto, using(crate::proofs::ReadLemmas::in_parts))]
+pub fn reads_on()
+    ensures { ReadsOn }
+{}
