@@ -1,0 +1,5 @@
+pub mod AdjacencyLemmas
+pub mod LapsedLemmas
+pub mod LiveLemmas
+pub mod HearLemmas
+pub mod HelloLemmas

@@ -1,0 +1,3 @@
+pub mod Adjacencies
+pub mod Hellos
+pub mod Live

@@ -1,0 +1,21 @@
+//! Targeted discovery: the Hello adjacencies of one edge (RFC 5036 sections 2.4.2, 2.5.5 and 3.5.2). Ticks stand for seconds.
+//!
+//! `specs/Live.antt` says by what an edge said and heard when an adjacency lives; `Adjacencies` keeps counts that stand for that
+//! history, as `laws` says.
+#![tactic(auto)]
+
+mod adjacencies;
+mod adjacency;
+mod heard;
+mod hello;
+mod lapsed;
+mod laws;
+mod neighbour;
+
+pub use adjacencies::Adjacencies;
+pub use adjacency::{Adjacency, LastHello};
+pub use heard::{Heard, HelloFault};
+pub use hello::HELLO_SIZE;
+pub use lapsed::Lapsed;
+pub use laws::{deeds_are_kept, hellos_are_heard, stands_for_history};
+pub use neighbour::Neighbour;

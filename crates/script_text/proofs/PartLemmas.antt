@@ -1,0 +1,221 @@
+-- Parts of a text by the first octet that parts it.
+use Rattle.std.proofs.Common.{◌≡◌, ◌<◌, ◌≤◌, ◌∙◌, ◌+◌, ◌-◌, ◌++◌, ◌==◌, ◌&&◌, not, nat_eq, ℕ, zero, suc, Bool, true, false, cond, List, [], ◌∷◌, length, take, drop, slice_get, nat_lt, Option, Some, None, count_by, if◌then◌else◌, refl, sym, ap, arith, inl, inr}
+use Rattle.std.proofs.lemmas.Bool.{cases_Bool, cases_lt, eqb-true, false_from_ne_true}
+use Rattle.std.proofs.lemmas.Bool.Decides.{Decides-ltb, nat_tests}
+use Rattle.std.proofs.lemmas.List.{drop-drop, take_all}
+use Rattle.std.proofs.lemmas.List.Sums.{prefix_len-le-length}
+use Rattle.std.proofs.lemmas.List.Recursion.{is_count_by}
+use Rattle.std.specs.List.{position, position_or_len, after_first, before_first}
+use Rattle.script_text.specs.Parts.{before_part, parted, first_part, after_part}
+use Rattle.script_text.specs.Script.{space, bad_word, is_word, spaced, words_of}
+
+-- the place of the first such octet
+abbrev place_in : ℕ → List ℕ → ℕ
+place_in by text = position_or_len (λ octet. octet == by) text
+
+pub place_le : (by : ℕ) (text : List ℕ) → position_or_len (λ octet. octet == by) text ≤ length text
+place_le by text = prefix_len-le-length (λ x. not (x == by)) text
+
+pub no_part_after : (by : ℕ) (text : List ℕ) → position_or_len (λ octet. octet == by) text ≡ length text → after_part by text ≡ None
+no_part_after by text e =
+    let test = Decides-ltb (place_in by text) (length text) in
+    ap (λ b. if b then Some (after_first (λ octet. octet == by) text) else None) (false_from_ne_true (nat_lt (place_in by text) (length text)) (λ h. absurd (omega (arith, e, test.0 h))))
+
+pub part_after : (by : ℕ) (text : List ℕ) → position_or_len (λ octet. octet == by) text < length text → after_part by text ≡ Some (after_first (λ octet. octet == by) text)
+part_after by text e =
+    let test = Decides-ltb (place_in by text) (length text) in
+    ap (λ b. if b then Some (after_first (λ octet. octet == by) text) else None) (test.1 e)
+
+pub no_part_before : (by : ℕ) (text : List ℕ) → position_or_len (λ octet. octet == by) text ≡ length text → first_part by text ≡ text
+no_part_before by text e = take_all (place_in by text) text (omega (arith, e))
+
+some_of : (test : Bool) (n at : ℕ) → Some at ≡ cond test (Some n) None → at ≡ n
+some_of true n at e = cc
+some_of false n at e = absurd (cc)
+
+none_of : (test : Bool) (n len : ℕ) → nat_lt n len ≡ test → n ≤ len → None ≡ cond test (Some n) None → len ≡ n
+none_of true n len is within e = absurd (cc)
+none_of false n len is within e = grind (arith, nat_tests)
+
+pub place_of_some : (by : ℕ) (text : List ℕ) (at : ℕ) → Some at ≡ position (λ octet. octet == by) text → at ≡ position_or_len (λ octet. octet == by) text
+place_of_some by text at e = some_of (nat_lt (place_in by text) (length text)) (place_in by text) at e
+
+pub place_of_none : (by : ℕ) (text : List ℕ) → None ≡ position (λ octet. octet == by) text → length text ≡ position_or_len (λ octet. octet == by) text
+place_of_none by text e = none_of (nat_lt (place_in by text) (length text)) (place_in by text) (length text) refl (place_le by text) e
+
+-- what is behind the octet behind the first part
+pub rest_behind : (by : ℕ) (text behind rest : List ℕ) (at : ℕ) → at ≡ position_or_len (λ octet. octet == by) text → at < length text → behind ≡ drop at text → rest ≡ drop 1 behind → Some rest ≡ after_part by text
+rest_behind by text behind rest at is within back last =
+    sym (part_after by text (omega (arith, is, within))
+    ∙ ap Some (ap (λ n. drop (n + 1) text) (sym is) ∙ sym (drop-drop 1 at text) ∙ ap (drop 1) (sym back) ∙ sym last))
+
+pub rest_of_none : (by : ℕ) (text : List ℕ) (at : ℕ) → at ≡ position_or_len (λ octet. octet == by) text → ¬ (at < length text) → at ≤ length text → None ≡ after_part by text
+rest_of_none by text at is none within = sym (no_part_after by text (omega (arith, is, none, within)))
+
+-- the first part and the others
+abbrev first_and : List ℕ → Option (List (List ℕ)) → List (List ℕ)
+first_and part None = part ∷ []
+first_and part (Some parts) = part ∷ parts
+
+abbrev parts_of : ℕ → Option (List ℕ) → Option (List (List ℕ))
+parts_of by None = None
+parts_of by (Some rest) = Some (parted by rest)
+
+-- an octet more before the first part
+longer : (by octet : ℕ) (rest : List ℕ) → (octet == by) ≡ false → place_in by (octet ∷ rest) ≡ place_in by rest + 1
+longer by octet rest other = rw other (omega arith)
+
+first_more : (by octet : ℕ) (rest : List ℕ) → (octet == by) ≡ false → first_part by (octet ∷ rest) ≡ octet ∷ first_part by rest
+first_more by octet rest other =
+    let e : place_in by (octet ∷ rest) ≡ suc (place_in by rest) = omega (arith, longer by octet rest other) in
+    ap (λ n. take n (octet ∷ rest)) e
+
+after_more : (by octet : ℕ) (rest : List ℕ) → (octet == by) ≡ false → after_part by (octet ∷ rest) ≡ after_part by rest
+after_more by octet rest other =
+    let more = longer by octet rest other in
+    elim (cases_lt (place_in by rest) (length rest)) [
+      | inl within ↦
+          let e : place_in by (octet ∷ rest) + 1 ≡ suc (place_in by rest + 1) = omega (arith, more) in
+          part_after by (octet ∷ rest) (omega (arith, more, within)) ∙ ap Some (ap (λ n. drop n (octet ∷ rest)) e) ∙ sym (part_after by rest within)
+      | inr none ↦
+          let all : place_in by rest ≡ length rest = omega (arith, none, place_le by rest) in
+          no_part_after by (octet ∷ rest) (omega (arith, more, all)) ∙ sym (no_part_after by rest all)
+    ]
+
+before_and : (octet : ℕ) (part : List ℕ) (parts : Option (List (List ℕ))) → before_part octet (first_and part parts) ≡ first_and (octet ∷ part) parts
+before_and octet part None = refl
+before_and octet part (Some parts) = refl
+
+-- a text is its first part, and the parts of what follows it
+pub cut_first : (by : ℕ) (text : List ℕ) → parted by text ≡ first_and (first_part by text) (parts_of by (after_part by text))
+unfolding parted
+cut_first by [] = refl
+cut_first by (octet ∷ rest) = elim (cases_Bool (octet == by)) [
+  | inl same ↦ at_once same
+  | inr other ↦ later other (cut_first by rest)
+]
+  where
+    at_once : (octet == by) ≡ true → (if octet == by then [] ∷ parted by rest else before_part octet (parted by rest)) ≡ first_and (first_part by (octet ∷ rest)) (parts_of by (after_part by (octet ∷ rest)))
+    at_once same =
+        let here : place_in by (octet ∷ rest) ≡ 0 = rw same refl in
+        let after : after_part by (octet ∷ rest) ≡ Some rest = part_after by (octet ∷ rest) (omega (arith, here)) ∙ ap Some (ap (λ n. drop (n + 1) (octet ∷ rest)) here) in
+        let test : (if octet == by then [] ∷ parted by rest else before_part octet (parted by rest)) ≡ [] ∷ parted by rest = rw same refl in
+        test ∙ ap (λ n. take n (octet ∷ rest) ∷ parted by rest) (sym here) ∙ ap (λ o. first_and (first_part by (octet ∷ rest)) (parts_of by o)) (sym after)
+
+    later : (octet == by) ≡ false → parted by rest ≡ first_and (first_part by rest) (parts_of by (after_part by rest))
+        → (if octet == by then [] ∷ parted by rest else before_part octet (parted by rest)) ≡ first_and (first_part by (octet ∷ rest)) (parts_of by (after_part by (octet ∷ rest)))
+    later other ih =
+        let test : (if octet == by then [] ∷ parted by rest else before_part octet (parted by rest)) ≡ before_part octet (parted by rest) = rw other refl in
+        test ∙ ap (before_part octet) ih ∙ before_and octet (first_part by rest) (parts_of by (after_part by rest))
+        ∙ ap (λ part. first_and part (parts_of by (after_part by rest))) (sym (first_more by octet rest other))
+        ∙ ap (λ o. first_and (first_part by (octet ∷ rest)) (parts_of by o)) (sym (after_more by octet rest other))
+
+-- a text without such an octet is one part
+pub parted_one : (by : ℕ) (text : List ℕ) → None ≡ after_part by text → parted by text ≡ first_part by text ∷ []
+parted_one by text none = cut_first by text ∙ ap (λ after. first_and (first_part by text) (parts_of by after)) (sym none)
+
+pub parted_more : (by : ℕ) (text rest : List ℕ) → Some rest ≡ after_part by text → parted by text ≡ first_part by text ∷ parted by rest
+parted_more by text rest some = cut_first by text ∙ ap (λ after. first_and (first_part by text) (parts_of by after)) (sym some)
+
+-- a text without such an octet is its first part
+pub whole_or_part : (by : ℕ) (text : List ℕ) → None ≡ after_part by text → first_part by text ≡ text
+whole_or_part by text none = elim (cases_lt (position_or_len (λ octet. octet == by) text) (length text)) [
+  | inl within ↦ absurd (not_none (after_first (λ octet. octet == by) text) (none ∙ part_after by text within))
+  | inr past ↦ no_part_before by text (omega (arith, past, place_le by text))
+]
+  where
+    not_none : (rest : List ℕ) → ◌≡◌ {A = Option (List ℕ)} None (Some rest) → ⊥
+    not_none rest e = cc e
+
+-- words by their indexes
+pub word_first : (text : List ℕ) → slice_get (words_of text) 0 ≡ Some (first_part space text)
+word_first text = of_after (after_part space text) refl
+  where
+    of_after : (after : Option (List ℕ)) → after_part space text ≡ after → slice_get (words_of text) 0 ≡ Some (first_part space text)
+    of_after None is = ap (λ (words : List (List ℕ)). slice_get words 0) (parted_one space text (sym is))
+    of_after (Some rest) is = ap (λ (words : List (List ℕ)). slice_get words 0) (parted_more space text rest (sym is))
+
+pub word_step : (n : ℕ) (text rest : List ℕ) → 0 < n → Some rest ≡ after_part space text → slice_get (words_of rest) (n - 1) ≡ slice_get (words_of text) n
+word_step zero text rest some e = absurd (omega arith)
+word_step (suc n) text rest some e =
+    let same : suc n - 1 ≡ n = omega arith in
+    ap (λ m. slice_get (words_of rest) m) same ∙ sym (ap (λ (words : List (List ℕ)). slice_get words (suc n)) (parted_more space text rest e))
+
+pub word_none : (n : ℕ) (text : List ℕ) → 0 < n → None ≡ after_part space text → slice_get (words_of text) n ≡ None
+word_none zero text some e = absurd (omega arith)
+word_none (suc n) text some e = ap (λ (words : List (List ℕ)). slice_get words (suc n)) (parted_one space text e)
+
+pub word_here : (n : ℕ) (text word : List ℕ) → word ≡ first_part space text → n ≤ 0 → Some word ≡ slice_get (words_of text) n
+word_here zero text word is none = ap Some is ∙ sym (word_first text)
+word_here (suc n) text word is none = absurd (omega (arith, none))
+
+-- the first word that is none
+pub bad_here : (number : ℕ) (text : List ℕ) → is_word (first_part space text) ≡ false → bad_word number (words_of text) ≡ Some number
+bad_here number text none = of_after (after_part space text) refl
+  where
+    of_after : (after : Option (List ℕ)) → after_part space text ≡ after → bad_word number (words_of text) ≡ Some number
+    of_after None is = ap (bad_word number) (parted_one space text (sym is)) ∙ rw none refl
+    of_after (Some rest) is = ap (bad_word number) (parted_more space text rest (sym is)) ∙ rw none refl
+
+pub bad_later : (number : ℕ) (text rest : List ℕ) → is_word (first_part space text) ≡ true → Some rest ≡ after_part space text → bad_word number (words_of text) ≡ bad_word (number + 1) (words_of rest)
+bad_later number text rest word e = ap (bad_word number) (parted_more space text rest e) ∙ rw word refl
+
+pub bad_last : (number : ℕ) (text : List ℕ) → is_word (first_part space text) ≡ true → None ≡ after_part space text → bad_word number (words_of text) ≡ None
+bad_last number text word e = ap (bad_word number) (parted_one space text e) ∙ rw word refl
+
+-- how many parts there are
+before_length : (octet : ℕ) (parts : List (List ℕ)) → 0 < length parts → length (before_part octet parts) ≡ length parts
+before_length octet [] some = absurd (omega arith)
+before_length octet (part ∷ parts) some = refl
+
+pub some_parts : (by : ℕ) (text : List ℕ) → 0 < length (parted by text)
+unfolding parted
+some_parts by [] = omega arith
+some_parts by (octet ∷ rest) = elim (cases_Bool (octet == by)) [
+  | inl same ↦ rw same (omega arith)
+  | inr other ↦ rw other (omega (arith, before_length octet (parted by rest) (some_parts by rest), some_parts by rest))
+]
+
+nothing : length (parted space []) - 1 ≡ 0
+unfolding parted
+nothing = refl
+
+of_test : (test : Bool) (octet : ℕ) (rest : List ℕ) → 0 < length (parted space rest)
+    → length (if test then [] ∷ parted space rest else before_part octet (parted space rest)) - 1 ≡ cond test (1 + (length (parted space rest) - 1)) (length (parted space rest) - 1)
+of_test true octet rest some = omega (arith, some)
+of_test false octet rest some = omega (arith, before_length octet (parted space rest) some)
+
+more : (octet : ℕ) (rest : List ℕ) → length (parted space (octet ∷ rest)) - 1 ≡ cond (octet == space) (1 + (length (parted space rest) - 1)) (length (parted space rest) - 1)
+unfolding parted
+more octet rest = of_test (octet == space) octet rest (some_parts space rest)
+
+pub count_parts : (text : List ℕ) → length (words_of text) ≡ count_by (λ octet. octet == space) text + 1
+count_parts text = omega (arith, is_count_by (λ t. length (parted space t) - 1) (λ octet. octet == space) nothing more text, some_parts space text)
+
+-- ---- words with a space between each two
+
+spaced_before : (octet : ℕ) (parts : List (List ℕ)) → spaced (before_part octet parts) ≡ octet ∷ spaced parts
+spaced_before octet [] = refl
+spaced_before octet (part ∷ []) = refl
+spaced_before octet (part ∷ next ∷ parts) = refl
+
+spaced_more : (parts : List (List ℕ)) → 0 < length parts → spaced ([] ∷ parts) ≡ space ∷ spaced parts
+spaced_more [] some = absurd (omega (arith, some))
+spaced_more (part ∷ parts) some = refl
+
+-- the words of a line make the line again
+words_back : (text : List ℕ) → spaced (words_of text) ≡ text
+unfolding parted
+words_back [] = refl
+words_back (octet ∷ rest) = of_test (nat_eq octet space) (λ is. eqb-true octet space is) (words_back rest)
+  where
+    of_test : (test : Bool) → (test ≡ true → octet ≡ space) → spaced (words_of rest) ≡ rest → spaced (if test then [] ∷ words_of rest else before_part octet (words_of rest)) ≡ octet ∷ rest
+    of_test true is back = spaced_more (words_of rest) (some_parts space rest) ∙ (ap (λ o. o ∷ spaced (words_of rest)) (sym (is (λ i. true))) ∙ ap (λ l. octet ∷ l) back)
+    of_test false is back = spaced_before octet (words_of rest) ∙ ap (λ l. octet ∷ l) back
+
+-- what follows the first word
+pub words_behind : (text rest : List ℕ) → Some rest ≡ after_part space text → rest ≡ spaced (drop 1 (words_of text))
+words_behind text rest e = sym (ap (λ (ws : List (List ℕ)). spaced (drop 1 ws)) (parted_more space text rest e) ∙ words_back rest)
+
+pub no_words_behind : (text : List ℕ) → None ≡ after_part space text → [] ≡ spaced (drop 1 (words_of text))
+no_words_behind text e = sym (ap (λ (ws : List (List ℕ)). spaced (drop 1 ws)) (parted_one space text e))
