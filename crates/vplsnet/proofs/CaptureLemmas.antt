@@ -105,7 +105,7 @@ captures_both files (name ∷ names) more [] others captures gained are rest = a
 captures_both files (name ∷ names) more (octets ∷ read) others [] gained are rest = absurd are
 captures_both files (name ∷ names) more (octets ∷ read) others (frames ∷ captures) gained are rest = (are.0, captures_both files names more read others captures gained are.1 rest)
 
-played_both : (files : Files) (names more : List (List ℕ)) (captures gained : List (List (List ℕ))) → HasPlayed files names captures → HasPlayed files more gained → HasPlayed files (names ++ more) (captures ++ gained)
+pub played_both : (files : Files) (names more : List (List ℕ)) (captures gained : List (List (List ℕ))) → HasPlayed files names captures → HasPlayed files more gained → HasPlayed files (names ++ more) (captures ++ gained)
 played_both files names more captures gained one two = record {
   read = one.read ++ two.read;
   are = captures_both files names more one.read two.read captures gained one.are two.are;
@@ -161,7 +161,7 @@ pub record IsPlayedTo (files : Files) (names rest : List (List ℕ)) (captures :
 pub played_first : (files : Files) (names : List (List ℕ)) → IsPlayedTo files names names []
 played_first files names = record { had = []; split = refl; played = played_none files; short = All-nil (All IsFrame) }
 
-played_at : (commands : List Command) (i : ℕ) (d : Command) → i < length commands → played (drop i commands) ≡ played_by (slice_index_or commands i d) ++ played (drop (i + 1) commands)
+pub played_at : (commands : List Command) (i : ℕ) (d : Command) → i < length commands → played (drop i commands) ≡ played_by (slice_index_or commands i d) ++ played (drop (i + 1) commands)
 played_at commands i d within = at_drop_more played commands i d within
 
 -- those of one more command were read

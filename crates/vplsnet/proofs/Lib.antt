@@ -6,6 +6,7 @@ pub mod FileLemmas
 pub mod GoingLemmas
 pub mod MadeLemmas
 pub mod PlannedLemmas
+pub mod ReadLemmas
 pub mod RunLemmas
 pub mod ScenarioFileLemmas
 pub mod StreamLemmas

@@ -107,7 +107,7 @@ comes_behind files asked file octets scenario captures names rest next is split 
     read_both asked before (o ∷ read) more one two =
         (one.0, read_both asked (before ++ o ∷ []) read more one.1 (subst (λ (l : List (List ℕ)). AreReadNext (Has files) asked l more) (sym (append_assoc before (o ∷ []) read)) two))
 
-comes_to : (files : Files) (asked : Asked) (file octets : List ℕ) (scenario : Scenario) (captures : List (List (List ℕ))) (names rest : List (List ℕ)) (next : Next) → IsScenarioFile files asked file octets scenario
+pub comes_to : (files : Files) (asked : Asked) (file octets : List ℕ) (scenario : Scenario) (captures : List (List (List ℕ))) (names rest : List (List ℕ)) (next : Next) → IsScenarioFile files asked file octets scenario
     → played scenario.commands ≡ names ++ rest → HasPlayed files names captures → IsNextPlayed scenario captures rest [] next → ComesTo (Has files) asked next
 comes_to files asked file octets scenario captures names rest next is split played comes = comes_behind files asked file octets scenario captures names rest next is split played.read [] played.are tt comes
 

@@ -1,6 +1,6 @@
 -- Whole files and whole texts.
 use Rattle.std.specs.Prelude.{◌≡◌, ◌⊎◌, ◌<◌, ◌+◌, ℕ, List, [], ◌∷◌, length, take, Option, Some, Result, Ok, Err, IfSome}
-use Rattle.net_base.specs.outside.Outside.{Rose, raised}
+use Rattle.net_base.specs.outside.Outside.{ReadCall, Rose, raised}
 use Rattle.vplsnet.specs.declared.files.ReadStop.{ReadStop}
 use Rattle.vplsnet.specs.declared.files.ReadStop.TheVariants as stop
 use Rattle.vplsnet.specs.declared.outcome.Outcome.{Outcome}
@@ -30,6 +30,11 @@ IsNotHad files before after name limit ReadFault = Rose (before name) (after nam
 IsNotHad files before after name limit (TooLong named most) = (named ≡ name) × (most ≡ limit) × IfSome files (λ held. IsLonger limit (held name))
 IsNotHad files before after name limit NoMemory = Unit {0}
 IsNotHad files before after name limit outcome = ⊥
+
+-- what a shelf over the files of the system tells: how many calls failed, and which reads it was asked for
+pub record ShelfState : Type 0 where
+  pub faults : ℕ
+  pub reads : List ReadCall
 
 -- what a sink over a writer tells: what the writer took, where that tells it, and how many calls failed
 pub record SinkState : Type 0 where

@@ -11,6 +11,7 @@ pub mod Finish
 pub mod Inputs
 pub mod Made
 pub mod Promises
+pub mod Reads
 pub mod Rehearse
 pub mod Replay
 pub mod ScenarioFile

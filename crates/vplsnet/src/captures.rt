@@ -3,7 +3,8 @@ ghost use Rattle.std.specs.Prelude.{◌≡◌, ◌≢◌, All, IfErr, IfOk, OnOk
 ghost use Rattle.net_base.specs.outside.Outside.{NeverFall};
 ghost use Rattle.net_base.specs.plan.Planned.{IsFrame};
 ghost use Rattle.vplsnet.specs.Captures.{FailsToPlay, GainsPlayed, HasFrames, HasPlayed, IsNoCapture, IsToldAs};
-ghost use Rattle.vplsnet.specs.Inputs.{played, played_by};
+ghost use Rattle.vplsnet.specs.Inputs.{capture_limit, played, played_by};
+ghost use Rattle.vplsnet.specs.Reads.{GainsReads, IsPlayedRead, IsReadOf};
 
 use crate::named_file::octets_of;
 use crate::outcome::Outcome;
@@ -17,7 +18,7 @@ const CAPTURE_LIMIT: usize = 67_108_864;
 
 /// The frames of each capture that the commands play, in their order; or the outcome of the first file whose frames were not had. A
 /// file that is played twice is read twice.
-#[tactic(auto, using(crate::proofs::CaptureLemmas::play_steps))]
+#[tactic(auto, using(crate::proofs::CaptureLemmas::play_steps, crate::proofs::ReadLemmas::played_on, crate::proofs::ReadLemmas::reads_none))]
 pub fn captures_of<F: Shelf>(
     alloc: Global,
     shelf: &mut F,
@@ -26,6 +27,7 @@ pub fn captures_of<F: Shelf>(
     ensures played { IfOk result (HasPlayed (F.files shelf.old) (played commands.now)) }
     ensures frames { IfOk result (All (All IsFrame)) }
     ensures fails { IfErr result (FailsToPlay (F.files shelf.old) (F.faults shelf.old) (F.faults shelf.new) (played commands.now)) }
+    ensures reads { GainsReads (IsPlayedRead (F.files shelf.old) (played commands.now)) (F.reads shelf.old) (F.reads shelf.new) }
     ensures same_files { F.files shelf.new ≡ F.files shelf.old }
     ensures never_fall { NeverFall (F.faults shelf.old) (F.faults shelf.new) }
 {
@@ -40,7 +42,7 @@ pub fn captures_of<F: Shelf>(
 }
 
 // Adds the frames of the capture that a command plays, where it plays one.
-#[tactic(auto, using(crate::proofs::CaptureLemmas::gains_none, crate::proofs::CaptureLemmas::add_steps))]
+#[tactic(auto, using(crate::proofs::CaptureLemmas::gains_none, crate::proofs::CaptureLemmas::add_steps, crate::proofs::ReadLemmas::played_steps))]
 fn add_played<F: Shelf>(
     alloc: Global,
     shelf: &mut F,
@@ -49,6 +51,7 @@ fn add_played<F: Shelf>(
 ) -> Result<(), Outcome>
     ensures gains { OnOk result (GainsPlayed (F.files shelf.old) (played_by command.now) captures.old captures.new) }
     ensures fails { IfErr result (FailsToPlay (F.files shelf.old) (F.faults shelf.old) (F.faults shelf.new) (played_by command.now)) }
+    ensures reads { GainsReads (IsPlayedRead (F.files shelf.old) (played_by command.now)) (F.reads shelf.old) (F.reads shelf.new) }
     ensures same_files { F.files shelf.new ≡ F.files shelf.old }
     ensures never_fall { NeverFall (F.faults shelf.old) (F.faults shelf.new) }
 {
@@ -74,6 +77,7 @@ fn frames_of<F: Shelf>(alloc: Global, shelf: &mut F, file: &str) -> Result<List<
     ensures has { IfOk result (HasFrames (F.files shelf.old) file.now) }
     ensures frames { IfOk result (All IsFrame) }
     ensures not_had { IfErr result (IsNoCapture (F.files shelf.old) (F.faults shelf.old) (F.faults shelf.new) file.now) }
+    ensures reads { GainsReads (IsReadOf (record { name = file.now; limit = capture_limit })) (F.reads shelf.old) (F.reads shelf.new) }
     ensures same_files { F.files shelf.new ≡ F.files shelf.old }
     ensures never_fall { NeverFall (F.faults shelf.old) (F.faults shelf.new) }
 {

@@ -1,9 +1,10 @@
 //! The command `decode`: the lines of a stream of LDP messages.
 ghost use Rattle.std.specs.Prelude.{◌≡◌};
 ghost use Rattle.vplsnet.specs.Answers.{SaysOutcome};
-ghost use Rattle.vplsnet.specs.Around.{around};
+ghost use Rattle.vplsnet.specs.Around.{Has, around};
 ghost use Rattle.vplsnet.specs.Asked.{Decode};
 ghost use Rattle.vplsnet.specs.Finish.{status_of};
+ghost use Rattle.vplsnet.specs.Reads.{GainsReads, IsReadOfNext};
 
 use crate::decoder::Decoder;
 use crate::finish::Finish;
@@ -18,7 +19,7 @@ const STREAM_LIMIT: usize = 67_108_864;
 /// Reads a stream whole, and writes a line for each LDP message of it (RFC 5036 section 3.1), those before a fault too. The lines go
 /// to the sink page by page.
 /// `DecodeRefused` comes exactly where the stream has a fault, and `Unfinished` where it ends within a PDU. No run begins.
-#[tactic(auto, using(crate::proofs::AnswerLemmas::stream_not_had, crate::proofs::AnswerLemmas::refused_answers))]
+#[tactic(auto, using(crate::proofs::AnswerLemmas::stream_not_had, crate::proofs::AnswerLemmas::refused_answers, crate::proofs::ReadLemmas::reads_none, crate::proofs::ReadLemmas::stream_reads))]
 pub fn decode_file<F: Shelf, K: Sink>(
     alloc: Global,
     file: &str,
@@ -27,6 +28,7 @@ pub fn decode_file<F: Shelf, K: Sink>(
 ) -> Finish
     ensures status { result.status ≡ status_of result.outcome }
     ensures answers { SaysOutcome (around F.files F.faults K.taken K.faults shelf.old sink.old shelf.new sink.new) (Decode file.now) result.network result.outcome }
+    ensures reads { GainsReads (IsReadOfNext (Has (F.files shelf.old)) (Decode file.now)) (F.reads shelf.old) (F.reads shelf.new) }
     ensures same_files { F.files shelf.new ≡ F.files shelf.old }
 {
     let mut decoder = match Decoder::new(alloc) {

@@ -1,9 +1,9 @@
 //! The shelf of the system's files.
-ghost use Rattle.std.specs.Prelude.{◌≡◌, ◌<◌, ◌≤◌, ◌↔◌, true, length, slice_get, string_bytes, IfOk, IfSome};
+ghost use Rattle.std.specs.Prelude.{◌≡◌, ◌<◌, ◌≤◌, ◌↔◌, ◌++◌, ◌∷◌, [], true, length, slice_get, string_bytes, IfOk, IfSome};
 ghost use Rattle.net_base.specs.outside.Outside.{HasCause, NeverFall};
 ghost use Rattle.vplsnet.specs.Files.{count_after};
 
-use net_base::{Failed, Shelf};
+use net_base::{Failed, Read as ReadCall, ReadLog, Shelf};
 use std::alloc::Global;
 use std::io::{ErrorKind, Read, Seek, SeekFrom};
 use std::marker::Model;
@@ -79,34 +79,36 @@ fn open_file<R: Files>(alloc: Global, files: &R, name: &str) -> io::Result<Opene
 }
 
 /// The files of the system, by their paths. Each is opened once and stays open, so that a file that is replaced meanwhile
-/// is still read as the one that it was. Contracts see it as its one count of faults, which is that of every name: it tells
-/// no octet of a file.
+/// is still read as the one that it was. Contracts see its one count of faults, which is that of every name, and the reads that it was
+/// asked for: it tells no octet of a file.
 #[derive(Drop)]
 pub struct FileShelf<R: Files> {
     files: R,
     opened: Vec<Opened<R::File>>,
     alloc: Global,
     faults: u64,
+    log: ReadLog,
 }
 
 impl<R: Files> Model for FileShelf<R> {
-    ghost use Rattle.std.specs.Prelude.{ℕ};
+    ghost use Rattle.vplsnet.specs.Files.{ShelfState};
 
-    ghost Value = { ℕ };
+    ghost Value = { ShelfState };
 
-    ghost view = { λ s. s.faults };
+    ghost view = { λ s. record { faults = s.faults; reads = s.log.reads } };
 }
 
 impl<R: Files> FileShelf<R> {
-    /// A shelf over the files of a runtime, with none opened and no fault counted.
+    /// A shelf over the files of a runtime, with none opened and no fault counted, that was asked for no read.
     pub fn new(alloc: Global, files: R) -> Self
-        ensures { result ≡ 0 }
+        ensures { result ≡ record { faults = 0; reads = [] } }
     {
         FileShelf {
             files,
             opened: Vec::new(alloc),
             alloc,
             faults: 0,
+            log: ReadLog::new(),
         }
     }
 
@@ -137,15 +139,23 @@ impl<R: Files> Shelf for FileShelf<R> {
 
     ghost files = { λ _. None };
 
-    ghost faults = { λ shelf _. shelf };
+    ghost reads = { λ shelf. shelf.reads };
+
+    ghost faults = { λ shelf _. shelf.faults };
 
     /// Reads once. Each error of the system is a fault, and so is that memory for an open file is refused.
     fn read_at(&mut self, name: &str, from: u64, buf: &mut [u8]) -> Result<usize, Failed>
         ensures bound { IfOk result (λ count. count ≤ length buf.new) }
-        ensures never_fall { NeverFall (λ _. self.old) (λ _. self.new) }
-        ensures cause { HasCause self.old self.new result }
-        ensures counted { self.new ≡ count_after self.old result }
+        ensures never_fall { NeverFall (λ _. self.old.faults) (λ _. self.new.faults) }
+        ensures cause { HasCause self.old.faults self.new.faults result }
+        ensures counted { self.new.faults ≡ count_after self.old.faults result }
+        ensures reads { self.new.reads ≡ self.old.reads ++ record { name = name.now; from = from; room = length buf.old } ∷ [] }
     {
+        self.log = self.log.with_read(&ReadCall {
+            name,
+            from,
+            room: buf.len(),
+        });
         match self.read_from(name, from, buf) {
             Ok(count) => Ok(count),
             Err(_) => {

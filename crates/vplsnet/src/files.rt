@@ -2,6 +2,7 @@
 ghost use Rattle.std.specs.Prelude.{◌≡◌, ◌<◌, ◌≤◌, ◌+◌, ◌^◌, length, IfErr, IfOk, IfSome, IsErrOf, OnOk, Some};
 ghost use Rattle.net_base.specs.outside.Outside.{Rose, NeverFall};
 ghost use Rattle.vplsnet.specs.Files.{IsFrontOf, IsLonger};
+ghost use Rattle.vplsnet.specs.Reads.{GainsReads, IsReadOf};
 
 use net_base::{Failed, List, NoMemory, Octets, Shelf};
 use std::alloc::Global;
@@ -21,7 +22,7 @@ pub enum ReadStop {
 }
 
 /// Reads a file from its front on, to its end or until one octet more than the limit is read: of a file that
-/// the shelf tells, exactly the first `min(length, limit + 1)` octets. It asks for no octet beyond those.
+/// the shelf tells, exactly the first `min(length, limit + 1)` octets. It asks for no octet beyond `limit + 1`, and for no other file.
 ///
 /// `Fault` comes only where a call with this name failed. `TooLong` never comes.
 pub fn read_front<F: Shelf>(
@@ -35,6 +36,7 @@ pub fn read_front<F: Shelf>(
     ensures within { IfOk result (λ octets. length octets ≤ limit + 1) }
     ensures fault { IsErrOf result ReadStop.Fault → Rose (F.faults shelf.old name.now) (F.faults shelf.new name.now) }
     ensures never_long { IsErrOf result ReadStop.TooLong → ⊥ }
+    ensures reads { GainsReads (IsReadOf (record { name = name.now; limit = limit })) (F.reads shelf.old) (F.reads shelf.new) }
     ensures same_files { F.files shelf.new ≡ F.files shelf.old }
     ensures never_fall { NeverFall (F.faults shelf.old) (F.faults shelf.new) }
 {
@@ -56,7 +58,8 @@ pub fn read_front<F: Shelf>(
     Ok(octets)
 }
 
-/// Reads a file whole, where it has no more octets than the limit, and else answers `TooLong`.
+/// Reads a file whole, where it has no more octets than the limit, and else answers `TooLong`. It asks for no octet beyond `limit + 1`,
+/// and for no other file.
 ///
 /// `Fault` comes only where a call with this name failed.
 pub fn read_file<F: Shelf>(
@@ -71,6 +74,7 @@ pub fn read_file<F: Shelf>(
     ensures too_long { IfSome (F.files shelf.old) (λ held. IsErrOf result ReadStop.TooLong → IsLonger limit (held name.now)) }
     ensures never_longer { IfSome (F.files shelf.old) (λ held. IsLonger limit (held name.now) → OnOk result ⊥) }
     ensures fault { IsErrOf result ReadStop.Fault → Rose (F.faults shelf.old name.now) (F.faults shelf.new name.now) }
+    ensures reads { GainsReads (IsReadOf (record { name = name.now; limit = limit })) (F.reads shelf.old) (F.reads shelf.new) }
     ensures same_files { F.files shelf.new ≡ F.files shelf.old }
     ensures never_fall { NeverFall (F.faults shelf.old) (F.faults shelf.new) }
 {

@@ -3,6 +3,7 @@ ghost use Rattle.std.specs.Prelude.{◌≡◌, ◌≤◌, ◌<◌, ◌^◌, leng
 ghost use Rattle.net_base.specs.outside.Outside.{NeverFall};
 ghost use Rattle.vplsnet.specs.Around.{Has};
 ghost use Rattle.vplsnet.specs.Files.{IsNotHad, Unread};
+ghost use Rattle.vplsnet.specs.Reads.{GainsReads, IsReadOf};
 
 use crate::files::{ReadStop, read_file};
 use crate::outcome::Outcome;
@@ -20,6 +21,7 @@ pub fn octets_of<F: Shelf>(
     ensures has { IfOk result (Has (F.files shelf.old) name.now) }
     ensures fits { IfOk result (λ octets. length octets ≤ limit) }
     ensures not_had { IfErr result (IsNotHad (F.files shelf.old) (F.faults shelf.old) (F.faults shelf.new) name.now limit) }
+    ensures reads { GainsReads (IsReadOf (record { name = name.now; limit = limit })) (F.reads shelf.old) (F.reads shelf.new) }
     ensures same_files { F.files shelf.new ≡ F.files shelf.old }
     ensures never_fall { NeverFall (F.faults shelf.old) (F.faults shelf.new) }
 {

@@ -9,6 +9,7 @@ ghost use Rattle.vplsnet.specs.Around.{Has, around};
 ghost use Rattle.vplsnet.specs.Asked.{asked, asked_by};
 ghost use Rattle.vplsnet.specs.Finish.{status_of};
 ghost use Rattle.vplsnet.specs.Inputs.{ComesTo, Run, Works};
+ghost use Rattle.vplsnet.specs.Reads.{GainsReads, IsReadOfNext, MayRead};
 ghost use Rattle.vplsnet.specs.ScenarioRun.{outcome_by};
 ghost use Rattle.vplsnet.specs.Writing.{EndsRun, RunsScenario};
 
@@ -40,9 +41,11 @@ use text_lines::Page;
 /// each message, those before a fault too; then come `DecodeRefused` where the stream has a fault, and `Unfinished` where it ends
 /// within a PDU.
 ///
+/// Only files that come next in this order are read, each for at most one octet more than its limit.
+///
 /// `ReadFault` comes only where the shelf's count for the name rose, and `WriteFault` only where the sink's count rose; a front of the
 /// text was then taken. `NoMemory` may come at any time before the writing, and of `decode` also within it.
-#[tactic(auto, using(crate::proofs::AnswerLemmas::refused_answers, crate::proofs::AnswerLemmas::run_answers, crate::proofs::AnswerLemmas::word_steps))]
+#[tactic(auto, using(crate::proofs::AnswerLemmas::refused_answers, crate::proofs::AnswerLemmas::run_answers, crate::proofs::AnswerLemmas::word_steps, crate::proofs::ReadLemmas::run_reads))]
 pub fn run<F: Shelf, K: Sink>(
     alloc: Global,
     words: &[String],
@@ -57,6 +60,8 @@ pub fn run<F: Shelf, K: Sink>(
     ensures answers { Finishes (around F.files F.faults K.taken K.faults shelf.old sink.old shelf.new sink.new) (asked (map string_bytes words.now)) result.network result.outcome }
     // A told file is answered by what it is, unless a fault was counted or memory was refused.
     ensures complete { IfSome (asked (map string_bytes words.now)) (λ asked. Completes (around F.files F.faults K.taken K.faults shelf.old sink.old shelf.new sink.new) asked result.outcome) }
+    // Only files that come next are read, each for at most one octet more than its limit.
+    ensures reads { GainsReads (MayRead (F.files shelf.old) (asked (map string_bytes words.now))) (F.reads shelf.old) (F.reads shelf.new) }
     // The shelf's files are as they were.
     ensures same_files { F.files shelf.new ≡ F.files shelf.old }
 {
@@ -74,7 +79,7 @@ pub fn run<F: Shelf, K: Sink>(
 }
 
 // The scenario of a request that runs one, with the captures that it plays, or the outcome of what is refused first.
-#[tactic(auto, using(crate::proofs::ScenarioFileLemmas::work_steps))]
+#[tactic(auto, using(crate::proofs::ScenarioFileLemmas::work_steps, crate::proofs::ReadLemmas::reads_none))]
 fn work_of<F: Shelf>(alloc: Global, request: Request<'_>, shelf: &mut F) -> Result<Work, Outcome>
     requires runs { RunsScenario (asked_by request) }
     ensures come { IfOk result (λ work. ComesTo (Has (F.files shelf.old)) (asked_by request.entry) (Works (Run work.scenario work.captures))) }
@@ -82,6 +87,7 @@ fn work_of<F: Shelf>(alloc: Global, request: Request<'_>, shelf: &mut F) -> Resu
     ensures planned { IfOk result (λ work. All (IsPlanned work.scenario.plan) work.scenario.commands) }
     ensures frames { IfOk result (λ work. All (All IsFrame) work.captures) }
     ensures refused { IfErr result (IsRefused (F.files shelf.old) (F.faults shelf.old) (F.faults shelf.new) (asked_by request.entry)) }
+    ensures reads { GainsReads (IsReadOfNext (Has (F.files shelf.old)) (asked_by request.entry)) (F.reads shelf.old) (F.reads shelf.new) }
     ensures same_files { F.files shelf.new ≡ F.files shelf.old }
 {
     match request {

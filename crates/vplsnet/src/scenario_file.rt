@@ -7,6 +7,7 @@ ghost use Rattle.vplsnet.specs.Answers.{IsRefused};
 ghost use Rattle.vplsnet.specs.Around.{Has};
 ghost use Rattle.vplsnet.specs.Asked.{asked_by};
 ghost use Rattle.vplsnet.specs.Inputs.{ComesTo, Run, Works};
+ghost use Rattle.vplsnet.specs.Reads.{GainsReads, IsCaptureRead, IsReadOfNext};
 ghost use Rattle.vplsnet.specs.ScenarioFile.{HasAll, LacksSome, ReadsScenario, outcome_of_fault};
 
 use crate::capture::missing_circuit;
@@ -25,7 +26,7 @@ const SCENARIO_LIMIT: usize = 8_388_608;
 /// The scenario of the file of a request, with the captures that it plays; or the outcome of what is refused first, in this order: the
 /// file is read, its octets are a scenario, the circuit that the request names is there, and the captures are read one after
 /// another.
-#[tactic(auto, using(crate::proofs::ScenarioFileLemmas::file_steps, crate::proofs::ScenarioFileLemmas::no_scenario_by))]
+#[tactic(auto, using(crate::proofs::ScenarioFileLemmas::file_steps, crate::proofs::ScenarioFileLemmas::no_scenario_by, crate::proofs::ReadLemmas::file_reads))]
 pub fn scenario_of<F: Shelf>(
     alloc: Global,
     shelf: &mut F,
@@ -38,6 +39,7 @@ pub fn scenario_of<F: Shelf>(
     ensures planned { IfOk result (λ work. All (IsPlanned work.scenario.plan) work.scenario.commands) }
     ensures frames { IfOk result (λ work. All (All IsFrame) work.captures) }
     ensures refused { IfErr result (IsRefused (F.files shelf.old) (F.faults shelf.old) (F.faults shelf.new) (asked_by request.entry)) }
+    ensures reads { GainsReads (IsReadOfNext (Has (F.files shelf.old)) (asked_by request.entry)) (F.reads shelf.old) (F.reads shelf.new) }
     ensures same_files { F.files shelf.new ≡ F.files shelf.old }
 {
     let octets = match octets_of(alloc, shelf, file, SCENARIO_LIMIT) {
@@ -63,7 +65,7 @@ fn refused(fault: ScenarioFault) -> Outcome
 
 // The scenario with the captures that it plays, where it has the circuit that the request names, if it names one. Apart, since the
 // lemmas of `scenario_of` rest on its clauses.
-#[tactic(auto, using(crate::proofs::ScenarioFileLemmas::lack_steps))]
+#[tactic(auto, using(crate::proofs::ScenarioFileLemmas::lack_steps, crate::proofs::ReadLemmas::capture_steps))]
 fn with_captures<F: Shelf>(
     alloc: Global,
     shelf: &mut F,
@@ -74,6 +76,7 @@ fn with_captures<F: Shelf>(
     ensures all { IfOk result (λ work. HasAll (F.files shelf.old) (asked_by request.entry) scenario work.captures) }
     ensures frames { IfOk result (λ work. All (All IsFrame) work.captures) }
     ensures lacks { IfErr result (LacksSome (F.files shelf.old) (F.faults shelf.old) (F.faults shelf.new) (asked_by request.entry) scenario) }
+    ensures reads { GainsReads (IsCaptureRead (F.files shelf.old) (asked_by request.entry) scenario) (F.reads shelf.old) (F.reads shelf.new) }
     ensures same_files { F.files shelf.new ≡ F.files shelf.old }
 {
     if let Some(circuit) = missing_circuit(request, &scenario.plan) {

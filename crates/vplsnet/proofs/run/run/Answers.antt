@@ -6,6 +6,7 @@ use Rattle.vplsnet.specs.Around.{Around, around}
 use Rattle.vplsnet.specs.Asked.{Decode, asked, asked_by}
 use Rattle.vplsnet.specs.Finish.{status_of}
 use Rattle.vplsnet.proofs.AnswerLemmas.{completes_by, finishes_by, refused_answers, run_answers, usage_by}
+use Rattle.vplsnet.proofs.ReadLemmas.{asked_reads}
 use Rattle.vplsnet.proofs.run.run.Goals as goal
 
 pub returns-in-Decode-clause-complete : goal.returns-in-Decode-clause-complete
@@ -23,6 +24,7 @@ returns-in-Ok g c =
       usage = usage_by here _ _ c.finish_work.result.network _ c.in-Some.ensures says;
       answers = finishes_by here _ _ _ _ c.in-Some.ensures says;
       complete = completes_by here _ _ c.finish_work.result.network _ c.in-Some.ensures says;
+      reads = asked_reads _ _ _ _ _ c.in-Some.ensures c.work_of.ensures.reads;
       same_files = c.work_of.ensures.same_files;
     }
 
@@ -37,5 +39,6 @@ returns-in-Err g c =
       usage = usage_by here _ _ c.without_run-in-Err.result.network _ c.in-Some.ensures says;
       answers = finishes_by here _ _ _ _ c.in-Some.ensures says;
       complete = completes_by here _ _ c.without_run-in-Err.result.network _ c.in-Some.ensures says;
+      reads = asked_reads _ _ _ _ _ c.in-Some.ensures c.work_of.ensures.reads;
       same_files = c.work_of.ensures.same_files;
     }

@@ -1,0 +1,127 @@
+-- What the reads of a call were for.
+use Rattle.std.proofs.Common.{◌≡◌, ◌≤◌, ◌<◌, ◌+◌, ◌++◌, ◌∙◌, ℕ, List, [], ◌∷◌, Option, Some, None, Ok, length, refl, ap, sym, subst, append_assoc}
+use Rattle.std.proofs.lemmas.List.{append-nil}
+use Rattle.std.specs.List.{AllByRecursion}
+use Rattle.std.specs.Prelude.{drop, slice_index_or}
+use Rattle.net_base.specs.outside.Outside.{ReadCall}
+use Rattle.command_text.specs.declared.command.Command.{Command}
+use Rattle.scenario_text.specs.declared.scenario.Scenario.{Scenario}
+use Rattle.scenario_text.specs.Document.{document}
+use Rattle.vplsnet.specs.Around.{Files, Has}
+use Rattle.vplsnet.specs.Asked.{Asked, Decode}
+use Rattle.vplsnet.specs.Capture.{lacks_circuit}
+use Rattle.vplsnet.specs.Inputs.{capture_file, capture_limit, played, played_by, scenario_limit, stream_limit}
+use Rattle.vplsnet.specs.Reads.{GainsReads, IsCaptureRead, IsPlayedRead, IsReadOf, IsReadOfNext, MayRead}
+use Rattle.vplsnet.specs.ScenarioFile.{ReadsScenario}
+use Rattle.vplsnet.proofs.CaptureLemmas.{IsPlayedTo, played_at, played_both}
+use Rattle.vplsnet.proofs.ScenarioFileLemmas.{IsScenarioFile, comes_to}
+
+-- ---- reads one after another
+
+all_append : (P : ReadCall → Type 0) (xs ys : List ReadCall) → AllByRecursion P xs → AllByRecursion P ys → AllByRecursion P (xs ++ ys)
+all_append P [] ys one other = other
+all_append P (x ∷ xs) ys one other = (one.0, all_append P xs ys one.1 other)
+
+all_as : (P Q : ReadCall → Type 0) (xs : List ReadCall) → ((x : ReadCall) → P x → Q x) → AllByRecursion P xs → AllByRecursion Q xs
+all_as P Q [] follows all = tt
+all_as P Q (x ∷ xs) follows all = (follows x all.0, all_as P Q xs follows all.1)
+
+pub reads_none : (P : ReadCall → Type 0) (reads : List ReadCall) → GainsReads P reads reads
+reads_none P reads = record { gained = []; joined = sym (append-nil reads); each = tt }
+
+reads_then : (P : ReadCall → Type 0) (a b c : List ReadCall) → GainsReads P a b → GainsReads P b c → GainsReads P a c
+reads_then P a b c one two = record {
+  gained = one.gained ++ two.gained;
+  joined = two.joined ∙ (ap (λ (l : List ReadCall). l ++ two.gained) one.joined ∙ append_assoc a one.gained two.gained);
+  each = all_append P one.gained two.gained one.each two.each;
+}
+
+reads_as : (P Q : ReadCall → Type 0) (a b : List ReadCall) → ((read : ReadCall) → P read → Q read) → GainsReads P a b → GainsReads Q a b
+reads_as P Q a b follows one = record { gained = one.gained; joined = one.joined; each = all_as P Q one.gained follows one.each }
+
+-- one more, of the same file
+pub reads_more : (name : List ℕ) (limit from room : ℕ) (before between after : List ReadCall) → GainsReads (IsReadOf (record { name = name; limit = limit })) before between
+    → after ≡ between ++ record { name = name; from = from; room = room } ∷ [] → from + room ≤ limit + 1 → GainsReads (IsReadOf (record { name = name; limit = limit })) before after
+reads_more name limit from room before between after one is within =
+    reads_then _ before between after one (record { gained = record { name = name; from = from; room = room } ∷ []; joined = is; each = (record { name = refl; within = within }, tt) })
+
+-- ---- captures
+
+-- of the one file that a command plays
+pub played_reads : (files : Files) (name : List ℕ) (before after : List ReadCall) → GainsReads (IsReadOf (record { name = name; limit = capture_limit })) before after → GainsReads (IsPlayedRead files (name ∷ [])) before after
+played_reads files name before after one =
+    reads_as _ _ before after (λ read is. record { had = []; name = name; later = []; split = refl; captures = []; played = record { read = []; are = tt }; is = is }) one
+
+pub ruleset played_steps = (played_reads, reads_none)
+
+-- of one command more
+pub played_on : (files here : Files) (names : List (List ℕ)) (commands : List Command) (i : ℕ) (command : Command) (captures : List (List (List ℕ))) (before between after : List ReadCall) → here ≡ files
+    → i < length commands → command ≡ slice_index_or commands i command → IsPlayedTo files names (played (drop i commands)) captures
+    → GainsReads (IsPlayedRead files names) before between → GainsReads (IsPlayedRead here (played_by command)) between after → GainsReads (IsPlayedRead files names) before after
+played_on files here names commands i command captures before between after same within is so_far one other = reads_then _ before between after one (reads_as _ _ between after behind other) where
+  rest : List (List ℕ)
+  rest = played (drop (i + 1) commands)
+
+  front : played (drop i commands) ≡ played_by command ++ rest
+  front = played_at commands i command within ∙ ap (λ (c : Command). played_by c ++ rest) (sym is)
+
+  behind : (read : ReadCall) → IsPlayedRead here (played_by command) read → IsPlayedRead files names read
+  behind read now =
+      let there : IsPlayedRead files (played_by command) read = subst (λ (f : Files). IsPlayedRead f (played_by command) read) same now in
+      let left : played (drop i commands) ≡ there.had ++ there.name ∷ (there.later ++ rest) =
+      front ∙ (ap (λ (l : List (List ℕ)). l ++ rest) there.split ∙ append_assoc there.had (there.name ∷ there.later) rest) in
+      record {
+        had = so_far.had ++ there.had;
+        name = there.name;
+        later = there.later ++ rest;
+        split = so_far.split ∙ (ap (λ (l : List (List ℕ)). so_far.had ++ l) left ∙ sym (append_assoc so_far.had there.had (there.name ∷ (there.later ++ rest))));
+        captures = captures ++ there.captures;
+        played = played_both files so_far.had there.had captures there.captures so_far.played there.played;
+        is = there.is;
+      }
+
+-- of a scenario that has the circuit
+pub capture_reads : (files : Files) (asked : Asked) (scenario : Scenario) (before after : List ReadCall) → None ≡ lacks_circuit asked scenario.plan → GainsReads (IsPlayedRead files (played scenario.commands)) before after
+    → GainsReads (IsCaptureRead files asked scenario) before after
+capture_reads files asked scenario before after has one = reads_as _ _ before after (λ read is. record { circuit = sym has; played = is }) one
+
+pub ruleset capture_steps = (capture_reads, reads_none)
+
+-- ---- the file of a scenario, and what it plays
+
+pub file_first : (files : Files) (asked : Asked) (file : List ℕ) (before after : List ReadCall) → ReadsScenario asked file → GainsReads (IsReadOf (record { name = file; limit = scenario_limit })) before after
+    → GainsReads (IsReadOfNext (Has files) asked) before after
+file_first files asked file before after reads one =
+    reads_as _ _ before after (λ read is. record { wanted = record { name = file; limit = scenario_limit }; come = record { read = []; are_read = tt; is_next = reads.first }; is = is }) one
+
+pub file_then : (files here : Files) (asked : Asked) (file octets : List ℕ) (scenario : Scenario) (before between after : List ReadCall) → here ≡ files → ReadsScenario asked file → Has files file octets
+    → length octets ≤ scenario_limit → document octets ≡ Ok scenario → GainsReads (IsReadOf (record { name = file; limit = scenario_limit })) before between
+    → GainsReads (IsCaptureRead here asked scenario) between after → GainsReads (IsReadOfNext (Has files) asked) before after
+file_then files here asked file octets scenario before between after same reads has fits document_is one other =
+    reads_then _ before between after (file_first files asked file before between reads one) (reads_as _ _ between after behind other)
+  where
+    behind : (read : ReadCall) → IsCaptureRead here asked scenario read → IsReadOfNext (Has files) asked read
+    behind read now =
+        let there : IsCaptureRead files asked scenario read = subst (λ (f : Files). IsCaptureRead f asked scenario read) same now in
+        let is : IsScenarioFile files asked file octets scenario = record { reads = reads; has = has; fits = fits; document_is = document_is; circuit = there.circuit } in
+        let of = there.played in
+        record {
+          wanted = record { name = of.name; limit = capture_limit };
+          come = comes_to files asked file octets scenario of.captures of.had (of.name ∷ of.later) (capture_file of.name) is of.split of.played refl;
+          is = of.is;
+        }
+
+pub ruleset file_reads = (file_first, file_then)
+
+-- ---- the file of a stream
+
+pub stream_reads : (files : Files) (file : List ℕ) (before after : List ReadCall) → GainsReads (IsReadOf (record { name = file; limit = stream_limit })) before after → GainsReads (IsReadOfNext (Has files) (Decode file)) before after
+stream_reads files file before after one =
+    reads_as _ _ before after (λ read is. record { wanted = record { name = file; limit = stream_limit }; come = record { read = []; are_read = tt; is_next = refl }; is = is }) one
+
+-- ---- what the words ask for
+
+pub asked_reads : (files : Files) (asked : Asked) (words : Option Asked) (before after : List ReadCall) → Some asked ≡ words → GainsReads (IsReadOfNext (Has files) asked) before after → GainsReads (MayRead files words) before after
+asked_reads files asked words before after is one = subst (λ (o : Option Asked). GainsReads (MayRead files o) before after) is one
+
+pub ruleset run_reads = (asked_reads, reads_none)
