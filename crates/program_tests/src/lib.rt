@@ -22,6 +22,8 @@ mod frames;
 #[cfg(test)]
 mod hierarchy;
 #[cfg(test)]
+mod migrations;
+#[cfg(test)]
 mod networks;
 #[cfg(test)]
 mod pings;

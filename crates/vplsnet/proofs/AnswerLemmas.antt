@@ -16,14 +16,16 @@ use Rattle.vplsnet.specs.declared.outcome.Outcome.{Outcome}
 use Rattle.vplsnet.specs.declared.outcome.Outcome.TheVariants.{Done, Usage, ReadFault, WriteFault, TooLong, ScenarioRefused, NoCircuit, CaptureRefused, Stopped, DecodeRefused, Unfinished, NoMemory}
 use Rattle.vplsnet.specs.Answers.{CallsFor, Completes, Finishes, IsCutShort, IsEndOf, IsMade, IsRefused, IsSound, IsSoundOutcome, IsTooLong, IsWhole, Makes, MakesRun, SaysOutcome, run_text}
 use Rattle.vplsnet.specs.Around.{Files, Around, HasWriteFault, IsUntouched, Has, TellsFile}
-use Rattle.vplsnet.specs.Asked.{Asked, Replay, Tables, Capture, Decode, Rehearse}
+use Rattle.vplsnet.specs.Asked.{Asked, Replay, Tables, Capture, Decode, Rehearse, Migrate}
 use Rattle.vplsnet.specs.Capture.{lacks_circuit}
 use Rattle.vplsnet.specs.Decode.{IsDecoding, IsDecodedAs}
 use Rattle.vplsnet.specs.Files.{IsLonger, IsNotHad}
-use Rattle.vplsnet.specs.Inputs.{AreReadNext, ComesTo, IsNext, IsNextOf, IsNextPlayed, IsNextRead, IsReadNext, Next, Reads, Refuses, Run, Stream, Wanted, Work, Works, played, stream_limit}
+use Rattle.vplsnet.specs.Inputs.{AreReadNext, ComesTo, IsNext, IsNextAfter, IsNextOf, IsNextPlayed, IsNextRead, IsReadNext, Migration, Next, Reads, Refuses, Run, Stream, Wanted, Work, Works, played, scenario_limit, stream_limit}
+use Rattle.vplsnet.specs.ScenarioFile.{HasNoScenario, IsOfFile}
 use Rattle.vplsnet.specs.ScenarioRun.{IsScenarioRun, outcome_by, whole_run}
 use Rattle.vplsnet.specs.StreamText.{largest_pdu, outcome_of_ending}
-use Rattle.vplsnet.specs.Writing.{EndsRun, EndsStream, EndsText, GivesUp, WritesNone}
+use Rattle.vplsnet.specs.Writing.{EndsMigration, EndsRun, EndsStream, EndsText, GivesUp, WritesNone}
+use Rattle.vplsnet.proofs.ScenarioFileLemmas.{refused_first}
 
 -- ---- what the stages say is an answer
 
@@ -33,6 +35,7 @@ says_want around (Replay file) network untouched = untouched
 says_want around (Tables file) network untouched = untouched
 says_want around (Capture file circuit) network untouched = untouched
 says_want around (Rehearse seed) network untouched = untouched
+says_want around (Migrate file) network untouched = untouched
 says_want around (Decode file) network untouched = inl untouched
 
 -- what is refused before any run
@@ -179,6 +182,40 @@ stream_ended around file octets lent network made outcome same none is has fits 
     (subst (λ (o : Outcome). SaysOutcome around (Decode file) None o) (sym is)
     (stream_answers around file octets None made has fits (subst (λ (l : List ℕ). EndsStream l (old_of around) (now_of around) None made) same ends)))
 
+-- what comes next behind the file of a scenario that is migrated
+migrated_next : (octets : List ℕ) (result : Result Scenario ScenarioFault) (next : Next) → document octets ≡ result → IsNextAfter (λ scenario it. it ≡ Works (Migration scenario)) result next
+    → IsNextAfter (λ scenario it. it ≡ Works (Migration scenario)) (document octets) next
+migrated_next octets result next is comes = subst (λ (r : Result Scenario ScenarioFault). IsNextAfter (λ scenario it. it ≡ Works (Migration scenario)) r next) (sym is) comes
+
+-- the scenario of the file was migrated
+migration_answers : (around : Around) (file : List ℕ) (scenario : Scenario) (network : Option NetLists) (outcome : Outcome) → IsOfFile around.files file scenario
+    → EndsMigration scenario (old_of around) (now_of around) network outcome → SaysOutcome around (Migrate file) network outcome
+migration_answers around file scenario network outcome of (inl told) =
+    text_answers around (Migrate file) told.text None Done network outcome refl
+    (record {
+      work = Migration scenario;
+      come = record {
+        read = of.octets ∷ [];
+        are_read = (record { wanted = record { name = file; limit = scenario_limit }; next = refl; holds = of.has; fits = of.fits }, tt);
+        is_next = migrated_next of.octets (Ok scenario) (Works (Migration scenario)) of.document_is refl;
+      };
+      makes = record { migrated = told.is_migrated; ends = refl; no_run = refl };
+    }) told.ends
+migration_answers around file scenario network outcome of (inr none) = none_answers around (Migrate file) network outcome none
+
+pub migration_ended : (around : Around) (file : List ℕ) (scenario : Scenario) (network : Option NetLists) (made outcome : Outcome) → network ≡ None → outcome ≡ made → IsOfFile around.files file scenario
+    → EndsMigration scenario (written around.taken_before around.sink_before []) (written around.taken_after around.sink_after []) None made → SaysOutcome around (Migrate file) network outcome
+migration_ended around file scenario network made outcome none is of ends =
+    subst (λ (n : Option NetLists). SaysOutcome around (Migrate file) n outcome) (sym none)
+    (subst (λ (o : Outcome). SaysOutcome around (Migrate file) None o) (sym is) (migration_answers around file scenario None made of ends))
+
+-- it was not had
+pub no_migration : (around : Around) (file : List ℕ) (network : Option NetLists) (outcome : Outcome) → HasNoScenario around.files around.shelf_before around.shelf_after file outcome → IsUntouched around network
+    → SaysOutcome around (Migrate file) network outcome
+no_migration around file network outcome why untouched =
+    refused_answers around (Migrate file) network outcome
+    (refused_first around.files around.shelf_before around.shelf_after (Migrate file) file outcome refl (λ octets fault is. migrated_next octets (Err fault) (Refuses (ScenarioRefused fault)) is refl) why) untouched
+
 -- ---- one thing comes next
 
 one_played : (scenario : Scenario) (captures : List (List (List ℕ))) (files read : List (List ℕ)) (next other : Next) → IsNextPlayed scenario captures files read next → IsNextPlayed scenario captures files read other → next ≡ other
@@ -201,6 +238,11 @@ one_read : (asked : Asked) (result : Result Scenario ScenarioFault) (read : List
 one_read asked (Err fault) read next other a b = a ∙ sym b
 one_read asked (Ok scenario) read next other a b = one_of (lacks_circuit asked scenario.plan) scenario read next other a b
 
+one_migrated : (result : Result Scenario ScenarioFault) (next other : Next) → IsNextAfter (λ scenario it. it ≡ Works (Migration scenario)) result next → IsNextAfter (λ scenario it. it ≡ Works (Migration scenario)) result other
+    → next ≡ other
+one_migrated (Err fault) next other a b = a ∙ sym b
+one_migrated (Ok scenario) next other a b = a ∙ sym b
+
 one_next : (asked : Asked) (read : List (List ℕ)) (next other : Next) → IsNext asked read next → IsNext asked read other → next ≡ other
 one_next (Replay file) [] next other a b = a ∙ sym b
 one_next (Replay file) (octets ∷ read) next other a b = one_read (Replay file) (document octets) read next other a b
@@ -211,6 +253,8 @@ one_next (Capture file circuit) (octets ∷ read) next other a b = one_read (Cap
 one_next (Decode file) [] next other a b = a ∙ sym b
 one_next (Decode file) (octets ∷ read) next other a b = a ∙ sym b
 one_next (Rehearse seed) read next other a b = a ∙ sym b
+one_next (Migrate file) [] next other a b = a ∙ sym b
+one_next (Migrate file) (octets ∷ read) next other a b = one_migrated (document octets) next other a b
 
 -- ---- the files that are read are one list
 
@@ -348,6 +392,7 @@ decode_end octets text network outcome called makes end =
 makes_end : (asked : Asked) (work : Work) (text : List ℕ) (network : Option NetLists) (outcome called : Outcome) → Makes asked work text network outcome → IsEndOf work called → outcome ≡ called
 makes_end asked (Run scenario captures) text network outcome called makes end = run_end asked scenario captures text network outcome called makes end
 makes_end asked (Stream octets) text network outcome called makes end = decode_end octets text network outcome called makes end
+makes_end asked (Migration scenario) text network outcome called makes end = makes.ends ∙ sym end
 
 -- what was made is what is called for, and no call of the sink failed
 made_called : (around : Around) (asked : Asked) (text : List ℕ) (network : Option NetLists) (outcome called : Outcome) → IsMade around asked text network outcome → IsSoundOutcome around asked called

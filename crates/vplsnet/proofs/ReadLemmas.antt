@@ -1,18 +1,17 @@
 -- What the reads of a call were for.
-use Rattle.std.proofs.Common.{◌≡◌, ◌≤◌, ◌<◌, ◌+◌, ◌++◌, ◌∙◌, ℕ, List, [], ◌∷◌, Option, Some, None, Ok, length, refl, ap, sym, subst, append_assoc}
+use Rattle.std.proofs.Common.{◌≡◌, ◌≤◌, ◌<◌, ◌+◌, ◌++◌, ◌∙◌, ℕ, List, [], ◌∷◌, Option, Some, None, length, refl, ap, sym, subst, append_assoc}
 use Rattle.std.proofs.lemmas.List.{append-nil}
 use Rattle.std.specs.List.{AllByRecursion}
 use Rattle.std.specs.Prelude.{drop, slice_index_or}
 use Rattle.net_base.specs.outside.Outside.{ReadCall}
 use Rattle.command_text.specs.declared.command.Command.{Command}
 use Rattle.scenario_text.specs.declared.scenario.Scenario.{Scenario}
-use Rattle.scenario_text.specs.Document.{document}
 use Rattle.vplsnet.specs.Around.{Files, Has}
-use Rattle.vplsnet.specs.Asked.{Asked, Decode}
+use Rattle.vplsnet.specs.Asked.{Asked, Decode, Migrate}
 use Rattle.vplsnet.specs.Capture.{lacks_circuit}
 use Rattle.vplsnet.specs.Inputs.{capture_file, capture_limit, played, played_by, scenario_limit, stream_limit}
 use Rattle.vplsnet.specs.Reads.{GainsReads, IsCaptureRead, IsPlayedRead, IsReadOf, IsReadOfNext, MayRead}
-use Rattle.vplsnet.specs.ScenarioFile.{ReadsScenario}
+use Rattle.vplsnet.specs.ScenarioFile.{IsOfFile, ReadsScenario}
 use Rattle.vplsnet.proofs.CaptureLemmas.{IsPlayedTo, played_at, played_both}
 use Rattle.vplsnet.proofs.ScenarioFileLemmas.{IsScenarioFile, comes_to}
 
@@ -94,21 +93,20 @@ pub file_first : (files : Files) (asked : Asked) (file : List ℕ) (before after
 file_first files asked file before after reads one =
     reads_as _ _ before after (λ read is. record { wanted = record { name = file; limit = scenario_limit }; come = record { read = []; are_read = tt; is_next = reads.first }; is = is }) one
 
-pub file_then : (files here : Files) (asked : Asked) (file octets : List ℕ) (scenario : Scenario) (before between after : List ReadCall) → here ≡ files → ReadsScenario asked file → Has files file octets
-    → length octets ≤ scenario_limit → document octets ≡ Ok scenario → GainsReads (IsReadOf (record { name = file; limit = scenario_limit })) before between
-    → GainsReads (IsCaptureRead here asked scenario) between after → GainsReads (IsReadOfNext (Has files) asked) before after
-file_then files here asked file octets scenario before between after same reads has fits document_is one other =
+pub file_then : (files here : Files) (asked : Asked) (file : List ℕ) (scenario : Scenario) (before between after : List ReadCall) → here ≡ files → ReadsScenario asked file → IsOfFile files file scenario
+    → GainsReads (IsReadOf (record { name = file; limit = scenario_limit })) before between → GainsReads (IsCaptureRead here asked scenario) between after → GainsReads (IsReadOfNext (Has files) asked) before after
+file_then files here asked file scenario before between after same reads of one other =
     reads_then _ before between after (file_first files asked file before between reads one) (reads_as _ _ between after behind other)
   where
     behind : (read : ReadCall) → IsCaptureRead here asked scenario read → IsReadOfNext (Has files) asked read
     behind read now =
         let there : IsCaptureRead files asked scenario read = subst (λ (f : Files). IsCaptureRead f asked scenario read) same now in
-        let is : IsScenarioFile files asked file octets scenario = record { reads = reads; has = has; fits = fits; document_is = document_is; circuit = there.circuit } in
-        let of = there.played in
+        let is : IsScenarioFile files asked file of.octets scenario = record { reads = reads; has = of.has; fits = of.fits; document_is = of.document_is; circuit = there.circuit } in
+        let capture = there.played in
         record {
-          wanted = record { name = of.name; limit = capture_limit };
-          come = comes_to files asked file octets scenario of.captures of.had (of.name ∷ of.later) (capture_file of.name) is of.split of.played refl;
-          is = of.is;
+          wanted = record { name = capture.name; limit = capture_limit };
+          come = comes_to files asked file of.octets scenario capture.captures capture.had (capture.name ∷ capture.later) (capture_file capture.name) is capture.split capture.played refl;
+          is = capture.is;
         }
 
 pub ruleset file_reads = (file_first, file_then)
@@ -118,6 +116,12 @@ pub ruleset file_reads = (file_first, file_then)
 pub stream_reads : (files : Files) (file : List ℕ) (before after : List ReadCall) → GainsReads (IsReadOf (record { name = file; limit = stream_limit })) before after → GainsReads (IsReadOfNext (Has files) (Decode file)) before after
 stream_reads files file before after one =
     reads_as _ _ before after (λ read is. record { wanted = record { name = file; limit = stream_limit }; come = record { read = []; are_read = tt; is_next = refl }; is = is }) one
+
+-- ---- the file of a scenario that is migrated
+
+pub migrate_reads : (files : Files) (file : List ℕ) (before after : List ReadCall) → GainsReads (IsReadOf (record { name = file; limit = scenario_limit })) before after → GainsReads (IsReadOfNext (Has files) (Migrate file)) before after
+migrate_reads files file before after one =
+    reads_as _ _ before after (λ read is. record { wanted = record { name = file; limit = scenario_limit }; come = record { read = []; are_read = tt; is_next = refl }; is = is }) one
 
 -- ---- what the words ask for
 

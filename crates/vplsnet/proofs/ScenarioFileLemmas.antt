@@ -10,6 +10,7 @@ use Rattle.command_text.specs.declared.scenario_fault.ScenarioFault.{ScenarioFau
 use Rattle.command_text.specs.declared.scenario_fault.ScenarioFault.TheVariants as scenario_fault
 use Rattle.command_text.specs.Reading.{Fails}
 use Rattle.pcap_file.specs.declared.capture_fault.CaptureFault.{CaptureFault}
+use Rattle.migration.specs.Law.{WasRead}
 use Rattle.rehearsal.specs.Scenario.{rehearsal}
 use Rattle.scenario_text.specs.declared.scenario.Scenario.{Scenario}
 use Rattle.scenario_text.specs.Document.{document}
@@ -21,8 +22,8 @@ use Rattle.vplsnet.specs.Asked.{Asked, Replay, Tables, Capture, Rehearse}
 use Rattle.vplsnet.specs.Capture.{lacks_circuit}
 use Rattle.vplsnet.specs.Captures.{AreCaptures, FailsToPlay, HasPlayed, IsCaptureFile}
 use Rattle.vplsnet.specs.Files.{IsLonger, IsNotHad}
-use Rattle.vplsnet.specs.Inputs.{AreReadNext, ComesTo, IsNext, IsNextOf, IsNextPlayed, IsNextRead, Next, Reads, Refuses, Run, Wanted, Works, capture_file, capture_limit, played, scenario_limit}
-use Rattle.vplsnet.specs.ScenarioFile.{HasAll, IsNoCircuit, IsNoScenario, LacksSome, ReadsScenario, outcome_of_fault}
+use Rattle.vplsnet.specs.Inputs.{AreReadNext, ComesTo, IsNext, IsNextOf, IsNextPlayed, IsNextRead, Next, Reads, Refuses, Run, Wanted, Works, capture_file, capture_limit, played, scenario_file, scenario_limit}
+use Rattle.vplsnet.specs.ScenarioFile.{HasAll, HasNoScenario, IsNoCircuit, IsNoScenario, IsOfFile, LacksSome, ReadsScenario, outcome_of_fault}
 
 -- ---- behind the captures that were read
 
@@ -114,38 +115,13 @@ comes_to files asked file octets scenario captures names rest next is split play
 -- ---- the file of a scenario
 
 -- all was read
-pub comes_to_run : (files here : Files) (asked : Asked) (file octets : List ℕ) (scenario work : Scenario) (captures : List (List (List ℕ))) → here ≡ files → ReadsScenario asked file → Has files file octets → length octets ≤ scenario_limit
-    → document octets ≡ Ok scenario → HasAll here asked scenario captures → work ≡ scenario → ComesTo (Has files) asked (Works (Run work captures))
-comes_to_run files here asked file octets scenario work captures kept reads has fits document_is had same =
+pub comes_to_run : (files here : Files) (asked : Asked) (file : List ℕ) (scenario work : Scenario) (captures : List (List (List ℕ))) → here ≡ files → ReadsScenario asked file → IsOfFile files file scenario
+    → HasAll here asked scenario captures → work ≡ scenario → ComesTo (Has files) asked (Works (Run work captures))
+comes_to_run files here asked file scenario work captures kept reads of had same =
     let all : HasAll files asked scenario captures = subst (λ (f : Files). HasAll f asked scenario captures) kept had in
-    let is : IsScenarioFile files asked file octets scenario = record { reads = reads; has = has; fits = fits; document_is = document_is; circuit = all.circuit } in
+    let is : IsScenarioFile files asked file of.octets scenario = record { reads = reads; has = of.has; fits = of.fits; document_is = of.document_is; circuit = all.circuit } in
     subst (λ (s : Scenario). ComesTo (Has files) asked (Works (Run s captures))) (sym same)
-    (comes_to files asked file octets scenario captures (played scenario.commands) [] (Works (Run scenario captures)) is (sym (append-nil (played scenario.commands))) all.played refl)
-
--- the file was not had
-pub file_not_had : (files : Files) (before after : List ℕ → ℕ) (asked : Asked) (file : List ℕ) (outcome : Outcome) → ReadsScenario asked file → IsNotHad files before after file scenario_limit outcome → IsRefused files before after asked outcome
-file_not_had files before after asked file ReadFault reads why = record { wanted = record { name = file; limit = scenario_limit }; come = record { read = []; are_read = tt; is_next = reads.first }; cause = why }
-file_not_had files before after asked file (TooLong named limit) reads why =
-    record {
-      come = subst (λ (w : Wanted). ComesTo (Has files) asked (Reads w)) (sym (ap (λ (n : List ℕ). record { name = n; limit = limit }) why.0 ∙ ap (λ (l : ℕ). record { name = file; limit = l }) why.1))
-          (record { read = []; are_read = tt; is_next = reads.first });
-      longer = longer_as files named limit file scenario_limit why.0 why.1 why.2;
-    }
-  where
-    longer_as : (files : Files) (named : List ℕ) (limit : ℕ) (name : List ℕ) (most : ℕ) → named ≡ name → limit ≡ most → IfSome files (λ held. IsLonger most (held name)) → IfSome files (λ held. IsLonger limit (held named))
-    longer_as None named limit name most is_name is_limit longer = tt
-    longer_as (Some held) named limit name most is_name is_limit longer =
-        subst (λ (n : List ℕ). IsLonger limit (held n)) (sym is_name) (subst (λ (l : ℕ). IsLonger l (held name)) (sym is_limit) longer)
-file_not_had files before after asked file NoMemory reads why = tt
-file_not_had files before after asked file Done reads why = absurd why
-file_not_had files before after asked file Usage reads why = absurd why
-file_not_had files before after asked file WriteFault reads why = absurd why
-file_not_had files before after asked file (ScenarioRefused fault) reads why = absurd why
-file_not_had files before after asked file (NoCircuit circuit) reads why = absurd why
-file_not_had files before after asked file (CaptureRefused name fault) reads why = absurd why
-file_not_had files before after asked file (Stopped stop) reads why = absurd why
-file_not_had files before after asked file (DecodeRefused fault) reads why = absurd why
-file_not_had files before after asked file (Unfinished at) reads why = absurd why
+    (comes_to files asked file of.octets scenario captures (played scenario.commands) [] (Works (Run scenario captures)) is (sym (append-nil (played scenario.commands))) all.played refl)
 
 -- behind the file alone
 comes_first : (files : Files) (asked : Asked) (file octets : List ℕ) (read : Result Scenario ScenarioFault) (next : Next) → ReadsScenario asked file → Has files file octets → length octets ≤ scenario_limit → document octets ≡ read
@@ -170,21 +146,43 @@ no_scenario_by octets fault outcome fails is = subst (λ (o : Outcome). IsNoScen
   by scenario_fault.Version fails = (fails, λ want. cc (want))
   by (scenario_fault.Plan fault) fails = (fails, λ want. cc (want))
 
--- its octets are no scenario
-pub no_scenario : (files : Files) (before after : List ℕ → ℕ) (asked : Asked) (file octets : List ℕ) (outcome : Outcome) → ReadsScenario asked file → Has files file octets → length octets ≤ scenario_limit → IsNoScenario octets outcome
-    → IsRefused files before after asked outcome
-no_scenario files before after asked file octets (ScenarioRefused fault) reads has fits told = (comes_first files asked file octets (Err fault) (Refuses (ScenarioRefused fault)) reads has fits told.0 refl, told.1)
-no_scenario files before after asked file octets NoMemory reads has fits told = tt
-no_scenario files before after asked file octets Done reads has fits told = absurd told
-no_scenario files before after asked file octets Usage reads has fits told = absurd told
-no_scenario files before after asked file octets ReadFault reads has fits told = absurd told
-no_scenario files before after asked file octets WriteFault reads has fits told = absurd told
-no_scenario files before after asked file octets (TooLong named limit) reads has fits told = absurd told
-no_scenario files before after asked file octets (NoCircuit circuit) reads has fits told = absurd told
-no_scenario files before after asked file octets (CaptureRefused name fault) reads has fits told = absurd told
-no_scenario files before after asked file octets (Stopped stop) reads has fits told = absurd told
-no_scenario files before after asked file octets (DecodeRefused fault) reads has fits told = absurd told
-no_scenario files before after asked file octets (Unfinished at) reads has fits told = absurd told
+-- the scenario of the file that is read first was not had
+pub refused_first : (files : Files) (before after : List ℕ → ℕ) (asked : Asked) (file : List ℕ) (outcome : Outcome) → IsNext asked [] (scenario_file file)
+    → ((octets : List ℕ) (fault : ScenarioFault) → document octets ≡ Err fault → IsNext asked (octets ∷ []) (Refuses (ScenarioRefused fault))) → HasNoScenario files before after file outcome → IsRefused files before after asked outcome
+refused_first files before after asked file ReadFault first refuses why = record { wanted = record { name = file; limit = scenario_limit }; come = record { read = []; are_read = tt; is_next = first }; cause = why }
+refused_first files before after asked file (TooLong named limit) first refuses why =
+    record {
+      come = subst (λ (w : Wanted). ComesTo (Has files) asked (Reads w)) (sym (ap (λ (n : List ℕ). record { name = n; limit = limit }) why.0 ∙ ap (λ (l : ℕ). record { name = file; limit = l }) why.1))
+          (record { read = []; are_read = tt; is_next = first });
+      longer = longer_as files named limit file scenario_limit why.0 why.1 why.2;
+    }
+  where
+    longer_as : (files : Files) (named : List ℕ) (limit : ℕ) (name : List ℕ) (most : ℕ) → named ≡ name → limit ≡ most → IfSome files (λ held. IsLonger most (held name)) → IfSome files (λ held. IsLonger limit (held named))
+    longer_as None named limit name most is_name is_limit longer = tt
+    longer_as (Some held) named limit name most is_name is_limit longer =
+        subst (λ (n : List ℕ). IsLonger limit (held n)) (sym is_name) (subst (λ (l : ℕ). IsLonger l (held name)) (sym is_limit) longer)
+refused_first files before after asked file (ScenarioRefused fault) first refuses why = (
+  record {
+    read = why.0.octets ∷ [];
+    are_read = (record { wanted = record { name = file; limit = scenario_limit }; next = first; holds = why.0.has; fits = why.0.fits }, tt);
+    is_next = refuses why.0.octets fault why.0.document_is;
+  },
+  why.1,
+)
+refused_first files before after asked file NoMemory first refuses why = tt
+refused_first files before after asked file Done first refuses why = absurd why
+refused_first files before after asked file Usage first refuses why = absurd why
+refused_first files before after asked file WriteFault first refuses why = absurd why
+refused_first files before after asked file (NoCircuit circuit) first refuses why = absurd why
+refused_first files before after asked file (CaptureRefused name fault) first refuses why = absurd why
+refused_first files before after asked file (Stopped stop) first refuses why = absurd why
+refused_first files before after asked file (DecodeRefused fault) first refuses why = absurd why
+refused_first files before after asked file (Unfinished at) first refuses why = absurd why
+
+pub not_had : (files : Files) (before after : List ℕ → ℕ) (asked : Asked) (file : List ℕ) (outcome : Outcome) → ReadsScenario asked file → HasNoScenario files before after file outcome → IsRefused files before after asked outcome
+not_had files before after asked file outcome reads why =
+    refused_first files before after asked file outcome reads.first
+    (λ octets fault is. reads.behind octets [] (Refuses (ScenarioRefused fault)) (subst (λ (r : Result Scenario ScenarioFault). IsNextRead asked r [] (Refuses (ScenarioRefused fault))) (sym is) refl)) why
 
 -- a capture was not had
 capture_wanted : (files : Files) (before after : List ℕ → ℕ) (asked : Asked) (file octets : List ℕ) (scenario : Scenario) (outcome : Outcome) → IsScenarioFile files asked file octets scenario
@@ -211,13 +209,13 @@ capture_refused files asked file octets name scenario before after named fault i
     (inr (fault, broken.first, refl))
 
 -- the scenario lacks the circuit, or a capture was not had
-pub lacks_some : (files here : Files) (before between after : List ℕ → ℕ) (asked : Asked) (file octets : List ℕ) (scenario : Scenario) (outcome : Outcome) → here ≡ files → NeverFall before between → ReadsScenario asked file
-    → Has files file octets → length octets ≤ scenario_limit → document octets ≡ Ok scenario → LacksSome here between after asked scenario outcome → IsRefused files before after asked outcome
-lacks_some files here before between after asked file octets scenario outcome same later reads has fits document_is lacks =
+pub lacks_some : (files here : Files) (before between after : List ℕ → ℕ) (asked : Asked) (file : List ℕ) (scenario : Scenario) (outcome : Outcome) → here ≡ files → NeverFall before between → ReadsScenario asked file
+    → IsOfFile files file scenario → LacksSome here between after asked scenario outcome → IsRefused files before after asked outcome
+lacks_some files here before between after asked file scenario outcome same later reads of lacks =
     by outcome (subst (λ (f : Files). LacksSome f between after asked scenario outcome) same lacks)
   where
-    file_is : lacks_circuit asked scenario.plan ≡ None → IsScenarioFile files asked file octets scenario
-    file_is circuit = record { reads = reads; has = has; fits = fits; document_is = document_is; circuit = circuit }
+    file_is : lacks_circuit asked scenario.plan ≡ None → IsScenarioFile files asked file of.octets scenario
+    file_is circuit = record { reads = reads; has = of.has; fits = of.fits; document_is = of.document_is; circuit = circuit }
 
     longer_of : (held : Files) (named : List ℕ) (limit : ℕ) (name : List ℕ) → named ≡ name → limit ≡ capture_limit → IfSome held (λ h. IsLonger capture_limit (h name)) → IfSome held (λ h. IsLonger limit (h named))
     longer_of None named limit name is_name is_limit longer = tt
@@ -227,7 +225,7 @@ lacks_some files here before between after asked file octets scenario outcome sa
     by : (o : Outcome) → LacksSome files between after asked scenario o → IsRefused files before after asked o
     by ReadFault lacks = record {
       wanted = record { name = lacks.fails.name; limit = capture_limit };
-      come = capture_wanted files between after asked file octets scenario ReadFault (file_is lacks.circuit) lacks.fails;
+      come = capture_wanted files between after asked file of.octets scenario ReadFault (file_is lacks.circuit) lacks.fails;
       cause = rose_later (before lacks.fails.name) (between lacks.fails.name) (after lacks.fails.name) (later lacks.fails.name) lacks.fails.why;
     }
     by (TooLong named limit) lacks =
@@ -235,17 +233,17 @@ lacks_some files here before between after asked file octets scenario outcome sa
         record {
           come = subst (λ (w : Wanted). ComesTo (Has files) asked (Reads w))
               (sym (ap (λ (n : List ℕ). record { name = n; limit = limit }) is_name ∙ ap (λ (l : ℕ). record { name = lacks.fails.name; limit = l }) is_limit))
-              (capture_wanted files between after asked file octets scenario (TooLong named limit) (file_is lacks.circuit) lacks.fails);
+              (capture_wanted files between after asked file of.octets scenario (TooLong named limit) (file_is lacks.circuit) lacks.fails);
           longer = longer_of files named limit lacks.fails.name is_name is_limit longer;
         }
     by (CaptureRefused named fault) lacks =
         let (is_name, broken, some) = lacks.fails.why in (
           subst (λ (n : List ℕ). ComesTo (Has files) asked (Refuses (CaptureRefused n fault))) (sym is_name)
-              (capture_refused files asked file octets named scenario between after named fault (file_is lacks.circuit) lacks.fails),
+              (capture_refused files asked file of.octets named scenario between after named fault (file_is lacks.circuit) lacks.fails),
           some,
         )
     by (NoCircuit circuit) lacks =
-        comes_first files asked file octets (Ok scenario) (Refuses (NoCircuit circuit)) reads has fits document_is (subst (λ (o : Option (List ℕ)). IsNextOf o scenario [] (Refuses (NoCircuit circuit))) (sym lacks) refl)
+        comes_first files asked file of.octets (Ok scenario) (Refuses (NoCircuit circuit)) reads of.has of.fits of.document_is (subst (λ (o : Option (List ℕ)). IsNextOf o scenario [] (Refuses (NoCircuit circuit))) (sym lacks) refl)
     by NoMemory lacks = tt
     by Done lacks = absurd lacks
     by Usage lacks = absurd lacks
@@ -292,7 +290,45 @@ has_all files asked scenario captures has played = record { circuit = sym has; p
 
 pub ruleset lack_steps = (lacks_named, lacks_file, has_all)
 
-pub ruleset file_steps = (comes_to_run, file_not_had, no_scenario, lacks_some)
+pub ruleset file_steps = (comes_to_run, not_had, lacks_some)
+
+-- ---- a scenario without what it plays
+
+pub of_file : (files : Files) (file octets : List ℕ) (scenario : Scenario) → Has files file octets → length octets ≤ scenario_limit → document octets ≡ Ok scenario → IsOfFile files file scenario
+of_file files file octets scenario has fits is = record { octets = octets; has = has; fits = fits; document_is = is }
+
+pub was_read : (files : Files) (file : List ℕ) (scenario : Scenario) → IsOfFile files file scenario → WasRead scenario
+was_read files file scenario of = record { bytes = of.octets; is = of.document_is }
+
+pub no_file : (files : Files) (before after : List ℕ → ℕ) (file : List ℕ) (outcome : Outcome) → IsNotHad files before after file scenario_limit outcome → HasNoScenario files before after file outcome
+no_file files before after file ReadFault why = why
+no_file files before after file (TooLong named limit) why = why
+no_file files before after file NoMemory why = tt
+no_file files before after file Done why = absurd why
+no_file files before after file Usage why = absurd why
+no_file files before after file WriteFault why = absurd why
+no_file files before after file (ScenarioRefused fault) why = absurd why
+no_file files before after file (NoCircuit circuit) why = absurd why
+no_file files before after file (CaptureRefused name fault) why = absurd why
+no_file files before after file (Stopped stop) why = absurd why
+no_file files before after file (DecodeRefused fault) why = absurd why
+no_file files before after file (Unfinished at) why = absurd why
+
+pub no_document : (files : Files) (before after : List ℕ → ℕ) (file octets : List ℕ) (outcome : Outcome) → Has files file octets → length octets ≤ scenario_limit → IsNoScenario octets outcome → HasNoScenario files before after file outcome
+no_document files before after file octets (ScenarioRefused fault) has fits told = (record { octets = octets; has = has; fits = fits; document_is = told.0 }, told.1)
+no_document files before after file octets NoMemory has fits told = tt
+no_document files before after file octets Done has fits told = absurd told
+no_document files before after file octets Usage has fits told = absurd told
+no_document files before after file octets ReadFault has fits told = absurd told
+no_document files before after file octets WriteFault has fits told = absurd told
+no_document files before after file octets (TooLong named limit) has fits told = absurd told
+no_document files before after file octets (NoCircuit circuit) has fits told = absurd told
+no_document files before after file octets (CaptureRefused name fault) has fits told = absurd told
+no_document files before after file octets (Stopped stop) has fits told = absurd told
+no_document files before after file octets (DecodeRefused fault) has fits told = absurd told
+no_document files before after file octets (Unfinished at) has fits told = absurd told
+
+pub ruleset one_file_steps = (of_file, no_file, no_document)
 
 -- ---- what each command works on
 

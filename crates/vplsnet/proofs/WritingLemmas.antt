@@ -1,18 +1,19 @@
 -- How the writing of a text ends.
-use Rattle.std.proofs.Common.{◌≡◌, ℕ, List, [], Option, Some, None, inl, inr, subst}
+use Rattle.std.proofs.Common.{◌≡◌, ℕ, List, [], Option, Some, None, inl, inr, refl, subst}
 use Rattle.std.proofs.lemmas.List.{append-nil}
 use Rattle.net_base.specs.outside.Outside.{Rose}
+use Rattle.migration.specs.Law.{IsMigrated}
 use Rattle.psn_net.specs.declared.net_stop.NetStop.{NetStop}
 use Rattle.psn_net.specs.Lists.{NetLists}
 use Rattle.scenario_text.specs.declared.scenario.Scenario.{Scenario}
 use Rattle.text_lines.specs.Written.{Written, AppendsFront, GoesOn, IsCut, Writes}
 use Rattle.text_lines.proofs.WrittenLemmas.{cut_later, cut_text, whole_text}
 use Rattle.vplsnet.specs.declared.outcome.Outcome.{Outcome}
-use Rattle.vplsnet.specs.declared.outcome.Outcome.TheVariants.{WriteFault, NoMemory}
+use Rattle.vplsnet.specs.declared.outcome.Outcome.TheVariants.{Done, WriteFault, NoMemory}
 use Rattle.vplsnet.specs.Answers.{run_text}
 use Rattle.vplsnet.specs.Asked.{Asked}
 use Rattle.vplsnet.specs.ScenarioRun.{IsScenarioRun, outcome_by}
-use Rattle.vplsnet.specs.Writing.{EndsRun, EndsText}
+use Rattle.vplsnet.specs.Writing.{EndsMigration, EndsRun, EndsText}
 
 -- ---- a text that was put, and then what waits is written
 
@@ -51,6 +52,21 @@ pub ends_none : (text : List ℕ) (left : Option NetLists) (made : Outcome) (old
 ends_none text left made old now network outcome is none taken = inr (inr (record { outcome_is = is; no_run = none; taken = taken }))
 
 pub ruleset text_steps = (ends_whole, ends_front, ends_none)
+
+-- that of a migration
+pub migrated_whole : (scenario : Scenario) (text lent : List ℕ) (old now : Written) (outcome : Outcome) → IsMigrated scenario text → lent ≡ text → outcome ≡ Done → Writes old.taken now.taken lent → EndsMigration scenario old now None outcome
+migrated_whole scenario text lent old now outcome is same ends taken =
+    inl (record { text = text; is_migrated = is; ends = ends_whole text None Done old now None outcome ends refl (subst (λ (l : List ℕ). Writes old.taken now.taken l) same taken) })
+
+pub migrated_front : (scenario : Scenario) (text lent : List ℕ) (old now : Written) (outcome : Outcome) → IsMigrated scenario text → lent ≡ text → outcome ≡ WriteFault → AppendsFront old.taken now.taken lent → Rose old.faults now.faults
+    → EndsMigration scenario old now None outcome
+migrated_front scenario text lent old now outcome is same ends taken cause =
+    inl (record { text = text; is_migrated = is; ends = ends_front text None Done old now None outcome ends refl (subst (λ (l : List ℕ). AppendsFront old.taken now.taken l) same taken) cause })
+
+pub migrated_none : (scenario : Scenario) (old now : Written) (outcome : Outcome) → outcome ≡ NoMemory → now.taken ≡ old.taken → EndsMigration scenario old now None outcome
+migrated_none scenario old now outcome ends taken = inr (record { outcome_is = ends; no_run = refl; taken = taken })
+
+pub ruleset migrated_steps = (migrated_whole, migrated_front, migrated_none)
 
 -- that of a run
 pub ends_run : (scenario : Scenario) (captures : List (List (List ℕ))) (asked : Asked) (left : NetLists) (reason : Option NetStop) (old now : Written) (network : Option NetLists) (outcome : Outcome)

@@ -10,24 +10,26 @@ use Rattle.text_lines.specs.Written.{AppendsFront, Writes}
 use Rattle.vplsnet.specs.declared.outcome.Outcome.{Outcome}
 use Rattle.vplsnet.specs.declared.outcome.Outcome.TheVariants.{Done, Usage, ReadFault, WriteFault, TooLong, ScenarioRefused, NoCircuit, CaptureRefused, Stopped, DecodeRefused, Unfinished, NoMemory}
 use Rattle.vplsnet.specs.Around.{Files, Around, HasReadFault, HasWriteFault, IsUntouched, Has, TellsFile}
-use Rattle.vplsnet.specs.Asked.{Asked, Replay, Tables, Capture, Decode, Rehearse}
+use Rattle.vplsnet.specs.Asked.{Asked, Replay, Tables, Capture, Decode, Rehearse, Migrate}
 use Rattle.vplsnet.specs.Capture.{captured}
 use Rattle.vplsnet.specs.Decode.{AppendsPart, IsDecoding, IsDecodedAs}
 use Rattle.vplsnet.specs.Files.{IsLonger}
-use Rattle.vplsnet.specs.Inputs.{Wanted, Next, Reads, Refuses, Works, Work, Run, Stream, ComesTo}
+use Rattle.vplsnet.specs.Inputs.{Wanted, Next, Reads, Refuses, Works, Work, Run, Stream, Migration, ComesTo}
+use Rattle.vplsnet.specs.Migrate.{IsMigration}
 use Rattle.vplsnet.specs.Rehearse.{rehearse_text}
 use Rattle.vplsnet.specs.Replay.{replay_text}
 use Rattle.vplsnet.specs.ScenarioRun.{IsScenarioRun, outcome_by, whole_run}
 use Rattle.vplsnet.specs.Tables.{tables_text}
 
 -- The text of a command, a row for each: what it writes of the network that a run left, and of the limit that stopped it, if one did.
--- That of `decode` is told of octets.
+-- That of `decode` is told of octets, and that of `migrate` of the scenario alone.
 abbrev pub run_text : Asked → NetLists → Option NetStop → List ℕ
 run_text (Replay file) left reason = replay_text left reason
 run_text (Tables file) left reason = tables_text left reason
 run_text (Capture file circuit) left reason = captured left circuit reason
 run_text (Rehearse seed) left reason = rehearse_text seed left reason
 run_text (Decode file) left reason = []
+run_text (Migrate file) left reason = []
 
 -- the text and the network of a run
 pub record TellsRun (asked : Asked) (scenario : Scenario) (captures : List (List (List ℕ))) (text : List ℕ) (network : Option NetLists) (reason : Option NetStop) : Type 0 where
@@ -45,11 +47,13 @@ MakesRun asked scenario captures text network outcome = ⊥
 abbrev pub Makes : Asked → Work → List ℕ → Option NetLists → Outcome → Type 0
 Makes asked (Run scenario captures) text network outcome = MakesRun asked scenario captures text network outcome
 Makes asked (Stream octets) text network outcome = IsDecoding octets text network outcome
+Makes asked (Migration scenario) text network outcome = IsMigration scenario text network outcome
 
 -- the outcome of this work alone
 abbrev pub IsEndOf : Work → Outcome → Type 0
 IsEndOf (Run scenario captures) outcome = outcome ≡ outcome_by (whole_run scenario captures).stop
 IsEndOf (Stream octets) outcome = IsDecodedAs octets outcome
+IsEndOf (Migration scenario) outcome = outcome ≡ Done
 
 -- the files were read, and the command had its work, and makes this text, the network of this run and this outcome of it
 pub record IsMade (around : Around) (asked : Asked) (text : List ℕ) (network : Option NetLists) (outcome : Outcome) : Type 0 where
@@ -110,6 +114,7 @@ SaysWant around (Replay file) network = IsUntouched around network
 SaysWant around (Tables file) network = IsUntouched around network
 SaysWant around (Capture file circuit) network = IsUntouched around network
 SaysWant around (Rehearse seed) network = IsUntouched around network
+SaysWant around (Migrate file) network = IsUntouched around network
 SaysWant around (Decode file) network = IsUntouched around network ⊎ IsGivenUp around (Decode file) network
 
 -- What an outcome says, its cause among it.

@@ -12,6 +12,7 @@ pub data Asked : Type 0 where
   Capture : (file circuit : List ℕ) → Asked
   Decode : (file : List ℕ) → Asked
   Rehearse : (seed : ℕ) → Asked
+  Migrate : (file : List ℕ) → Asked
 
 -- a request as it was asked for
 abbrev pub asked_by : Request → Asked
@@ -20,6 +21,7 @@ asked_by (request.Tables file) = Tables file.now
 asked_by (request.Capture file circuit) = Capture file.now circuit.now
 asked_by (request.Decode file) = Decode file.now
 asked_by (request.Rehearse seed) = Rehearse seed
+asked_by (request.Migrate file) = Migrate file.now
 
 -- neither empty nor an option: it does not begin with `-`
 abbrev pub is_plain : List ℕ → Bool
@@ -35,14 +37,15 @@ one_word_command command word =
     if bytes_eq command (codes "replay") then Some (Replay word) else
     if bytes_eq command (codes "tables") then Some (Tables word) else
     if bytes_eq command (codes "decode") then Some (Decode word) else
-    if bytes_eq command (codes "rehearse") then rehearsed word else None
+    if bytes_eq command (codes "rehearse") then rehearsed word else
+    if bytes_eq command (codes "migrate") then Some (Migrate word) else None
 
 -- a command of two more words, which are plain, by its name
 abbrev pub two_word_command : List ℕ → List ℕ → List ℕ → Option Asked
 two_word_command command file circuit = if bytes_eq command (codes "capture") then Some (Capture file circuit) else None
 
--- `replay FILE`, `tables FILE`, `capture FILE CIRCUIT`, `decode FILE` or `rehearse SEED`, whose words behind the first are plain; any
--- other words ask for nothing
+-- `replay FILE`, `tables FILE`, `capture FILE CIRCUIT`, `decode FILE`, `rehearse SEED` or `migrate FILE`, whose words behind the first
+-- are plain; any other words ask for nothing
 abbrev pub asked : List (List ℕ) → Option Asked
 asked [] = None
 asked (command ∷ []) = None

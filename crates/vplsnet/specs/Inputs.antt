@@ -11,7 +11,7 @@ use Rattle.scenario_text.specs.declared.scenario.Scenario.{Scenario}
 use Rattle.scenario_text.specs.Document.{document}
 use Rattle.vplsnet.specs.declared.outcome.Outcome.{Outcome}
 use Rattle.vplsnet.specs.declared.outcome.Outcome.TheVariants.{ScenarioRefused, NoCircuit, CaptureRefused}
-use Rattle.vplsnet.specs.Asked.{Asked, Replay, Tables, Capture, Decode, Rehearse}
+use Rattle.vplsnet.specs.Asked.{Asked, Replay, Tables, Capture, Decode, Rehearse, Migrate}
 use Rattle.vplsnet.specs.Capture.{lacks_circuit}
 
 -- the most octets of a scenario, of a capture and of a stream
@@ -30,10 +30,11 @@ pub record Wanted : Type 0 where
   pub limit : ℕ
 
 -- what a command works on once its files are read: a scenario with the frames of the captures that it plays, in the order of its
--- commands, or the octets of a stream
+-- commands, the octets of a stream, or a scenario that is written as a text of version 2
 pub data Work : Type 0 where
   Run : (scenario : Scenario) (captures : List (List (List ℕ))) → Work
   Stream : (octets : List ℕ) → Work
+  Migration : (scenario : Scenario) → Work
 
 -- what comes next where some files were read: a further file is, or an outcome before any run ends the call, or the command has its work
 pub data Next : Type 0 where
@@ -81,6 +82,11 @@ abbrev pub IsNextRead : Asked → Result Scenario ScenarioFault → List (List �
 IsNextRead asked (Err fault) read next = next ≡ Refuses (ScenarioRefused fault)
 IsNextRead asked (Ok scenario) read next = IsNextOf (lacks_circuit asked scenario.plan) scenario read next
 
+-- of the octets of a scenario's file whose captures are not played: what comes next behind an accepted scenario is told of it
+abbrev pub IsNextAfter : (Scenario → Next → Type 0) → Result Scenario ScenarioFault → Next → Type 0
+IsNextAfter IsNextOfIt (Err fault) next = next ≡ Refuses (ScenarioRefused fault)
+IsNextAfter IsNextOfIt (Ok scenario) next = IsNextOfIt scenario next
+
 -- behind the octets of the files that were read, in their order
 abbrev pub IsNext : Asked → List (List ℕ) → Next → Type 0
 IsNext (Replay file) [] next = next ≡ scenario_file file
@@ -92,6 +98,8 @@ IsNext (Capture file circuit) (octets ∷ read) next = IsNextRead (Capture file 
 IsNext (Decode file) [] next = next ≡ stream_file file
 IsNext (Decode file) (octets ∷ read) next = next ≡ Works (Stream octets)
 IsNext (Rehearse seed) read next = next ≡ Works (Run (rehearsal seed) [])
+IsNext (Migrate file) [] next = next ≡ scenario_file file
+IsNext (Migrate file) (octets ∷ read) next = IsNextAfter (λ scenario it. it ≡ Works (Migration scenario)) (document octets) next
 
 -- a file that comes next has these octets, and they are within its limit
 pub record IsReadNext (Holds : List ℕ → List ℕ → Type 0) (asked : Asked) (before : List (List ℕ)) (octets : List ℕ) : Type 0 where

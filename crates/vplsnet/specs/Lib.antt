@@ -10,6 +10,7 @@ pub mod Files
 pub mod Finish
 pub mod Inputs
 pub mod Made
+pub mod Migrate
 pub mod Promises
 pub mod Reads
 pub mod Rehearse

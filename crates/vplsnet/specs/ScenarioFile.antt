@@ -1,16 +1,18 @@
 -- What is known on the way through a scenario's file.
-use Rattle.std.specs.Prelude.{◌≡◌, ◌≢◌, ℕ, List, [], ◌∷◌, Some, None, Ok, Err}
+use Rattle.std.specs.Prelude.{◌≡◌, ◌≢◌, ◌≤◌, ℕ, List, [], ◌∷◌, length, Some, None, Ok, Err, IfSome}
+use Rattle.net_base.specs.outside.Outside.{Rose}
 use Rattle.command_text.specs.declared.scenario_fault.ScenarioFault.{ScenarioFault}
 use Rattle.command_text.specs.declared.scenario_fault.ScenarioFault.TheVariants as scenario_fault
 use Rattle.scenario_text.specs.declared.scenario.Scenario.{Scenario}
 use Rattle.scenario_text.specs.Document.{document}
 use Rattle.vplsnet.specs.declared.outcome.Outcome.{Outcome}
 use Rattle.vplsnet.specs.declared.outcome.Outcome.TheVariants.{ReadFault, TooLong, ScenarioRefused, NoCircuit, CaptureRefused, NoMemory}
-use Rattle.vplsnet.specs.Around.{Files}
+use Rattle.vplsnet.specs.Around.{Files, Has}
 use Rattle.vplsnet.specs.Asked.{Asked}
 use Rattle.vplsnet.specs.Capture.{lacks_circuit}
 use Rattle.vplsnet.specs.Captures.{FailsToPlay, HasPlayed}
-use Rattle.vplsnet.specs.Inputs.{Next, IsNext, IsNextRead, played, scenario_file}
+use Rattle.vplsnet.specs.Files.{IsLonger}
+use Rattle.vplsnet.specs.Inputs.{Next, IsNext, IsNextRead, played, scenario_file, scenario_limit}
 
 -- the command reads a scenario of this file first, and what comes then is told by what its octets read as
 pub record ReadsScenario (asked : Asked) (file : List ℕ) : Type 0 where
@@ -34,6 +36,28 @@ abbrev pub IsNoScenario : List ℕ → Outcome → Type 0
 IsNoScenario octets (ScenarioRefused fault) = (document octets ≡ Err fault) × (fault ≢ scenario_fault.NoMemory)
 IsNoScenario octets NoMemory = Unit {0}
 IsNoScenario octets outcome = ⊥
+
+-- a file has octets of this scenario, within the limit
+pub record IsOfFile (files : Files) (file : List ℕ) (scenario : Scenario) : Type 0 where
+  pub octets : List ℕ
+  pub has : Has files file octets
+  pub fits : length octets ≤ scenario_limit
+  pub document_is : document octets ≡ Ok scenario
+
+-- a file has octets with this first fault, within the limit
+pub record HasScenarioFault (files : Files) (file : List ℕ) (fault : ScenarioFault) : Type 0 where
+  pub octets : List ℕ
+  pub has : Has files file octets
+  pub fits : length octets ≤ scenario_limit
+  pub document_is : document octets ≡ Err fault
+
+-- why the scenario of a file was not had, by the shelf's counts of faults before and after
+abbrev pub HasNoScenario : Files → (List ℕ → ℕ) → (List ℕ → ℕ) → List ℕ → Outcome → Type 0
+HasNoScenario files before after file ReadFault = Rose (before file) (after file)
+HasNoScenario files before after file (TooLong named limit) = (named ≡ file) × (limit ≡ scenario_limit) × IfSome files (λ held. IsLonger scenario_limit (held file))
+HasNoScenario files before after file (ScenarioRefused fault) = HasScenarioFault files file fault × (fault ≢ scenario_fault.NoMemory)
+HasNoScenario files before after file NoMemory = Unit {0}
+HasNoScenario files before after file outcome = ⊥
 
 -- the outcome of a circuit that is not there
 abbrev pub IsNoCircuit : List ℕ → Outcome → Type 0

@@ -1,14 +1,15 @@
 -- How a call ends that writes a text.
 use Rattle.std.specs.Prelude.{◌≡◌, ◌⊎◌, ℕ, List, Option, Some, None}
 use Rattle.net_base.specs.outside.Outside.{Rose}
+use Rattle.migration.specs.Law.{IsMigrated}
 use Rattle.psn_net.specs.declared.net_stop.NetStop.{NetStop}
 use Rattle.psn_net.specs.Lists.{NetLists}
 use Rattle.scenario_text.specs.declared.scenario.Scenario.{Scenario}
 use Rattle.text_lines.specs.Written.{Written, AppendsFront, Writes}
 use Rattle.vplsnet.specs.declared.outcome.Outcome.{Outcome}
-use Rattle.vplsnet.specs.declared.outcome.Outcome.TheVariants.{WriteFault, NoMemory}
+use Rattle.vplsnet.specs.declared.outcome.Outcome.TheVariants.{Done, WriteFault, NoMemory}
 use Rattle.vplsnet.specs.Answers.{run_text}
-use Rattle.vplsnet.specs.Asked.{Asked, Replay, Tables, Capture, Decode, Rehearse}
+use Rattle.vplsnet.specs.Asked.{Asked, Replay, Tables, Capture, Decode, Rehearse, Migrate}
 use Rattle.vplsnet.specs.Decode.{AppendsPart, IsDecoding}
 use Rattle.vplsnet.specs.ScenarioRun.{IsScenarioRun, outcome_by}
 
@@ -62,6 +63,15 @@ pub record TellsStream (octets : List ℕ) (old now : Written) (network : Option
 abbrev pub EndsStream : List ℕ → Written → Written → Option NetLists → Outcome → Type 0
 EndsStream octets old now network outcome = TellsStream octets old now network outcome ⊎ WritesNone old now network outcome
 
+-- a scenario, of which a text of version 2 is written
+pub record TellsMigration (scenario : Scenario) (old now : Written) (network : Option NetLists) (outcome : Outcome) : Type 0 where
+  pub text : List ℕ
+  pub is_migrated : IsMigrated scenario text
+  pub ends : EndsText text None Done old now network outcome
+
+abbrev pub EndsMigration : Scenario → Written → Written → Option NetLists → Outcome → Type 0
+EndsMigration scenario old now network outcome = TellsMigration scenario old now network outcome ⊎ WritesNone old now network outcome
+
 -- the command runs a scenario
 abbrev pub RunsScenario : Asked → Type 0
 RunsScenario (Replay file) = Unit {0}
@@ -69,3 +79,4 @@ RunsScenario (Tables file) = Unit {0}
 RunsScenario (Capture file circuit) = Unit {0}
 RunsScenario (Rehearse seed) = Unit {0}
 RunsScenario (Decode file) = ⊥
+RunsScenario (Migrate file) = ⊥

@@ -21,7 +21,8 @@ pub fn missing_circuit<'a>(request: Request<'a>, plan: &Plan) -> Option<&'a str>
         Request::Replay { .. }
         | Request::Tables { .. }
         | Request::Decode { .. }
-        | Request::Rehearse { .. } => None,
+        | Request::Rehearse { .. }
+        | Request::Migrate { .. } => None,
     }
 }
 

@@ -12,6 +12,7 @@ mod files;
 mod finish;
 pub mod finish_line;
 mod left_captures;
+mod migrate;
 mod named_file;
 mod outcome;
 mod placed_text;

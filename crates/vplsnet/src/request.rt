@@ -16,6 +16,8 @@ pub enum Request<'a> {
     Capture { file: &'a str, circuit: &'a str },
     /// `decode FILE`: a line for each LDP message of the stream in FILE.
     Decode { file: &'a str },
+    /// `migrate FILE`: the scenario in FILE as a text of version 2.
+    Migrate { file: &'a str },
     /// `rehearse SEED`: two lines on the run of the scenario that the seed makes.
     Rehearse { seed: u64 },
 }
@@ -58,6 +60,8 @@ fn one_word_request<'a>(command: &str, word: &'a str) -> Option<Request<'a>>
             Some(seed) => Some(Request::Rehearse { seed }),
             None => None,
         }
+    } else if is_same(command, "migrate") {
+        Some(Request::Migrate { file: word })
     } else {
         None
     }

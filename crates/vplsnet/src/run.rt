@@ -15,6 +15,7 @@ ghost use Rattle.vplsnet.specs.Writing.{EndsRun, RunsScenario};
 
 use crate::decode::decode_file;
 use crate::finish::Finish;
+use crate::migrate::migrate_file;
 use crate::outcome::Outcome;
 use crate::request::{Request, request_of};
 use crate::run_text::put_run;
@@ -40,6 +41,9 @@ use text_lines::Page;
 /// `decode FILE` reads a stream of LDP PDUs (RFC 5036 section 3.1), of at most 67,108,864 octets, and writes a line for
 /// each message, those before a fault too; then come `DecodeRefused` where the stream has a fault, and `Unfinished` where it ends
 /// within a PDU.
+///
+/// `migrate FILE` reads a scenario and writes a text of version 2 that is read as the same scenario. No run begins, and the captures that
+/// it plays are not read.
 ///
 /// Only files that come next in this order are read, each for at most one octet more than its limit.
 ///
@@ -72,6 +76,9 @@ pub fn run<F: Shelf, K: Sink>(
     if let Request::Decode { file } = request {
         return decode_file(alloc, file, shelf, sink);
     }
+    if let Request::Migrate { file } = request {
+        return migrate_file(alloc, file, shelf, sink);
+    }
     match work_of(alloc, request, shelf) {
         Ok(work) => finish_work(alloc, request, work, sink),
         Err(outcome) => Finish::without_run(outcome),
@@ -101,7 +108,7 @@ fn work_of<F: Shelf>(alloc: Global, request: Request<'_>, shelf: &mut F) -> Resu
             }),
             Err(NoMemory) => Err(Outcome::NoMemory),
         },
-        Request::Decode { .. } => unreachable!(),
+        Request::Decode { .. } | Request::Migrate { .. } => unreachable!(),
     }
 }
 

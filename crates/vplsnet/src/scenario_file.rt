@@ -1,14 +1,15 @@
 //! The scenario of a file, with the captures that it plays.
 ghost use Rattle.std.specs.Prelude.{◌≡◌, All, IfErr, IfOk, Ok};
+ghost use Rattle.net_base.specs.outside.Outside.{NeverFall};
 ghost use Rattle.net_base.specs.plan.Accepted.{IsChecked};
 ghost use Rattle.net_base.specs.plan.Planned.{IsFrame};
 ghost use Rattle.command_text.specs.Planned.{IsPlanned};
 ghost use Rattle.vplsnet.specs.Answers.{IsRefused};
 ghost use Rattle.vplsnet.specs.Around.{Has};
 ghost use Rattle.vplsnet.specs.Asked.{asked_by};
-ghost use Rattle.vplsnet.specs.Inputs.{ComesTo, Run, Works};
-ghost use Rattle.vplsnet.specs.Reads.{GainsReads, IsCaptureRead, IsReadOfNext};
-ghost use Rattle.vplsnet.specs.ScenarioFile.{HasAll, LacksSome, ReadsScenario, outcome_of_fault};
+ghost use Rattle.vplsnet.specs.Inputs.{ComesTo, Run, Works, scenario_limit};
+ghost use Rattle.vplsnet.specs.Reads.{GainsReads, IsCaptureRead, IsReadOf, IsReadOfNext};
+ghost use Rattle.vplsnet.specs.ScenarioFile.{HasAll, HasNoScenario, IsOfFile, LacksSome, ReadsScenario, outcome_of_fault};
 
 use crate::capture::missing_circuit;
 use crate::captures::captures_of;
@@ -23,10 +24,35 @@ use std::alloc::Global;
 /// The most octets of a scenario.
 const SCENARIO_LIMIT: usize = 8_388_608;
 
+/// The scenario of a file; or the outcome of what is refused first: the file is read, and its octets are a scenario.
+#[tactic(auto, using(crate::proofs::ScenarioFileLemmas::one_file_steps, crate::proofs::ScenarioFileLemmas::no_scenario_by))]
+pub fn file_scenario<F: Shelf>(
+    alloc: Global,
+    shelf: &mut F,
+    file: &str,
+) -> Result<Scenario, Outcome>
+    ensures has { IfOk result (IsOfFile (F.files shelf.old) file.now) }
+    ensures checked { IfOk result (λ scenario. IsChecked scenario.plan) }
+    ensures planned { IfOk result (λ scenario. All (IsPlanned scenario.plan) scenario.commands) }
+    ensures none { IfErr result (HasNoScenario (F.files shelf.old) (F.faults shelf.old) (F.faults shelf.new) file.now) }
+    ensures reads { GainsReads (IsReadOf (record { name = file.now; limit = scenario_limit })) (F.reads shelf.old) (F.reads shelf.new) }
+    ensures never_fall { NeverFall (F.faults shelf.old) (F.faults shelf.new) }
+    ensures same_files { F.files shelf.new ≡ F.files shelf.old }
+{
+    let octets = match octets_of(alloc, shelf, file, SCENARIO_LIMIT) {
+        Ok(octets) => octets,
+        Err(outcome) => return Err(outcome),
+    };
+    match read_scenario(alloc, octets.as_slice()) {
+        Ok(scenario) => Ok(scenario),
+        Err(fault) => Err(refused(fault)),
+    }
+}
+
 /// The scenario of the file of a request, with the captures that it plays; or the outcome of what is refused first, in this order: the
 /// file is read, its octets are a scenario, the circuit that the request names is there, and the captures are read one after
 /// another.
-#[tactic(auto, using(crate::proofs::ScenarioFileLemmas::file_steps, crate::proofs::ScenarioFileLemmas::no_scenario_by, crate::proofs::ReadLemmas::file_reads))]
+#[tactic(auto, using(crate::proofs::ScenarioFileLemmas::file_steps, crate::proofs::ReadLemmas::file_reads))]
 pub fn scenario_of<F: Shelf>(
     alloc: Global,
     shelf: &mut F,
@@ -42,13 +68,9 @@ pub fn scenario_of<F: Shelf>(
     ensures reads { GainsReads (IsReadOfNext (Has (F.files shelf.old)) (asked_by request.entry)) (F.reads shelf.old) (F.reads shelf.new) }
     ensures same_files { F.files shelf.new ≡ F.files shelf.old }
 {
-    let octets = match octets_of(alloc, shelf, file, SCENARIO_LIMIT) {
-        Ok(octets) => octets,
-        Err(outcome) => return Err(outcome),
-    };
-    match read_scenario(alloc, octets.as_slice()) {
+    match file_scenario(alloc, shelf, file) {
         Ok(scenario) => with_captures(alloc, shelf, request, scenario),
-        Err(fault) => Err(refused(fault)),
+        Err(outcome) => Err(outcome),
     }
 }
 

@@ -3,7 +3,7 @@ use Rattle.std.proofs.Common.{◌∙◌, map, string_bytes, rules, refl, ap, sub
 use Rattle.vplsnet.specs.declared.outcome.Outcome.{Outcome}
 use Rattle.vplsnet.specs.Answers.{SaysOutcome}
 use Rattle.vplsnet.specs.Around.{Around, around}
-use Rattle.vplsnet.specs.Asked.{Decode, asked, asked_by}
+use Rattle.vplsnet.specs.Asked.{Decode, Migrate, asked, asked_by}
 use Rattle.vplsnet.specs.Finish.{status_of}
 use Rattle.vplsnet.proofs.AnswerLemmas.{completes_by, finishes_by, refused_answers, run_answers, usage_by}
 use Rattle.vplsnet.proofs.ReadLemmas.{asked_reads}
@@ -13,6 +13,11 @@ pub returns-in-Decode-clause-complete : goal.returns-in-Decode-clause-complete
 returns-in-Decode-clause-complete g c =
     let here : Around = around g.F.Shelf.files g.F.Shelf.faults g.K.Sink.taken g.K.Sink.faults c.args.shelf.now c.args.sink.now c.decode_file.new.shelf c.decode_file.new.sink in
     completes_by here (Decode c.in-Decode.file.now) (asked (map string_bytes c.args.words.now)) c.decode_file.result.network c.decode_file.result.outcome (search rules) c.decode_file.ensures.answers
+
+pub returns-in-Migrate-clause-complete : goal.returns-in-Migrate-clause-complete
+returns-in-Migrate-clause-complete g c =
+    let here : Around = around g.F.Shelf.files g.F.Shelf.faults g.K.Sink.taken g.K.Sink.faults c.args.shelf.now c.args.sink.now c.migrate_file.new.shelf c.migrate_file.new.sink in
+    completes_by here (Migrate c.in-Migrate.file.now) (asked (map string_bytes c.args.words.now)) c.migrate_file.result.network c.migrate_file.result.outcome (search rules) c.migrate_file.ensures.answers
 
 pub returns-in-Ok : goal.returns-in-Ok
 returns-in-Ok g c =
