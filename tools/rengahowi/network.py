@@ -173,14 +173,17 @@ class Network:
         )
 
     def joined(self, service):
-        """The pairs of edges of a service between which a flooded frame finds its way by wires that carry frames: it does not go
-        back on the wire by which it came, and from no mesh wire to another one. Each pair is a set of two edges."""
+        """The pairs of edges of a service between which a flooded frame finds its way by the wires that carried frames when they were
+        looked at last: it does not go back on the wire by which it came, and from no mesh wire to another one. Each pair is a set of
+        two edges."""
         ways = {}
         for wire in self.shape.of[service].wires:
-            if self.carries(wire):
-                for edge, far in (wire.ends(), wire.ends()[::-1]):
-                    ways.setdefault(edge, []).append((far, wire))
-        return {frozenset((start, edge)) for start in ways for edge in reached(ways, start) if edge != start}
+            if wire.name in self.carrying:
+                a, b = wire.path[0], wire.path[-1]
+                ways.setdefault(a, []).append((b, wire))
+                ways.setdefault(b, []).append((a, wire))
+        pair = self.shape.pair
+        return {pair[start, edge] for start in ways for edge in reached(ways, start) if edge != start}
 
 
 class ShapeOfService:
@@ -198,6 +201,7 @@ class Shape:
 
     def __init__(self, plan):
         self.pairs = plan.pairs()
+        self.pair = {(a, b): frozenset((a, b)) for a in plan.edges for b in plan.edges if a != b}
         self.over = {frozenset(pair): [] for pair in self.pairs}
         for wire in plan.wires.values():
             for pair in wire.segments():
@@ -206,15 +210,20 @@ class Shape:
 
 
 def reached(ways, start):
-    """The edges that a frame reaches from one."""
+    """The edges that a frame reaches from one. How it goes on depends on the edge and on the wire by which it came; of several mesh
+    wires by which it comes to an edge the first one counts for all, since from each it goes by the same spokes."""
     found, open_ends = {start}, [(start, None)]
     seen = set()
     while open_ends:
         edge, came = open_ends.pop()
+        by_mesh = came is not None and came.kind == "mesh"
         for far, wire in ways.get(edge, ()):
-            goes = came is None or wire is not came and not (wire.kind == came.kind == "mesh")
-            if goes and (far, wire.name) not in seen:
-                seen.add((far, wire.name))
+            is_mesh = wire.kind == "mesh"
+            if wire is came or by_mesh and is_mesh:
+                continue
+            key = (far, is_mesh or wire.name)
+            if key not in seen:
+                seen.add(key)
                 found.add(far)
                 open_ends.append((far, wire))
     return found

@@ -71,7 +71,7 @@ def service_row(plan, run, service, first):
             "deliveries": deliveries,
             "sites": parted(plan, service, pairs),
         }
-        for (start, end, deliveries), pairs in spans.items()
+        for (start, end, deliveries), pairs in sorted(spans.items(), key=in_order)
     ]
     sites = [site for site in plan.circuits_of(service) if run.network.on[site]]
     lost = [row for row in lost if row["sites"]]
@@ -85,6 +85,12 @@ def service_row(plan, run, service, first):
         "never": parted(plan, service, pairs),
         "redundancy": [row for row in spokes_left(plan, run.network, service) if row["usable"] < row["spokes"]],
     }
+
+
+def in_order(row):
+    """By the event that begins a span, and then by the one that ends it, those that none ends last."""
+    start, end, _ = row[0]
+    return start.number, end is None, end.number if end else 0
 
 
 def spokes_left(plan, network, service):
