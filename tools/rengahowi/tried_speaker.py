@@ -56,8 +56,8 @@ def speakers(folder, _gone):
 
 
 def spoken(folder, files):
-    """The exchange by which a pseudowire comes up: what FRR says, and what it holds then. It binds both labels; on Linux it forwards no
-    frames of a pseudowire, which is the one thing that it lacks."""
+    """The exchange by which a pseudowire comes up: what FRR says, and what it holds then. It binds both labels; a kernel
+    without MPLS forwards no frames of a pseudowire, which is the one thing that it then lacks."""
     folder.mkdir()
     shutil.chown(folder, "frr", "frr")
     folder.parent.chmod(0o755)
