@@ -1,0 +1,6 @@
+//! Which ends of connections stand: laws over the definitions of edges and of the network (RFC 5036 section 2.5).
+#![tactic(auto)]
+
+mod laws;
+
+pub use laws::{ends_are_lost, ends_come_by_connections};
