@@ -3,9 +3,6 @@ pub mod AnswerLemmas
 pub mod CaptureLemmas
 pub mod FaultLemmas
 pub mod FileLemmas
-pub mod GoingLemmas
-pub mod MadeLemmas
-pub mod PlannedLemmas
 pub mod ReadLemmas
 pub mod RunLemmas
 pub mod ScenarioFileLemmas

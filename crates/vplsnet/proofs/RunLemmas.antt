@@ -32,7 +32,7 @@ use Rattle.command_text.specs.Planned.{IsPlanned}
 use Rattle.scenario_text.specs.declared.scenario.Scenario.{Scenario}
 use Rattle.vplsnet.specs.Promises.{KeepsPromises}
 use Rattle.vplsnet.specs.ScenarioRun.{HasRun, IsScenarioRun, events_of}
-use Rattle.vplsnet.proofs.PlannedLemmas.{All-first, made_planned}
+use Rattle.command_run.proofs.PlannedLemmas.{All-first, made_planned}
 
 -- the first events of a run are a run
 run_of_first : (plan : Plan) (events before after : List Event) → events ≡ before ++ after → IsRun plan events → IsRun plan before

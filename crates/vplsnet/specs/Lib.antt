@@ -9,7 +9,6 @@ pub mod FaultText
 pub mod Files
 pub mod Finish
 pub mod Inputs
-pub mod Made
 pub mod Migrate
 pub mod Promises
 pub mod Reads

@@ -1,17 +1,16 @@
 -- The run of a scenario: what `replay`, `tables`, `capture` and `rehearse` tell of.
-use Rattle.std.specs.Prelude.{◌≡◌, ℕ, false, length, List, [], Option, Some, None, Result, Ok, Err}
+use Rattle.std.specs.Prelude.{◌≡◌, ℕ, false, length, List, [], Option, Some, None}
 use Rattle.net_base.specs.declared.trace.event.Event.{Event}
 use Rattle.flight_model.specs.Ends.{HasTypes}
 use Rattle.network_model.specs.Run.{run, state_after}
 use Rattle.network_model.specs.State.{empty_network}
 use Rattle.psn_net.specs.declared.net_stop.NetStop.{NetStop}
-use Rattle.psn_net.specs.declared.net_stop.NetStop.TheVariants.{Crowded, TooMuch, NoMemory}
 use Rattle.psn_net.specs.Lists.{NetLists, seen}
 use Rattle.psn_net.specs.Runs.{AreDone, Ended, ended, ran}
 use Rattle.scenario_text.specs.declared.scenario.Scenario.{Scenario}
 use Rattle.vplsnet.specs.declared.outcome.Outcome.{Outcome}
 use Rattle.vplsnet.specs.declared.outcome.Outcome.TheVariants.{Done, Stopped}
-use Rattle.vplsnet.specs.Made.{made}
+use Rattle.command_run.specs.Made.{made}
 use Rattle.vplsnet.specs.Promises.{KeepsPromises}
 
 -- the events that the commands of a scenario make, where these are the frames of the captures that it plays
@@ -26,16 +25,6 @@ whole_run scenario captures = ran scenario.plan (empty_network scenario.plan) []
 abbrev pub outcome_by : Option NetStop → Outcome
 outcome_by None = Done
 outcome_by (Some reason) = Stopped reason
-
--- a network goes on behind events that were done, also where a limit stopped one; where memory was refused nothing is said of it
-abbrev pub GoesOnAt : NetStop → NetLists → Type 0
-GoesOnAt (Crowded count event) network = network.failed ≡ false
-GoesOnAt (TooMuch weight event) network = network.failed ≡ false
-GoesOnAt NoMemory network = Unit {0}
-
-abbrev pub IsGoing : {A : Type 0} → Result A NetStop → NetLists → Type 0
-IsGoing (Ok done) network = network.failed ≡ false
-IsGoing (Err stop) network = GoesOnAt stop network
 
 -- the run left this network, and the limit is the one that stopped it, where one did
 pub record HasRun (scenario : Scenario) (captures : List (List (List ℕ))) (left : NetLists) (reason : Option NetStop) : Type 0 where

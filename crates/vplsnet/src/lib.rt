@@ -11,7 +11,6 @@ mod file_shelf;
 mod files;
 mod finish;
 pub mod finish_line;
-mod left_captures;
 mod migrate;
 mod named_file;
 mod outcome;

@@ -5,8 +5,8 @@ use Rattle.net_base.specs.plan.Planned.{IsFrame}
 use Rattle.command_text.specs.Planned.{IsPlanned}
 use Rattle.psn_net.specs.Runs.{RunHalts}
 use Rattle.vplsnet.specs.ScenarioRun.{whole_run}
-use Rattle.vplsnet.proofs.GoingLemmas.{limit_going}
-use Rattle.vplsnet.proofs.MadeLemmas.{left_short, made_next, made_stopped, stopped_end}
+use Rattle.command_run.proofs.GoingLemmas.{limit_going}
+use Rattle.command_run.proofs.MadeLemmas.{left_short, made_next, made_stopped, stopped_end}
 use Rattle.vplsnet.proofs.scenario_run.run_scenario.Goals as goal
 
 pub loop-command-preserved : goal.loop-command-preserved

@@ -4,7 +4,7 @@ use Rattle.net_base.specs.plan.Planned.{IsFrame}
 use Rattle.command_text.specs.Planned.{IsPlanned}
 use Rattle.psn_net.specs.Lists.{seen}
 use Rattle.psn_net.specs.Runs.{ran}
-use Rattle.vplsnet.specs.Made.{made}
+use Rattle.command_run.specs.Made.{made}
 use Rattle.vplsnet.specs.ScenarioRun.{whole_run}
 use Rattle.vplsnet.proofs.scenario_run.run_scenario.Given as goal
 

@@ -2,9 +2,9 @@ use Rattle.std.proofs.Common.{◌∙◌, subst}
 use Rattle.std.proofs.lemmas.Result.{err_from_is_err_and}
 use Rattle.psn_net.specs.Runs.{Ended, RunHalts}
 use Rattle.net_base.specs.declared.trace.event.Event.TheVariants.{Tick}
-use Rattle.vplsnet.proofs.GoingLemmas.{stopped_going}
-use Rattle.vplsnet.proofs.MadeLemmas.{tick_done, tick_stopped}
-use Rattle.vplsnet.proofs.scenario_run.run_ticks.Goals as goal
+use Rattle.command_run.proofs.GoingLemmas.{stopped_going}
+use Rattle.command_run.proofs.MadeLemmas.{tick_done, tick_stopped}
+use Rattle.command_run.proofs.commands.run_ticks.Goals as goal
 
 pub loop-done-preserved : goal.loop-done-preserved
 loop-done-preserved c = record {

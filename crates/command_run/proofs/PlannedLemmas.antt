@@ -18,8 +18,8 @@ use Rattle.network_model.specs.Step.{step}
 use Rattle.command_text.specs.declared.command.Command.{Command}
 use Rattle.command_text.specs.declared.command.Command.TheVariants.{One, Settle, Flow, Ticks, Play}
 use Rattle.command_text.specs.Planned.{IsPlanned}
-use Rattle.vplsnet.specs.Made.{arrivals, captures_after, deliveries, entering, event_and, made, made_by, next_frames, ticks, turns}
-use Rattle.vplsnet.proofs.MadeLemmas.{left_short, next_short}
+use Rattle.command_run.specs.Made.{arrivals, captures_after, deliveries, entering, event_and, made, made_by, next_frames, ticks, turns}
+use Rattle.command_run.proofs.MadeLemmas.{left_short, next_short}
 
 -- the first ones of a list
 pub All-first : {X : Type 0} (P : X → Type 0) (xs ys : List X) → All P (xs ++ ys) → All P xs

@@ -1,6 +1,6 @@
 //! The captures that are left to be played.
 ghost use Rattle.std.specs.Prelude.{◌≡◌};
-ghost use Rattle.vplsnet.specs.Made.{later_captures, next_frames};
+ghost use Rattle.command_run.specs.Made.{later_captures, next_frames};
 
 use net_base::{List, Octets};
 use std::alloc::Global;

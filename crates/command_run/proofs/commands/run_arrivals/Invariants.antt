@@ -1,8 +1,8 @@
 use Rattle.std.proofs.Common.{◌≡◌, ◌-◌, false}
 use Rattle.psn_net.specs.Lists.{seen}
 use Rattle.psn_net.specs.Runs.{ran}
-use Rattle.vplsnet.specs.Made.{arrivals}
-use Rattle.vplsnet.proofs.scenario_run.run_arrivals.Given as goal
+use Rattle.command_run.specs.Made.{arrivals}
+use Rattle.command_run.proofs.commands.run_arrivals.Given as goal
 
 abbrev pub invariant-loop-arrival : goal.invariant-loop-arrival
 invariant-loop-arrival l = record {

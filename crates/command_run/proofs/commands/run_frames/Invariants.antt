@@ -3,8 +3,8 @@ use Rattle.std.specs.List.{All}
 use Rattle.net_base.specs.plan.Planned.{IsFrame}
 use Rattle.psn_net.specs.Lists.{seen}
 use Rattle.psn_net.specs.Runs.{ran}
-use Rattle.vplsnet.specs.Made.{entering}
-use Rattle.vplsnet.proofs.scenario_run.run_frames.Given as goal
+use Rattle.command_run.specs.Made.{entering}
+use Rattle.command_run.proofs.commands.run_frames.Given as goal
 
 abbrev pub invariant-loop-frame : goal.invariant-loop-frame
 invariant-loop-frame l =

@@ -23,7 +23,7 @@ use Rattle.psn_net.proofs.RunLemmas.{halts_first, halts_on, ran_first, ran_on, r
 use Rattle.command_text.specs.Planned.{IsPlanned}
 use Rattle.command_text.specs.declared.command.Command.{Command}
 use Rattle.command_text.specs.declared.command.Command.TheVariants.{One, Settle, Flow, Ticks, Play}
-use Rattle.vplsnet.specs.Made.{arrivals, captures_after, deliveries, entering, event_and, made, made_by, next_frames, ticks, turns}
+use Rattle.command_run.specs.Made.{arrivals, captures_after, deliveries, entering, event_and, made, made_by, next_frames, ticks, turns}
 
 made_on : (plan : Plan) (n : NetLists) (s : NetworkState) (t : List Entry) (captures later : List (List (List ℕ))) (c : Command) (cs : List Command)
     → ended n None ≡ ran plan s t (made_by plan s captures c) → later ≡ captures_after c captures → ran plan (seen n) n.trace (made plan (seen n) later cs) ≡ ran plan s t (made plan s captures (c ∷ cs))

@@ -1,8 +1,8 @@
 use Rattle.std.proofs.Common.{◌≡◌, ◌-◌, false}
 use Rattle.psn_net.specs.Lists.{seen}
 use Rattle.psn_net.specs.Runs.{ran}
-use Rattle.vplsnet.specs.Made.{ticks}
-use Rattle.vplsnet.proofs.scenario_run.run_ticks.Given as goal
+use Rattle.command_run.specs.Made.{ticks}
+use Rattle.command_run.proofs.commands.run_ticks.Given as goal
 
 abbrev pub invariant-loop-done : goal.invariant-loop-done
 invariant-loop-done l = record {

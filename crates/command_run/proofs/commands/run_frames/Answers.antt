@@ -5,10 +5,10 @@ use Rattle.net_base.specs.declared.trace.event.Event.TheVariants.{Frame}
 use Rattle.psn_net.proofs.RunLemmas.{ran_one}
 use Rattle.psn_net.specs.Lists.{seen}
 use Rattle.psn_net.specs.Runs.{ran}
-use Rattle.vplsnet.specs.Made.{entering}
-use Rattle.vplsnet.proofs.GoingLemmas.{stopped_going}
-use Rattle.vplsnet.proofs.MadeLemmas.{entering_next}
-use Rattle.vplsnet.proofs.scenario_run.run_frames.Goals as goal
+use Rattle.command_run.specs.Made.{entering}
+use Rattle.command_run.proofs.GoingLemmas.{stopped_going}
+use Rattle.command_run.proofs.MadeLemmas.{entering_next}
+use Rattle.command_run.proofs.commands.run_frames.Goals as goal
 
 pub loop-frame-preserved : goal.loop-frame-preserved
 loop-frame-preserved c = (

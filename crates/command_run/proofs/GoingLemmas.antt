@@ -5,7 +5,7 @@ use Rattle.psn_net.specs.declared.net_stop.NetStop.{NetStop}
 use Rattle.psn_net.specs.declared.net_stop.NetStop.TheVariants.{Crowded, TooMuch, NoMemory}
 use Rattle.psn_net.specs.Applying.{Stops}
 use Rattle.psn_net.specs.Lists.{NetLists}
-use Rattle.vplsnet.specs.ScenarioRun.{GoesOnAt, IsGoing}
+use Rattle.command_run.specs.Going.{GoesOnAt, IsGoing}
 
 -- a limit changes nothing
 pub stopped_going : (old now : NetLists) (event : Event) (stop : NetStop) → old.failed ≡ false → Stops old now event stop → GoesOnAt stop now

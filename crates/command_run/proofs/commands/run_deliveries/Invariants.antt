@@ -1,8 +1,8 @@
 use Rattle.std.proofs.Common.{◌≡◌, ◌-◌, false}
 use Rattle.psn_net.specs.Lists.{seen}
 use Rattle.psn_net.specs.Runs.{ran}
-use Rattle.vplsnet.specs.Made.{deliveries}
-use Rattle.vplsnet.proofs.scenario_run.run_deliveries.Given as goal
+use Rattle.command_run.specs.Made.{deliveries}
+use Rattle.command_run.proofs.commands.run_deliveries.Given as goal
 
 abbrev pub invariant-loop-turn : goal.invariant-loop-turn
 invariant-loop-turn l = record {

@@ -1,9 +1,9 @@
 use Rattle.std.proofs.Common.{◌∙◌, subst}
 use Rattle.std.proofs.lemmas.Result.{err_from_is_err_and}
 use Rattle.psn_net.specs.Runs.{Ended, RunHalts}
-use Rattle.vplsnet.proofs.GoingLemmas.{stopped_going}
-use Rattle.vplsnet.proofs.MadeLemmas.{delivery_done, delivery_stopped}
-use Rattle.vplsnet.proofs.scenario_run.run_deliveries.Goals as goal
+use Rattle.command_run.proofs.GoingLemmas.{stopped_going}
+use Rattle.command_run.proofs.MadeLemmas.{delivery_done, delivery_stopped}
+use Rattle.command_run.proofs.commands.run_deliveries.Goals as goal
 
 pub loop-turn-preserved : goal.loop-turn-preserved
 loop-turn-preserved c = record {
