@@ -13,9 +13,10 @@ mod names;
 mod report;
 
 pub use ending::Ending;
+pub use entry::put_entry;
 pub use event_words::{EventWords, words_of_event};
 pub use last_line::{Counted, put_last_line};
 pub use names::{
     arrival_word, cause_text, circuit_word, edge_word, state_text, wire_end_text, wire_word,
 };
-pub use report::put_report;
+pub use report::{put_entries, put_report};

@@ -8,8 +8,9 @@ use crate::last_line::put_last_line;
 use net_base::{Entry, Failed, Plan, Sink};
 use text_lines::Page;
 
-// Puts a line for each entry.
-fn put_entries<K: Sink>(
+/// Puts a line for each entry, in order. A place outside the plan is written as the empty text. It takes no memory. After `Failed` a
+/// front of what waited and of the lines was taken, and the sink counted a fault.
+pub fn put_entries<K: Sink>(
     page: &mut Page,
     sink: &mut K,
     plan: &Plan,
