@@ -1,4 +1,5 @@
 pub mod After
 pub mod Laws
 pub mod Network
+pub mod Planned
 pub mod Text
