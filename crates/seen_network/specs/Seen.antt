@@ -103,8 +103,9 @@ without_copy number (copy ∷ copies) = if copy.number == number then copies els
 abbrev pub copy_goes : ℕ → Seen → Seen
 copy_goes number seen = with_copies (without_copy number seen.under_way) seen
 
+-- a packet comes; it takes the place of one with its number
 abbrev pub copy_comes : ℕ → ℕ → Seen → Seen
-copy_comes number origin seen = with_copies (seen.under_way ++ record { number = number; origin = origin } ∷ []) seen
+copy_comes number origin seen = with_copies (without_copy number seen.under_way ++ record { number = number; origin = origin } ∷ []) seen
 
 -- the frame that the copy with a number is of
 abbrev pub origin_among : ℕ → List SeenCopy → Option ℕ
@@ -158,32 +159,29 @@ told other seen = seen
 
 -- ---- a trace
 
--- entries read so far: what they show, but for the last event where it is not known yet whether it applied
-pub record Reading : Type 0 where
-  pub seen : Seen
-  pub pending : Option Event
+-- An event did not apply where `Idle` is told of it: among the entries behind it, before the next event.
+abbrev pub is_idle_behind : List Entry → Bool
+is_idle_behind [] = false
+is_idle_behind (entry.Did event ∷ es) = false
+is_idle_behind (entry.Idle ∷ es) = true
+is_idle_behind (e ∷ es) = is_idle_behind es
 
-abbrev pub nothing_read : Reading
-nothing_read = record { seen = nothing_seen; pending = None }
+-- what an event shows by itself, of which so is told whether it applied
+abbrev pub happened_or : (idle : Bool) → Event → Seen → Seen
+happened_or idle event seen = if idle then seen else happened event seen
 
-abbrev pub settled_by : Option Event → Seen → Seen
-settled_by None seen = seen
-settled_by (Some event) seen = happened event seen
-
--- what they show
-abbrev pub shown : Reading → Seen
-shown reading = settled_by reading.pending reading.seen
-
--- an event did not apply exactly where `Idle` follows it
-abbrev pub reads : Reading → Entry → Reading
-reads reading (entry.Did event) = record { seen = shown reading; pending = Some event }
-reads reading entry.Idle = record { seen = reading.seen; pending = None }
-reads reading other = record { seen = told other (shown reading); pending = None }
-
-abbrev pub read_from : Reading → List Entry → Reading
-read_from reading [] = reading
-read_from reading (e ∷ es) = read_from (reads reading e) es
+-- what entries show behind what was seen before
+abbrev pub seen_from : Seen → List Entry → Seen
+seen_from seen [] = seen
+seen_from seen (entry.Did event ∷ es) = seen_from (happened_or (is_idle_behind es) event seen) es
+seen_from seen (e ∷ es) = seen_from (told e seen) es
 
 -- what a trace shows
 abbrev pub seen_in : List Entry → Seen
-seen_in trace = shown (read_from nothing_read trace)
+seen_in trace = seen_from nothing_seen trace
+
+-- no event is cut: what follows is an event, or nothing
+abbrev pub BeginsEvent : List Entry → Type 0
+BeginsEvent [] = Unit {0}
+BeginsEvent (entry.Did event ∷ es) = Unit {0}
+BeginsEvent (e ∷ es) = ⊥

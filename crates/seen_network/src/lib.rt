@@ -2,10 +2,10 @@
 //! an empty body and a law as its contract.
 #![tactic(auto)]
 
-ghost use Rattle.seen_network.specs.Laws.{ReadsOn};
+ghost use Rattle.seen_network.specs.Laws.{SeenOn};
 
-/// Entries behind others are read from what those showed, so that a trace can be read as it comes.
+/// Entries behind others show what they show behind what those showed, so that a trace can be read event by event as it comes.
 #[tactic(auto, using(crate::proofs::ReadLemmas::in_parts))]
-pub fn reads_on()
-    ensures { ReadsOn }
+pub fn seen_on()
+    ensures { SeenOn }
 {}
