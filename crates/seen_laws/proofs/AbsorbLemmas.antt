@@ -1,5 +1,5 @@
 -- The work of an edge goes into the network, and what is told of it shows the network that it leaves.
-use Rattle.std.proofs.Common.{◌≡◌, ◌++◌, ◌&&◌, ◌||◌, ◌∙◌, not, ℕ, Bool, true, false, List, [], ◌∷◌, Option, Some, None, cond, map, nat_eq, refl, sym, ap, subst, inl, inr}
+use Rattle.std.proofs.Common.{◌≡◌, ◌++◌, ◌&&◌, ◌||◌, ◌∙◌, not, ℕ, Bool, true, false, List, [], ◌∷◌, Option, Some, None, cond, nat_eq, refl, sym, ap, subst, inl, inr}
 use Rattle.std.proofs.lemmas.Bool.{cases_Bool, eqb-true}
 use Rattle.net_base.specs.declared.plan.Plan.{Plan}
 use Rattle.net_base.specs.declared.plan.circuit_plan.CircuitPlan.{CircuitPlan}
@@ -17,9 +17,9 @@ use Rattle.flight_model.proofs.WorkLemmas.{closes-append, same_place}
 use Rattle.network_model.specs.Absorb.{absorb, absorb_all, absorb_one, all_entries_of}
 use Rattle.network_model.specs.State.{NetworkState, held, held_by, stands, with_edge, with_packet, with_pipe}
 use Rattle.seen_network.specs.Seen.{Seen, is_up}
-use Rattle.seen_laws.specs.Shows.{IsReady, Shows, copy_of, tolds}
+use Rattle.seen_laws.specs.Shows.{IsReady, Shows, tolds}
 use Rattle.seen_laws.specs.Work.{Tells, ended, up_after}
-use Rattle.seen_laws.proofs.SeenLemmas.{ShownBy, all_show, all_way}
+use Rattle.seen_laws.proofs.SeenLemmas.{SeesPackets, ShownBy, all_show, all_way}
 
 -- ---- the pipe of an edge to itself, which has no end
 
@@ -128,9 +128,12 @@ module _ (plan : Plan) (network : NetworkState) (me : EdgeId) (origin hops : ℕ
     ]
   ]
 
-  begun_way : begun.under_way ≡ network.under_way
+  sees_begun : SeesPackets begun seen
   unfolding with_edge
-  begun_way = refl
+  sees_begun = record { under_way = ready.under_way; counted = ready.counted }
+
+  sees : SeesPackets after final
+  sees = all_way me origin hops work.effects begun seen sees_begun
 
   pub absorb_shows : Shows plan (absorb me origin hops work network).state (tolds (absorb me origin hops work network).entries seen)
   absorb_shows = record {
@@ -139,7 +142,8 @@ module _ (plan : Plan) (network : NetworkState) (me : EdgeId) (origin hops : ℕ
     rests = same_rest;
     up = same_up;
     on = λ circuit row is. ap (λ (f : ℕ → Bool). f circuit.0) shown.on ∙ (ready.on circuit row is ∙ ap (λ (e : ℕ → EdgeState). (e row.edge.0).circuit_on circuit.0) (sym edges));
-    under_way = all_way me origin hops work.effects begun seen (ready.under_way ∙ ap (map copy_of) (sym begun_way));
+    under_way = sees.under_way;
+    counted = sees.counted;
   }
 
 -- ---- work that tells what it makes of the edge
@@ -197,6 +201,7 @@ module _ (plan : Plan) (network : NetworkState) (me : EdgeId) (first work : Work
     ups = λ a wire apart. shows.up a wire;
     on = on;
     under_way = shows.under_way;
+    counted = shows.counted;
   }
 
 -- no edge has an end towards itself then

@@ -36,7 +36,7 @@ use Rattle.flight_model.proofs.SettleLemmas.{apart_turned, edge_else, edge_pipes
 use Rattle.flight_model.proofs.WorkLemmas.{same_place}
 use Rattle.seen_network.specs.Seen.{Seen, is_up, with_standing}
 use Rattle.seen_laws.specs.Events.{HasGone, IsShown, NoneAlone, WasIdle}
-use Rattle.seen_laws.specs.Shows.{IsReady, Shows, copy_of, tolds}
+use Rattle.seen_laws.specs.Shows.{AreUpTo, IsReady, Shows, copy_of, tolds}
 use Rattle.seen_laws.specs.Work.{Tells, ended, up_after}
 use Rattle.seen_laws.proofs.AbsorbLemmas.{absorb_shows, on_still, rest_of}
 use Rattle.seen_laws.proofs.EventLemmas.{clash}
@@ -274,6 +274,7 @@ module _ (plan : Plan) (network : NetworkState) (seen : Seen) (shows : Shows pla
     ups = λ a wire gone. shows.up a wire ∙ start_up a wire;
     on = on_still plan start from one both (λ circuit row is. shows.on circuit row is ∙ start_on row.edge.0 circuit.0) (circuits network from to kept nothing one here none_yet ∙ ap (λ (e : EdgeState). e.circuit_on) (sym start_from));
     under_way = shows.under_way ∙ ap (map copy_of) (sym start_way);
+    counted = subst (λ (n : ℕ). AreUpTo n seen.under_way) (sym (edge_sent to hybrid network)) shows.counted;
   }
 
   -- ---- the second one
@@ -325,6 +326,7 @@ module _ (plan : Plan) (network : NetworkState) (seen : Seen) (shows : Shows pla
     ups = λ a wire gone. middle_shows.up a wire;
     on = on_still plan middle to two between middle_shows.on (circuits network to from other nothing' two there none_yet' ∙ ap (λ (e : EdgeState). e.circuit_on) (sym middle_to));
     under_way = middle_shows.under_way;
+    counted = middle_shows.counted;
   }
 
   -- ---- and so it is where both edges are there from the first
@@ -419,6 +421,7 @@ module _ (plan : Plan) (network : NetworkState) (seen : Seen) (shows : Shows pla
     up = λ a wire. is.up a wire ∙ ap (λ (e : EdgeState). is_up (e.told_down wire)) (done_edges a);
     on = λ circuit row at. is.on circuit row at ∙ ap (λ (e : EdgeState). e.circuit_on circuit.0) (done_edges row.edge.0);
     under_way = is.under_way ∙ ap (map copy_of) (sym done_alike.under_way);
+    counted = subst (λ (n : ℕ). AreUpTo n s.under_way) (sym done_alike.sent) is.counted;
   }
 
   pub connecting_shown : IsShown plan (Connect from to) network seen (connecting from one to two network)

@@ -139,6 +139,7 @@ module _ (plan : Plan) (network : NetworkState) (seen : Seen) (shows : Shows pla
       ups = λ a wire away. shows.up a wire;
       on = on_still plan later to work taken shows.on tells.circuits;
       under_way = shows.under_way;
+      counted = shows.counted;
     }
 
   delivering_shown : IsOrdered plan network → stands network to.0 from.0 ≡ true → IsShown plan (Deliver from to count) network seen (delivering plan from to count network)

@@ -22,7 +22,7 @@ use Rattle.network_model.specs.Wire.{priority_event, status_event, wire_event}
 use Rattle.flight_model.proofs.EventLemmas.{losing_is}
 use Rattle.seen_network.specs.Seen.{Seen, end_goes, happened, with_octets, with_rest, with_standing}
 use Rattle.seen_laws.specs.Events.{HasGone, IsShown, NoneAlone, WasIdle}
-use Rattle.seen_laws.specs.Shows.{IsReady, Shows}
+use Rattle.seen_laws.specs.Shows.{AreUpTo, IsReady, Shows}
 use Rattle.seen_laws.specs.Work.{Tells, ended, up_after}
 use Rattle.seen_laws.proofs.AbsorbLemmas.{BeginsFrom, absorb_shows, gone_false, on_still, rest_of, works_ready}
 use Rattle.seen_laws.proofs.InputLemmas.{bits_tell, bridged_tells, lost_gone, lost_tells, none, priority_tells, then_mends, wire_tells}
@@ -158,6 +158,7 @@ module _ (plan : Plan) (network : NetworkState) (me peer : EdgeId) (old seen : S
     ups = λ a wire away. ap (λ (f : ℕ → ℕ → Bool). f a wire) but.up ∙ shows.up a wire;
     on = on_still plan network me work seen (λ circuit row is. ap (λ (f : ℕ → Bool). f circuit.0) but.on ∙ shows.on circuit row is) tells.circuits;
     under_way = but.under_way ∙ shows.under_way;
+    counted = subst (AreUpTo network.sent) (sym but.under_way) shows.counted;
   }
     where
       closed : (k : ℕ) → Rattle.flight_model.specs.Meeting.closes k work.effects ≡ ended k work.effects

@@ -2,6 +2,7 @@ pub mod AbsorbLemmas
 pub mod AgeLemmas
 pub mod CalmLemmas
 pub mod ConnectLemmas
+pub mod CopyLemmas
 pub mod CutLemmas
 pub mod DeliverLemmas
 pub mod EachEdgeLemmas

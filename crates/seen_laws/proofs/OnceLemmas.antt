@@ -1,6 +1,6 @@
 -- A window that the trace shows is a window of the run, so that each flooded frame is seen to leave exactly once at each other site.
 use Rattle.std.proofs.Common.{◌≡◌, ◌≤◌, ◌<◌, ◌+◌, ◌++◌, ◌==◌, ◌&&◌, ◌||◌, ◌∙◌, not, ℕ, zero, suc, Bool, true, false, List, [], ◌∷◌, Option, Some, None, Result, Ok, Err, cond, drop, length, map, take, option_map, nat_eq, nat_lt, refl, sym, ap, subst, arith, append_assoc}
-use Rattle.std.specs.List.{All, list_any}
+use Rattle.std.specs.List.{All, find, list_any}
 use Rattle.std.specs.Str.{bytes_eq}
 use Rattle.net_base.specs.declared.plan.Plan.{Plan}
 use Rattle.net_base.specs.declared.plan.circuit_plan.CircuitPlan.{CircuitPlan}
@@ -26,6 +26,7 @@ use Rattle.edge_model.proofs.BridgeLemmas.{received_bridges}
 use Rattle.network_model.specs.Absorb.{begin_at, idle, taken_all}
 use Rattle.network_model.specs.declared.packet.Packet.{Packet}
 use Rattle.network_model.specs.Frame.{entering, frame_event, frame_work, next_origin}
+use Rattle.network_model.specs.Packet.{again_event, discard_event, packet_at}
 use Rattle.network_model.specs.OnceEach.{LeftWithin, ServedOnce, times_left}
 use Rattle.network_model.specs.Reach.{is_circuit_of, is_circuit_on, is_row_on, is_site}
 use Rattle.network_model.specs.Run.{entries_along, run, state_after}
@@ -39,13 +40,15 @@ use Rattle.network_model.proofs.RunLemmas.{after-append, along-append}
 use Rattle.network_model.proofs.PacketListLemmas.{run_numbered}
 use Rattle.flood_model.proofs.RunLemmas.{runs_serve_once}
 use Rattle.flood_model.proofs.SoFarLemmas.{front_all}
-use Rattle.seen_network.specs.Once.{BeginsEvent, OnceSeen, SeenServed, SeenWindow, SeenWithin, all_spared, entered_as, is_row_of, is_seen_copy, is_seen_site, is_sourced_by, spares_seen, times_seen}
-use Rattle.seen_network.specs.Seen.{Reading, Seen, nothing_read, read_from, reads, seen_in, shown}
+use Rattle.seen_network.specs.Once.{OnceSeen, SeenServed, SeenWindow, SeenWithin, all_spared, entered_as, is_row_of, is_seen_copy, is_seen_site, is_sourced_by, spares_seen, times_seen}
+use Rattle.seen_network.specs.Seen.{BeginsEvent, Seen, happened_or, is_idle_behind, seen_from, seen_in, told}
+use Rattle.seen_network.proofs.ReadLemmas.{idle_behind}
 use Rattle.seen_laws.specs.Shows.{Shows, copy_of}
 use Rattle.seen_laws.specs.Sources.{KnowsSources}
 use Rattle.seen_laws.proofs.CalmLemmas.{calm_same}
 use Rattle.seen_laws.proofs.SyncRunLemmas.{run_synced}
-use Rattle.seen_laws.proofs.RunLemmas.{run_shows, step_shows}
+use Rattle.seen_laws.proofs.AbsorbLemmas.{gone_false}
+use Rattle.seen_laws.proofs.RunLemmas.{along_begins, run_shows, step_shows}
 use Rattle.seen_laws.proofs.SplitLemmas.{IsCutAt, IsCutBehind, NoEvent, StandsBefore, brings_quiet, cut_at, cut_behind, cut_window}
 
 clash : {P : Type 0} → false ≡ true → P
@@ -101,37 +104,60 @@ has_same : (origin : ℕ) (packets : List Packet) → list_any (λ copy. copy.or
 has_same origin [] = refl
 has_same origin (p ∷ ps) = rw (has_same origin ps) refl
 
-spares_same : (plan : Plan) (network : NetworkState) (seen : Seen) (origin : ℕ) (event : Event) → Shows plan network seen → spares_seen seen origin event ≡ spares network origin event
-spares_same plan network seen origin (Frame circuit octets) shows = refl
-spares_same plan network seen origin (Arrive number) shows = refl
-spares_same plan network seen origin (Discard number) shows = ap (λ (b : Bool). not b) (ap (list_any (is_seen_copy origin number)) shows.under_way ∙ names_same origin number network.under_way)
-spares_same plan network seen origin (Again number) shows = ap (λ (b : Bool). not b) (ap (list_any (is_seen_copy origin number)) shows.under_way ∙ names_same origin number network.under_way)
-spares_same plan network seen origin (Connect from to) shows = refl
-spares_same plan network seen origin (Deliver from to count) shows = refl
-spares_same plan network seen origin (Lose me peer) shows = refl
-spares_same plan network seen origin (Restart me) shows = refl
-spares_same plan network seen origin Tick shows = refl
-spares_same plan network seen origin (Wire me wire on) shows = refl
-spares_same plan network seen origin (Circuit circuit on) shows = refl
-spares_same plan network seen origin (Status me wire bits) shows = refl
-spares_same plan network seen origin (Priority me wire priority) shows = refl
-spares_same plan network seen origin (Ping me wire) shows = refl
+-- a number that no packet has is that of no copy
+none_named : (origin number : ℕ) (packets : List Packet) → find (λ packet. packet.number == number) packets ≡ None → list_any (is_copy origin number) packets ≡ false
+none_named origin number [] none = refl
+none_named origin number (p ∷ ps) none = by (nat_eq p.number number) none (λ rest. none_named origin number ps rest) where
+  by : (b : Bool) → cond b (Some p) (find (λ packet. packet.number == number) ps) ≡ None → (find (λ packet. packet.number == number) ps ≡ None → list_any (is_copy origin number) ps ≡ false) → (nat_eq p.origin origin && b) || list_any (is_copy origin number) ps ≡ false
+  by true some rest = absurd (cc some)
+  by false rest_none rest = rw (gone_false (nat_eq p.origin origin)) (rest rest_none)
+
+-- nothing is told of an event behind the next one
+none_told : (more : List Entry) → BeginsEvent more → is_idle_behind more ≡ false
+none_told more begins = idle_behind [] more begins
+
+copy_spared : (plan : Plan) (network : NetworkState) (seen : Seen) (origin number : ℕ) (idle : Bool) → Shows plan network seen → idle ≡ false → idle || not (list_any (is_seen_copy origin number) seen.under_way) ≡ not (list_any (is_copy origin number) network.under_way)
+copy_spared plan network seen origin number idle shows applied = rw applied (ap (λ (b : Bool). not b) (ap (list_any (is_seen_copy origin number)) shows.under_way ∙ names_same origin number network.under_way))
+
+-- an event that does not apply names no packet, and spares each
+spares_same : (plan : Plan) (network : NetworkState) (seen : Seen) (origin : ℕ) (event : Event) (more : List Entry) → Shows plan network seen → BeginsEvent more
+    → spares_seen seen origin (is_idle_behind ((brings plan event network).entries ++ more)) event ≡ spares network origin event
+spares_same plan network seen origin (Frame circuit octets) more shows begins = refl
+spares_same plan network seen origin (Arrive number) more shows begins = refl
+spares_same plan network seen origin (Discard number) more shows begins = by (packet_at network number) refl where
+  by : (packet : Option Packet) → packet_at network number ≡ packet → is_idle_behind ((discard_event packet network).entries ++ more) || not (list_any (is_seen_copy origin number) seen.under_way) ≡ not (list_any (is_copy origin number) network.under_way)
+  by None none = rw (none_named origin number network.under_way none) refl
+  by (Some packet) is = copy_spared plan network seen origin number (is_idle_behind more) shows (none_told more begins)
+spares_same plan network seen origin (Again number) more shows begins = by (packet_at network number) refl where
+  by : (packet : Option Packet) → packet_at network number ≡ packet → is_idle_behind ((again_event packet network).entries ++ more) || not (list_any (is_seen_copy origin number) seen.under_way) ≡ not (list_any (is_copy origin number) network.under_way)
+  by None none = rw (none_named origin number network.under_way none) refl
+  by (Some packet) is = copy_spared plan network seen origin number (is_idle_behind more) shows (none_told more begins)
+spares_same plan network seen origin (Deliver from to count) more shows begins = refl
+spares_same plan network seen origin Tick more shows begins = refl
+spares_same plan network seen origin (Connect from to) more shows begins = refl
+spares_same plan network seen origin (Lose me peer) more shows begins = refl
+spares_same plan network seen origin (Restart me) more shows begins = refl
+spares_same plan network seen origin (Wire me wire on) more shows begins = refl
+spares_same plan network seen origin (Circuit circuit on) more shows begins = refl
+spares_same plan network seen origin (Status me wire bits) more shows begins = refl
+spares_same plan network seen origin (Priority me wire priority) more shows begins = refl
+spares_same plan network seen origin (Ping me wire) more shows begins = refl
 
 -- entries without an event are passed over
-spared_own : (origin : ℕ) (reading : Reading) (own more : List Entry) → NoEvent own → all_spared origin reading (own ++ more) ≡ all_spared origin (read_from reading own) more
-spared_own origin reading [] more none = refl
-spared_own origin reading (entry.Did event ∷ own) more none = absurd none
-spared_own origin reading (entry.Idle ∷ own) more none = spared_own origin (reads reading entry.Idle) own more none
-spared_own origin reading (entry.Said from to octets ∷ own) more none = spared_own origin (reads reading (entry.Said from to octets)) own more none
-spared_own origin reading (entry.In at number octets ∷ own) more none = spared_own origin (reads reading (entry.In at number octets)) own more none
-spared_own origin reading (entry.Sent from to wire came packet of hops octets ∷ own) more none = spared_own origin (reads reading (entry.Sent from to wire came packet of hops octets)) own more none
-spared_own origin reading (entry.Copied packet of ∷ own) more none = spared_own origin (reads reading (entry.Copied packet of)) own more none
-spared_own origin reading (entry.Aged packet ∷ own) more none = spared_own origin (reads reading (entry.Aged packet)) own more none
-spared_own origin reading (entry.Left at from hops octets ∷ own) more none = spared_own origin (reads reading (entry.Left at from hops octets)) own more none
-spared_own origin reading (entry.Dropped edge of cause ∷ own) more none = spared_own origin (reads reading (entry.Dropped edge of cause)) own more none
-spared_own origin reading (entry.Session edge peer name ∷ own) more none = spared_own origin (reads reading (entry.Session edge peer name)) own more none
-spared_own origin reading (entry.Wire edge wire down ∷ own) more none = spared_own origin (reads reading (entry.Wire edge wire down)) own more none
-spared_own origin reading (entry.Pong edge wire sequence ∷ own) more none = spared_own origin (reads reading (entry.Pong edge wire sequence)) own more none
+spared_own : (origin : ℕ) (seen : Seen) (own more : List Entry) → NoEvent own → all_spared origin seen (own ++ more) ≡ all_spared origin (seen_from seen own) more
+spared_own origin seen [] more none = refl
+spared_own origin seen (entry.Did event ∷ own) more none = absurd none
+spared_own origin seen (entry.Idle ∷ own) more none = spared_own origin seen own more none
+spared_own origin seen (entry.Said from to octets ∷ own) more none = spared_own origin (told (entry.Said from to octets) seen) own more none
+spared_own origin seen (entry.In at number octets ∷ own) more none = spared_own origin (told (entry.In at number octets) seen) own more none
+spared_own origin seen (entry.Sent from to wire came packet of hops octets ∷ own) more none = spared_own origin (told (entry.Sent from to wire came packet of hops octets) seen) own more none
+spared_own origin seen (entry.Copied packet of ∷ own) more none = spared_own origin (told (entry.Copied packet of) seen) own more none
+spared_own origin seen (entry.Aged packet ∷ own) more none = spared_own origin (told (entry.Aged packet) seen) own more none
+spared_own origin seen (entry.Left at from hops octets ∷ own) more none = spared_own origin (told (entry.Left at from hops octets) seen) own more none
+spared_own origin seen (entry.Dropped edge of cause ∷ own) more none = spared_own origin (told (entry.Dropped edge of cause) seen) own more none
+spared_own origin seen (entry.Session edge peer name ∷ own) more none = spared_own origin (told (entry.Session edge peer name) seen) own more none
+spared_own origin seen (entry.Wire edge wire down ∷ own) more none = spared_own origin (told (entry.Wire edge wire down) seen) own more none
+spared_own origin seen (entry.Pong edge wire sequence ∷ own) more none = spared_own origin (told (entry.Pong edge wire sequence) seen) own more none
 
 -- ---- the number of a frame that entered
 
@@ -152,10 +178,6 @@ entered_own circuit own (entry.Pong edge wire sequence ∷ more) origin begins i
 
 same_some : (a b : ℕ) → Some a ≡ Some b → a ≡ b
 same_some a b e = cc (e)
-
-along_begins : (plan : Plan) (network : NetworkState) (events : List Event) → BeginsEvent (entries_along plan network events)
-along_begins plan network [] = tt
-along_begins plan network (e ∷ es) = tt
 
 entered_is : (plan : Plan) (network : NetworkState) (circuit : CircuitId) (octets : List ℕ) (more : List Entry) (origin : ℕ) → BeginsEvent more
     → entered_as circuit ((brings plan (Frame circuit octets) network).entries ++ more) ≡ Some origin → origin ≡ next_origin network
@@ -237,16 +259,19 @@ pub front_run : (plan : Plan) (events front rest : List Event) → IsRun plan ev
 front_run plan events front rest is split = record { checked = is.checked; types = is.types; planned = front_all (IsEventOf plan) front rest (subst (All (IsEventOf plan)) split is.planned) }
 
 -- the next event spares the copies where those behind it do
-spared_next : (plan : Plan) (before : List Event) (e : Event) (es : List Event) (reading : Reading) (origin : ℕ) → IsRun plan (before ++ e ∷ es) → Shows plan (network_after plan before) (shown reading)
-    → (Shows plan (network_after plan (before ++ e ∷ [])) (shown (read_from reading (step plan (network_after plan before) e).entries))
-    → all_spared origin (read_from reading (step plan (network_after plan before) e).entries) (entries_along plan (network_after plan (before ++ e ∷ [])) es) ≡ all_spare plan origin (network_after plan (before ++ e ∷ [])) es)
-    → all_spared origin reading (entries_along plan (network_after plan before) (e ∷ es)) ≡ all_spare plan origin (network_after plan before) (e ∷ es)
-spared_next plan before e es reading origin is shows later = rw (spares_same plan network (shown reading) origin e shows) (ap (λ (b : Bool). spares network origin e && b) rest) where
+spared_next : (plan : Plan) (before : List Event) (e : Event) (es : List Event) (seen : Seen) (origin : ℕ) → IsRun plan (before ++ e ∷ es) → Shows plan (network_after plan before) seen
+    → (Shows plan (network_after plan (before ++ e ∷ [])) (seen_from seen (step plan (network_after plan before) e).entries)
+    → all_spared origin (seen_from seen (step plan (network_after plan before) e).entries) (entries_along plan (network_after plan (before ++ e ∷ [])) es) ≡ all_spare plan origin (network_after plan (before ++ e ∷ [])) es)
+    → all_spared origin seen (entries_along plan (network_after plan before) (e ∷ es)) ≡ all_spare plan origin (network_after plan before) (e ∷ es)
+spared_next plan before e es seen origin is shows later = rw (spares_same plan network seen origin e along shows (along_begins plan (step plan network e).state es)) (ap (λ (b : Bool). spares network origin e && b) rest) where
   network : NetworkState
   network = network_after plan before
 
   own : List Entry
   own = (brings plan e network).entries
+
+  along : List Entry
+  along = entries_along plan (step plan network e).state es
 
   after_is : network_after plan (before ++ e ∷ []) ≡ (step plan network e).state
   after_is = after-append plan (empty_network plan) before (e ∷ [])
@@ -254,21 +279,22 @@ spared_next plan before e es reading origin is shows later = rw (spares_same pla
   is_before : IsRun plan before
   is_before = front_run plan (before ++ e ∷ es) before (e ∷ es) is refl
 
-  shows_next : Shows plan (step plan network e).state (shown (read_from reading (step plan network e).entries))
-  shows_next = step_shows plan e network reading is.checked is.types (run_ordered plan before is_before) (run_numbered plan before) shows
+  shows_next : Shows plan (step plan network e).state (seen_from seen (step plan network e).entries)
+  shows_next = step_shows plan e network seen is.checked is.types (run_ordered plan before is_before) (run_numbered plan before) shows
 
-  rest : all_spared origin (reads reading (entry.Did e)) (own ++ entries_along plan (step plan network e).state es) ≡ all_spare plan origin (step plan network e).state es
-  rest = spared_own origin (reads reading (entry.Did e)) own (entries_along plan (step plan network e).state es) (brings_quiet plan e network)
-      ∙ subst (λ (n : NetworkState). all_spared origin (read_from reading (step plan network e).entries) (entries_along plan n es) ≡ all_spare plan origin n es) after_is
-      (later (subst (λ (n : NetworkState). Shows plan n (shown (read_from reading (step plan network e).entries))) (sym after_is) shows_next))
+  rest : all_spared origin (happened_or (is_idle_behind (own ++ along)) e seen) (own ++ along) ≡ all_spare plan origin (step plan network e).state es
+  rest = ap (λ (idle : Bool). all_spared origin (happened_or idle e seen) (own ++ along)) (idle_behind own along (along_begins plan (step plan network e).state es))
+      ∙ (spared_own origin (happened_or (is_idle_behind own) e seen) own along (brings_quiet plan e network)
+      ∙ subst (λ (n : NetworkState). all_spared origin (seen_from seen (step plan network e).entries) (entries_along plan n es) ≡ all_spare plan origin n es) after_is
+      (later (subst (λ (n : NetworkState). Shows plan n (seen_from seen (step plan network e).entries)) (sym after_is) shows_next)))
 
 -- the events behind spare the copies of a frame
-spared_along : (plan : Plan) (before during : List Event) (reading : Reading) (origin : ℕ) → IsRun plan (before ++ during) → Shows plan (network_after plan before) (shown reading)
-    → all_spared origin reading (entries_along plan (network_after plan before) during) ≡ all_spare plan origin (network_after plan before) during
-spared_along plan before [] reading origin is shows = refl
-spared_along plan before (e ∷ es) reading origin is shows =
-    spared_next plan before e es reading origin is shows (λ shows_next.
-    spared_along plan (before ++ e ∷ []) es (read_from reading (step plan (network_after plan before) e).entries) origin (subst (IsRun plan) (sym (append_assoc before (e ∷ []) es)) is) shows_next)
+spared_along : (plan : Plan) (before during : List Event) (seen : Seen) (origin : ℕ) → IsRun plan (before ++ during) → Shows plan (network_after plan before) seen
+    → all_spared origin seen (entries_along plan (network_after plan before) during) ≡ all_spare plan origin (network_after plan before) during
+spared_along plan before [] seen origin is shows = refl
+spared_along plan before (e ∷ es) seen origin is shows =
+    spared_next plan before e es seen origin is shows (λ shows_next.
+    spared_along plan (before ++ e ∷ []) es (seen_from seen (step plan (network_after plan before) e).entries) origin (subst (IsRun plan) (sym (append_assoc before (e ∷ []) es)) is) shows_next)
 
 -- ---- what is taught is seen
 
@@ -430,16 +456,21 @@ module _ (plan : Plan) (events : List Event) (is : IsRun plan events) (sources :
   some_row None of_service at = absurd (cc of_service)
   some_row (Some row) of_service at = ap (is_row_on state circuit) at ∙ (sym (shows.on circuit row at) ∙ window.on)
 
+  -- a frame that enters changes nothing that is seen by itself
+  entering_same : (idle : Bool) → happened_or idle (Frame circuit octets) (seen_in before) ≡ seen_in before
+  entering_same true = refl
+  entering_same false = refl
+
   spared : all_spare plan (next_origin state) next behind.during ≡ true
   spared =
-      let reading : Reading = reads (read_from nothing_read before) (entry.Did (Frame circuit octets)) in
-      let first : all_spared origin (read_from reading own) (entries_along plan next behind.during) ≡ true = sym (spared_own origin reading own (entries_along plan next behind.during) (brings_quiet plan (Frame circuit octets) state)) ∙ (ap (all_spared origin reading) (sym during_is) ∙ window.spared) in
-      let shows_next : Shows plan next (shown (read_from reading own)) = step_shows plan (Frame circuit octets) state (read_from nothing_read before) is.checked is.types (run_ordered plan cut.earlier earlier_run) (run_numbered plan cut.earlier) shows in
+      let seen : Seen = seen_from (seen_in before) own in
+      let first : all_spared origin seen (entries_along plan next behind.during) ≡ true = sym (spared_own origin (seen_in before) own (entries_along plan next behind.during) (brings_quiet plan (Frame circuit octets) state)) ∙ (ap (all_spared origin (seen_in before)) (sym during_is) ∙ window.spared) in
+      let shows_next : Shows plan next seen = subst (λ (s : Seen). Shows plan next (seen_from s own)) (entering_same (is_idle_behind own)) (step_shows plan (Frame circuit octets) state (seen_in before) is.checked is.types (run_ordered plan cut.earlier earlier_run) (run_numbered plan cut.earlier) shows) in
       let after_is : network_after plan (cut.earlier ++ Frame circuit octets ∷ []) ≡ next = after-append plan (empty_network plan) cut.earlier (Frame circuit octets ∷ []) in
       subst (λ (n : ℕ). all_spare plan n next behind.during ≡ true) origin_is
-      (turned_to (subst (λ (n : NetworkState). all_spared origin (read_from reading own) (entries_along plan n behind.during) ≡ all_spare plan origin n behind.during) after_is
-      (spared_along plan (cut.earlier ++ Frame circuit octets ∷ []) behind.during (read_from reading own) origin (subst (IsRun plan) (sym (append_assoc cut.earlier (Frame circuit octets ∷ []) behind.during)) upto_run)
-      (subst (λ (n : NetworkState). Shows plan n (shown (read_from reading own))) (sym after_is) shows_next))) first)
+      (turned_to (subst (λ (n : NetworkState). all_spared origin seen (entries_along plan n behind.during) ≡ all_spare plan origin n behind.during) after_is
+      (spared_along plan (cut.earlier ++ Frame circuit octets ∷ []) behind.during seen origin (subst (IsRun plan) (sym (append_assoc cut.earlier (Frame circuit octets ∷ []) behind.during)) upto_run)
+      (subst (λ (n : NetworkState). Shows plan n seen) (sym after_is) shows_next))) first)
 
   upto_after : network_after plan upto ≡ state_after plan next behind.during
   upto_after = after-append plan (empty_network plan) cut.earlier (Frame circuit octets ∷ behind.during)

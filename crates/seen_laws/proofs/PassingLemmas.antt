@@ -1,5 +1,5 @@
 -- What restarts, ticks, circuits, frames and packets tell shows what they make of the network.
-use Rattle.std.proofs.Common.{◌≡◌, ◌+◌, ◌==◌, ◌++◌, ◌&&◌, ◌∙◌, not, ℕ, zero, suc, Bool, true, false, List, [], ◌∷◌, Option, Some, None, cond, length, map, nat_eq, refl, sym, ap, subst, inl, inr}
+use Rattle.std.proofs.Common.{◌≡◌, ◌+◌, ◌==◌, ◌++◌, ◌&&◌, ◌∙◌, not, ℕ, zero, suc, Bool, true, false, List, [], ◌∷◌, Option, Some, None, cond, length, map, nat_eq, refl, sym, ap, subst, arith, inl, inr}
 use Rattle.std.proofs.lemmas.Bool.{cases_Bool, eqb-true}
 use Rattle.std.specs.List.{find}
 use Rattle.net_base.specs.declared.plan.Plan.{Plan}
@@ -17,7 +17,7 @@ use Rattle.edge_model.specs.State.{EdgeState, is_on, with_addresses, with_circui
 use Rattle.edge_model.specs.Tick.{tick_input}
 use Rattle.edge_model.specs.Work.{Work, changes}
 use Rattle.edge_model.proofs.BridgeLemmas.{frame_bridges, packet_bridges}
-use Rattle.network_model.specs.Absorb.{Stepped, absorb, begin_at, idle, taken_all}
+use Rattle.network_model.specs.Absorb.{Stepped, begin_at, taken_all}
 use Rattle.network_model.specs.Age.{aged_entries}
 use Rattle.network_model.specs.Circuit.{circuit_event}
 use Rattle.network_model.specs.Connection.{restart_event}
@@ -35,6 +35,7 @@ use Rattle.seen_laws.specs.Shows.{AreTold, IsReady, Shows, copy_of, tolds}
 use Rattle.seen_laws.specs.Work.{Tells}
 use Rattle.seen_laws.proofs.AbsorbLemmas.{BeginsFrom, OnAfter, absorb_shows, on_still, ready_alone, works_ready}
 use Rattle.seen_laws.proofs.AgeLemmas.{aged_shows, aged_told}
+use Rattle.seen_laws.proofs.CopyLemmas.{below_behind, below_more, none_without, without_below}
 use Rattle.seen_laws.proofs.EventLemmas.{answer_shown, applied, idle_or, plain_ready, work_shown}
 use Rattle.seen_laws.proofs.InputLemmas.{bridged_tells, mends_tell, none, tick_tells}
 use Rattle.seen_laws.proofs.SeenLemmas.{sent_more, told-append, tolds-append, work_told}
@@ -56,6 +57,7 @@ module _ (plan : Plan) (network : NetworkState) (seen : Seen) (shows : Shows pla
     ups = λ a wire apart. rw apart (shows.up a wire);
     on = on_still plan (without_octets_to me network) me (restart_input (begin_at network me)) (without_edge me.0 seen) shows.on refl;
     under_way = shows.under_way;
+    counted = shows.counted;
   }
 
   pub restart_shown : (me : EdgeId) → IsShown plan (Restart me) network seen (restart_event me network)
@@ -153,7 +155,7 @@ circuit_shown plan network seen shows alone circuit on = by (circuit_row plan ci
 
 entered_shows : (plan : Plan) (network : NetworkState) (seen : Seen) → Shows plan network seen → Shows plan (with_frame network) seen
 unfolding with_frame
-entered_shows plan network seen shows = record { standing = shows.standing; pipes = shows.pipes; rests = shows.rests; up = shows.up; on = shows.on; under_way = shows.under_way }
+entered_shows plan network seen shows = record { standing = shows.standing; pipes = shows.pipes; rests = shows.rests; up = shows.up; on = shows.on; under_way = shows.under_way; counted = shows.counted }
 
 entered_alone : (network : NetworkState) → NoneAlone network → NoneAlone (with_frame network)
 unfolding with_frame
@@ -200,8 +202,15 @@ found number (p ∷ ps) packet is = by (nat_eq p.number number) refl is (λ rest
 
 gone_shows : (plan : Plan) (network : NetworkState) (seen : Seen) (number : ℕ) → Shows plan network seen → Shows plan (without_packet number network) (copy_goes number seen)
 unfolding without_packet with_copies
-gone_shows plan network seen number shows =
-    record { standing = shows.standing; pipes = shows.pipes; rests = shows.rests; up = shows.up; on = shows.on; under_way = ap (without_copy number) shows.under_way ∙ copies_without number network.under_way }
+gone_shows plan network seen number shows = record {
+  standing = shows.standing;
+  pipes = shows.pipes;
+  rests = shows.rests;
+  up = shows.up;
+  on = shows.on;
+  under_way = ap (without_copy number) shows.under_way ∙ copies_without number network.under_way;
+  counted = without_below network.sent number seen.under_way shows.counted;
+}
 
 gone_alone : (network : NetworkState) (number : ℕ) → NoneAlone network → NoneAlone (without_packet number network)
 unfolding without_packet
@@ -239,7 +248,9 @@ module _ (plan : Plan) (network : NetworkState) (seen : Seen) (shows : Shows pla
     rests = shows.rests;
     up = shows.up;
     on = shows.on;
-    under_way = ap (λ (l : List SeenCopy). l ++ record { number = network.sent + 1; origin = packet.origin } ∷ []) shows.under_way ∙ sym (sent_more network.under_way _);
+    under_way = ap (λ (l : List SeenCopy). l ++ record { number = network.sent + 1; origin = packet.origin } ∷ []) (none_without network.sent (network.sent + 1) seen.under_way shows.counted (omega arith) ∙ shows.under_way) ∙ sym (sent_more network.under_way _);
+    counted = below_behind (network.sent + 1) (without_copy (network.sent + 1) seen.under_way) (record { number = network.sent + 1; origin = packet.origin })
+        (below_more network.sent (network.sent + 1) (without_copy (network.sent + 1) seen.under_way) (omega arith) (without_below network.sent (network.sent + 1) seen.under_way shows.counted)) (omega arith);
   }))
     where
       at : IsFound number network.under_way packet

@@ -1,5 +1,5 @@
 -- What the trace of a run shows of the network is so.
-use Rattle.std.proofs.Common.{◌≡◌, ◌++◌, List, [], ◌∷◌, Option, refl, sym, ap, subst}
+use Rattle.std.proofs.Common.{◌≡◌, Bool, false, List, [], ◌∷◌, Option, refl, sym, ap, subst}
 use Rattle.std.proofs.lemmas.List.Elements.{All-head, All-tail}
 use Rattle.std.specs.List.{All}
 use Rattle.net_base.specs.declared.plan.Plan.{Plan}
@@ -20,8 +20,8 @@ use Rattle.network_model.proofs.PacketListLemmas.{AreNumbered, step_numbered}
 use Rattle.flight_model.specs.Ends.{HasTypes, IsOrdered}
 use Rattle.flight_model.specs.Laws.{IsRun, network_after}
 use Rattle.flight_model.proofs.RunLemmas.{empty_ordered, step_keeps}
-use Rattle.seen_network.specs.Seen.{Reading, Seen, nothing_read, nothing_seen, read_from, reads, seen_in, shown}
-use Rattle.seen_network.proofs.ReadLemmas.{read-append}
+use Rattle.seen_network.specs.Seen.{BeginsEvent, Seen, happened, happened_or, is_idle_behind, nothing_seen, seen_from, seen_in, told}
+use Rattle.seen_network.proofs.ReadLemmas.{seen_on}
 use Rattle.seen_laws.specs.Events.{HasGone, IsShown, NoneAlone, WasIdle}
 use Rattle.seen_laws.specs.Shows.{AreTold, Shows, tolds}
 use Rattle.seen_laws.proofs.ConnectLemmas.{connect_shown}
@@ -32,26 +32,43 @@ use Rattle.seen_laws.proofs.PassingLemmas.{again_shown, arrive_shown, circuit_sh
 -- ---- entries are read
 
 -- no event is among them
-pub told_read : (es : List Entry) (reading : Reading) → AreTold es → shown (read_from reading es) ≡ tolds es (shown reading)
-told_read [] reading are = refl
-told_read (entry.Did event ∷ es) reading are = absurd are
-told_read (entry.Idle ∷ es) reading are = absurd are
-told_read (entry.Said from to octets ∷ es) reading are = told_read es (reads reading (entry.Said from to octets)) are
-told_read (entry.In circuit number octets ∷ es) reading are = told_read es (reads reading (entry.In circuit number octets)) are
-told_read (entry.Sent from to wire came packet origin hops octets ∷ es) reading are = told_read es (reads reading (entry.Sent from to wire came packet origin hops octets)) are
-told_read (entry.Copied packet of ∷ es) reading are = told_read es (reads reading (entry.Copied packet of)) are
-told_read (entry.Aged packet ∷ es) reading are = told_read es (reads reading (entry.Aged packet)) are
-told_read (entry.Left circuit origin hops octets ∷ es) reading are = told_read es (reads reading (entry.Left circuit origin hops octets)) are
-told_read (entry.Dropped edge origin cause ∷ es) reading are = told_read es (reads reading (entry.Dropped edge origin cause)) are
-told_read (entry.Session edge peer name ∷ es) reading are = told_read es (reads reading (entry.Session edge peer name)) are
-told_read (entry.Wire edge wire down ∷ es) reading are = told_read es (reads reading (entry.Wire edge wire down)) are
-told_read (entry.Pong edge wire sequence ∷ es) reading are = told_read es (reads reading (entry.Pong edge wire sequence)) are
+pub told_read : (es : List Entry) (seen : Seen) → AreTold es → seen_from seen es ≡ tolds es seen
+told_read [] seen are = refl
+told_read (entry.Did event ∷ es) seen are = absurd are
+told_read (entry.Idle ∷ es) seen are = absurd are
+told_read (entry.Said from to octets ∷ es) seen are = told_read es (told (entry.Said from to octets) seen) are
+told_read (entry.In circuit number octets ∷ es) seen are = told_read es (told (entry.In circuit number octets) seen) are
+told_read (entry.Sent from to wire came packet origin hops octets ∷ es) seen are = told_read es (told (entry.Sent from to wire came packet origin hops octets) seen) are
+told_read (entry.Copied packet of ∷ es) seen are = told_read es (told (entry.Copied packet of) seen) are
+told_read (entry.Aged packet ∷ es) seen are = told_read es (told (entry.Aged packet) seen) are
+told_read (entry.Left circuit origin hops octets ∷ es) seen are = told_read es (told (entry.Left circuit origin hops octets) seen) are
+told_read (entry.Dropped edge origin cause ∷ es) seen are = told_read es (told (entry.Dropped edge origin cause) seen) are
+told_read (entry.Session edge peer name ∷ es) seen are = told_read es (told (entry.Session edge peer name) seen) are
+told_read (entry.Wire edge wire down ∷ es) seen are = told_read es (told (entry.Wire edge wire down) seen) are
+told_read (entry.Pong edge wire sequence ∷ es) seen are = told_read es (told (entry.Pong edge wire sequence) seen) are
+
+-- the event behind which they are told has applied
+pub told_applied : (es : List Entry) → AreTold es → is_idle_behind es ≡ false
+told_applied [] are = refl
+told_applied (entry.Did event ∷ es) are = absurd are
+told_applied (entry.Idle ∷ es) are = absurd are
+told_applied (entry.Said from to octets ∷ es) are = told_applied es are
+told_applied (entry.In circuit number octets ∷ es) are = told_applied es are
+told_applied (entry.Sent from to wire came packet origin hops octets ∷ es) are = told_applied es are
+told_applied (entry.Copied packet of ∷ es) are = told_applied es are
+told_applied (entry.Aged packet ∷ es) are = told_applied es are
+told_applied (entry.Left circuit origin hops octets ∷ es) are = told_applied es are
+told_applied (entry.Dropped edge origin cause ∷ es) are = told_applied es are
+told_applied (entry.Session edge peer name ∷ es) are = told_applied es are
+told_applied (entry.Wire edge wire down ∷ es) are = told_applied es are
+told_applied (entry.Pong edge wire sequence ∷ es) are = told_applied es are
 
 -- what an event tells is read behind it
-pub event_read : (plan : Plan) (event : Event) (network : NetworkState) (reading : Reading) (after : Stepped) → Shows plan network (shown reading) → IsShown plan event network (shown reading) after
-    → Shows plan after.state (shown (read_from reading (entry.Did event ∷ after.entries)))
-event_read plan event network reading after shows (WasIdle same) = subst (λ (s : Stepped). Shows plan s.state (shown (read_from reading (entry.Did event ∷ s.entries)))) (sym same) shows
-event_read plan event network reading after shows (HasGone are goes) = subst (Shows plan after.state) (sym (told_read after.entries (reads reading (entry.Did event)) are)) goes
+pub event_read : (plan : Plan) (event : Event) (network : NetworkState) (seen : Seen) (after : Stepped) → Shows plan network seen → IsShown plan event network seen after
+    → Shows plan after.state (seen_from seen (entry.Did event ∷ after.entries))
+event_read plan event network seen after shows (WasIdle same) = subst (λ (s : Stepped). Shows plan s.state (seen_from seen (entry.Did event ∷ s.entries))) (sym same) shows
+event_read plan event network seen after shows (HasGone are goes) = subst (λ (idle : Bool). Shows plan after.state (seen_from (happened_or idle event seen) after.entries)) (sym (told_applied after.entries are))
+    (subst (Shows plan after.state) (sym (told_read after.entries (happened event seen) are)) goes)
 
 -- ---- one event
 
@@ -74,23 +91,27 @@ brings_shown plan (Discard number) network seen checked types ordered shows alon
 brings_shown plan (Again number) network seen checked types ordered shows alone numbered = again_shown plan network seen shows alone number (packet_at network number) refl
 brings_shown plan (Ping me wire) network seen checked types ordered shows alone numbered = ping_shown plan network seen shows alone me wire
 
-pub step_shows : (plan : Plan) (event : Event) (network : NetworkState) (reading : Reading) → IsChecked plan → HasTypes plan → IsOrdered plan network → AreNumbered network → Shows plan network (shown reading)
-    → Shows plan (step plan network event).state (shown (read_from reading (step plan network event).entries))
-step_shows plan event network reading checked types ordered numbered shows =
-    event_read plan event network reading (brings plan event network) shows (brings_shown plan event network (shown reading) checked types ordered shows (none_alone plan network ordered) numbered)
+pub step_shows : (plan : Plan) (event : Event) (network : NetworkState) (seen : Seen) → IsChecked plan → HasTypes plan → IsOrdered plan network → AreNumbered network → Shows plan network seen
+    → Shows plan (step plan network event).state (seen_from seen (step plan network event).entries)
+step_shows plan event network seen checked types ordered numbered shows =
+    event_read plan event network seen (brings plan event network) shows (brings_shown plan event network seen checked types ordered shows (none_alone plan network ordered) numbered)
 
 -- ---- runs
 
-pub after_shows : (plan : Plan) (events : List Event) (network : NetworkState) (reading : Reading) → IsChecked plan → HasTypes plan → All (IsEventOf plan) events → IsOrdered plan network → AreNumbered network → Shows plan network (shown reading)
-    → Shows plan (state_after plan network events) (shown (read_from reading (entries_along plan network events)))
-after_shows plan [] network reading checked types planned ordered numbered shows = shows
-after_shows plan (e ∷ es) network reading checked types planned ordered numbered shows =
-    subst (λ (r : Reading). Shows plan (state_after plan (step plan network e).state es) (shown r)) (sym (read-append (step plan network e).entries (entries_along plan (step plan network e).state es) reading))
-    (after_shows plan es (step plan network e).state (read_from reading (step plan network e).entries) checked types (All-tail (IsEventOf plan) e es planned)
-    (step_keeps plan e network checked types (All-head (IsEventOf plan) e es planned) ordered).ordered (step_numbered plan network e numbered) (step_shows plan e network reading checked types ordered numbered shows))
+pub along_begins : (plan : Plan) (network : NetworkState) (events : List Event) → BeginsEvent (entries_along plan network events)
+along_begins plan network [] = tt
+along_begins plan network (e ∷ es) = tt
+
+pub after_shows : (plan : Plan) (events : List Event) (network : NetworkState) (seen : Seen) → IsChecked plan → HasTypes plan → All (IsEventOf plan) events → IsOrdered plan network → AreNumbered network → Shows plan network seen
+    → Shows plan (state_after plan network events) (seen_from seen (entries_along plan network events))
+after_shows plan [] network seen checked types planned ordered numbered shows = shows
+after_shows plan (e ∷ es) network seen checked types planned ordered numbered shows =
+    subst (Shows plan (state_after plan (step plan network e).state es)) (sym (seen_on (step plan network e).entries (entries_along plan (step plan network e).state es) seen (along_begins plan (step plan network e).state es)))
+    (after_shows plan es (step plan network e).state (seen_from seen (step plan network e).entries) checked types (All-tail (IsEventOf plan) e es planned)
+    (step_keeps plan e network checked types (All-head (IsEventOf plan) e es planned) ordered).ordered (step_numbered plan network e numbered) (step_shows plan e network seen checked types ordered numbered shows))
 
 pub empty_shows : (plan : Plan) → Shows plan (empty_network plan) nothing_seen
-empty_shows plan = record { standing = λ a b. refl; pipes = λ a b. refl; rests = λ a b. refl; up = λ a wire. refl; on = λ circuit row is. refl; under_way = refl }
+empty_shows plan = record { standing = λ a b. refl; pipes = λ a b. refl; rests = λ a b. refl; up = λ a wire. refl; on = λ circuit row is. refl; under_way = refl; counted = tt }
 
 pub run_shows : (plan : Plan) (events : List Event) → IsRun plan events → Shows plan (network_after plan events) (seen_in (run plan events).entries)
-run_shows plan events is = after_shows plan events (empty_network plan) nothing_read is.checked is.types is.planned (empty_ordered plan is.checked) (record { rise = tt; counted = tt }) (empty_shows plan)
+run_shows plan events is = after_shows plan events (empty_network plan) nothing_seen is.checked is.types is.planned (empty_ordered plan is.checked) (record { rise = tt; counted = tt }) (empty_shows plan)

@@ -1,5 +1,5 @@
 -- What the entries of an edge's work show.
-use Rattle.std.proofs.Common.{◌≡◌, ◌+◌, ◌++◌, ◌&&◌, ◌||◌, ◌∙◌, not, ℕ, Bool, true, false, List, [], ◌∷◌, Option, Some, None, cond, map, nat_eq, refl, sym, ap, append_assoc, inl, inr}
+use Rattle.std.proofs.Common.{◌≡◌, ◌+◌, ◌++◌, ◌&&◌, ◌||◌, ◌∙◌, not, ℕ, Bool, true, false, List, [], ◌∷◌, Option, cond, map, nat_eq, refl, sym, ap, subst, arith, append_assoc, inl, inr}
 use Rattle.std.proofs.lemmas.Bool.{cases_Bool, eqb-true}
 use Rattle.net_base.specs.declared.plan.places.EdgeId.{EdgeId}
 use Rattle.net_base.specs.declared.trace.entry.Entry.{Entry}
@@ -12,9 +12,10 @@ use Rattle.flight_model.specs.Meeting.{said_to}
 use Rattle.flight_model.proofs.WorkLemmas.{said-append, same_end, same_place}
 use Rattle.network_model.specs.Absorb.{absorb_all, absorb_one, all_entries_of, entries_told}
 use Rattle.network_model.specs.State.{NetworkState, with_packet, with_pipe}
-use Rattle.seen_network.specs.Seen.{Seen, SeenCopy, copy_comes, end_goes, is_up, said_towards, session_told, told, with_copies, with_octets, with_rest, with_standing, with_up}
-use Rattle.seen_laws.specs.Shows.{AreTold, copy_of, tolds}
+use Rattle.seen_network.specs.Seen.{Seen, SeenCopy, copy_comes, end_goes, is_up, said_towards, session_told, told, with_copies, with_octets, with_rest, with_standing, with_up, without_copy}
+use Rattle.seen_laws.specs.Shows.{AreTold, AreUpTo, copy_of, tolds}
 use Rattle.seen_laws.specs.Work.{ended, up_after}
+use Rattle.seen_laws.proofs.CopyLemmas.{below_behind, below_more, none_without, without_below}
 use Rattle.seen_laws.proofs.TellLemmas.{ended-append, up-append}
 
 -- ---- joined entries
@@ -256,7 +257,7 @@ all_show me origin hops [] network seen = shows_none me.0 [] seen seen (λ k. re
 all_show me origin hops (e ∷ es) network seen =
     let first : Seen = tolds (entries_told me origin hops e network) seen in
     let rest : List Entry = all_entries_of me origin hops es (absorb_one me origin hops e network) in
-    Rattle.std.proofs.Common.subst (ShownBy me.0 (e ∷ es) seen) (sym (tolds-append (entries_told me origin hops e network) rest seen))
+    subst (ShownBy me.0 (e ∷ es) seen) (sym (tolds-append (entries_told me origin hops e network) rest seen))
     (shown_then me.0 (e ∷ []) es seen first (tolds rest first) (one_shows me origin hops e network seen) (all_show me origin hops es (absorb_one me origin hops e network) first))
 
 -- ---- packets
@@ -287,23 +288,50 @@ unfolding with_pipe
 put_way from to octets network true = refl
 put_way from to octets network false = refl
 
-one_way : (me : EdgeId) (origin hops : ℕ) (e : Effect) (network : NetworkState) (seen : Seen) → seen.under_way ≡ map copy_of network.under_way
+put_sent : (from to : EdgeId) (octets : List ℕ) (network : NetworkState) (b : Bool) → (cond b (with_pipe from to octets network) network).sent ≡ network.sent
+unfolding with_pipe
+put_sent from to octets network true = refl
+put_sent from to octets network false = refl
+
+one_way : (me : EdgeId) (origin hops : ℕ) (e : Effect) (network : NetworkState) (seen : Seen) → AreUpTo network.sent seen.under_way → seen.under_way ≡ map copy_of network.under_way
     → (tolds (entries_told me origin hops e network) seen).under_way ≡ map copy_of (absorb_one me origin hops e network).under_way
 unfolding with_copies with_up with_packet
-one_way me origin hops (effect.Said peer octets) network seen same = said_way me.0 peer.0 octets seen ∙ (same ∙ ap (map copy_of) (sym (put_way me peer _ network _)))
-one_way me origin hops (effect.Session peer name) network seen same = session_way me.0 peer.0 name seen ∙ same
-one_way me origin hops (effect.Wire wire down) network seen same = same
-one_way me origin hops (effect.Sent peer wire came octets) network seen same = ap (λ (l : List SeenCopy). l ++ record { number = network.sent + 1; origin = origin } ∷ []) same ∙ sym (sent_more network.under_way _)
-one_way me origin hops (effect.Left circuit octets) network seen same = same
-one_way me origin hops (effect.Dropped cause) network seen same = same
-one_way me origin hops (effect.Pong wire sequence) network seen same = same
-one_way me origin hops (effect.Closed peer) network seen same = same ∙ ap (map copy_of) (sym (put_way peer me [] network true))
+one_way me origin hops (effect.Said peer octets) network seen below same = said_way me.0 peer.0 octets seen ∙ (same ∙ ap (map copy_of) (sym (put_way me peer _ network _)))
+one_way me origin hops (effect.Session peer name) network seen below same = session_way me.0 peer.0 name seen ∙ same
+one_way me origin hops (effect.Wire wire down) network seen below same = same
+one_way me origin hops (effect.Sent peer wire came octets) network seen below same =
+    ap (λ (l : List SeenCopy). l ++ record { number = network.sent + 1; origin = origin } ∷ []) (none_without network.sent (network.sent + 1) seen.under_way below (omega arith) ∙ same) ∙ sym (sent_more network.under_way _)
+one_way me origin hops (effect.Left circuit octets) network seen below same = same
+one_way me origin hops (effect.Dropped cause) network seen below same = same
+one_way me origin hops (effect.Pong wire sequence) network seen below same = same
+one_way me origin hops (effect.Closed peer) network seen below same = same ∙ ap (map copy_of) (sym (put_way peer me [] network true))
 
-pub all_way : (me : EdgeId) (origin hops : ℕ) (es : List Effect) (network : NetworkState) (seen : Seen) → seen.under_way ≡ map copy_of network.under_way
-    → (tolds (all_entries_of me origin hops es network) seen).under_way ≡ map copy_of (absorb_all me origin hops es network).under_way
-all_way me origin hops [] network seen same = same
-all_way me origin hops (e ∷ es) network seen same =
+-- a new number is the highest one
+one_counted : (me : EdgeId) (origin hops : ℕ) (e : Effect) (network : NetworkState) (seen : Seen) → AreUpTo network.sent seen.under_way
+    → AreUpTo (absorb_one me origin hops e network).sent (tolds (entries_told me origin hops e network) seen).under_way
+unfolding with_copies with_up with_packet
+one_counted me origin hops (effect.Said peer octets) network seen below =
+    subst (λ (n : ℕ). AreUpTo n (said_towards me.0 peer.0 octets seen).under_way) (sym (put_sent me peer _ network _)) (subst (AreUpTo network.sent) (sym (said_way me.0 peer.0 octets seen)) below)
+one_counted me origin hops (effect.Session peer name) network seen below = subst (AreUpTo network.sent) (sym (session_way me.0 peer.0 name seen)) below
+one_counted me origin hops (effect.Wire wire down) network seen below = below
+one_counted me origin hops (effect.Sent peer wire came octets) network seen below =
+    below_behind (network.sent + 1) (without_copy (network.sent + 1) seen.under_way) (record { number = network.sent + 1; origin = origin })
+    (below_more network.sent (network.sent + 1) (without_copy (network.sent + 1) seen.under_way) (omega arith) (without_below network.sent (network.sent + 1) seen.under_way below)) (omega arith)
+one_counted me origin hops (effect.Left circuit octets) network seen below = below
+one_counted me origin hops (effect.Dropped cause) network seen below = below
+one_counted me origin hops (effect.Pong wire sequence) network seen below = below
+one_counted me origin hops (effect.Closed peer) network seen below = subst (λ (n : ℕ). AreUpTo n seen.under_way) (sym (put_sent peer me [] network true)) below
+
+-- what is under way is seen, with numbers up to the count
+pub record SeesPackets (network : NetworkState) (seen : Seen) : Type 0 where
+  pub under_way : seen.under_way ≡ map copy_of network.under_way
+  pub counted : AreUpTo network.sent seen.under_way
+
+pub all_way : (me : EdgeId) (origin hops : ℕ) (es : List Effect) (network : NetworkState) (seen : Seen) → SeesPackets network seen
+    → SeesPackets (absorb_all me origin hops es network) (tolds (all_entries_of me origin hops es network) seen)
+all_way me origin hops [] network seen sees = sees
+all_way me origin hops (e ∷ es) network seen sees =
     let first : Seen = tolds (entries_told me origin hops e network) seen in
     let next : NetworkState = absorb_one me origin hops e network in
-    ap (λ (s : Seen). s.under_way) (tolds-append (entries_told me origin hops e network) (all_entries_of me origin hops es next) seen)
-    ∙ all_way me origin hops es next first (one_way me origin hops e network seen same)
+    subst (SeesPackets (absorb_all me origin hops es next)) (sym (tolds-append (entries_told me origin hops e network) (all_entries_of me origin hops es next) seen))
+    (all_way me origin hops es next first (record { under_way = one_way me origin hops e network seen sees.counted sees.under_way; counted = one_counted me origin hops e network seen sees.counted }))

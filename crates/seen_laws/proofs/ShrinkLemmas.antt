@@ -20,7 +20,7 @@ use Rattle.mac_table.specs.Addresses.{has_address, is_of}
 use Rattle.mac_table.specs.declared.mac_entry.MacEntry.{MacEntry}
 use Rattle.pw_signalling.specs.declared.told.Told.{Told}
 use Rattle.pw_signalling.specs.End.{EndState}
-use Rattle.pw_signalling.specs.Rows.{bound, group_stated, group_unbound, released, stated, telling, unbound, withdrawn}
+use Rattle.pw_signalling.specs.Rows.{bound, group_stated, group_unbound, stated, telling, unbound, withdrawn}
 use Rattle.pw_tlvs.specs.declared.pw_fec.PwFec.{PwFec}
 use Rattle.session_core.specs.Table.{Closed, Ticked}
 use Rattle.edge_model.specs.Circuit.{circuit_input, is_same, turned}

@@ -29,7 +29,7 @@ use Rattle.network_model.specs.declared.packet.Packet.{Packet}
 use Rattle.network_model.specs.Packet.{again_event, discard_event, packet_at}
 use Rattle.network_model.specs.Ping.{ping_event, ping_work}
 use Rattle.network_model.specs.Run.{entries_along, run}
-use Rattle.network_model.specs.State.{NetworkState, all_older, edge_at, empty_network, lives_on, older, stands, with_copy, with_edge, with_older, with_packet, with_pipe, without_number, without_octets_to, without_packet}
+use Rattle.network_model.specs.State.{NetworkState, all_older, edge_at, empty_network, lives_on, older, stands, with_copy, with_edge, with_older, with_pipe, without_number, without_octets_to, without_packet}
 use Rattle.network_model.specs.Step.{brings, step}
 use Rattle.network_model.specs.Tick.{tick_at, ticks_from}
 use Rattle.network_model.specs.Window.{packet_teaches, teaches}

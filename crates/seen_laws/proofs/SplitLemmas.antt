@@ -25,7 +25,7 @@ use Rattle.network_model.specs.State.{NetworkState, stands, with_edge, with_fram
 use Rattle.network_model.specs.Step.{brings, step}
 use Rattle.network_model.specs.Age.{aged_entries}
 use Rattle.network_model.specs.Tick.{tick_at, tick_event, ticks_from}
-use Rattle.seen_network.specs.Once.{BeginsEvent}
+use Rattle.seen_network.specs.Seen.{BeginsEvent}
 use Rattle.seen_laws.specs.Shows.{AreTold}
 use Rattle.seen_laws.proofs.AgeLemmas.{aged_told}
 use Rattle.seen_laws.proofs.SeenLemmas.{told-append, work_told}

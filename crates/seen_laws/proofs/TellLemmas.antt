@@ -12,7 +12,7 @@ use Rattle.net_base.specs.plan.Places.{wire_row}
 use Rattle.ldp_grammar.specs.declared.message.Message.{Message}
 use Rattle.pw_signalling.specs.declared.told.Told.{Told}
 use Rattle.pw_signalling.specs.End.{EndState}
-use Rattle.pw_signalling.specs.Rows.{bound, group_stated, group_unbound, lost, released, stated, telling, unbound, withdrawn}
+use Rattle.pw_signalling.specs.Rows.{bound, group_stated, group_unbound, stated, telling, unbound, withdrawn}
 use Rattle.pw_tlvs.specs.declared.pw_fec.PwFec.{PwFec}
 use Rattle.session_core.specs.declared.reply.Reply.{Reply}
 use Rattle.session_core.specs.Phase.{Phase}

@@ -1,5 +1,6 @@
 -- What a trace shows is what the network is.
-use Rattle.std.specs.Prelude.{◌≡◌, ◌&&◌, not, nat_eq, ℕ, false, List, [], ◌∷◌, Some, map, if◌then◌else◌}
+use Rattle.std.specs.Prelude.{◌≡◌, ◌≤◌, ◌&&◌, not, nat_eq, ℕ, false, List, [], ◌∷◌, Some, map, if◌then◌else◌}
+use Rattle.std.specs.List.{AllByRecursion}
 use Rattle.net_base.specs.declared.plan.Plan.{Plan}
 use Rattle.net_base.specs.declared.plan.circuit_plan.CircuitPlan.{CircuitPlan}
 use Rattle.net_base.specs.declared.plan.places.CircuitId.{CircuitId}
@@ -18,6 +19,10 @@ use Rattle.seen_laws.specs.Work.{ended, up_after}
 abbrev pub copy_of : Packet → SeenCopy
 copy_of packet = record { number = packet.number; origin = packet.origin }
 
+-- none of these copies has a number above this one
+abbrev pub AreUpTo : ℕ → List SeenCopy → Type 0
+AreUpTo most copies = AllByRecursion (λ copy. copy.number ≤ most) copies
+
 pub record Shows (plan : Plan) (network : NetworkState) (seen : Seen) : Type 0 where
   pub standing : (a b : ℕ) → seen.stands a b ≡ stands network a b
   pub pipes : (a b : ℕ) → seen.pipes a b ≡ network.pipes a b
@@ -25,6 +30,7 @@ pub record Shows (plan : Plan) (network : NetworkState) (seen : Seen) : Type 0 w
   pub up : (a wire : ℕ) → seen.up a wire ≡ is_up ((network.edges a).told_down wire)
   pub on : (circuit : CircuitId) (row : CircuitPlan) → circuit_row plan circuit ≡ Some row → seen.on circuit.0 ≡ (network.edges row.edge.0).circuit_on circuit.0
   pub under_way : seen.under_way ≡ map copy_of network.under_way
+  pub counted : AreUpTo network.sent seen.under_way
 
 -- ---- entries without an event
 
@@ -54,3 +60,4 @@ pub record IsReady (plan : Plan) (network : NetworkState) (me : EdgeId) (work : 
   pub ups : (a wire : ℕ) → nat_eq a me.0 ≡ false → seen.up a wire ≡ is_up ((network.edges a).told_down wire)
   pub on : (circuit : CircuitId) (row : CircuitPlan) → circuit_row plan circuit ≡ Some row → seen.on circuit.0 ≡ ((with_edge me work.edge network).edges row.edge.0).circuit_on circuit.0
   pub under_way : seen.under_way ≡ map copy_of network.under_way
+  pub counted : AreUpTo network.sent seen.under_way
