@@ -29,7 +29,7 @@ unfolding match_second
 second_is =
     (Decides-below_and (λ n. slice_index SECOND n == second_part (digit_value n)) (λ n. slice_index SECOND n ≡ second_part (digit_value n)) match_second (λ n. Decides-eqb _ _) refl (λ _. refl) 256).0 refl
 
-below : (octet value : ℕ) → digit_value octet ≡ Some value → value < 16
+pub below : (octet value : ℕ) → digit_value octet ≡ Some value → value < 16
 below octet value e = grind (arith, nat_tests)
 
 below_both : (a b : ℕ) → bit_or a b < 256 → (a < 256) × (b < 256)
@@ -84,14 +84,14 @@ same_behind : (read : Option (List ℕ)) → read ≡ behind (Some []) read
 same_behind None = refl
 same_behind (Some ys) = refl
 
-unhex_front : (count : ℕ) (front back : List ℕ) → length front ≡ 2 * count → unhex (front ++ back) ≡ behind (unhex front) (unhex back)
+pub unhex_front : (count : ℕ) (front back : List ℕ) → length front ≡ 2 * count → unhex (front ++ back) ≡ behind (unhex front) (unhex back)
 unhex_front count [] back size = same_behind (unhex back)
 unhex_front count (a ∷ []) back size = absurd (omega (arith, size))
 unhex_front count (a ∷ b ∷ more) back size =
     rw (unhex_front (count - 1) more back (omega (arith, size))) (behind_more (pair_value a b) (unhex more) (unhex back))
 
 -- the octets of what is left are those of a piece of it, and those behind it
-unhex_from : (digits : List ℕ) (at count : ℕ) → at + 2 * count ≤ length digits
+pub unhex_from : (digits : List ℕ) (at count : ℕ) → at + 2 * count ≤ length digits
     → unhex (drop at digits) ≡ behind (unhex (take (2 * count) (drop at digits))) (unhex (drop (at + 2 * count) digits))
 unhex_from digits at count within =
     let rest : List ℕ = drop at digits in

@@ -1,5 +1,6 @@
 pub mod DecimalLemmas
 pub mod FrameLemmas
 pub mod HexLemmas
+pub mod LaneLemmas
 pub mod NameLemmas
 pub mod WordLemmas

@@ -20,6 +20,10 @@ first_part value = unwrap_or (option_map (λ v. v * 16) value) 256
 abbrev pub second_part : Option ℕ → ℕ
 second_part value = unwrap_or value 256
 
+-- what a digit is worth; 255 where it is none
+abbrev pub worth : ℕ → ℕ
+worth octet = unwrap_or (digit_value octet) 255
+
 -- the octets of pairs of digits
 abbrev pub unhex : List ℕ → Option (List ℕ)
 unhex [] = Some []

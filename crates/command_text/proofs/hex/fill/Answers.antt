@@ -1,8 +1,19 @@
--- The octet of two more digits is written.
-use Rattle.std.proofs.Common.{arith}
-use Rattle.command_text.proofs.HexLemmas.{filled_by}
+-- The octets of the front, and those behind them.
+use Rattle.std.proofs.Common.{◌++◌, ◌∙◌, Bool, Some, None, if◌then◌else◌, ap, sym, arith}
+use Rattle.command_text.specs.Hex.{unhex}
+use Rattle.command_text.proofs.LaneLemmas.{both_filled, none_filled}
 use Rattle.command_text.proofs.hex.fill.Goals as goal
 
-pub filling-preserved : goal.filling-preserved
-filling-preserved c =
-    filled_by c.args.digits.now c.filling.room c.filling.i c.filling.joined c.pair-octet.result (omega arith) (omega arith) c.pair-octet.ensures c.filling.invariant
+pub returns-then-fill_eights : goal.returns-then-fill_eights
+returns-then-fill_eights c =
+    both_filled c.args.digits.now c.fill_eights.new.room c.fill_pairs.new.room _ c.fill_pairs.result (omega arith)
+    (ap unhex (sym c.split_at.ensures.front) ∙ (c.fill_eights.ensures.octets ∙ ap (λ (b : Bool). if b then Some c.fill_eights.new.room else None) c.if-fill_eights.true))
+    (ap unhex (sym c.split_at.ensures.back) ∙ c.fill_pairs.ensures)
+
+pub returns-else-fill_eights : goal.returns-else-fill_eights
+returns-else-fill_eights c =
+    let front = c.fill_eights.new.room in
+    let whole = front ++ c.split_at_mut-first.result.1.now in
+    none_filled c.args.digits.now _ (omega arith)
+    (ap unhex (sym c.split_at.ensures.front) ∙ (c.fill_eights.ensures.octets ∙ ap (λ (b : Bool). if b then Some front else None) c.if-fill_eights.false))
+    ∙ ap (λ (b : Bool). if b then Some whole else None) (sym c.if-fill_eights.false)
