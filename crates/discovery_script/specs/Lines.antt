@@ -1,0 +1,88 @@
+-- The lines of a script by their words.
+use Rattle.std.specs.Prelude.{◌+◌, ◌-◌, ◌^◌, ◌||◌, codes, drop, ℕ, Bool, List, [], ◌∷◌, Result, Ok, Err, if◌then◌else◌}
+use Rattle.std.specs.Str.{bytes_eq}
+use Rattle.command_text.specs.declared.command.Command.{Command}
+use Rattle.command_text.specs.declared.plan_names.PlanNames.{PlanNames}
+use Rattle.command_text.specs.declared.scenario_fault.ScenarioFault.{ScenarioFault}
+use Rattle.command_text.specs.declared.scenario_fault.ScenarioFault.TheVariants.{BadWord}
+use Rattle.command_text.specs.Events.{command_in}
+use Rattle.command_text.specs.Names.{place_in}
+use Rattle.command_text.specs.Words.{decimal_from, first_word}
+use Rattle.script_text.specs.declared.script_fault.ScriptFault.{ScriptFault}
+use Rattle.script_text.specs.declared.script_fault.ScriptFault.TheVariants.{Bad}
+use Rattle.script_text.specs.Script.{script, spaced}
+use Rattle.discovery_script.specs.declared.script_line.ScriptLine.{ScriptLine}
+use Rattle.discovery_script.specs.declared.script_line.ScriptLine.TheVariants as line
+use Rattle.script_text.specs.Reading.{◌>>=◌}
+use Rattle.script_words.specs.Reading.{ends_behind, first_of, said_at}
+
+-- hello E P N
+unfoldable pub hello_in : PlanNames → ℕ → List (List ℕ) → Result ScriptLine ScriptFault
+hello_in names number words = do
+  from ← said_at (place_in names.edges) number 2 words
+  to ← said_at (place_in names.edges) number 3 words
+  hold ← said_at (decimal_from 0 65535) number 4 words
+  end ← ends_behind number 4 words
+  Ok (line.Hello (record { 0 = from }) (record { 0 = to }) hold)
+
+-- bring K
+unfoldable pub bring_in : ℕ → List (List ℕ) → Result ScriptLine ScriptFault
+bring_in number words = do
+  hello ← said_at (decimal_from 1 (2 ^ 64 - 1)) number 2 words
+  end ← ends_behind number 2 words
+  Ok (line.Bring hello)
+
+-- open E P
+unfoldable pub open_in : PlanNames → ℕ → List (List ℕ) → Result ScriptLine ScriptFault
+open_in names number words = do
+  from ← said_at (place_in names.edges) number 2 words
+  to ← said_at (place_in names.edges) number 3 words
+  end ← ends_behind number 3 words
+  Ok (line.Open (record { 0 = from }) (record { 0 = to }))
+
+-- tick
+unfoldable pub tick_in : ℕ → List (List ℕ) → Result ScriptLine ScriptFault
+tick_in number words = do
+  end ← ends_behind number 1 words
+  Ok line.Tick
+
+-- ---- do WORDS: a command of a scenario
+
+-- but these: connections open and ticks pass by lines of their own, and a script plays no capture
+abbrev pub is_barred : List ℕ → Bool
+is_barred word = (bytes_eq word (codes "connect") || bytes_eq word (codes "tick")) || bytes_eq word (codes "play")
+
+-- the word of a command stands behind `do`
+abbrev pub command_at : ℕ → Result Command ScenarioFault → Result ScriptLine ScriptFault
+command_at number (Ok command) = Ok (line.Do command)
+command_at number (Err (BadWord event word)) = Err (Bad number (word + 1))
+command_at number (Err fault) = Err (Bad number 2)
+
+abbrev pub said_behind : PlanNames → ℕ → List ℕ → Result ScriptLine ScriptFault
+said_behind names number text = if is_barred (first_word text) then Err (Bad number 2) else command_at number (command_in names 1 0 text)
+
+unfoldable pub do_in : PlanNames → ℕ → List (List ℕ) → Result ScriptLine ScriptFault
+do_in names number words = said_behind names number (spaced (drop 1 words))
+
+-- ---- any line, by its first word
+
+abbrev pub line_by : PlanNames → ℕ → List ℕ → List (List ℕ) → Result ScriptLine ScriptFault
+line_by names number word words =
+    if bytes_eq word (codes "hello") then hello_in names number words
+    else if bytes_eq word (codes "bring") then bring_in number words
+    else if bytes_eq word (codes "open") then open_in names number words
+    else if bytes_eq word (codes "tick") then tick_in number words
+    else if bytes_eq word (codes "do") then do_in names number words
+    else Err (Bad number 1)
+
+unfoldable pub line_of : PlanNames → ℕ → List (List ℕ) → Result ScriptLine ScriptFault
+line_of names number words = line_by names number (first_of words) words
+
+-- the lines, the first of which has this number
+abbrev pub lines_of : PlanNames → ℕ → List (List (List ℕ)) → Result (List ScriptLine) ScriptFault
+lines_of names number [] = Ok []
+lines_of names number (words ∷ rest) = line_of names number words >>= (λ line. lines_of names (number + 1) rest >>= (λ lines. Ok (line ∷ lines)))
+
+-- the lines that octets are, or the first place that is wrong: what is no word comes before a word that fits no line
+unfoldable pub lines_in : PlanNames → List ℕ → Result (List ScriptLine) ScriptFault
+lines_in names octets = script octets >>= lines_of names 1

@@ -1,0 +1,73 @@
+//! The line of a note.
+ghost use Rattle.std.specs.Prelude.{◌≡◌, ◌∷◌, [], codes, map};
+ghost use Rattle.std.specs.Fmt.{decimal};
+ghost use Rattle.report_text.specs.Words.{edge_name};
+ghost use Rattle.text_lines.specs.Lines.{word_octets};
+ghost use Rattle.text_lines.specs.Written.{PutsOn};
+ghost use Rattle.text_pieces.specs.Pieces.{hex};
+ghost use Rattle.discovery_text.specs.Text.{note_line};
+
+use discovery_script::Note;
+use net_base::{EdgeId, Failed, Plan, Sink};
+use report_text::edge_word;
+use text_lines::{Page, Word};
+
+// A Hello by its number, with its octets.
+fn hello<'a>(
+    plan: &'a Plan,
+    number: u64,
+    from: EdgeId,
+    to: EdgeId,
+    bytes: &'a [u8],
+) -> [Word<'a>; 4]
+    ensures { map word_octets result ≡ decimal number ∷ edge_name plan.now from ∷ edge_name plan.now to ∷ hex bytes.now ∷ [] }
+{
+    [
+        Word::Number(number),
+        edge_word(plan, from),
+        edge_word(plan, to),
+        Word::Hex(bytes),
+    ]
+}
+
+// An adjacency, and what has become of it.
+fn adjacency<'a>(plan: &'a Plan, edge: EdgeId, peer: EdgeId, state: &'a [u8]) -> [Word<'a>; 3]
+    ensures { map word_octets result ≡ edge_name plan.now edge ∷ edge_name plan.now peer ∷ state.now ∷ [] }
+{
+    [
+        edge_word(plan, edge),
+        edge_word(plan, peer),
+        Word::Text(state),
+    ]
+}
+
+/// Puts the line of a note.
+pub fn put_note<K: Sink>(
+    page: &mut Page,
+    sink: &mut K,
+    plan: &Plan,
+    note: &Note,
+) -> Result<(), Failed>
+    ensures { PutsOn K.taken K.faults page.old page.new sink.old sink.new result (note_line plan.now note.now) }
+{
+    match note {
+        Note::Hello {
+            number,
+            from,
+            to,
+            bytes,
+        } => page.put_line(sink, b"hello", &hello(plan, *number, *from, *to, bytes)),
+        Note::Up { edge, peer } => {
+            page.put_line(sink, b"adjacency", &adjacency(plan, *edge, *peer, b"up"))
+        }
+        Note::Down { edge, peer } => {
+            page.put_line(sink, b"adjacency", &adjacency(plan, *edge, *peer, b"down"))
+        }
+        Note::Barred { from, to } => page.put_line(
+            sink,
+            b"barred",
+            &[edge_word(plan, *from), edge_word(plan, *to)],
+        ),
+        Note::Idle => page.put_line(sink, b"idle", &[]),
+    }
+}

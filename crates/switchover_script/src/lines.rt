@@ -1,0 +1,228 @@
+//! The lines of a script.
+ghost use Rattle.std.specs.Prelude.{◌≡◌, ◌<◌, ◌≤◌, length, slice_get, IfOk, IfSome};
+ghost use Rattle.command_text.specs.Planned.{names_of};
+ghost use Rattle.net_base.specs.plan.NameFaults.{wire_names};
+ghost use Rattle.script_words.specs.Reading.{said_at};
+ghost use Rattle.switchover_model.specs.Planned.{IsLineOf};
+ghost use Rattle.switchover_script.specs.Lines.{between_two, connect_in, cut_in, deliver_in, edge_at, has_two_edges, set_in, settle_in, short_wire, switch_line_of, wire_at, wish_of};
+
+use command_text::{PlanNames, is_same};
+use net_base::{EdgeId, Plan, WireId};
+use script_text::{Line, ScriptFault};
+use script_words::{ends_at, first_word, number_at, place_at};
+use status_exchange::Wish;
+use switchover_model::SwitchLine;
+
+// The edge that a word names.
+fn edge(
+    plan: &Plan,
+    names: &PlanNames<'_>,
+    number: u32,
+    word: u32,
+    line: &Line,
+) -> Result<u16, ScriptFault>
+    requires names { names.now ≡ names_of plan.now }
+    requires word { 1 ≤ word }
+    ensures exact { result ≡ edge_at plan.now number word line.now }
+    ensures within { IfOk result (λ place. place < length plan.now.edges) }
+{
+    place_at(&names.edges, number, word, line)
+}
+
+// The wire at a place, where it has two edges.
+#[tactic(auto, unfolding(crate::specs::Lines::between_two))]
+fn of_two(plan: &Plan, wire: u16) -> Option<u16>
+    ensures exact { result ≡ between_two plan.now wire }
+    ensures within { IfSome result (λ place. place < length plan.now.wires) }
+{
+    match plan.wires.get(wire as usize) {
+        Some(row) => {
+            if row.path.len() == 2 {
+                Some(wire)
+            } else {
+                None
+            }
+        }
+        None => None,
+    }
+}
+
+// The wire of two edges that a name is of.
+fn wire_named(plan: &Plan, names: &PlanNames<'_>, name: &str) -> Option<u16>
+    requires names { names.now ≡ names_of plan.now }
+    ensures exact { result ≡ short_wire plan.now name.now }
+    ensures within { IfSome result (λ place. place < length plan.now.wires) }
+{
+    match names.wires.place(name.as_bytes()) {
+        Some(place) => of_two(plan, place),
+        None => None,
+    }
+}
+
+// The wire of two edges that the third word names.
+fn wire(plan: &Plan, names: &PlanNames<'_>, number: u32, line: &Line) -> Result<u16, ScriptFault>
+    requires names { names.now ≡ names_of plan.now }
+    ensures exact { result ≡ wire_at plan.now number 3 line.now }
+    ensures within { IfOk result (λ place. place < length plan.now.wires) }
+{
+    match line.word(2) {
+        Some(name) => match wire_named(plan, names, name) {
+            Some(place) => Ok(place),
+            None => Err(ScriptFault::Bad {
+                line: number,
+                word: 3,
+            }),
+        },
+        None => Err(ScriptFault::Bad {
+            line: number,
+            word: 3,
+        }),
+    }
+}
+
+// `connect E P`.
+#[tactic(auto, unfolding(crate::specs::Lines::connect_in))]
+fn connect(
+    plan: &Plan,
+    names: &PlanNames<'_>,
+    number: u32,
+    line: &Line,
+) -> Result<SwitchLine, ScriptFault>
+    requires names { names.now ≡ names_of plan.now }
+    ensures exact { result ≡ connect_in plan.now number line.now }
+    ensures planned { IfOk result (IsLineOf plan.now) }
+{
+    let from = edge(plan, names, number, 2, line)?;
+    let to = edge(plan, names, number, 3, line)?;
+    ends_at(number, 3, line)?;
+    Ok(SwitchLine::Connect {
+        edge: EdgeId(from),
+        peer: EdgeId(to),
+    })
+}
+
+// `cut E P`.
+#[tactic(auto, unfolding(crate::specs::Lines::cut_in))]
+fn cut(
+    plan: &Plan,
+    names: &PlanNames<'_>,
+    number: u32,
+    line: &Line,
+) -> Result<SwitchLine, ScriptFault>
+    requires names { names.now ≡ names_of plan.now }
+    ensures exact { result ≡ cut_in plan.now number line.now }
+    ensures planned { IfOk result (IsLineOf plan.now) }
+{
+    let from = edge(plan, names, number, 2, line)?;
+    let to = edge(plan, names, number, 3, line)?;
+    ends_at(number, 3, line)?;
+    Ok(SwitchLine::Cut {
+        edge: EdgeId(from),
+        peer: EdgeId(to),
+    })
+}
+
+// `deliver E P N`, with N from 1 to 65535.
+#[tactic(auto, unfolding(crate::specs::Lines::deliver_in))]
+fn deliver(
+    plan: &Plan,
+    names: &PlanNames<'_>,
+    number: u32,
+    line: &Line,
+) -> Result<SwitchLine, ScriptFault>
+    requires names { names.now ≡ names_of plan.now }
+    ensures exact { result ≡ deliver_in plan.now number line.now }
+    ensures planned { IfOk result (IsLineOf plan.now) }
+{
+    let from = edge(plan, names, number, 2, line)?;
+    let to = edge(plan, names, number, 3, line)?;
+    let count = number_at(1, 65535, number, 4, line)? as u16;
+    ends_at(number, 4, line)?;
+    Ok(SwitchLine::Deliver {
+        from: EdgeId(from),
+        to: EdgeId(to),
+        count,
+    })
+}
+
+// `settle N`, with N from 1 to 10000.
+#[tactic(auto, unfolding(crate::specs::Lines::settle_in))]
+fn settle(plan: &Plan, number: u32, line: &Line) -> Result<SwitchLine, ScriptFault>
+    ensures exact { result ≡ settle_in number line.now }
+    ensures planned { IfOk result (IsLineOf plan.now) }
+{
+    let count = number_at(1, 10000, number, 2, line)? as u16;
+    ends_at(number, 2, line)?;
+    Ok(SwitchLine::Settle { count })
+}
+
+// `active E W`, `standby E W` or `ask E W`.
+#[tactic(auto, unfolding(crate::specs::Lines::set_in))]
+fn set(
+    plan: &Plan,
+    names: &PlanNames<'_>,
+    wish: Wish,
+    number: u32,
+    line: &Line,
+) -> Result<SwitchLine, ScriptFault>
+    requires names { names.now ≡ names_of plan.now }
+    ensures exact { result ≡ set_in plan.now wish number line.now }
+    ensures planned { IfOk result (IsLineOf plan.now) }
+{
+    let me = edge(plan, names, number, 2, line)?;
+    let of = wire(plan, names, number, line)?;
+    ends_at(number, 3, line)?;
+    Ok(SwitchLine::Set {
+        edge: EdgeId(me),
+        wire: WireId(of),
+        wish,
+    })
+}
+
+// What an edge calls a wire by a line of this first word.
+fn wish_of(word: &str) -> Option<Wish>
+    ensures { result ≡ wish_of word.now }
+{
+    if is_same(word, "active") {
+        Some(Wish::Active)
+    } else if is_same(word, "standby") {
+        Some(Wish::Standby)
+    } else if is_same(word, "ask") {
+        Some(Wish::Ask)
+    } else {
+        None
+    }
+}
+
+/// The line that words are, by the names of its plan. `Bad` comes exactly at the first word that fits no line: one that is missing
+/// stands at its number, one too many at its own.
+#[tactic(auto, unfolding(crate::specs::Lines::switch_line_of))]
+pub fn read_line(
+    plan: &Plan,
+    names: &PlanNames<'_>,
+    number: u32,
+    line: &Line,
+) -> Result<SwitchLine, ScriptFault>
+    requires names { names.now ≡ names_of plan.now }
+    ensures exact { result ≡ switch_line_of plan.now number line.now }
+    ensures planned { IfOk result (IsLineOf plan.now) }
+{
+    let word = first_word(line);
+    if is_same(word, "connect") {
+        connect(plan, names, number, line)
+    } else if is_same(word, "cut") {
+        cut(plan, names, number, line)
+    } else if is_same(word, "deliver") {
+        deliver(plan, names, number, line)
+    } else if is_same(word, "settle") {
+        settle(plan, number, line)
+    } else {
+        match wish_of(word) {
+            Some(wish) => set(plan, names, wish, number, line),
+            None => Err(ScriptFault::Bad {
+                line: number,
+                word: 1,
+            }),
+        }
+    }
+}
