@@ -1,0 +1,63 @@
+-- The lines of a script, one after another.
+use Rattle.std.proofs.Common.{◌≡◌, ◌≢◌, ◌∙◌, List, [], ◌∷◌, Option, Some, None, ap, sym, subst}
+use Rattle.std.proofs.lemmas.List.Elements.{All-head}
+use Rattle.std.specs.List.{All}
+use Rattle.net_base.specs.declared.plan.Plan.{Plan}
+use Rattle.network_model.specs.State.{empty_network}
+use Rattle.psn_net.specs.declared.net_stop.NetStop.{NetStop}
+use Rattle.psn_net.specs.declared.net_stop.NetStop.TheVariants.{NoMemory}
+use Rattle.psn_net.specs.Runs.{ended, ran}
+use Rattle.discovery_script.specs.declared.script_line.ScriptLine.{ScriptLine}
+use Rattle.discovery_script.specs.Planned.{IsLineOf}
+use Rattle.discovery_net.specs.Acts.{course}
+use Rattle.discovery_net.specs.Deeds.{Discovery, opened}
+use Rattle.discovery_net.specs.Lines.{acts_of, after_line}
+use Rattle.discovery_net.specs.Lists.{DiscoveryLists, HaltsIn, HasDone, IsAt, course_on, ended_at}
+use Rattle.discovery_net.specs.Script.{events_made, script_acts, script_course}
+use Rattle.discovery_net.proofs.CourseLemmas.{course_ran, halted_at, network_of}
+
+-- the network in the middle of a script, of which these lines are left
+pub record IsUnderWay (plan : Plan) (all left : List ScriptLine) (now : DiscoveryLists) : Type 0 where
+  pub discovery : Discovery
+  pub at : IsAt discovery now
+  pub comes : course_on now (script_acts plan discovery left) ≡ script_course plan all
+
+pub way_first : (plan : Plan) (all : List ScriptLine) (now : DiscoveryLists) → now.network.plan ≡ plan → now.network.trace ≡ [] → now.notes ≡ [] → IsAt (opened plan) now → IsUnderWay plan all all now
+way_first plan all now same trace notes at = record {
+  discovery = opened plan;
+  at = at;
+  comes = λ i. course (same i) (at.network i) (trace i) (notes i) (script_acts plan (opened plan) all);
+}
+
+pub way_next : (plan : Plan) (all items left : List ScriptLine) (line : ScriptLine) (old now : DiscoveryLists) → items ≡ line ∷ left → old.network.plan ≡ plan → ((d : Discovery) → IsAt d old → HasDone old now (acts_of old.network.plan d line))
+    → ((d : Discovery) → IsAt d old → IsAt (after_line old.network.plan d line) now) → IsUnderWay plan all items old → IsUnderWay plan all left now
+way_next plan all items left line old now split same acts after begun =
+    let way : IsUnderWay plan all (line ∷ left) old = subst (λ (ls : List ScriptLine). IsUnderWay plan all ls old) split begun in
+    record {
+      discovery = after_line plan way.discovery line;
+      at = subst (λ (p : Plan). IsAt (after_line p way.discovery line) now) same (after way.discovery way.at);
+      comes = subst (λ (p : Plan). HasDone old now (acts_of p way.discovery line)) same (acts way.discovery way.at) (script_acts plan (after_line plan way.discovery line) left) ∙ way.comes;
+    }
+
+pub way_stopped : (plan : Plan) (all items left : List ScriptLine) (line : ScriptLine) (old now : DiscoveryLists) (stop : NetStop) → items ≡ line ∷ left → old.network.plan ≡ plan → stop ≢ NoMemory
+    → ((d : Discovery) → IsAt d old → HaltsIn stop old now (acts_of old.network.plan d line)) → IsUnderWay plan all items old → ended_at now (Some stop) ≡ script_course plan all
+way_stopped plan all items left line old now stop split same limit halts begun =
+    let way : IsUnderWay plan all (line ∷ left) old = subst (λ (ls : List ScriptLine). IsUnderWay plan all ls old) split begun in
+    halted_at stop now (course_on old (script_acts plan way.discovery (line ∷ left))) limit
+    (subst (λ (p : Plan). HaltsIn stop old now (acts_of p way.discovery line)) same (halts way.discovery way.at) (script_acts plan (after_line plan way.discovery line) left))
+    ∙ way.comes
+
+-- no line is left
+pub way_ended : (plan : Plan) (all items : List ScriptLine) (now : DiscoveryLists) → items ≡ [] → IsUnderWay plan all items now → ended_at now None ≡ script_course plan all
+way_ended plan all items now none begun =
+    let way : IsUnderWay plan all [] now = subst (λ (ls : List ScriptLine). IsUnderWay plan all ls now) none begun in
+    way.comes
+
+-- the events are those of a run
+pub events_ran : (plan : Plan) (lines : List ScriptLine) (n : DiscoveryLists) (stop : Option NetStop) → ended_at n stop ≡ script_course plan lines → ended n.network stop ≡ ran plan (empty_network plan) [] (events_made plan lines)
+events_ran plan lines n stop is = ap network_of is ∙ course_ran plan (empty_network plan) [] [] (script_acts plan (opened plan) lines)
+
+-- the next line names places of the plan
+pub line_first : (plan other : Plan) (items left : List ScriptLine) (line : ScriptLine) → items ≡ line ∷ left → other ≡ plan → All (IsLineOf plan) items → IsLineOf other line
+line_first plan other items left line split same are =
+    subst (λ (p : Plan). IsLineOf p line) (sym same) (All-head (IsLineOf plan) line left (subst (All (IsLineOf plan)) split are))

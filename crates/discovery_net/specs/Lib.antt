@@ -1,0 +1,5 @@
+pub mod Acts
+pub mod Deeds
+pub mod Lines
+pub mod Lists
+pub mod Script
