@@ -91,3 +91,15 @@ abbrev pub IsHearing : Receiver → Type 0
 IsHearing (Receiving base held) = Unit {0}
 IsHearing (Broken base wrong) = Unit {0}
 IsHearing Stopped = ⊥
+
+-- ---- what is held
+
+-- so many octets are held that are no whole PDU yet; of octets that were refused nothing is said
+abbrev pub Holds : ℕ → Receiver → Type 0
+Holds count (Receiving base held) = count ≡ length held
+Holds count (Broken base wrong) = Unit {0}
+Holds count Stopped = count ≡ 0
+
+abbrev pub HoldsBy : ℕ → Option ConnectionState → Type 0
+HoldsBy count None = count ≡ 0
+HoldsBy count (Some kept) = Holds count kept.receiver

@@ -1,7 +1,7 @@
 //! A connection with a peer.
 ghost use Rattle.std.specs.Prelude.{◌≡◌, ◌≤◌, ◌<◌, ◌+◌, ◌++◌, ℕ, List, None, Some, IfOk, length, take, drop};
 ghost use Rattle.ldp_stream.specs.State.{empty};
-ghost use Rattle.independent_mode.specs.Receiver.{IsNext, receiver_in, receiver_of};
+ghost use Rattle.independent_mode.specs.Receiver.{Holds, IsNext, receiver_in, receiver_of};
 ghost use Rattle.independent_model.specs.State.{Stopped, receiver_set, fresh, spoken};
 
 use crate::IndepStop;
@@ -66,6 +66,13 @@ impl PeerStream {
         let (_, rest) = octets.split_at(at);
         self.stream.feed(rest)
     }
+
+    /// How many octets are held.
+    pub fn held(&self) -> usize
+        ensures { result ≡ length self.now.held }
+    {
+        self.stream.held()
+    }
 }
 
 /// What an edge keeps of a peer with which it is connected: what comes of it, and the number of the next message. No stream is kept where
@@ -101,6 +108,16 @@ impl Connection {
         ensures { result ≡ self.now.next_id }
     {
         self.next_id
+    }
+
+    /// How many octets of the peer are held that are no whole PDU yet. Of octets that were refused nothing is said.
+    pub fn held(&self) -> usize
+        ensures { Holds result self.now.receiver }
+    {
+        match &self.stream {
+            Some(stream) => stream.held(),
+            None => 0,
+        }
     }
 
     /// The same connection once a message was put.

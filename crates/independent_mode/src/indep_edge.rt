@@ -5,6 +5,7 @@ ghost use Rattle.pw_messages.specs.LinkAnswers.{Agrees, Answers};
 ghost use Rattle.status_exchange.specs.Wish.{is_same_wish};
 ghost use Rattle.independent_model.specs.Calls.{connects, hears, is_connected, loses, sets, uses};
 ghost use Rattle.independent_mode.specs.Lists.{Keeps, seen};
+ghost use Rattle.independent_mode.specs.Receiver.{HoldsBy};
 ghost use Rattle.independent_model.specs.State.{first_state};
 ghost use Rattle.independent_model.specs.Stops.{EndsBy};
 ghost use Rattle.independent_model.specs.Wires.{other_end};
@@ -157,6 +158,18 @@ impl IndepEdge {
         ensures { result ≡ is_connected (seen self.now) peer.0 }
     {
         self.next_id(peer).is_some()
+    }
+
+    /// How many octets of a peer are held that are no whole PDU yet: 0 where the edge is not connected with it. Of octets that were refused
+    /// nothing is said.
+    #[tactic(auto, unfolding(crate::specs::Lists::seen))]
+    pub fn held(&self, peer: EdgeId) -> usize
+        ensures { HoldsBy result ((seen self.now).connection peer.0) }
+    {
+        match self.connections.get(peer.0 as usize) {
+            Some(Some(connection)) => connection.held(),
+            Some(None) | None => 0,
+        }
     }
 
     /// The plan.
