@@ -1,0 +1,12 @@
+pub mod EmptyLemmas
+pub mod FreshLemmas
+pub mod GrowthLemmas
+pub mod LineLemmas
+pub mod LinkLemmas
+pub mod NetLemmas
+pub mod PipeLemmas
+pub mod PlayLemmas
+pub mod ReachedLemmas
+pub mod RowLemmas
+pub mod ToLemmas
+pub mod UsedLemmas

@@ -1,0 +1,3 @@
+pub mod Net
+pub mod Pipes
+pub mod Rows

@@ -1,0 +1,17 @@
+//! The network of edges in independent mode as it runs: the edges, the octets on their way between them, and what each line of a script
+//! makes of them.
+//!
+//! `switchover_model` says what each line does, what is told of it, and what holds after every script.
+#![tactic(auto)]
+
+mod edge_row;
+mod pipe;
+mod pipe_row;
+mod pipes;
+mod script;
+mod switch_net;
+mod taking_link;
+mod two_edges;
+
+pub use script::play;
+pub use switch_net::SwitchNet;

@@ -1,0 +1,227 @@
+//! The steps of a line.
+ghost use Rattle.std.specs.Prelude.{◌≡◌, ◌<◌, ◌++◌, [], Some, true, length, drop, take, IfOk, OnOk};
+ghost use Rattle.independent_model.specs.Calls.{hears};
+ghost use Rattle.independent_model.specs.Wires.{other_end};
+ghost use Rattle.status_exchange.specs.Exchange.{at_two};
+ghost use Rattle.switchover_model.specs.Network.{IsGoing, connects_one, delivers_one, is_waiting, loses_one, setting, taken_all};
+ghost use Rattle.switchover_model.specs.Text.{connect_entries, hear_entries, lose_entries, said_entries, set_entries, turned, turned_all, used as used_by};
+ghost use Rattle.switchover_net.specs.Net.{IsReached, Makes};
+ghost use Rattle.switchover_net.specs.Pipes.{bytes_of, pipes_of};
+ghost use Rattle.switchover_net.specs.Rows.{HasDone, seen_row};
+
+use crate::SwitchNet;
+use independent_mode::{IndepStop, Wish};
+use net_base::{EdgeId, LinkCall, List, NoMemory, WireId};
+use std::alloc::Global;
+use switchover_model::SwitchEntry;
+
+impl SwitchNet {
+    // An edge is connected with another one.
+    #[tactic(auto, using(crate::proofs::NetLemmas::connected))]
+    pub(crate) fn connect_one(
+        &mut self,
+        alloc: Global,
+        me: EdgeId,
+        peer: EdgeId,
+        out: &mut List<SwitchEntry>,
+    ) -> Result<(), NoMemory>
+        requires me { me.0 < length self.old.row.plan.edges }
+        requires peer { peer.0 < length self.old.row.plan.edges }
+        ensures plan { self.new.row.plan ≡ self.old.row.plan }
+        ensures step { OnOk result (Makes self.old self.new out.old out.new (connects_one self.old.row.plan me.0 peer.0) (connect_entries self.old.row.plan me.0 peer.0)) }
+    {
+        let before = self.row.used(alloc, me)?;
+        let calls = match self.row.connect(alloc, me, peer) {
+            Ok(calls) => calls,
+            Err(IndepStop::NoMemory) => return Err(NoMemory),
+            Err(IndepStop::Link | IndepStop::Refused(_)) => unreachable!(),
+        };
+        self.tell(alloc, me, peer, &calls, before.as_slice(), out)
+    }
+
+    // An edge calls a wire something else, whose other end is the peer.
+    #[tactic(auto, using(crate::proofs::NetLemmas::was_set))]
+    pub(crate) fn set(
+        &mut self,
+        alloc: Global,
+        me: EdgeId,
+        wire: WireId,
+        to: Wish,
+        peer: EdgeId,
+        out: &mut List<SwitchEntry>,
+    ) -> Result<(), NoMemory>
+        requires me { me.0 < length self.old.row.plan.edges }
+        requires peer { peer.0 < length self.old.row.plan.edges }
+        requires ends { other_end self.old.row.plan me.0 wire.0 ≡ Some peer }
+        ensures plan { self.new.row.plan ≡ self.old.row.plan }
+        ensures step { OnOk result (Makes self.old self.new out.old out.new (setting self.old.row.plan me.0 wire.0 to) (set_entries self.old.row.plan me.0 wire.0 to)) }
+    {
+        let before = self.row.used(alloc, me)?;
+        let calls = match self.row.set(alloc, me, wire, to) {
+            Ok(calls) => calls,
+            Err(IndepStop::NoMemory) => return Err(NoMemory),
+            Err(IndepStop::Link | IndepStop::Refused(_)) => unreachable!(),
+        };
+        self.tell(alloc, me, peer, &calls, before.as_slice(), out)
+    }
+
+    // An edge loses the connection with another one.
+    #[tactic(auto, using(crate::proofs::NetLemmas::was_lost))]
+    pub(crate) fn lose_one(
+        &mut self,
+        alloc: Global,
+        me: EdgeId,
+        peer: EdgeId,
+        out: &mut List<SwitchEntry>,
+    ) -> Result<(), NoMemory>
+        requires me { me.0 < length self.old.row.plan.edges }
+        requires peer { peer.0 < length self.old.row.plan.edges }
+        ensures plan { self.new.row.plan ≡ self.old.row.plan }
+        ensures step { OnOk result (Makes self.old self.new out.old out.new (loses_one self.old.row.plan me.0 peer.0) (lose_entries self.old.row.plan me.0 peer.0)) }
+    {
+        let before = self.row.used(alloc, me)?;
+        self.row.lose(me, peer);
+        self.tell_turned(me, before.as_slice(), out)
+    }
+
+    // One octet comes, where some is on its way. An octet that completes no PDU changes nothing that is told. Which wires the edge uses is
+    // kept from one octet to the next.
+    #[tactic(auto, using(crate::proofs::NetLemmas::none_waits, crate::proofs::GrowthLemmas::octet_steps))]
+    pub(crate) fn deliver_one(
+        &mut self,
+        alloc: Global,
+        from: EdgeId,
+        to: EdgeId,
+        used: &mut Vec<bool>,
+        out: &mut List<SwitchEntry>,
+    ) -> Result<(), NoMemory>
+        requires from { from.0 < length self.old.row.plan.edges }
+        requires to { to.0 < length self.old.row.plan.edges }
+        requires reached { IsReached self.old }
+        requires used { used.old.items ≡ used_by self.old.row.plan to.0 (seen_row self.old.row to.0) }
+        ensures plan { self.new.row.plan ≡ self.old.row.plan }
+        ensures used { OnOk result (used.new.items ≡ used_by self.new.row.plan to.0 (seen_row self.new.row to.0)) }
+        ensures step { OnOk result (Makes self.old self.new out.old out.new (delivers_one self.old.row.plan from.0 to.0) (hear_entries self.old.row.plan from.0 to.0)) }
+    {
+        if !self.pipes.is_waiting(from.0 as usize, to.0 as usize) {
+            return Ok(());
+        }
+        let held = self.row.held(to, from);
+        let calls = self.hear_one(alloc, from, to)?;
+        if self.row.held(to, from) > held {
+            return Ok(());
+        }
+        self.tell(alloc, to, from, &calls, used.as_slice(), out)?;
+        *used = self.row.used(alloc, to)?;
+        Ok(())
+    }
+
+    // The first octet on its way is heard. What that puts is given out.
+    #[tactic(auto, using(crate::proofs::ReachedLemmas::hears_on))]
+    fn hear_one(
+        &mut self,
+        alloc: Global,
+        from: EdgeId,
+        to: EdgeId,
+    ) -> Result<List<LinkCall>, NoMemory>
+        requires from { from.0 < length self.old.row.plan.edges }
+        requires to { to.0 < length self.old.row.plan.edges }
+        requires waits { is_waiting (pipes_of self.old.pipes from.0 to.0) ≡ true }
+        requires reached { IsReached self.old }
+        ensures plan { self.new.row.plan ≡ self.old.row.plan }
+        ensures going { IsGoing (hears self.old.row.plan taken_all to.0 from (take 1 (pipes_of self.old.pipes from.0 to.0)) (seen_row self.old.row to.0) []) }
+        ensures row { IfOk result (λ calls. HasDone to.0 self.old.row self.new.row calls (hears self.old.row.plan taken_all to.0 from (take 1 (pipes_of self.old.pipes from.0 to.0)) (seen_row self.old.row to.0) [])) }
+        ensures pipes { pipes_of self.new.pipes ≡ at_two from.0 to.0 (drop 1 (pipes_of self.old.pipes from.0 to.0)) (pipes_of self.old.pipes) }
+    {
+        let heard = self
+            .row
+            .hear(alloc, to, from, self.pipes.front(from, to, 1));
+        self.pipes.skip(from, to, 1);
+        match heard {
+            Ok(calls) => Ok(calls),
+            Err(IndepStop::NoMemory) => Err(NoMemory),
+            Err(IndepStop::Link | IndepStop::Refused(_)) => unreachable!(),
+        }
+    }
+
+    // What an edge has put goes on its way to the peer, and is told, and then which wires it uses from now on or no more.
+    fn tell(
+        &mut self,
+        alloc: Global,
+        me: EdgeId,
+        peer: EdgeId,
+        calls: &List<LinkCall>,
+        before: &[bool],
+        out: &mut List<SwitchEntry>,
+    ) -> Result<(), NoMemory>
+        requires me { me.0 < length self.old.row.plan.edges }
+        requires peer { peer.0 < length self.old.row.plan.edges }
+        requires before { length before.now ≡ length self.old.row.plan.wires }
+        ensures row { self.new.row ≡ self.old.row }
+        ensures pipes { OnOk result (pipes_of self.new.pipes ≡ at_two me.0 peer.0 (pipes_of self.old.pipes me.0 peer.0 ++ bytes_of calls.now) (pipes_of self.old.pipes)) }
+        ensures out { OnOk result (out.new ≡ (out.old ++ said_entries me.0 calls.now) ++ turned_all me.0 0 before.now (used_by self.old.row.plan me.0 (seen_row self.old.row me.0))) }
+    {
+        self.pipes.put_all(me, peer, calls.as_slice())?;
+        say_all(alloc, me, calls.as_slice(), out)?;
+        self.tell_turned(me, before, out)
+    }
+
+    // The wires that an edge uses otherwise than before are told, in the order of the plan.
+    #[tactic(auto, using(crate::proofs::UsedLemmas::turned_steps))]
+    fn tell_turned(
+        &self,
+        me: EdgeId,
+        before: &[bool],
+        out: &mut List<SwitchEntry>,
+    ) -> Result<(), NoMemory>
+        requires me { me.0 < length self.now.row.plan.edges }
+        requires before { length before.now ≡ length self.now.row.plan.wires }
+        ensures out { OnOk result (out.new ≡ out.old ++ turned_all me.0 0 before.now (used_by self.now.row.plan me.0 (seen_row self.now.row me.0))) }
+    {
+        for wire in 0..before.len() {
+            let wire_id = WireId(wire as u16);
+            tell_one(me, wire_id, before[wire], self.row.uses(me, wire_id), out)?;
+        }
+        Ok(())
+    }
+}
+
+// A wire is told where it is used otherwise than before.
+fn tell_one(
+    me: EdgeId,
+    wire: WireId,
+    before: bool,
+    now: bool,
+    out: &mut List<SwitchEntry>,
+) -> Result<(), NoMemory>
+    ensures { OnOk result (out.new ≡ out.old ++ turned me.0 wire.0 before now) }
+{
+    if before != now {
+        out.push(SwitchEntry::Uses {
+            edge: me,
+            wire,
+            on: now,
+        })?;
+    }
+    Ok(())
+}
+
+// What was put is told.
+#[tactic(auto, using(crate::proofs::UsedLemmas::said_steps))]
+fn say_all(
+    alloc: Global,
+    me: EdgeId,
+    calls: &[LinkCall],
+    out: &mut List<SwitchEntry>,
+) -> Result<(), NoMemory>
+    ensures { OnOk result (out.new ≡ out.old ++ said_entries me.0 calls.now) }
+{
+    for place in 0..calls.len() {
+        out.push(SwitchEntry::Said {
+            edge: me,
+            peer: calls[place].peer,
+            octets: calls[place].bytes.copy(alloc)?,
+        })?;
+    }
+    Ok(())
+}
