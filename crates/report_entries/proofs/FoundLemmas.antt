@@ -1,0 +1,285 @@
+-- An entry is read from its words.
+use Rattle.std.proofs.Common.{◌≡◌, ◌<◌, ◌≤◌, ◌^◌, ◌++◌, ◌∙◌, ℕ, zero, suc, codes, Bool, true, false, List, [], ◌∷◌, Option, Some, None, cond, length, map, nat_lt, option_map, slice_get, slice_index, refl, sym, ap, subst, arith, inl, inr}
+use Rattle.std.proofs.lemmas.Bool.{cases_Bool, le-leb}
+use Rattle.std.proofs.lemmas.Bool.Decides.{Decides-ltb}
+use Rattle.std.proofs.lemmas.Slice.Eq.{bytes_eq-Decides}
+use Rattle.std.specs.List.{position, position_or_len}
+use Rattle.std.specs.Str.{bytes_eq}
+use Rattle.std.specs.Fmt.{decimal}
+use Rattle.hex.proofs.HexLemmas.{decode_of-encode_lower}
+use Rattle.net_base.specs.declared.plan.Plan.{Plan}
+use Rattle.net_base.specs.declared.plan.circuit_plan.CircuitPlan.{CircuitPlan}
+use Rattle.net_base.specs.declared.plan.edge_plan.EdgePlan.{EdgePlan}
+use Rattle.net_base.specs.declared.plan.wire_plan.WirePlan.{WirePlan}
+use Rattle.net_base.specs.declared.plan.places.CircuitId.{CircuitId}
+use Rattle.net_base.specs.declared.plan.places.EdgeId.{EdgeId}
+use Rattle.net_base.specs.declared.plan.places.WireId.{WireId}
+use Rattle.net_base.specs.declared.trace.arrival.Arrival.{Arrival}
+use Rattle.net_base.specs.declared.trace.arrival.Arrival.TheVariants as arrival
+use Rattle.net_base.specs.declared.trace.down.Down.{Down}
+use Rattle.net_base.specs.declared.trace.down.Down.TheVariants as down
+use Rattle.net_base.specs.declared.trace.drop_cause.DropCause.{DropCause}
+use Rattle.net_base.specs.declared.trace.drop_cause.DropCause.TheVariants as cause
+use Rattle.net_base.specs.declared.trace.entry.Entry.{Entry}
+use Rattle.net_base.specs.declared.trace.entry.Entry.TheVariants as entry
+use Rattle.net_base.specs.declared.trace.event.Event.{Event}
+use Rattle.net_base.specs.declared.trace.event.Event.TheVariants as event
+use Rattle.net_base.specs.declared.trace.state_name.Reason.TheVariants as reason
+use Rattle.net_base.specs.declared.trace.state_name.StateName.{StateName}
+use Rattle.net_base.specs.declared.trace.state_name.StateName.TheVariants as state
+use Rattle.net_base.specs.plan.Accepted.{IsChecked}
+use Rattle.command_text.specs.Names.{place_in}
+use Rattle.command_text.specs.Planned.{names_of}
+use Rattle.command_text.specs.Words.{decimal_from}
+use Rattle.text_pieces.specs.Pieces.{hex}
+use Rattle.text_lines.specs.Lines.{line_of}
+use Rattle.read_lines.specs.Plain.{HasWords}
+use Rattle.report_text.specs.Report.{entry_line, entry_words}
+use Rattle.report_text.specs.Words.{arrival_name, cause_name, circuit_name, edge_name, event_words, name_or_empty, state_name, switch_name, wire_end_name, wire_name}
+use Rattle.event_words.specs.Law.{HasNames}
+use Rattle.event_words.proofs.ValueLemmas.{number_said, row_said}
+use Rattle.report_reading.specs.Named.{AreOctets, HasNamesApart, IsArrival, IsCircuit, IsEdge, IsNamed, IsNamedEvent, IsNumber, IsWire, IsWithin}
+use Rattle.report_reading.proofs.ApartLemmas.{names_apart}
+use Rattle.report_reading.proofs.PlainLemmas.{entry_plain}
+use Rattle.report_entries.specs.Cut.{line_words, words_within}
+use Rattle.report_entries.specs.Entries.{aged_in, carried_in, copied_in, did_in, dropped_in, entered_in, entry_of, idle_in, left_in, line_entry, loose_entry, packet_told_in, passed_in, pong_in, said_in, sent_in, session_in, told_in, wire_told_in, words_entry}
+use Rattle.report_entries.specs.Events.{circuit_switch_in, connect_in, connection_event_in, deliver_in, event_in, event_of, frame_in, lose_in, of_record_size, packet_in, part_event_in, ping_in, priority_in, restart_in, status_in, tick_in, wire_switch_in}
+use Rattle.report_entries.proofs.CutLemmas.{joined_free, line_is, words_found}
+use Rattle.report_entries.specs.Laws.{IsFreeOf}
+use Rattle.report_entries.specs.Reading.{arrival_in, cause_in, cause_rest_in, circuit_in, edge_in, ended_in, number_in, octets_in, ok_of, sequence_in, state_in, switch_in, wire_end_in, wire_in}
+
+-- ---- values
+
+number_found : (n : ℕ) → IsNumber n → number_in (decimal n) ≡ Some n
+unfolding number_in
+number_found n is = number_said 0 18446744073709551615 n (omega arith) (omega (arith, is)) is
+
+within_found : (low high n : ℕ) → IsWithin low high n → high < 2 ^ 64 → decimal_from low high (decimal n) ≡ Some n
+within_found low high n is few = number_said low high n is.0 is.1 (omega (arith, is.1, few))
+
+sequence_found : (n : ℕ) → IsWithin 0 65535 n → sequence_in (decimal n) ≡ Some n
+unfolding sequence_in
+sequence_found n is = within_found 0 65535 n is (omega arith)
+
+small_octets : (octets : List ℕ) → AreOctets octets → (i : ℕ) → slice_index octets i < 256
+small_octets [] are i = omega arith
+small_octets (octet ∷ octets) are zero = are 0 0 (omega arith)
+small_octets (octet ∷ octets) are (suc i) = small_octets octets (λ k d lt. are (suc k) d (omega arith)) i
+
+octets_found : (octets : List ℕ) → AreOctets octets → octets_in (hex octets) ≡ Some octets
+unfolding octets_in
+octets_found octets are = ap ok_of (decode_of-encode_lower octets (small_octets octets are))
+
+switch_found : (on : Bool) → switch_in (switch_name on) ≡ Some on
+unfolding switch_in
+switch_found true = refl
+switch_found false = refl
+
+cause_found : (x : DropCause) → cause_in (cause_name x) ≡ Some x
+unfolding cause_in cause_rest_in
+cause_found cause.Short = refl
+cause_found cause.Long = refl
+cause_found cause.WrongTag = refl
+cause_found cause.NoTag = refl
+cause_found cause.BadNibble = refl
+cause_found cause.NotBottom = refl
+cause_found cause.Ttl = refl
+cause_found cause.NoLabel = refl
+cause_found cause.Down = refl
+cause_found cause.NoBinding = refl
+cause_found cause.Expired = refl
+cause_found cause.Version = refl
+cause_found cause.Channel = refl
+cause_found cause.Ip = refl
+cause_found cause.Checksum = refl
+cause_found cause.Icmp = refl
+cause_found cause.NotOffered = refl
+cause_found cause.LinkFault = refl
+
+end_found : (x : Option Down) → wire_end_in (wire_end_name x) ≡ Some x
+unfolding wire_end_in
+end_found None = refl
+end_found (Some down.NoLocal) = refl
+end_found (Some down.NoRemote) = refl
+end_found (Some down.CBit) = refl
+end_found (Some down.Kind) = refl
+end_found (Some down.Mtu) = refl
+end_found (Some down.LocalFault) = refl
+end_found (Some down.RemoteFault) = refl
+end_found (Some down.Standby) = refl
+
+state_found : (x : StateName) → state_in (state_name x) ≡ Some x
+unfolding state_in ended_in
+state_found state.NonExistent = refl
+state_found state.Initialized = refl
+state_found state.OpenSent = refl
+state_found state.OpenRec = refl
+state_found state.Operational = refl
+state_found (state.Ended reason.BadVersion) = refl
+state_found (state.Ended reason.BadReceiver) = refl
+state_found (state.Ended reason.ZeroKeepAlive) = refl
+state_found (state.Ended reason.Unexpected) = refl
+state_found (state.Ended reason.Expired) = refl
+state_found (state.Ended reason.PeerShutdown) = refl
+state_found (state.Ended reason.PeerFatal) = refl
+state_found (state.Ended reason.Decode) = refl
+state_found (state.Ended reason.Closed) = refl
+state_found (state.Ended reason.LinkFault) = refl
+state_found (state.Ended reason.BadIdentifier) = refl
+
+abbrev as_edge : Option ℕ → Option EdgeId
+as_edge place = option_map (λ (n : ℕ). record { 0 = n }) place
+
+abbrev as_circuit : Option ℕ → Option CircuitId
+as_circuit place = option_map (λ (n : ℕ). record { 0 = n }) place
+
+abbrev as_wire : Option ℕ → Option WireId
+as_wire place = option_map (λ (n : ℕ). record { 0 = n }) place
+
+module _ (plan : Plan) (names : HasNames plan) where
+  edge_found : (a : EdgeId) → IsEdge plan a → edge_in (names_of plan) (edge_name plan a) ≡ Some a
+  unfolding edge_in
+  edge_found a is = ap as_edge (row_said (λ (row : EdgePlan). row.name) plan.edges a.0 names.edges is)
+
+  circuit_found : (a : CircuitId) → IsCircuit plan a → circuit_in (names_of plan) (circuit_name plan a) ≡ Some a
+  unfolding circuit_in
+  circuit_found a is = ap as_circuit (row_said (λ (row : CircuitPlan). row.name) plan.circuits a.0 names.circuits is)
+
+  wire_found : (a : WireId) → IsWire plan a → wire_in (names_of plan) (wire_name plan a) ≡ Some a
+  unfolding wire_in
+  wire_found a is = ap as_wire (row_said (λ (row : WirePlan). row.name) plan.wires a.0 names.wires is)
+
+  event_found : (x : Event) → IsNamedEvent plan x → event_in (names_of plan) (event_words plan x) ≡ Some x
+  unfolding event_of connection_event_in part_event_in connect_in deliver_in lose_in restart_in tick_in frame_in packet_in wire_switch_in circuit_switch_in status_in priority_in ping_in
+  event_found (event.Connect from to) is = rw (edge_found from is.0, edge_found to is.1) refl
+  event_found (event.Deliver from to count) is = rw (edge_found from is.0, edge_found to is.1.0, within_found 1 65535 count is.1.1 (omega arith)) refl
+  event_found (event.Lose edge peer) is = rw (edge_found edge is.0, edge_found peer is.1) refl
+  event_found (event.Restart edge) is = rw (edge_found edge is) refl
+  event_found event.Tick is = refl
+  event_found (event.Frame circuit octets) is = rw (circuit_found circuit is.0, octets_found octets is.1.0, le-leb (length octets) 262144 is.1.1) refl
+  event_found (event.Arrive packet) is = rw (within_found 1 18446744073709551615 packet is (omega arith)) refl
+  event_found (event.Discard packet) is = rw (within_found 1 18446744073709551615 packet is (omega arith)) refl
+  event_found (event.Again packet) is = rw (within_found 1 18446744073709551615 packet is (omega arith)) refl
+  event_found (event.Wire edge wire on) is = rw (edge_found edge is.0, wire_found wire is.1, switch_found on) refl
+  event_found (event.Circuit circuit on) is = rw (circuit_found circuit is, switch_found on) refl
+  event_found (event.Status edge wire bits) is = rw (edge_found edge is.0, wire_found wire is.1.0, within_found 0 31 bits is.1.1 (omega arith)) refl
+  event_found (event.Priority edge wire priority) is = rw (edge_found edge is.0, wire_found wire is.1.0, within_found 0 255 priority is.1.1 (omega arith)) refl
+  event_found (event.Ping edge wire) is = rw (edge_found edge is.0, wire_found wire is.1) refl
+
+not_same : (a b : List ℕ) → (a ≡ b → ⊥) → bytes_eq a b ≡ false
+not_same a b apart = elim (cases_Bool (bytes_eq a b)) [
+  | inl same ↦ absurd (apart ((bytes_eq-Decides a b).0 same))
+  | inr other ↦ other
+]
+
+-- a word that is no name has no place among them
+no_place : {Y : Type 0} (f : Y → List ℕ) (rows : List Y) (word : List ℕ) → ((i : ℕ) → i < length rows → bytes_eq word (name_or_empty (option_map f (slice_get rows i))) ≡ false) → place_in (map f rows) word ≡ None
+no_place f rows word none = place_of_none (bytes_eq word) (map f rows) (all_apart f rows word none) where
+  all_apart : {Y : Type 0} (f : Y → List ℕ) (rows : List Y) (word : List ℕ) → ((i : ℕ) → i < length rows → bytes_eq word (name_or_empty (option_map f (slice_get rows i))) ≡ false) → position_or_len (bytes_eq word) (map f rows) ≡ length (map f rows)
+  all_apart f [] word none = refl
+  all_apart f (row ∷ rows) word none = rw (none 0 (omega arith)) (omega (arith, all_apart f rows word (λ i lt. none (suc i) (omega (arith, lt)))))
+
+  place_of_none : (test : List ℕ → Bool) (words : List (List ℕ)) → position_or_len test words ≡ length words → position test words ≡ None
+  place_of_none test words same = by (nat_lt (position_or_len test words) (length words)) refl where
+    by : (b : Bool) → nat_lt (position_or_len test words) (length words) ≡ b → cond b (Some (position_or_len test words)) None ≡ None
+    by true within = absurd (omega (arith, same, (Decides-ltb (position_or_len test words) (length words)).0 within))
+    by false out = refl
+
+no_circuit : (plan : Plan) → HasNamesApart plan → (a : WireId) → IsWire plan a → circuit_in (names_of plan) (wire_name plan a) ≡ None
+unfolding circuit_in
+no_circuit plan apart a is = ap as_circuit (no_place (λ (row : CircuitPlan). row.name) plan.circuits (wire_name plan a)
+    (λ i lt. not_same (wire_name plan a) (circuit_name plan (record { 0 = i })) (λ same. apart.apart (record { 0 = i }) a lt is (sym same))))
+
+few_words : (plan : Plan) (x : Entry) → length (entry_words plan x) ≤ 10
+few_words plan (entry.Did done) = few_event plan done where
+  few_event : (plan : Plan) (x : Event) → length (codes ">" ∷ event_words plan x) ≤ 10
+  few_event plan (event.Connect from to) = omega arith
+  few_event plan (event.Deliver from to count) = omega arith
+  few_event plan (event.Lose edge peer) = omega arith
+  few_event plan (event.Restart edge) = omega arith
+  few_event plan event.Tick = omega arith
+  few_event plan (event.Frame circuit octets) = omega arith
+  few_event plan (event.Arrive packet) = omega arith
+  few_event plan (event.Discard packet) = omega arith
+  few_event plan (event.Again packet) = omega arith
+  few_event plan (event.Wire edge wire on) = omega arith
+  few_event plan (event.Circuit circuit on) = omega arith
+  few_event plan (event.Status edge wire bits) = omega arith
+  few_event plan (event.Priority edge wire priority) = omega arith
+  few_event plan (event.Ping edge wire) = omega arith
+few_words plan entry.Idle = omega arith
+few_words plan (entry.Said from to octets) = omega arith
+few_words plan (entry.In circuit number octets) = omega arith
+few_words plan (entry.Sent from to wire came packet origin hops octets) = omega arith
+few_words plan (entry.Copied packet of) = omega arith
+few_words plan (entry.Aged packet) = omega arith
+few_words plan (entry.Left circuit origin hops octets) = omega arith
+few_words plan (entry.Dropped edge origin cause) = omega arith
+few_words plan (entry.Session edge peer state) = omega arith
+few_words plan (entry.Wire edge wire down) = omega arith
+few_words plan (entry.Pong edge wire sequence) = omega arith
+
+module _ (plan : Plan) (names : HasNames plan) (apart : HasNamesApart plan) where
+  no_dash_circuit : (a : CircuitId) → IsCircuit plan a → bytes_eq (circuit_name plan a) (codes "-") ≡ false
+  no_dash_circuit a is = not_same (circuit_name plan a) (codes "-") (apart.circuits a is)
+
+  no_dash_wire : (a : WireId) → IsWire plan a → bytes_eq (wire_name plan a) (codes "-") ≡ false
+  no_dash_wire a is = not_same (wire_name plan a) (codes "-") (apart.wires a is)
+
+  arrival_found : (a : Arrival) → IsArrival plan a → arrival_in (names_of plan) (arrival_name plan a) ≡ Some a
+  unfolding arrival_in
+  arrival_found (arrival.Circuit a) is = rw (no_dash_circuit a is, circuit_found plan names a is) refl
+  arrival_found (arrival.Wire a) is = rw (no_dash_wire a is, no_circuit plan apart a is, wire_found plan names a is) refl
+  arrival_found arrival.Own is = refl
+
+  entry_found : (x : Entry) → IsNamed plan x → words_entry (names_of plan) (entry_words plan x) ≡ Some x
+  unfolding entry_of packet_told_in told_in idle_in said_in entered_in sent_in carried_in passed_in copied_in aged_in left_in dropped_in session_in wire_told_in pong_in
+  entry_found (entry.Did event) is = rw (event_found plan names event is) refl
+  entry_found entry.Idle is = refl
+  entry_found (entry.Said from to octets) is = rw (edge_found plan names from is.0, edge_found plan names to is.1.0, octets_found octets is.1.1) refl
+  entry_found (entry.In circuit number octets) is = rw (circuit_found plan names circuit is.0, number_found number is.1.0, octets_found octets is.1.1) refl
+  entry_found (entry.Sent from to wire came packet origin hops octets) is = rw (
+    number_found packet is.1.1.1.1.0,
+    edge_found plan names from is.0,
+    edge_found plan names to is.1.0,
+    wire_found plan names wire is.1.1.0,
+    arrival_found came is.1.1.1.0,
+    number_found origin is.1.1.1.1.1.0,
+    number_found hops is.1.1.1.1.1.1.0,
+    octets_found octets is.1.1.1.1.1.1.1,
+  ) refl
+  entry_found (entry.Copied packet of) is = rw (number_found packet is.0, number_found of is.1) refl
+  entry_found (entry.Aged packet) is = rw (number_found packet is) refl
+  entry_found (entry.Left circuit origin hops octets) is = rw (circuit_found plan names circuit is.0, number_found origin is.1.0, number_found hops is.1.1.0, octets_found octets is.1.1.1) refl
+  entry_found (entry.Dropped edge origin cause) is = rw (edge_found plan names edge is.0, number_found origin is.1, cause_found cause) refl
+  entry_found (entry.Session edge peer state) is = rw (edge_found plan names edge is.0, edge_found plan names peer is.1, state_found state) refl
+  entry_found (entry.Wire edge wire down) is = rw (edge_found plan names edge is.0, wire_found plan names wire is.1, end_found down) refl
+  entry_found (entry.Pong edge wire sequence) is = rw (edge_found plan names edge is.0, wire_found plan names wire is.1.0, sequence_found sequence is.1.1) refl
+
+  -- an entry's line, without its line feed
+  pub record IsEntryLine (x : Entry) (line : List ℕ) : Type 0 where
+    pub free : IsFreeOf 10 line
+    pub words : line_words line ≡ entry_words plan x
+
+  pub entry_line_of : (x : Entry) (line : List ℕ) → IsNamed plan x → entry_line plan x ≡ line ++ codes "\n" → IsEntryLine x line
+  unfolding line_words
+  entry_line_of x line is same = by (entry_words plan x) refl (entry_plain plan names x is) (few_words plan x) same where
+    by : (words : List (List ℕ)) → entry_words plan x ≡ words → HasWords words → length words ≤ 10 → line_of words ≡ line ++ codes "\n" → IsEntryLine x line
+    by [] at plain few joined_is = absurd plain
+    by (word ∷ words) at plain few joined_is = record {
+      free = subst (IsFreeOf 10) (sym (line_is word words line joined_is)) (joined_free word words plain);
+      words = ap (words_within 10) (line_is word words line joined_is) ∙ (words_found 9 word words (omega (arith, few)) plain ∙ sym at);
+    }
+
+  -- an entry's line is read as the entry
+  pub line_found : (x : Entry) (line : List ℕ) → IsNamed plan x → entry_line plan x ≡ line ++ codes "\n" → line_entry plan line ≡ Some x
+  unfolding line_entry loose_entry
+  line_found x line is same = rw loose_found (exact_found (entry_line plan x) (line ++ codes "\n") same) where
+    loose_found : words_entry (names_of plan) (line_words line) ≡ Some x
+    loose_found = ap (words_entry (names_of plan)) (entry_line_of x line is same).words ∙ entry_found x is
+
+    exact_found : (a b : List ℕ) → a ≡ b → cond (bytes_eq a b) (Some x) None ≡ Some x
+    exact_found a b same = rw ((bytes_eq-Decides a b).1 same) refl
+
+pub lines_read : (plan : Plan) (entry : Entry) (line : List ℕ) → IsChecked plan → HasNames plan → IsNamed plan entry → entry_line plan entry ≡ line ++ codes "\n" → line_entry plan line ≡ Some entry
+lines_read plan entry line checked names is same = line_found plan names (names_apart plan checked names) entry line is same

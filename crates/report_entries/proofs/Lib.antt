@@ -1,0 +1,11 @@
+pub mod BeginLemmas
+pub mod CountLemmas
+pub mod CutLemmas
+pub mod FoundLemmas
+pub mod NamedLemmas
+pub mod ReportFoundLemmas
+pub mod ReportLemmas
+pub mod ToldLemmas
+pub mod TraceLemmas
+pub mod WordLemmas
+pub mod WrittenLemmas

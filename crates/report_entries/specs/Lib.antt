@@ -1,0 +1,10 @@
+pub mod Answers
+pub mod Counted
+pub mod Cut
+pub mod Entries
+pub mod Events
+pub mod Laws
+pub mod LineSink
+pub mod ReadSoFar
+pub mod Reading
+pub mod Report

@@ -1,0 +1,63 @@
+-- The lines of a report, read one by one.
+use Rattle.std.specs.Prelude.{◌==◌, ◌&&◌, ◌||◌, ◌+◌, ◌++◌, codes, ℕ, zero, suc, Bool, false, List, [], ◌∷◌, length, Option, Some, None, Result, Ok, Err, if◌then◌else◌}
+use Rattle.std.specs.Str.{bytes_eq}
+use Rattle.net_base.specs.declared.plan.Plan.{Plan}
+use Rattle.net_base.specs.declared.trace.entry.Entry.{Entry}
+use Rattle.command_text.specs.Words.{is_decimal}
+use Rattle.report_text.specs.Report.{counts_words}
+use Rattle.text_lines.specs.Lines.{line_of}
+use Rattle.report_entries.specs.Cut.{before_mark, behind_mark, line_feed, line_words}
+use Rattle.report_entries.specs.Entries.{line_entry}
+use Rattle.report_entries.specs.declared.tally.Tally.{Tally}
+use Rattle.report_entries.specs.Counted.{counted, first_counts}
+
+infixl 10 ◌>>=◌
+abbrev pub ◌>>=◌ : {A B : Type 0} → Result A ℕ → (A → Result B ℕ) → Result B ℕ
+(Ok x) >>= f = f x
+(Err line) >>= f = Err line
+
+-- what was found, and else the number of the line
+abbrev pub found : {A : Type 0} → ℕ → Option A → Result A ℕ
+found line None = Err line
+found line (Some x) = Ok x
+
+-- ---- the last line
+
+-- the line of these counts
+abbrev pub tally_line : Tally → List ℕ
+tally_line tally = line_of (counts_words tally.events tally.entered tally.left tally.sent tally.dropped)
+
+-- a bound at which a run stopped, at any number
+abbrev pub is_stop : List (List ℕ) → Bool
+is_stop (bound ∷ number ∷ []) = (bytes_eq bound (codes "Crowded") || bytes_eq bound (codes "TooMuch")) && is_decimal number
+is_stop words = false
+
+-- it tells the right counts, or a bound at which the run stopped
+abbrev pub is_last_of : Tally → List ℕ → List (List ℕ) → Bool
+is_last_of tally line [] = false
+is_last_of tally line (kind ∷ words) = if bytes_eq kind (codes "end") then bytes_eq (tally_line tally) (line ++ codes "\n") else bytes_eq kind (codes "stop") && is_stop words
+
+unfoldable pub is_last : Tally → List ℕ → Bool
+is_last tally line = is_last_of tally line (line_words line)
+
+-- ---- all lines
+
+-- an entry in front of those that are told behind it
+abbrev pub with_entry : Entry → Result (List Entry) ℕ → Result (List Entry) ℕ
+with_entry entry told = told >>= (λ entries. Ok (entry ∷ entries))
+
+-- the entries that the next lines tell, or the first line that breaks the form: lines of entries, of which there are no more than
+-- octets, and behind them a right last line with nothing behind it
+abbrev pub goes_on : ℕ → Plan → Tally → List ℕ → Result (List Entry) ℕ
+goes_on zero plan tally text = Err (tally.lines + 1)
+goes_on (suc most) plan tally text = found (tally.lines + 1) (behind_mark line_feed text) >>= (λ more.
+    if is_last tally (before_mark line_feed text) then (if length more == 0 then Ok [] else Err (tally.lines + 2))
+    else found (tally.lines + 1) (line_entry plan (before_mark line_feed text)) >>= (λ entry. with_entry entry (goes_on most plan (counted entry tally) more)))
+
+-- the first line names the format
+abbrev pub is_first : List ℕ → Bool
+is_first line = bytes_eq line (codes "vplsnet 1")
+
+-- the trace that a report tells, or the first line that breaks the form of a report
+unfoldable pub told_of : Plan → List ℕ → Result (List Entry) ℕ
+told_of plan text = found 1 (behind_mark line_feed text) >>= (λ more. if is_first (before_mark line_feed text) then goes_on (length more) plan first_counts more else Err 1)

@@ -1,0 +1,87 @@
+//! The last line of a report.
+ghost use Rattle.std.specs.Prelude.{◌≡◌, ◌++◌, ◌||◌, [], codes, map, IfOk, OnOk};
+ghost use Rattle.std.specs.List.{list_all};
+ghost use Rattle.std.specs.Str.{bytes_eq};
+ghost use Rattle.command_text.specs.Words.{is_decimal, is_digit_of};
+ghost use Rattle.report_entries.specs.Cut.{line_words};
+ghost use Rattle.report_entries.specs.Report.{is_last, is_stop, tally_line};
+
+use crate::entry_line::is_line;
+use crate::line_writer::LineWriter;
+use crate::tally::Tally;
+use crate::values::is_word;
+use net_base::{Failed, NoMemory};
+
+// Whether all are digits.
+fn are_digits(text: &[u8]) -> bool
+    ensures { result ≡ list_all is_digit_of text.now }
+{
+    text.iter().all(|octet| octet.is_ascii_digit())
+}
+
+// Whether this is a decimal number without leading zeros, of any size.
+fn is_number(text: &[u8]) -> bool
+    ensures { result ≡ is_decimal text.now }
+{
+    if text.is_empty() || !are_digits(text) {
+        return false;
+    }
+    if text[0] == b'0' && text.len() > 1 {
+        return false;
+    }
+    true
+}
+
+// Whether a word is a bound at which a run stops.
+fn is_bound(word: &[u8]) -> bool
+    ensures { result ≡ (bytes_eq word.now (codes "Crowded") || bytes_eq word.now (codes "TooMuch")) }
+{
+    is_word(word, "Crowded") || is_word(word, "TooMuch")
+}
+
+// Whether words tell a bound at which a run stopped.
+fn is_stop_bound(words: &[&[u8]]) -> bool
+    ensures { result ≡ is_stop (map (λ w. w.now) words.now) }
+{
+    match words {
+        [bound, number] => is_bound(bound) && is_number(number),
+        _ => false,
+    }
+}
+
+// Whether a line tells these counts.
+fn tells_tally(writer: &mut LineWriter, tally: Tally, line: &[u8]) -> Result<bool, NoMemory>
+    requires ready { writer.old.page ≡ [] }
+    ensures ready { OnOk result (writer.new.page ≡ []) }
+    ensures tells { IfOk result (λ tells. tells ≡ bytes_eq (tally_line tally) (line.now ++ codes "\n")) }
+{
+    match writer.write_tally(tally) {
+        Ok(()) => Ok(is_line(writer.line(), line)),
+        Err(Failed) => Err(NoMemory),
+    }
+}
+
+/// Whether a line with these words is a right last one behind these counts.
+#[tactic(auto, unfolding(crate::specs::Report::is_last))]
+pub fn is_last_line(
+    writer: &mut LineWriter,
+    tally: Tally,
+    line: &[u8],
+    words: &[&[u8]],
+) -> Result<bool, NoMemory>
+    requires words { map (λ w. w.now) words.now ≡ line_words line.now }
+    requires ready { writer.old.page ≡ [] }
+    ensures ready { OnOk result (writer.new.page ≡ []) }
+    ensures last { IfOk result (λ last. last ≡ is_last tally line.now) }
+{
+    match words {
+        [kind, words @ ..] => {
+            if is_word(kind, "end") {
+                tells_tally(writer, tally, line)
+            } else {
+                Ok(is_word(kind, "stop") && is_stop_bound(words))
+            }
+        }
+        [] => Ok(false),
+    }
+}

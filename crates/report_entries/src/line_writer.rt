@@ -1,0 +1,103 @@
+//! Lines that are written anew, to be compared.
+ghost use Rattle.std.specs.Prelude.{◌≡◌, ◌++◌, ◌∷◌, [], codes, map, IfOk, OnOk};
+ghost use Rattle.std.specs.Fmt.{decimal};
+ghost use Rattle.report_text.specs.Report.{entry_line};
+ghost use Rattle.text_lines.specs.Lines.{word_octets};
+ghost use Rattle.report_entries.specs.Report.{tally_line};
+
+use crate::line_sink::LineSink;
+use crate::tally::Tally;
+use net_base::{Entry, Failed, NoMemory, Plan};
+use report_text::put_entry;
+use std::alloc::Global;
+use text_lines::{Page, Word};
+
+/// Writes one line at a time, into room that it keeps.
+#[derive(Drop)]
+pub struct LineWriter {
+    page: Page,
+    sink: LineSink,
+}
+
+// Writes the line of an entry over a page on which nothing waits.
+#[tactic(auto, using(crate::proofs::WrittenLemmas::whole_line))]
+fn write_whole(
+    page: &mut Page,
+    sink: &mut LineSink,
+    plan: &Plan,
+    entry: &Entry,
+) -> Result<(), Failed>
+    requires { page.old ≡ [] }
+    ensures none { OnOk result (page.new ≡ []) }
+    ensures line { OnOk result (sink.new.octets ≡ entry_line plan.now entry.now) }
+{
+    sink.clear();
+    put_entry(page, sink, plan, entry)?;
+    page.flush(sink)
+}
+
+// The words of counts.
+fn told<'a>(tally: Tally) -> [Word<'a>; 5]
+    ensures { map word_octets result
+        ≡ (codes "events=" ++ decimal tally.events) ∷ (codes "in=" ++ decimal tally.entered) ∷ (codes "left=" ++ decimal tally.left) ∷ (codes "sent=" ++ decimal tally.sent) ∷ (codes "dropped=" ++ decimal tally.dropped) ∷ [] }
+{
+    [
+        Word::Labelled(b"events=", tally.events),
+        Word::Labelled(b"in=", tally.entered),
+        Word::Labelled(b"left=", tally.left),
+        Word::Labelled(b"sent=", tally.sent),
+        Word::Labelled(b"dropped=", tally.dropped),
+    ]
+}
+
+// Writes the line that tells counts, in the same way.
+#[tactic(auto, using(crate::proofs::WrittenLemmas::whole_line))]
+fn write_counts(page: &mut Page, sink: &mut LineSink, tally: Tally) -> Result<(), Failed>
+    requires { page.old ≡ [] }
+    ensures none { OnOk result (page.new ≡ []) }
+    ensures line { OnOk result (sink.new.octets ≡ tally_line tally) }
+{
+    sink.clear();
+    page.put_line(sink, b"end", &told(tally))?;
+    page.flush(sink)
+}
+
+impl LineWriter {
+    /// A writer that has written nothing.
+    pub fn new(alloc: Global) -> Result<LineWriter, NoMemory>
+        ensures { IfOk result (λ writer. writer.page ≡ []) }
+    {
+        match Page::new(alloc) {
+            Ok(page) => Ok(LineWriter {
+                page,
+                sink: LineSink::new(alloc),
+            }),
+            Err(NoMemory) => Err(NoMemory),
+        }
+    }
+
+    /// The line that was written.
+    pub fn line(&self) -> &[u8]
+        ensures { result.now ≡ self.now.sink.octets }
+    {
+        self.sink.octets()
+    }
+
+    /// Writes the line of an entry. `Failed` comes where memory is refused.
+    pub fn write_entry(&mut self, plan: &Plan, entry: &Entry) -> Result<(), Failed>
+        requires { self.old.page ≡ [] }
+        ensures none { OnOk result (self.new.page ≡ []) }
+        ensures line { OnOk result (self.new.sink.octets ≡ entry_line plan.now entry.now) }
+    {
+        write_whole(&mut self.page, &mut self.sink, plan, entry)
+    }
+
+    /// Writes the line that tells these counts, in the same way.
+    pub fn write_tally(&mut self, tally: Tally) -> Result<(), Failed>
+        requires { self.old.page ≡ [] }
+        ensures none { OnOk result (self.new.page ≡ []) }
+        ensures line { OnOk result (self.new.sink.octets ≡ tally_line tally) }
+    {
+        write_counts(&mut self.page, &mut self.sink, tally)
+    }
+}

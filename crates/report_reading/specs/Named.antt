@@ -1,0 +1,80 @@
+-- Entries that name places of a plan.
+use Rattle.std.specs.Prelude.{◌≡◌, ◌<◌, ◌≤◌, ◌^◌, ℕ, codes, List, length}
+use Rattle.std.specs.List.{All}
+use Rattle.net_base.specs.declared.plan.Plan.{Plan}
+use Rattle.net_base.specs.declared.plan.places.CircuitId.{CircuitId}
+use Rattle.net_base.specs.declared.plan.places.EdgeId.{EdgeId}
+use Rattle.net_base.specs.declared.plan.places.WireId.{WireId}
+use Rattle.net_base.specs.declared.trace.arrival.Arrival.{Arrival}
+use Rattle.net_base.specs.declared.trace.arrival.Arrival.TheVariants as arrival
+use Rattle.net_base.specs.declared.trace.entry.Entry.{Entry}
+use Rattle.net_base.specs.declared.trace.entry.Entry.TheVariants as entry
+use Rattle.net_base.specs.declared.trace.event.Event.{Event}
+use Rattle.net_base.specs.declared.trace.event.Event.TheVariants as event
+use Rattle.net_base.specs.plan.Planned.{IsFrame}
+use Rattle.report_text.specs.Words.{circuit_name, wire_name}
+
+abbrev pub IsNumber : ℕ → Type 0
+IsNumber n = n < 2 ^ 64
+
+-- a number from one to another one
+abbrev pub IsWithin : ℕ → ℕ → ℕ → Type 0
+IsWithin low high n = (low ≤ n) × (n ≤ high)
+
+-- the number of a packet that an event names
+abbrev pub IsPacket : ℕ → Type 0
+IsPacket n = IsWithin 1 18446744073709551615 n
+
+abbrev pub AreOctets : List ℕ → Type 0
+AreOctets octets = All (λ octet. octet < 256) octets
+
+abbrev pub IsEdge : Plan → EdgeId → Type 0
+IsEdge plan edge = edge.0 < length plan.edges
+
+abbrev pub IsCircuit : Plan → CircuitId → Type 0
+IsCircuit plan circuit = circuit.0 < length plan.circuits
+
+abbrev pub IsWire : Plan → WireId → Type 0
+IsWire plan wire = wire.0 < length plan.wires
+
+abbrev pub IsArrival : Plan → Arrival → Type 0
+IsArrival plan (arrival.Circuit circuit) = IsCircuit plan circuit
+IsArrival plan (arrival.Wire wire) = IsWire plan wire
+IsArrival plan arrival.Own = Unit {0}
+
+-- no circuit has the name of a wire, and neither is a dash
+pub record HasNamesApart (plan : Plan) : Type 0 where
+  pub apart : (circuit : CircuitId) (wire : WireId) → IsCircuit plan circuit → IsWire plan wire → circuit_name plan circuit ≡ wire_name plan wire → ⊥
+  pub circuits : (circuit : CircuitId) → IsCircuit plan circuit → circuit_name plan circuit ≡ codes "-" → ⊥
+  pub wires : (wire : WireId) → IsWire plan wire → wire_name plan wire ≡ codes "-" → ⊥
+
+abbrev pub IsNamedEvent : Plan → Event → Type 0
+IsNamedEvent plan (event.Connect from to) = IsEdge plan from × IsEdge plan to
+IsNamedEvent plan (event.Deliver from to count) = IsEdge plan from × (IsEdge plan to × IsWithin 1 65535 count)
+IsNamedEvent plan (event.Lose edge peer) = IsEdge plan edge × IsEdge plan peer
+IsNamedEvent plan (event.Restart edge) = IsEdge plan edge
+IsNamedEvent plan event.Tick = Unit {0}
+IsNamedEvent plan (event.Frame circuit octets) = IsCircuit plan circuit × (AreOctets octets × IsFrame octets)
+IsNamedEvent plan (event.Arrive packet) = IsPacket packet
+IsNamedEvent plan (event.Discard packet) = IsPacket packet
+IsNamedEvent plan (event.Again packet) = IsPacket packet
+IsNamedEvent plan (event.Wire edge wire on) = IsEdge plan edge × IsWire plan wire
+IsNamedEvent plan (event.Circuit circuit on) = IsCircuit plan circuit
+IsNamedEvent plan (event.Status edge wire bits) = IsEdge plan edge × (IsWire plan wire × IsWithin 0 31 bits)
+IsNamedEvent plan (event.Priority edge wire priority) = IsEdge plan edge × (IsWire plan wire × IsWithin 0 255 priority)
+IsNamedEvent plan (event.Ping edge wire) = IsEdge plan edge × IsWire plan wire
+
+abbrev pub IsNamed : Plan → Entry → Type 0
+IsNamed plan (entry.Did event) = IsNamedEvent plan event
+IsNamed plan entry.Idle = Unit {0}
+IsNamed plan (entry.Said from to octets) = IsEdge plan from × (IsEdge plan to × AreOctets octets)
+IsNamed plan (entry.In circuit number octets) = IsCircuit plan circuit × (IsNumber number × AreOctets octets)
+IsNamed plan (entry.Sent from to wire came packet origin hops octets) =
+    IsEdge plan from × (IsEdge plan to × (IsWire plan wire × (IsArrival plan came × (IsNumber packet × (IsNumber origin × (IsNumber hops × AreOctets octets))))))
+IsNamed plan (entry.Copied packet of) = IsNumber packet × IsNumber of
+IsNamed plan (entry.Aged packet) = IsNumber packet
+IsNamed plan (entry.Left circuit origin hops octets) = IsCircuit plan circuit × (IsNumber origin × (IsNumber hops × AreOctets octets))
+IsNamed plan (entry.Dropped edge origin cause) = IsEdge plan edge × IsNumber origin
+IsNamed plan (entry.Session edge peer state) = IsEdge plan edge × IsEdge plan peer
+IsNamed plan (entry.Wire edge wire down) = IsEdge plan edge × IsWire plan wire
+IsNamed plan (entry.Pong edge wire sequence) = IsEdge plan edge × (IsWire plan wire × IsWithin 0 65535 sequence)
