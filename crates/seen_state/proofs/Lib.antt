@@ -1,0 +1,6 @@
+pub mod CalmLemmas
+pub mod CopyLemmas
+pub mod OpenLemmas
+pub mod PeerEndLemmas
+pub mod RowLemmas
+pub mod SightLemmas

@@ -1,0 +1,57 @@
+-- What is seen of a network but for the packets under way, as lists by the plan's places, and as a trace shows it.
+use Rattle.std.specs.Prelude.{◌≡◌, ◌<◌, ℕ, Bool, true, false, List, [], length, slice_index_or, Option, Some, None}
+use Rattle.net_base.specs.declared.plan.Plan.{Plan}
+use Rattle.net_base.specs.declared.plan.places.EdgeId.{EdgeId}
+use Rattle.seen_network.specs.Seen.{Seen, SeenCopy}
+use Rattle.seen_state.specs.declared.sizes.Sizes.{Sizes}
+use Rattle.seen_state.specs.PeerEnd.{EndSeen, no_end}
+
+-- the ends of an edge by their peers, and the wires that are up at it
+pub record EdgeSeen : Type 0 where
+  pub ends : List EndSeen
+  pub up : List Bool
+
+pub record SightLists : Type 0 where
+  pub sizes : Sizes
+  pub edges : List EdgeSeen
+  pub on : List Bool
+
+abbrev pub no_edge : EdgeSeen
+no_edge = record { ends = []; up = [] }
+
+abbrev pub edge_seen : SightLists → ℕ → EdgeSeen
+edge_seen sight me = slice_index_or sight.edges me no_edge
+
+abbrev pub end_seen : SightLists → ℕ → ℕ → EndSeen
+end_seen sight me peer = slice_index_or (edge_seen sight me).ends peer no_end
+
+-- as a trace shows it, with these packets under way
+unfoldable pub shown : SightLists → List SeenCopy → Seen
+shown sight copies = record {
+  stands = λ me peer. (end_seen sight me peer).stands;
+  pipes = λ from to. (end_seen sight to from).way;
+  rests = λ me peer. (end_seen sight me peer).rest;
+  up = λ me wire. slice_index_or (edge_seen sight me).up wire false;
+  on = λ circuit. slice_index_or sight.on circuit true;
+  under_way = copies;
+}
+
+-- a row for each edge, and in it an end for each edge and a place for each wire
+pub record IsWhole (sight : SightLists) : Type 0 where
+  pub edges : length sight.edges ≡ sight.sizes.edges
+  pub ends : (k : ℕ) → k < sight.sizes.edges → length (edge_seen sight k).ends ≡ sight.sizes.edges
+  pub wires : (k : ℕ) → k < sight.sizes.edges → length (edge_seen sight k).up ≡ sight.sizes.wires
+  pub circuits : length sight.on ≡ sight.sizes.circuits
+
+-- the sizes of a plan
+abbrev pub sizes_of : Plan → Sizes
+sizes_of plan = record { edges = length plan.edges; wires = length plan.wires; circuits = length plan.circuits }
+
+-- what is seen is what a trace shows
+abbrev pub Shows : SightLists → Seen → Type 0
+Shows sight seen = shown sight seen.under_way ≡ seen
+
+-- a wire is up at an edge, where one is told
+abbrev pub up_at : Seen → ℕ → Option EdgeId → Bool
+up_at seen wire None = false
+up_at seen wire (Some edge) = seen.up edge.0 wire
