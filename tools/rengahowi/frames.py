@@ -2,12 +2,12 @@
 
 from collections import Counter
 
-from .network import Network
+from .network import OF_NETWORK, Network
 from .pings import Pings
 
 WINDOW = ("frame", "arrive", "drop", "again")
-# Which word of an entry is the number of the frame that it is of.
-ORIGIN = {"in": 1, "sent": 5, "left": 1, "dropped": 1}
+# Which word of an entry is the number of the frame that it is of; None where it is the frame of the packet that the last word names.
+OF_FRAMES = {"in": 1, "sent": 5, "left": 1, "dropped": 1, "copied": None, "aged": None}
 
 
 class Frame:
@@ -88,17 +88,27 @@ class Run:
 
     def follow(self):
         """Follows all events."""
+        network, pings = self.network, self.pings
         for event in self.report.events:
-            self.disturb(event)
-            self.network.begin(event)
-            self.lose_copies(event)
-            self.pings.follow(event)
+            kind = event.kind
+            if self.open_frames and kind not in WINDOW:
+                self.disturb(event)
+            network.begin(event)
+            if kind in ("arrive", "drop") and not event.is_idle():
+                self.lose_copies(event)
+            elif kind == "deliver":
+                self.deliveries += not event.is_idle()
+            if kind == "ping" or pings.all:
+                pings.follow(event)
             for entry in event.entries:
-                self.enter(event, entry)
-                self.network.take(entry)
-            self.deliveries += event.kind == "deliver" and not event.is_idle()
-            self.hear()
-            if self.network.told:
+                told = entry.kind
+                if told in OF_FRAMES:
+                    self.enter(event, entry)
+                if told in OF_NETWORK:
+                    network.take(entry)
+            if self.touched:
+                self.hear()
+            if network.told:
                 self.look_at_sessions(event)
                 self.look_at_wires(event)
         for span in self.open_spans.values():
@@ -107,20 +117,18 @@ class Run:
 
     def disturb(self, event):
         """An event that no window has, while copies are under way."""
-        if event.kind not in WINDOW:
-            for frame in self.open_frames.values():
-                frame.disturbed = frame.disturbed or event
+        for frame in self.open_frames.values():
+            frame.disturbed = frame.disturbed or event
 
     def lose_copies(self, event):
         """A packet arrives or is lost: it is under way no more."""
-        if event.kind in ("arrive", "drop") and not event.is_idle():
-            packet = event.words[0]
-            frame = self.of_packet.pop(packet, None)
-            if frame is not None:
-                frame.under_way.discard(packet)
-                self.touched.append(frame)
-                if event.kind == "drop":
-                    frame.lost.append(packet)
+        packet = event.words[0]
+        frame = self.of_packet.pop(packet, None)
+        if frame is not None:
+            frame.under_way.discard(packet)
+            self.touched.append(frame)
+            if event.kind == "drop":
+                frame.lost.append(packet)
 
     def enter(self, event, entry):
         """What an entry tells of a frame, and what it counts of drops."""
@@ -134,10 +142,9 @@ class Run:
             self.enter_copy(event, kind, words, self.frames[origin])
 
     def origin_of(self, entry):
-        """The number of the frame that an entry is of: 0 where it is of none, as what is of a ping."""
-        if entry.kind in ("copied", "aged"):
-            return self.network.packets[entry.words[-1]][4]
-        return entry.words[ORIGIN[entry.kind]] if entry.kind in ORIGIN else 0
+        """The number of the frame that an entry is of: 0 of a ping."""
+        place = OF_FRAMES[entry.kind]
+        return self.network.packets[entry.words[-1]][4] if place is None else entry.words[place]
 
     def enter_copy(self, event, kind, words, frame):
         """What an entry tells of a frame's copy."""

@@ -4,6 +4,8 @@ from collections import deque
 
 UP = "up"
 NEVER = "NonExistent"
+# The entries that tell something of the network.
+OF_NETWORK = {"said", "session", "wire", "sent", "copied", "aged"}
 
 
 class Pipe:
