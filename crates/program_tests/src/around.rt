@@ -26,6 +26,8 @@ pub struct Case {
     pub is_hexadecimal: bool,
     /// What the shelf holds beside it: names, and pairs of hexadecimal digits of the octets.
     pub others: &'static [(&'static str, &'static str)],
+    /// The text that the shelf holds under `s`, if it holds one.
+    pub second: Option<&'static str>,
     /// Which calls of the shelf and the sink fail, by their numbers (none for 0), and how much the sink takes.
     pub shelf_fails: u64,
     pub sink_fails: u64,
@@ -67,6 +69,7 @@ pub const REPLAY: Case = Case {
     more: "",
     is_hexadecimal: false,
     others: &[],
+    second: None,
     shelf_fails: 0,
     sink_fails: 0,
     room: 20_000,
@@ -196,12 +199,17 @@ fn hold(rt: &impl Abort, alloc: Global, shelf: &mut MemShelf, name: &str, text: 
         .expect(rt, "memory");
 }
 
-// The shelf that holds the file, and the others.
+// The shelf that holds the file, the others and the second one.
 fn case_shelf(rt: &impl Abort, alloc: Global, case: &Case) -> MemShelf {
     let octets = file_of(rt, alloc, case);
     let mut shelf = shelf_of(rt, alloc, octets.as_slice(), case.shelf_fails);
     for (name, text) in case.others {
         hold(rt, alloc, &mut shelf, name, text);
+    }
+    if let Some(text) = case.second {
+        shelf
+            .store(alloc, "s", text.as_bytes())
+            .expect(rt, "memory");
     }
     shelf
 }

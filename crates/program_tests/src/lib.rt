@@ -14,6 +14,8 @@ mod commands;
 #[cfg(test)]
 mod decodings;
 #[cfg(test)]
+mod discoveries;
+#[cfg(test)]
 mod faults;
 #[cfg(test)]
 mod files;

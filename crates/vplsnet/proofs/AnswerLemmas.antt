@@ -1,6 +1,9 @@
 -- What a call answers by what its stages say, and that in a sound surrounding the answer is what the files call for.
 use Rattle.std.proofs.Common.{true, false, ◌≡◌, ◌↔◌, ◌⊎◌, ◌<◌, ◌≤◌, ◌++◌, ◌∙◌, ℕ, Bool, List, [], ◌∷◌, Option, Some, None, Result, Ok, Err, IfSome, length, inl, inr, refl, ap, sym, subst, arith, append_assoc}
 use Rattle.std.proofs.lemmas.List.{append-nil}
+use Rattle.net_base.specs.declared.plan.Plan.{Plan}
+use Rattle.discovery_net.specs.Script.{events_made}
+use Rattle.discovery_script.specs.declared.script_line.ScriptLine.{ScriptLine}
 use Rattle.command_text.specs.declared.scenario_fault.ScenarioFault.{ScenarioFault}
 use Rattle.pcap_file.specs.declared.capture_fault.CaptureFault.{CaptureFault}
 use Rattle.pcap_file.proofs.ReadingLemmas.{one_reading}
@@ -13,16 +16,18 @@ use Rattle.scenario_text.specs.declared.scenario.Scenario.{Scenario}
 use Rattle.scenario_text.specs.Document.{document}
 use Rattle.text_lines.specs.Written.{Written, written}
 use Rattle.vplsnet.specs.declared.outcome.Outcome.{Outcome}
-use Rattle.vplsnet.specs.declared.outcome.Outcome.TheVariants.{Done, Usage, ReadFault, WriteFault, TooLong, ScenarioRefused, NoCircuit, CaptureRefused, Stopped, DecodeRefused, Unfinished, NoMemory}
+use Rattle.vplsnet.specs.declared.outcome.Outcome.TheVariants.{Done, Usage, ReadFault, WriteFault, TooLong, ScenarioRefused, NoCircuit, CaptureRefused, ScriptRefused, Stopped, DecodeRefused, Unfinished, NoMemory}
 use Rattle.vplsnet.specs.Answers.{CallsFor, Completes, Finishes, IsCutShort, IsEndOf, IsMade, IsRefused, IsSound, IsSoundOutcome, IsTooLong, IsWhole, Makes, MakesRun, SaysOutcome, run_text}
 use Rattle.vplsnet.specs.Around.{Files, Around, HasWriteFault, IsUntouched, Has, TellsFile}
-use Rattle.vplsnet.specs.Asked.{Asked, Replay, Tables, Capture, Decode, Rehearse, Migrate}
+use Rattle.vplsnet.specs.Asked.{Asked, Replay, Tables, Capture, Decode, Rehearse, Migrate, Discover}
 use Rattle.vplsnet.specs.Capture.{lacks_circuit}
 use Rattle.vplsnet.specs.Decode.{IsDecoding, IsDecodedAs}
+use Rattle.vplsnet.specs.Discover.{IsDiscovery}
 use Rattle.vplsnet.specs.Files.{IsLonger, IsNotHad}
-use Rattle.vplsnet.specs.Inputs.{AreReadNext, ComesTo, IsNext, IsNextAfter, IsNextOf, IsNextPlayed, IsNextRead, IsReadNext, Migration, Next, Reads, Refuses, Run, Stream, Wanted, Work, Works, played, scenario_limit, stream_limit}
+use Rattle.vplsnet.specs.Inputs.{AreReadNext, ComesTo, IsNext, IsNextAfter, IsNextBehind, IsNextDiscovery, IsNextOf, IsNextPlayed, IsNextRead, IsReadNext, Discovery, Migration, Next, Reads, Refuses, Run, Stream, Wanted, Work, Works, played, scenario_limit, script_file, stream_limit}
 use Rattle.vplsnet.specs.ScenarioFile.{HasNoScenario, IsOfFile}
-use Rattle.vplsnet.specs.ScenarioRun.{IsScenarioRun, outcome_by, whole_run}
+use Rattle.vplsnet.specs.RunOver.{outcome_by, run_of}
+use Rattle.vplsnet.specs.ScenarioRun.{IsScenarioRun, whole_run}
 use Rattle.vplsnet.specs.StreamText.{largest_pdu, outcome_of_ending}
 use Rattle.vplsnet.specs.Writing.{EndsMigration, EndsRun, EndsStream, EndsText, GivesUp, WritesNone}
 use Rattle.vplsnet.proofs.ScenarioFileLemmas.{refused_first}
@@ -36,6 +41,7 @@ says_want around (Tables file) network untouched = untouched
 says_want around (Capture file circuit) network untouched = untouched
 says_want around (Rehearse seed) network untouched = untouched
 says_want around (Migrate file) network untouched = untouched
+says_want around (Discover file script) network untouched = untouched
 says_want around (Decode file) network untouched = inl untouched
 
 -- what is refused before any run
@@ -46,6 +52,7 @@ refused_answers around asked network (TooLong named limit) refused untouched = (
 refused_answers around asked network (ScenarioRefused fault) refused untouched = (refused, untouched)
 refused_answers around asked network (NoCircuit circuit) refused untouched = (refused, untouched)
 refused_answers around asked network (CaptureRefused file fault) refused untouched = (refused, untouched)
+refused_answers around asked network (ScriptRefused line word) refused untouched = (refused, untouched)
 refused_answers around asked network NoMemory refused untouched = says_want around asked network untouched
 refused_answers around asked network Done refused untouched = absurd refused
 refused_answers around asked network Usage refused untouched = absurd refused
@@ -55,7 +62,7 @@ refused_answers around asked network (DecodeRefused fault) refused untouched = a
 refused_answers around asked network (Unfinished at) refused untouched = absurd refused
 
 -- an outcome that a command makes of its work
-abbrev is_own : Outcome → Bool
+abbrev pub is_own : Outcome → Bool
 is_own Usage = false
 is_own ReadFault = false
 is_own WriteFault = false
@@ -63,10 +70,11 @@ is_own (TooLong named limit) = false
 is_own (ScenarioRefused fault) = false
 is_own (NoCircuit circuit) = false
 is_own (CaptureRefused file fault) = false
+is_own (ScriptRefused line word) = false
 is_own NoMemory = false
 is_own outcome = true
 
-run_own : (reason : Option NetStop) → is_own (outcome_by reason) ≡ true
+pub run_own : (reason : Option NetStop) → is_own (outcome_by reason) ≡ true
 run_own None = refl
 run_own (Some reason) = refl
 
@@ -88,21 +96,22 @@ whole_answers around asked network (TooLong named limit) own whole = absurd (cc 
 whole_answers around asked network (ScenarioRefused fault) own whole = absurd (cc own)
 whole_answers around asked network (NoCircuit circuit) own whole = absurd (cc own)
 whole_answers around asked network (CaptureRefused file fault) own whole = absurd (cc own)
+whole_answers around asked network (ScriptRefused line word) own whole = absurd (cc own)
 whole_answers around asked network NoMemory own whole = absurd (cc own)
 
 -- what the sink took by a call, and how its count of faults stands
-abbrev old_of : Around → Written
+abbrev pub old_of : Around → Written
 old_of around = written around.taken_before around.sink_before []
 
-abbrev now_of : Around → Written
+abbrev pub now_of : Around → Written
 now_of around = written around.taken_after around.sink_after []
 
-none_answers : (around : Around) (asked : Asked) (network : Option NetLists) (outcome : Outcome) → WritesNone (old_of around) (now_of around) network outcome → SaysOutcome around asked network outcome
+pub none_answers : (around : Around) (asked : Asked) (network : Option NetLists) (outcome : Outcome) → WritesNone (old_of around) (now_of around) network outcome → SaysOutcome around asked network outcome
 none_answers around asked network outcome none =
     subst (λ (o : Outcome). SaysOutcome around asked network o) (sym none.outcome_is) (says_want around asked network (record { taken = none.taken; no_run = none.no_run }))
 
 -- how the writing of a text ended that the command makes
-text_answers : (around : Around) (asked : Asked) (text : List ℕ) (left : Option NetLists) (made : Outcome) (network : Option NetLists) (outcome : Outcome) → is_own made ≡ true → IsMade around asked text left made
+pub text_answers : (around : Around) (asked : Asked) (text : List ℕ) (left : Option NetLists) (made : Outcome) (network : Option NetLists) (outcome : Outcome) → is_own made ≡ true → IsMade around asked text left made
     → EndsText text left made (old_of around) (now_of around) network outcome → SaysOutcome around asked network outcome
 text_answers around asked text left made network outcome own is (inl whole) =
     subst (λ (o : Outcome). SaysOutcome around asked network o) (sym whole.outcome_is)
@@ -150,6 +159,7 @@ stream_not_had around file network outcome why untouched = refused_answers aroun
   by (ScenarioRefused fault) why = absurd why
   by (NoCircuit circuit) why = absurd why
   by (CaptureRefused name fault) why = absurd why
+  by (ScriptRefused line word) why = absurd why
   by (Stopped stop) why = absurd why
   by (DecodeRefused fault) why = absurd why
   by (Unfinished at) why = absurd why
@@ -238,10 +248,15 @@ one_read : (asked : Asked) (result : Result Scenario ScenarioFault) (read : List
 one_read asked (Err fault) read next other a b = a ∙ sym b
 one_read asked (Ok scenario) read next other a b = one_of (lacks_circuit asked scenario.plan) scenario read next other a b
 
-one_migrated : (result : Result Scenario ScenarioFault) (next other : Next) → IsNextAfter (λ scenario it. it ≡ Works (Migration scenario)) result next → IsNextAfter (λ scenario it. it ≡ Works (Migration scenario)) result other
-    → next ≡ other
-one_migrated (Err fault) next other a b = a ∙ sym b
-one_migrated (Ok scenario) next other a b = a ∙ sym b
+one_after : (IsNextOfIt : Scenario → Next → Type 0) → ((scenario : Scenario) (next other : Next) → IsNextOfIt scenario next → IsNextOfIt scenario other → next ≡ other)
+    → (result : Result Scenario ScenarioFault) (next other : Next) → IsNextAfter IsNextOfIt result next → IsNextAfter IsNextOfIt result other → next ≡ other
+one_after IsNextOfIt one (Err fault) next other a b = a ∙ sym b
+one_after IsNextOfIt one (Ok scenario) next other a b = one scenario next other a b
+
+one_behind : (file : Next) (IsNextOfIt : List ℕ → Next → Type 0) → ((octets : List ℕ) (next other : Next) → IsNextOfIt octets next → IsNextOfIt octets other → next ≡ other)
+    → (read : List (List ℕ)) (next other : Next) → IsNextBehind file IsNextOfIt read next → IsNextBehind file IsNextOfIt read other → next ≡ other
+one_behind file IsNextOfIt one [] next other a b = a ∙ sym b
+one_behind file IsNextOfIt one (octets ∷ read) next other a b = one octets next other a b
 
 one_next : (asked : Asked) (read : List (List ℕ)) (next other : Next) → IsNext asked read next → IsNext asked read other → next ≡ other
 one_next (Replay file) [] next other a b = a ∙ sym b
@@ -254,7 +269,11 @@ one_next (Decode file) [] next other a b = a ∙ sym b
 one_next (Decode file) (octets ∷ read) next other a b = a ∙ sym b
 one_next (Rehearse seed) read next other a b = a ∙ sym b
 one_next (Migrate file) [] next other a b = a ∙ sym b
-one_next (Migrate file) (octets ∷ read) next other a b = one_migrated (document octets) next other a b
+one_next (Migrate file) (octets ∷ read) next other a b = one_after (λ scenario it. it ≡ Works (Migration scenario)) (λ scenario one two is also. is ∙ sym also) (document octets) next other a b
+one_next (Discover file script) [] next other a b = a ∙ sym b
+one_next (Discover file script) (octets ∷ read) next other a b =
+    one_after (λ scenario it. IsNextBehind (script_file script) (IsNextDiscovery scenario) read it)
+    (λ scenario. one_behind (script_file script) (IsNextDiscovery scenario) (λ text one two is also. is ∙ sym also) read) (document octets) next other a b
 
 -- ---- the files that are read are one list
 
@@ -380,6 +399,7 @@ run_end asked scenario captures text network (TooLong named limit) called makes 
 run_end asked scenario captures text network (ScenarioRefused fault) called makes is = absurd makes
 run_end asked scenario captures text network (NoCircuit circuit) called makes is = absurd makes
 run_end asked scenario captures text network (CaptureRefused file fault) called makes is = absurd makes
+run_end asked scenario captures text network (ScriptRefused line word) called makes is = absurd makes
 run_end asked scenario captures text network (DecodeRefused fault) called makes is = absurd makes
 run_end asked scenario captures text network (Unfinished at) called makes is = absurd makes
 run_end asked scenario captures text network NoMemory called makes is = absurd makes
@@ -389,10 +409,27 @@ decode_end octets text network outcome called makes end =
     let same = (one_parsing.one 0 largest_pdu octets makes.text_is.pdus end.pdus makes.ending end.ending (omega arith) makes.text_is.parsed end.parsed).ending_is in
     makes.ends ∙ (ap outcome_of_ending same ∙ sym end.ends)
 
+discovery_end : (plan : Plan) (lines : List ScriptLine) (text : List ℕ) (network : Option NetLists) (outcome called : Outcome) → IsDiscovery plan lines text network outcome
+    → called ≡ outcome_by (run_of plan (events_made plan lines)).stop → outcome ≡ called
+discovery_end plan lines text network Done called makes is = sym (is ∙ sym (ap (λ (r : Ended). outcome_by r.stop) makes.is_run.is_run.ends))
+discovery_end plan lines text network (Stopped stop) called makes is = sym (is ∙ sym (ap (λ (r : Ended). outcome_by r.stop) makes.is_run.is_run.ends))
+discovery_end plan lines text network Usage called makes is = absurd makes
+discovery_end plan lines text network ReadFault called makes is = absurd makes
+discovery_end plan lines text network WriteFault called makes is = absurd makes
+discovery_end plan lines text network (TooLong named limit) called makes is = absurd makes
+discovery_end plan lines text network (ScenarioRefused fault) called makes is = absurd makes
+discovery_end plan lines text network (NoCircuit circuit) called makes is = absurd makes
+discovery_end plan lines text network (CaptureRefused file fault) called makes is = absurd makes
+discovery_end plan lines text network (ScriptRefused line word) called makes is = absurd makes
+discovery_end plan lines text network (DecodeRefused fault) called makes is = absurd makes
+discovery_end plan lines text network (Unfinished at) called makes is = absurd makes
+discovery_end plan lines text network NoMemory called makes is = absurd makes
+
 makes_end : (asked : Asked) (work : Work) (text : List ℕ) (network : Option NetLists) (outcome called : Outcome) → Makes asked work text network outcome → IsEndOf work called → outcome ≡ called
 makes_end asked (Run scenario captures) text network outcome called makes end = run_end asked scenario captures text network outcome called makes end
 makes_end asked (Stream octets) text network outcome called makes end = decode_end octets text network outcome called makes end
 makes_end asked (Migration scenario) text network outcome called makes end = makes.ends ∙ sym end
+makes_end asked (Discovery plan lines) text network outcome called makes end = discovery_end plan lines text network outcome called makes end
 
 -- what was made is what is called for, and no call of the sink failed
 made_called : (around : Around) (asked : Asked) (text : List ℕ) (network : Option NetLists) (outcome called : Outcome) → IsMade around asked text network outcome → IsSoundOutcome around asked called
@@ -418,6 +455,7 @@ completes around asked network (TooLong named limit) answers called sound = inl 
 completes around asked network (ScenarioRefused fault) answers called sound = inl (refused_called around asked (ScenarioRefused fault) called answers.0.0 sound)
 completes around asked network (NoCircuit circuit) answers called sound = inl (refused_called around asked (NoCircuit circuit) called answers.0 sound)
 completes around asked network (CaptureRefused file fault) answers called sound = inl (refused_called around asked (CaptureRefused file fault) called answers.0.0 sound)
+completes around asked network (ScriptRefused line word) answers called sound = inl (refused_called around asked (ScriptRefused line word) called answers.0 sound)
 completes around asked network (Stopped stop) answers called sound = inl (whole_called around asked network (Stopped stop) called answers sound)
 completes around asked network (DecodeRefused fault) answers called sound = inl (whole_called around asked network (DecodeRefused fault) called answers sound)
 completes around asked network (Unfinished at) answers called sound = inl (whole_called around asked network (Unfinished at) called answers sound)

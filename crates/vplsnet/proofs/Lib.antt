@@ -2,9 +2,12 @@ pub mod SeenLemmas
 pub mod AnswerLemmas
 pub mod CaptureLemmas
 pub mod FaultLemmas
+pub mod DiscoverLemmas
 pub mod FileLemmas
+pub mod PlanFileLemmas
 pub mod ReadLemmas
 pub mod RunLemmas
 pub mod ScenarioFileLemmas
+pub mod ScriptFileLemmas
 pub mod StreamLemmas
 pub mod WritingLemmas

@@ -28,14 +28,14 @@ all_as P Q (x ∷ xs) follows all = (follows x all.0, all_as P Q xs follows all.
 pub reads_none : (P : ReadCall → Type 0) (reads : List ReadCall) → GainsReads P reads reads
 reads_none P reads = record { gained = []; joined = sym (append-nil reads); each = tt }
 
-reads_then : (P : ReadCall → Type 0) (a b c : List ReadCall) → GainsReads P a b → GainsReads P b c → GainsReads P a c
+pub reads_then : (P : ReadCall → Type 0) (a b c : List ReadCall) → GainsReads P a b → GainsReads P b c → GainsReads P a c
 reads_then P a b c one two = record {
   gained = one.gained ++ two.gained;
   joined = two.joined ∙ (ap (λ (l : List ReadCall). l ++ two.gained) one.joined ∙ append_assoc a one.gained two.gained);
   each = all_append P one.gained two.gained one.each two.each;
 }
 
-reads_as : (P Q : ReadCall → Type 0) (a b : List ReadCall) → ((read : ReadCall) → P read → Q read) → GainsReads P a b → GainsReads Q a b
+pub reads_as : (P Q : ReadCall → Type 0) (a b : List ReadCall) → ((read : ReadCall) → P read → Q read) → GainsReads P a b → GainsReads Q a b
 reads_as P Q a b follows one = record { gained = one.gained; joined = one.joined; each = all_as P Q one.gained follows one.each }
 
 -- one more, of the same file

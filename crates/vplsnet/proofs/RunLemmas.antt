@@ -1,4 +1,4 @@
--- The run of an accepted scenario keeps every promise.
+-- A run over events of an accepted plan keeps every promise.
 use Rattle.std.proofs.Common.{◌≡◌, ◌++◌, ◌∷◌, ℕ, List, [], Option, Some, None, length, subst, sym}
 use Rattle.std.specs.List.{All}
 use Rattle.net_base.specs.declared.plan.Plan.{Plan}
@@ -31,6 +31,7 @@ use Rattle.psn_net.proofs.RunLemmas.{run_of}
 use Rattle.command_text.specs.Planned.{IsPlanned}
 use Rattle.scenario_text.specs.declared.scenario.Scenario.{Scenario}
 use Rattle.vplsnet.specs.Promises.{KeepsPromises}
+use Rattle.vplsnet.specs.RunOver.{HasRunOver, IsRunOver}
 use Rattle.vplsnet.specs.ScenarioRun.{HasRun, IsScenarioRun, events_of}
 use Rattle.command_run.proofs.PlannedLemmas.{All-first, made_planned}
 
@@ -79,14 +80,10 @@ done_first plan all done trace count None same planned = subst (λ (es : List Ev
 done_first plan all done trace count (Some stop) stopped planned =
     All-first (IsEventOf plan) done (stopped.event ∷ stopped.rest) (subst (λ (es : List Event). All (IsEventOf plan) es) stopped.split planned)
 
-pub is_scenario_run : (scenario : Scenario) (captures : List (List (List ℕ))) (left : NetLists) (reason : Option NetStop) → IsChecked scenario.plan → All (IsPlanned scenario.plan) scenario.commands → All (All IsFrame) captures
-    → HasRun scenario captures left reason → IsScenarioRun scenario captures left reason
-is_scenario_run scenario captures left reason checked planned short has =
-    let run : IsRunOf scenario.plan (empty_network scenario.plan) [] (events_of scenario captures) left reason =
-    run_of scenario.plan (empty_network scenario.plan) [] (events_of scenario captures) left reason has.ends in
-    let done : All (IsEventOf scenario.plan) run.done =
-    done_first scenario.plan (events_of scenario captures) run.done left.trace (length (seen left).under_way) reason run.are_done
-    (made_planned scenario.plan (empty_network scenario.plan) captures scenario.commands short planned) in
+pub is_run_over : (plan : Plan) (events : List Event) (left : NetLists) (reason : Option NetStop) → IsChecked plan → All (IsEventOf plan) events → HasRunOver plan events left reason → IsRunOver plan events left reason
+is_run_over plan events left reason checked planned has =
+    let run : IsRunOf plan (empty_network plan) [] events left reason = run_of plan (empty_network plan) [] events left reason has.ends in
+    let done : All (IsEventOf plan) run.done = done_first plan events run.done left.trace (length (seen left).under_way) reason run.are_done planned in
     record {
       plan_is = has.plan_is;
       going = has.going;
@@ -95,8 +92,13 @@ is_scenario_run scenario captures left reason checked planned short has =
       are_done = run.are_done;
       state_is = run.ran.state_is;
       trace_is = run.ran.trace_is;
-      promises = promises_kept scenario.plan run.done (record { checked = checked; types = has.types; planned = done });
+      promises = promises_kept plan run.done (record { checked = checked; types = has.types; planned = done });
     }
+
+pub is_scenario_run : (scenario : Scenario) (captures : List (List (List ℕ))) (left : NetLists) (reason : Option NetStop) → IsChecked scenario.plan → All (IsPlanned scenario.plan) scenario.commands → All (All IsFrame) captures
+    → HasRun scenario captures left reason → IsScenarioRun scenario captures left reason
+is_scenario_run scenario captures left reason checked planned short has =
+    is_run_over scenario.plan (events_of scenario captures) left reason checked (made_planned scenario.plan (empty_network scenario.plan) captures scenario.commands short planned) has
 
 pub checked_as : (plan left : Plan) → left ≡ plan → IsChecked plan → IsChecked left
 checked_as plan left same checked = subst (λ (p : Plan). IsChecked p) (sym same) checked

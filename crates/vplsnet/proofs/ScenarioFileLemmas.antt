@@ -15,7 +15,7 @@ use Rattle.rehearsal.specs.Scenario.{rehearsal}
 use Rattle.scenario_text.specs.declared.scenario.Scenario.{Scenario}
 use Rattle.scenario_text.specs.Document.{document}
 use Rattle.vplsnet.specs.declared.outcome.Outcome.{Outcome}
-use Rattle.vplsnet.specs.declared.outcome.Outcome.TheVariants.{Done, Usage, ReadFault, WriteFault, TooLong, ScenarioRefused, NoCircuit, CaptureRefused, Stopped, DecodeRefused, Unfinished, NoMemory}
+use Rattle.vplsnet.specs.declared.outcome.Outcome.TheVariants.{Done, Usage, ReadFault, WriteFault, TooLong, ScenarioRefused, NoCircuit, CaptureRefused, ScriptRefused, Stopped, DecodeRefused, Unfinished, NoMemory}
 use Rattle.vplsnet.specs.Answers.{IsRefused}
 use Rattle.vplsnet.specs.Around.{Files, Has}
 use Rattle.vplsnet.specs.Asked.{Asked, Replay, Tables, Capture, Rehearse}
@@ -175,6 +175,7 @@ refused_first files before after asked file Usage first refuses why = absurd why
 refused_first files before after asked file WriteFault first refuses why = absurd why
 refused_first files before after asked file (NoCircuit circuit) first refuses why = absurd why
 refused_first files before after asked file (CaptureRefused name fault) first refuses why = absurd why
+refused_first files before after asked file (ScriptRefused line word) first refuses why = absurd why
 refused_first files before after asked file (Stopped stop) first refuses why = absurd why
 refused_first files before after asked file (DecodeRefused fault) first refuses why = absurd why
 refused_first files before after asked file (Unfinished at) first refuses why = absurd why
@@ -249,6 +250,7 @@ lacks_some files here before between after asked file scenario outcome same late
     by Usage lacks = absurd lacks
     by WriteFault lacks = absurd lacks
     by (ScenarioRefused fault) lacks = absurd lacks
+    by (ScriptRefused line word) lacks = absurd lacks
     by (Stopped stop) lacks = absurd lacks
     by (DecodeRefused fault) lacks = absurd lacks
     by (Unfinished at) lacks = absurd lacks
@@ -265,6 +267,7 @@ lacks_named files before after asked scenario circuit WriteFault lacks told = ab
 lacks_named files before after asked scenario circuit (TooLong named limit) lacks told = absurd told
 lacks_named files before after asked scenario circuit (ScenarioRefused fault) lacks told = absurd told
 lacks_named files before after asked scenario circuit (CaptureRefused file fault) lacks told = absurd told
+lacks_named files before after asked scenario circuit (ScriptRefused line word) lacks told = absurd told
 lacks_named files before after asked scenario circuit (Stopped stop) lacks told = absurd told
 lacks_named files before after asked scenario circuit (DecodeRefused fault) lacks told = absurd told
 lacks_named files before after asked scenario circuit (Unfinished at) lacks told = absurd told
@@ -281,6 +284,7 @@ lacks_file files before after asked scenario Usage has fails = absurd fails.why
 lacks_file files before after asked scenario WriteFault has fails = absurd fails.why
 lacks_file files before after asked scenario (ScenarioRefused fault) has fails = absurd fails.why
 lacks_file files before after asked scenario (NoCircuit circuit) has fails = absurd fails.why
+lacks_file files before after asked scenario (ScriptRefused line word) has fails = absurd fails.why
 lacks_file files before after asked scenario (Stopped stop) has fails = absurd fails.why
 lacks_file files before after asked scenario (DecodeRefused fault) has fails = absurd fails.why
 lacks_file files before after asked scenario (Unfinished at) has fails = absurd fails.why
@@ -310,6 +314,7 @@ no_file files before after file WriteFault why = absurd why
 no_file files before after file (ScenarioRefused fault) why = absurd why
 no_file files before after file (NoCircuit circuit) why = absurd why
 no_file files before after file (CaptureRefused name fault) why = absurd why
+no_file files before after file (ScriptRefused line word) why = absurd why
 no_file files before after file (Stopped stop) why = absurd why
 no_file files before after file (DecodeRefused fault) why = absurd why
 no_file files before after file (Unfinished at) why = absurd why
@@ -324,6 +329,7 @@ no_document files before after file octets WriteFault has fits told = absurd tol
 no_document files before after file octets (TooLong named limit) has fits told = absurd told
 no_document files before after file octets (NoCircuit circuit) has fits told = absurd told
 no_document files before after file octets (CaptureRefused name fault) has fits told = absurd told
+no_document files before after file octets (ScriptRefused line word) has fits told = absurd told
 no_document files before after file octets (Stopped stop) has fits told = absurd told
 no_document files before after file octets (DecodeRefused fault) has fits told = absurd told
 no_document files before after file octets (Unfinished at) has fits told = absurd told

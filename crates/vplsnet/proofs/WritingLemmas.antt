@@ -12,7 +12,8 @@ use Rattle.vplsnet.specs.declared.outcome.Outcome.{Outcome}
 use Rattle.vplsnet.specs.declared.outcome.Outcome.TheVariants.{Done, WriteFault, NoMemory}
 use Rattle.vplsnet.specs.Answers.{run_text}
 use Rattle.vplsnet.specs.Asked.{Asked}
-use Rattle.vplsnet.specs.ScenarioRun.{IsScenarioRun, outcome_by}
+use Rattle.vplsnet.specs.RunOver.{outcome_by}
+use Rattle.vplsnet.specs.ScenarioRun.{IsScenarioRun}
 use Rattle.vplsnet.specs.Writing.{EndsMigration, EndsRun, EndsText}
 
 -- ---- a text that was put, and then what waits is written

@@ -13,6 +13,7 @@ pub data Asked : Type 0 where
   Decode : (file : List ℕ) → Asked
   Rehearse : (seed : ℕ) → Asked
   Migrate : (file : List ℕ) → Asked
+  Discover : (file script : List ℕ) → Asked
 
 -- a request as it was asked for
 abbrev pub asked_by : Request → Asked
@@ -22,6 +23,7 @@ asked_by (request.Capture file circuit) = Capture file.now circuit.now
 asked_by (request.Decode file) = Decode file.now
 asked_by (request.Rehearse seed) = Rehearse seed
 asked_by (request.Migrate file) = Migrate file.now
+asked_by (request.Discover file script) = Discover file.now script.now
 
 -- neither empty nor an option: it does not begin with `-`
 abbrev pub is_plain : List ℕ → Bool
@@ -42,13 +44,15 @@ one_word_command command word =
 
 -- a command of two more words, which are plain, by its name
 abbrev pub two_word_command : List ℕ → List ℕ → List ℕ → Option Asked
-two_word_command command file circuit = if bytes_eq command (codes "capture") then Some (Capture file circuit) else None
+two_word_command command file word =
+    if bytes_eq command (codes "capture") then Some (Capture file word) else
+    if bytes_eq command (codes "discover") then Some (Discover file word) else None
 
--- `replay FILE`, `tables FILE`, `capture FILE CIRCUIT`, `decode FILE`, `rehearse SEED` or `migrate FILE`, whose words behind the first
--- are plain; any other words ask for nothing
+-- `replay FILE`, `tables FILE`, `capture FILE CIRCUIT`, `decode FILE`, `rehearse SEED`, `migrate FILE` or `discover FILE SCRIPT`, whose
+-- words behind the first are plain; any other words ask for nothing
 abbrev pub asked : List (List ℕ) → Option Asked
 asked [] = None
 asked (command ∷ []) = None
 asked (command ∷ word ∷ []) = if is_plain word then one_word_command command word else None
-asked (command ∷ file ∷ circuit ∷ []) = if is_plain file && is_plain circuit then two_word_command command file circuit else None
-asked (command ∷ file ∷ circuit ∷ more ∷ rest) = None
+asked (command ∷ file ∷ word ∷ []) = if is_plain file && is_plain word then two_word_command command file word else None
+asked (command ∷ file ∷ word ∷ more ∷ rest) = None

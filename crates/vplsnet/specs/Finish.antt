@@ -1,5 +1,5 @@
 -- The status and the line by which the program ends.
-use Rattle.std.specs.Prelude.{◌++◌, codes, ℕ, List, []}
+use Rattle.std.specs.Prelude.{◌++◌, codes, ℕ, List, [], ◌∷◌}
 use Rattle.std.specs.Fmt.{decimal}
 use Rattle.vplsnet.specs.CaptureFaultText.{capture_fault_words}
 use Rattle.vplsnet.specs.FaultText.{fault_words}
@@ -8,7 +8,7 @@ use Rattle.text_pieces.specs.Pieces.{spaced}
 use Rattle.vplsnet.specs.StopText.{stop_words}
 use Rattle.vplsnet.specs.StreamFaultText.{stream_fault_words}
 use Rattle.vplsnet.specs.declared.outcome.Outcome.{Outcome}
-use Rattle.vplsnet.specs.declared.outcome.Outcome.TheVariants.{Done, Usage, ReadFault, WriteFault, TooLong, ScenarioRefused, NoCircuit, CaptureRefused, Stopped, DecodeRefused, Unfinished, NoMemory}
+use Rattle.vplsnet.specs.declared.outcome.Outcome.TheVariants.{Done, Usage, ReadFault, WriteFault, TooLong, ScenarioRefused, NoCircuit, CaptureRefused, ScriptRefused, Stopped, DecodeRefused, Unfinished, NoMemory}
 
 abbrev pub status_of : Outcome → ℕ
 status_of Done = 0
@@ -18,6 +18,7 @@ status_of WriteFault = 4
 status_of (TooLong name limit) = 5
 status_of (ScenarioRefused fault) = 5
 status_of (NoCircuit circuit) = 5
+status_of (ScriptRefused line word) = 5
 status_of (CaptureRefused file fault) = 6
 status_of (DecodeRefused fault) = 6
 status_of (Unfinished at) = 6
@@ -40,6 +41,7 @@ finish_text (TooLong name limit) = long_line name limit
 finish_text (ScenarioRefused fault) = codes "vplsnet: scenario:" ++ spaced (fault_words fault)
 finish_text (NoCircuit circuit) = codes "vplsnet: no circuit " ++ circuit
 finish_text (CaptureRefused file fault) = capture_line file fault
+finish_text (ScriptRefused line word) = codes "vplsnet: script:" ++ spaced (decimal line ∷ decimal word ∷ [])
 finish_text (Stopped stop) = codes "vplsnet: stopped:" ++ spaced (stop_words stop)
 finish_text (DecodeRefused fault) = codes "vplsnet: stream:" ++ spaced (stream_fault_words fault)
 finish_text (Unfinished at) = codes "vplsnet: stream ends at " ++ decimal at

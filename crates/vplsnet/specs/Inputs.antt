@@ -1,20 +1,26 @@
 -- Which files a command reads, in which order, and what is refused on the way.
 use Rattle.std.specs.Prelude.{◌≡◌, ◌⊎◌, ◌≤◌, ◌++◌, ℕ, List, [], ◌∷◌, length, Option, Some, None, Result, Ok, Err}
+use Rattle.net_base.specs.declared.plan.Plan.{Plan}
 use Rattle.command_text.specs.declared.command.Command.{Command}
 use Rattle.command_text.specs.declared.command.Command.TheVariants.{One, Settle, Flow, Ticks, Play}
 use Rattle.command_text.specs.declared.scenario_fault.ScenarioFault.{ScenarioFault}
+use Rattle.command_text.specs.Planned.{names_of}
+use Rattle.discovery_script.specs.declared.script_line.ScriptLine.{ScriptLine}
+use Rattle.discovery_script.specs.Lines.{lines_in}
 use Rattle.pcap_file.specs.declared.capture_fault.CaptureFault.{CaptureFault}
 use Rattle.pcap_file.specs.FirstFault.{IsFirstFault}
 use Rattle.pcap_file.specs.Records.{IsCapture}
 use Rattle.rehearsal.specs.Scenario.{rehearsal}
 use Rattle.scenario_text.specs.declared.scenario.Scenario.{Scenario}
 use Rattle.scenario_text.specs.Document.{document}
+use Rattle.script_text.specs.declared.script_fault.ScriptFault.{ScriptFault}
+use Rattle.script_text.specs.declared.script_fault.ScriptFault.TheVariants as script_fault
 use Rattle.vplsnet.specs.declared.outcome.Outcome.{Outcome}
-use Rattle.vplsnet.specs.declared.outcome.Outcome.TheVariants.{ScenarioRefused, NoCircuit, CaptureRefused}
-use Rattle.vplsnet.specs.Asked.{Asked, Replay, Tables, Capture, Decode, Rehearse, Migrate}
+use Rattle.vplsnet.specs.declared.outcome.Outcome.TheVariants.{ScenarioRefused, NoCircuit, CaptureRefused, ScriptRefused, NoMemory}
+use Rattle.vplsnet.specs.Asked.{Asked, Replay, Tables, Capture, Decode, Rehearse, Migrate, Discover}
 use Rattle.vplsnet.specs.Capture.{lacks_circuit}
 
--- the most octets of a scenario, of a capture and of a stream
+-- the most octets of a scenario, of a capture, of a stream and of a script
 abbrev pub scenario_limit : ℕ
 scenario_limit = 8388608
 
@@ -24,17 +30,22 @@ capture_limit = 67108864
 abbrev pub stream_limit : ℕ
 stream_limit = 67108864
 
+abbrev pub script_limit : ℕ
+script_limit = 8388608
+
 -- a file that is read: its name, and the most octets that it may have
 pub record Wanted : Type 0 where
   pub name : List ℕ
   pub limit : ℕ
 
 -- what a command works on once its files are read: a scenario with the frames of the captures that it plays, in the order of its
--- commands, the octets of a stream, or a scenario that is written as a text of version 2
+-- commands, the octets of a stream, a scenario that is written as a text of version 2, or the lines of a script of discovery with the plan
+-- of its scenario
 pub data Work : Type 0 where
   Run : (scenario : Scenario) (captures : List (List (List ℕ))) → Work
   Stream : (octets : List ℕ) → Work
   Migration : (scenario : Scenario) → Work
+  Discovery : (plan : Plan) (lines : List ScriptLine) → Work
 
 -- what comes next where some files were read: a further file is, or an outcome before any run ends the call, or the command has its work
 pub data Next : Type 0 where
@@ -50,6 +61,9 @@ capture_file name = Reads (record { name = name; limit = capture_limit })
 
 abbrev pub stream_file : List ℕ → Next
 stream_file name = Reads (record { name = name; limit = stream_limit })
+
+abbrev pub script_file : List ℕ → Next
+script_file name = Reads (record { name = name; limit = script_limit })
 
 -- the files that commands play, in their order; one that is played twice stands twice
 abbrev pub played_by : Command → List (List ℕ)
@@ -87,6 +101,20 @@ abbrev pub IsNextAfter : (Scenario → Next → Type 0) → Result Scenario Scen
 IsNextAfter IsNextOfIt (Err fault) next = next ≡ Refuses (ScenarioRefused fault)
 IsNextAfter IsNextOfIt (Ok scenario) next = IsNextOfIt scenario next
 
+-- behind an accepted scenario a second file is read, and what comes next behind it is told of its octets
+abbrev pub IsNextBehind : Next → (List ℕ → Next → Type 0) → List (List ℕ) → Next → Type 0
+IsNextBehind file IsNextOfIt [] next = next ≡ file
+IsNextBehind file IsNextOfIt (octets ∷ read) next = IsNextOfIt octets next
+
+-- what comes next behind a script, by the lines that its octets are; that they are some never comes to want of memory
+abbrev pub next_script : {Lines : Type 0} → (Lines → Work) → Result Lines ScriptFault → Next
+next_script work (Err (script_fault.Bad line word)) = Refuses (ScriptRefused line word)
+next_script work (Err script_fault.NoMemory) = Refuses NoMemory
+next_script work (Ok lines) = Works (work lines)
+
+abbrev pub IsNextDiscovery : Scenario → List ℕ → Next → Type 0
+IsNextDiscovery scenario octets next = next ≡ next_script (Discovery scenario.plan) (lines_in (names_of scenario.plan) octets)
+
 -- behind the octets of the files that were read, in their order
 abbrev pub IsNext : Asked → List (List ℕ) → Next → Type 0
 IsNext (Replay file) [] next = next ≡ scenario_file file
@@ -100,6 +128,8 @@ IsNext (Decode file) (octets ∷ read) next = next ≡ Works (Stream octets)
 IsNext (Rehearse seed) read next = next ≡ Works (Run (rehearsal seed) [])
 IsNext (Migrate file) [] next = next ≡ scenario_file file
 IsNext (Migrate file) (octets ∷ read) next = IsNextAfter (λ scenario it. it ≡ Works (Migration scenario)) (document octets) next
+IsNext (Discover file script) [] next = next ≡ scenario_file file
+IsNext (Discover file script) (octets ∷ read) next = IsNextAfter (λ scenario it. IsNextBehind (script_file script) (IsNextDiscovery scenario) read it) (document octets) next
 
 -- a file that comes next has these octets, and they are within its limit
 pub record IsReadNext (Holds : List ℕ → List ℕ → Type 0) (asked : Asked) (before : List (List ℕ)) (octets : List ℕ) : Type 0 where

@@ -1,6 +1,9 @@
 -- How a call ends that writes a text.
 use Rattle.std.specs.Prelude.{◌≡◌, ◌⊎◌, ℕ, List, Option, Some, None}
+use Rattle.net_base.specs.declared.plan.Plan.{Plan}
 use Rattle.net_base.specs.outside.Outside.{Rose}
+use Rattle.discovery_script.specs.declared.placed_note.PlacedNote.{PlacedNote}
+use Rattle.discovery_script.specs.declared.script_line.ScriptLine.{ScriptLine}
 use Rattle.migration.specs.Law.{IsMigrated}
 use Rattle.psn_net.specs.declared.net_stop.NetStop.{NetStop}
 use Rattle.psn_net.specs.Lists.{NetLists}
@@ -9,9 +12,11 @@ use Rattle.text_lines.specs.Written.{Written, AppendsFront, Writes}
 use Rattle.vplsnet.specs.declared.outcome.Outcome.{Outcome}
 use Rattle.vplsnet.specs.declared.outcome.Outcome.TheVariants.{Done, WriteFault, NoMemory}
 use Rattle.vplsnet.specs.Answers.{run_text}
-use Rattle.vplsnet.specs.Asked.{Asked, Replay, Tables, Capture, Decode, Rehearse, Migrate}
+use Rattle.vplsnet.specs.Asked.{Asked, Replay, Tables, Capture, Decode, Rehearse, Migrate, Discover}
 use Rattle.vplsnet.specs.Decode.{AppendsPart, IsDecoding}
-use Rattle.vplsnet.specs.ScenarioRun.{IsScenarioRun, outcome_by}
+use Rattle.vplsnet.specs.Discover.{IsDiscoveryRun, discovery_text}
+use Rattle.vplsnet.specs.RunOver.{outcome_by}
+use Rattle.vplsnet.specs.ScenarioRun.{IsScenarioRun}
 
 -- the whole text was taken, and the call ends as it was to end
 pub record WritesWhole (text : List ℕ) (left : Option NetLists) (made : Outcome) (old now : Written) (network : Option NetLists) (outcome : Outcome) : Type 0 where
@@ -72,6 +77,17 @@ pub record TellsMigration (scenario : Scenario) (old now : Written) (network : O
 abbrev pub EndsMigration : Scenario → Written → Written → Option NetLists → Outcome → Type 0
 EndsMigration scenario old now network outcome = TellsMigration scenario old now network outcome ⊎ WritesNone old now network outcome
 
+-- the run of a script, of which the report is written
+pub record TellsScript (plan : Plan) (lines : List ScriptLine) (old now : Written) (network : Option NetLists) (outcome : Outcome) : Type 0 where
+  pub left : NetLists
+  pub notes : List PlacedNote
+  pub reason : Option NetStop
+  pub is_run : IsDiscoveryRun plan lines left notes reason
+  pub ends : EndsText (discovery_text left notes reason) (Some left) (outcome_by reason) old now network outcome
+
+abbrev pub EndsDiscovery : Plan → List ScriptLine → Written → Written → Option NetLists → Outcome → Type 0
+EndsDiscovery plan lines old now network outcome = TellsScript plan lines old now network outcome ⊎ WritesNone old now network outcome
+
 -- the command runs a scenario
 abbrev pub RunsScenario : Asked → Type 0
 RunsScenario (Replay file) = Unit {0}
@@ -80,3 +96,4 @@ RunsScenario (Capture file circuit) = Unit {0}
 RunsScenario (Rehearse seed) = Unit {0}
 RunsScenario (Decode file) = ⊥
 RunsScenario (Migrate file) = ⊥
+RunsScenario (Discover file script) = ⊥

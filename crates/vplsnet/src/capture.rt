@@ -22,7 +22,8 @@ pub fn missing_circuit<'a>(request: Request<'a>, plan: &Plan) -> Option<&'a str>
         | Request::Tables { .. }
         | Request::Decode { .. }
         | Request::Rehearse { .. }
-        | Request::Migrate { .. } => None,
+        | Request::Migrate { .. }
+        | Request::Discover { .. } => None,
     }
 }
 

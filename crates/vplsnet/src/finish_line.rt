@@ -5,6 +5,7 @@ ghost use Rattle.vplsnet.specs.Finish.{finish_text};
 use crate::capture_fault_text::put_capture_fault;
 use crate::fault_text::put_fault;
 use crate::outcome::Outcome;
+use crate::script_place_text::put_script_place;
 use crate::stop_text::put_stop;
 use crate::stream_fault_text::put_stream_fault;
 use net_base::NoMemory;
@@ -51,6 +52,10 @@ fn put_outcome(line: &mut Vec<u8>, outcome: &Outcome) -> Result<(), NoMemory>
             put_text(line, file.as_slice())?;
             put_text(line, b":")?;
             put_capture_fault(line, *fault)
+        }
+        Outcome::ScriptRefused { line: at, word } => {
+            put_text(line, b"script:")?;
+            put_script_place(line, *at, *word)
         }
         Outcome::Stopped(stop) => {
             put_text(line, b"stopped:")?;

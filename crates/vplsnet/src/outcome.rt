@@ -15,7 +15,7 @@ pub enum Outcome {
     Done,
     /// The words are not those of a command.
     Usage,
-    /// The shelf's count of faults rose for the name of the file that comes next: that of the words, or one that the scenario
+    /// The shelf's count of faults rose for the name of the file that comes next: one of the words, or one that the scenario
     /// plays. Nothing was taken.
     ReadFault,
     /// The sink failed. What was taken is a front of the text.
@@ -28,8 +28,10 @@ pub enum Outcome {
     NoCircuit(Word),
     /// The scenario is accepted, and this file that it plays has this first fault, which is not want of memory. Nothing was taken.
     CaptureRefused(Word, CaptureFault),
-    /// A limit of the run stopped it, which is not want of memory. The report of what was done before was taken, and of another
-    /// command nothing.
+    /// The scenario is accepted, and the script has its first fault at this word of this line, both counted from 1. Nothing was taken.
+    ScriptRefused { line: u32, word: u32 },
+    /// A limit of the run stopped it, which is not want of memory. The report of what was done before was taken, of a script too, and of
+    /// another command nothing.
     Stopped(NetStop),
     /// The stream has this first fault, which is not want of memory. The lines of the messages before it were taken.
     DecodeRefused(StreamFault),
@@ -50,7 +52,10 @@ impl Outcome {
             Outcome::Usage => 2,
             Outcome::ReadFault => 3,
             Outcome::WriteFault => 4,
-            Outcome::TooLong { .. } | Outcome::ScenarioRefused(_) | Outcome::NoCircuit(_) => 5,
+            Outcome::TooLong { .. }
+            | Outcome::ScenarioRefused(_)
+            | Outcome::NoCircuit(_)
+            | Outcome::ScriptRefused { .. } => 5,
             Outcome::CaptureRefused(..) | Outcome::DecodeRefused(_) | Outcome::Unfinished { .. } =>
                 6,
             Outcome::Stopped(_) => 7,

@@ -18,8 +18,8 @@ pub fn put_replayed<K: Sink>(page: &mut Page, sink: &mut K, run: &ScenarioRun) -
     put_report(page, sink, network.plan(), trace, ending_of(run.stop))
 }
 
-// How the report ends of a run that this limit stopped, or none.
-fn ending_of(stop: Option<NetStop>) -> Ending
+/// How the report ends of a run that this limit stopped, or none.
+pub fn ending_of(stop: Option<NetStop>) -> Ending
     ensures { result ≡ ending_by stop }
 {
     match stop {

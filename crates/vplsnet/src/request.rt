@@ -1,6 +1,6 @@
 //! What the words of the command line ask for. They are read by hand: the rows are few and fixed.
 ghost use Rattle.std.specs.Prelude.{◌≡◌, map, option_map, string_bytes};
-ghost use Rattle.vplsnet.specs.Asked.{asked, asked_by, is_plain, one_word_command};
+ghost use Rattle.vplsnet.specs.Asked.{asked, asked_by, is_plain, one_word_command, two_word_command};
 
 use command_text::decimal::decimal;
 use command_text::is_same;
@@ -18,6 +18,8 @@ pub enum Request<'a> {
     Decode { file: &'a str },
     /// `migrate FILE`: the scenario in FILE as a text of version 2.
     Migrate { file: &'a str },
+    /// `discover FILE SCRIPT`: the report of the script in SCRIPT over the network of the scenario in FILE.
+    Discover { file: &'a str, script: &'a str },
     /// `rehearse SEED`: two lines on the run of the scenario that the seed makes.
     Rehearse { seed: u64 },
 }
@@ -32,14 +34,8 @@ pub fn request_of<'a>(words: &'a [String]) -> Option<Request<'a>>
             command.as_str(),
             word.as_str(),
         ),
-        [command, file, circuit]
-            if is_same(command.as_str(), "capture")
-                && is_plain_word(file.as_str())
-                && is_plain_word(circuit.as_str()) => {
-            Some(Request::Capture {
-                file: file.as_str(),
-                circuit: circuit.as_str(),
-            })
+        [command, file, word] if is_plain_word(file.as_str()) && is_plain_word(word.as_str()) => {
+            two_word_request(command.as_str(), file.as_str(), word.as_str())
         }
         _ => None,
     }
@@ -62,6 +58,22 @@ fn one_word_request<'a>(command: &str, word: &'a str) -> Option<Request<'a>>
         }
     } else if is_same(command, "migrate") {
         Some(Request::Migrate { file: word })
+    } else {
+        None
+    }
+}
+
+// A command of two more words, by its name.
+fn two_word_request<'a>(command: &str, file: &'a str, word: &'a str) -> Option<Request<'a>>
+    ensures { option_map asked_by result ≡ two_word_command command.now file.now word.now }
+{
+    if is_same(command, "capture") {
+        Some(Request::Capture {
+            file,
+            circuit: word,
+        })
+    } else if is_same(command, "discover") {
+        Some(Request::Discover { file, script: word })
     } else {
         None
     }

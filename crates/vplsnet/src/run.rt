@@ -10,20 +10,19 @@ ghost use Rattle.vplsnet.specs.Asked.{asked, asked_by};
 ghost use Rattle.vplsnet.specs.Finish.{status_of};
 ghost use Rattle.vplsnet.specs.Inputs.{ComesTo, Run, Works};
 ghost use Rattle.vplsnet.specs.Reads.{GainsReads, IsReadOfNext, MayRead};
-ghost use Rattle.vplsnet.specs.ScenarioRun.{outcome_by};
 ghost use Rattle.vplsnet.specs.Writing.{EndsRun, RunsScenario};
 
 use crate::decode::decode_file;
+use crate::discover::discover_files;
 use crate::finish::Finish;
 use crate::migrate::migrate_file;
 use crate::outcome::Outcome;
 use crate::request::{Request, request_of};
 use crate::run_text::put_run;
 use crate::scenario_file::scenario_of;
-use crate::scenario_run::run_scenario;
+use crate::scenario_run::{outcome_of, run_scenario};
 use crate::work::Work;
 use net_base::{List, NoMemory, Shelf, Sink};
-use psn_net::NetStop;
 use rehearsal::rehearsal;
 use std::alloc::Global;
 use tables_text::Sorting;
@@ -44,6 +43,11 @@ use text_lines::Page;
 ///
 /// `migrate FILE` reads a scenario and writes a text of version 2 that is read as the same scenario. No run begins, and the captures that
 /// it plays are not read.
+///
+/// `discover FILE SCRIPT` reads a scenario and then a script, of at most 8,388,608 octets, and does the lines of the script over the network of
+/// the scenario, whose own events are not done. In this order come `ReadFault` and `TooLong` of the file, `ScenarioRefused`, `ReadFault` and
+/// `TooLong` of the script, and `ScriptRefused`. Only then the report of the script is written, also where a limit stopped it. A connection
+/// opens only where both edges hold a Hello adjacency with the other one (RFC 5036 section 2.4.2).
 ///
 /// Only files that come next in this order are read, each for at most one octet more than its limit.
 ///
@@ -79,6 +83,9 @@ pub fn run<F: Shelf, K: Sink>(
     if let Request::Migrate { file } = request {
         return migrate_file(alloc, file, shelf, sink);
     }
+    if let Request::Discover { file, script } = request {
+        return discover_files(alloc, file, script, shelf, sink);
+    }
     match work_of(alloc, request, shelf) {
         Ok(work) => finish_work(alloc, request, work, sink),
         Err(outcome) => Finish::without_run(outcome),
@@ -108,7 +115,9 @@ fn work_of<F: Shelf>(alloc: Global, request: Request<'_>, shelf: &mut F) -> Resu
             }),
             Err(NoMemory) => Err(Outcome::NoMemory),
         },
-        Request::Decode { .. } | Request::Migrate { .. } => unreachable!(),
+        Request::Decode { .. } | Request::Migrate { .. } | Request::Discover { .. } => {
+            unreachable!()
+        }
     }
 }
 
@@ -140,15 +149,5 @@ fn finish_work<K: Sink>(alloc: Global, request: Request<'_>, work: Work, sink: &
     match page.flush(sink) {
         Ok(()) => Finish::after_run(outcome_of(run.stop), Some(run.network)),
         Err(_) => Finish::after_run(Outcome::WriteFault, Some(run.network)),
-    }
-}
-
-// The outcome of a run that this limit stopped, or none.
-fn outcome_of(stop: Option<NetStop>) -> Outcome
-    ensures { result ≡ outcome_by stop }
-{
-    match stop {
-        None => Outcome::Done,
-        Some(stop) => Outcome::Stopped(stop),
     }
 }

@@ -1,10 +1,12 @@
 //! The run of a scenario: each command makes its events, and the network does them in turn.
-ghost use Rattle.std.specs.Prelude.{All, IfOk};
+ghost use Rattle.std.specs.Prelude.{◌≡◌, All, IfOk};
 ghost use Rattle.net_base.specs.plan.Accepted.{IsChecked};
 ghost use Rattle.net_base.specs.plan.Planned.{IsFrame};
 ghost use Rattle.command_text.specs.Planned.{IsPlanned};
+ghost use Rattle.vplsnet.specs.RunOver.{outcome_by};
 ghost use Rattle.vplsnet.specs.ScenarioRun.{HasRun};
 
+use crate::outcome::Outcome;
 use crate::types::see_types;
 use crate::work::Work;
 use command_run::{LeftCaptures, run_command};
@@ -48,4 +50,14 @@ pub fn run_scenario(alloc: Global, work: Work) -> Result<ScenarioRun, NoMemory>
         network,
         stop: None,
     })
+}
+
+/// The outcome of a run that this limit stopped, or none.
+pub fn outcome_of(stop: Option<NetStop>) -> Outcome
+    ensures { result ≡ outcome_by stop }
+{
+    match stop {
+        None => Outcome::Done,
+        Some(stop) => Outcome::Stopped(stop),
+    }
 }

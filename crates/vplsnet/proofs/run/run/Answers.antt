@@ -3,7 +3,7 @@ use Rattle.std.proofs.Common.{◌∙◌, map, string_bytes, rules, refl, ap, sub
 use Rattle.vplsnet.specs.declared.outcome.Outcome.{Outcome}
 use Rattle.vplsnet.specs.Answers.{SaysOutcome}
 use Rattle.vplsnet.specs.Around.{Around, around}
-use Rattle.vplsnet.specs.Asked.{Decode, Migrate, asked, asked_by}
+use Rattle.vplsnet.specs.Asked.{Decode, Discover, Migrate, asked, asked_by}
 use Rattle.vplsnet.specs.Finish.{status_of}
 use Rattle.vplsnet.proofs.AnswerLemmas.{completes_by, finishes_by, refused_answers, run_answers, usage_by}
 use Rattle.vplsnet.proofs.ReadLemmas.{asked_reads}
@@ -18,6 +18,12 @@ pub returns-in-Migrate-clause-complete : goal.returns-in-Migrate-clause-complete
 returns-in-Migrate-clause-complete g c =
     let here : Around = around g.F.Shelf.files g.F.Shelf.faults g.K.Sink.taken g.K.Sink.faults c.args.shelf.now c.args.sink.now c.migrate_file.new.shelf c.migrate_file.new.sink in
     completes_by here (Migrate c.in-Migrate.file.now) (asked (map string_bytes c.args.words.now)) c.migrate_file.result.network c.migrate_file.result.outcome (search rules) c.migrate_file.ensures.answers
+
+pub returns-in-Discover-clause-complete : goal.returns-in-Discover-clause-complete
+returns-in-Discover-clause-complete g c =
+    let here : Around = around g.F.Shelf.files g.F.Shelf.faults g.K.Sink.taken g.K.Sink.faults c.args.shelf.now c.args.sink.now c.discover_files.new.shelf c.discover_files.new.sink in
+    completes_by here (Discover c.in-Discover.file.now c.in-Discover.script.now) (asked (map string_bytes c.args.words.now)) c.discover_files.result.network c.discover_files.result.outcome (search rules)
+    c.discover_files.ensures.answers
 
 pub returns-in-Ok : goal.returns-in-Ok
 returns-in-Ok g c =
