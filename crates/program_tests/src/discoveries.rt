@@ -2,8 +2,8 @@
 
 use crate::around::{Case, REPLAY, Taken, all_play};
 
-// Two edges, a mesh wire and a circuit.
-const PLAN: &str =
+/// Two edges, a mesh wire and a circuit.
+pub const PLAN: &str =
     "edge = [{ name = \"a\", address = \"10.0.0.1\" }, { name = \"b\", address = \"10.0.0.2\" }]
 service = [{ name = \"s\" }]
 [[wire]]

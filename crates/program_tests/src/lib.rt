@@ -16,6 +16,8 @@ mod decodings;
 #[cfg(test)]
 mod discoveries;
 #[cfg(test)]
+mod exchanges;
+#[cfg(test)]
 mod faults;
 #[cfg(test)]
 mod files;

@@ -19,12 +19,12 @@ use Rattle.vplsnet.specs.declared.outcome.Outcome.{Outcome}
 use Rattle.vplsnet.specs.declared.outcome.Outcome.TheVariants.{Done, Usage, ReadFault, WriteFault, TooLong, ScenarioRefused, NoCircuit, CaptureRefused, ScriptRefused, Stopped, DecodeRefused, Unfinished, NoMemory}
 use Rattle.vplsnet.specs.Answers.{CallsFor, Completes, Finishes, IsCutShort, IsEndOf, IsMade, IsRefused, IsSound, IsSoundOutcome, IsTooLong, IsWhole, Makes, MakesRun, SaysOutcome, run_text}
 use Rattle.vplsnet.specs.Around.{Files, Around, HasWriteFault, IsUntouched, Has, TellsFile}
-use Rattle.vplsnet.specs.Asked.{Asked, Replay, Tables, Capture, Decode, Rehearse, Migrate, Discover}
+use Rattle.vplsnet.specs.Asked.{Asked, Replay, Tables, Capture, Decode, Rehearse, Migrate, Discover, Switchover}
 use Rattle.vplsnet.specs.Capture.{lacks_circuit}
 use Rattle.vplsnet.specs.Decode.{IsDecoding, IsDecodedAs}
 use Rattle.vplsnet.specs.Discover.{IsDiscovery}
 use Rattle.vplsnet.specs.Files.{IsLonger, IsNotHad}
-use Rattle.vplsnet.specs.Inputs.{AreReadNext, ComesTo, IsNext, IsNextAfter, IsNextBehind, IsNextDiscovery, IsNextOf, IsNextPlayed, IsNextRead, IsReadNext, Discovery, Migration, Next, Reads, Refuses, Run, Stream, Wanted, Work, Works, played, scenario_limit, script_file, stream_limit}
+use Rattle.vplsnet.specs.Inputs.{AreReadNext, ComesTo, IsNext, IsNextAfter, IsNextBehind, IsNextDiscovery, IsNextExchange, IsNextOf, IsNextPlayed, IsNextRead, IsReadNext, Discovery, Exchange, Migration, Next, Reads, Refuses, Run, Stream, Wanted, Work, Works, played, scenario_limit, script_file, stream_limit}
 use Rattle.vplsnet.specs.ScenarioFile.{HasNoScenario, IsOfFile}
 use Rattle.vplsnet.specs.RunOver.{outcome_by, run_of}
 use Rattle.vplsnet.specs.ScenarioRun.{IsScenarioRun, whole_run}
@@ -42,6 +42,7 @@ says_want around (Capture file circuit) network untouched = untouched
 says_want around (Rehearse seed) network untouched = untouched
 says_want around (Migrate file) network untouched = untouched
 says_want around (Discover file script) network untouched = untouched
+says_want around (Switchover file script) network untouched = untouched
 says_want around (Decode file) network untouched = inl untouched
 
 -- what is refused before any run
@@ -274,6 +275,10 @@ one_next (Discover file script) [] next other a b = a ∙ sym b
 one_next (Discover file script) (octets ∷ read) next other a b =
     one_after (λ scenario it. IsNextBehind (script_file script) (IsNextDiscovery scenario) read it)
     (λ scenario. one_behind (script_file script) (IsNextDiscovery scenario) (λ text one two is also. is ∙ sym also) read) (document octets) next other a b
+one_next (Switchover file script) [] next other a b = a ∙ sym b
+one_next (Switchover file script) (octets ∷ read) next other a b =
+    one_after (λ scenario it. IsNextBehind (script_file script) (IsNextExchange scenario) read it)
+    (λ scenario. one_behind (script_file script) (IsNextExchange scenario) (λ text one two is also. is ∙ sym also) read) (document octets) next other a b
 
 -- ---- the files that are read are one list
 
@@ -430,6 +435,7 @@ makes_end asked (Run scenario captures) text network outcome called makes end = 
 makes_end asked (Stream octets) text network outcome called makes end = decode_end octets text network outcome called makes end
 makes_end asked (Migration scenario) text network outcome called makes end = makes.ends ∙ sym end
 makes_end asked (Discovery plan lines) text network outcome called makes end = discovery_end plan lines text network outcome called makes end
+makes_end asked (Exchange plan lines) text network outcome called makes end = makes.ends ∙ sym end
 
 -- what was made is what is called for, and no call of the sink failed
 made_called : (around : Around) (asked : Asked) (text : List ℕ) (network : Option NetLists) (outcome called : Outcome) → IsMade around asked text network outcome → IsSoundOutcome around asked called

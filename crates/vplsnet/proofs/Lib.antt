@@ -10,4 +10,5 @@ pub mod RunLemmas
 pub mod ScenarioFileLemmas
 pub mod ScriptFileLemmas
 pub mod StreamLemmas
+pub mod SwitchoverLemmas
 pub mod WritingLemmas

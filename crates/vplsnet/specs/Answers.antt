@@ -10,22 +10,23 @@ use Rattle.text_lines.specs.Written.{AppendsFront, Writes}
 use Rattle.vplsnet.specs.declared.outcome.Outcome.{Outcome}
 use Rattle.vplsnet.specs.declared.outcome.Outcome.TheVariants.{Done, Usage, ReadFault, WriteFault, TooLong, ScenarioRefused, NoCircuit, CaptureRefused, ScriptRefused, Stopped, DecodeRefused, Unfinished, NoMemory}
 use Rattle.vplsnet.specs.Around.{Files, Around, HasReadFault, HasWriteFault, IsUntouched, Has, TellsFile}
-use Rattle.vplsnet.specs.Asked.{Asked, Replay, Tables, Capture, Decode, Rehearse, Migrate, Discover}
+use Rattle.vplsnet.specs.Asked.{Asked, Replay, Tables, Capture, Decode, Rehearse, Migrate, Discover, Switchover}
 use Rattle.vplsnet.specs.Capture.{captured}
 use Rattle.vplsnet.specs.Decode.{AppendsPart, IsDecoding, IsDecodedAs}
 use Rattle.discovery_net.specs.Script.{events_made}
 use Rattle.vplsnet.specs.Discover.{IsDiscovery}
 use Rattle.vplsnet.specs.Files.{IsLonger}
-use Rattle.vplsnet.specs.Inputs.{Wanted, Next, Reads, Refuses, Works, Work, Run, Stream, Migration, Discovery, ComesTo}
+use Rattle.vplsnet.specs.Inputs.{Wanted, Next, Reads, Refuses, Works, Work, Run, Stream, Migration, Discovery, Exchange, ComesTo}
 use Rattle.vplsnet.specs.Migrate.{IsMigration}
 use Rattle.vplsnet.specs.Rehearse.{rehearse_text}
 use Rattle.vplsnet.specs.Replay.{replay_text}
 use Rattle.vplsnet.specs.RunOver.{outcome_by, run_of}
+use Rattle.vplsnet.specs.Switchover.{IsExchange}
 use Rattle.vplsnet.specs.ScenarioRun.{IsScenarioRun, whole_run}
 use Rattle.vplsnet.specs.Tables.{tables_text}
 
 -- The text of a command, a row for each: what it writes of the network that a run left, and of the limit that stopped it, if one did.
--- That of `decode` is told of octets, that of `migrate` of the scenario alone, and that of `discover` of its script.
+-- That of `decode` is told of octets, that of `migrate` of the scenario alone, and those of `discover` and `switchover` of a script.
 abbrev pub run_text : Asked → NetLists → Option NetStop → List ℕ
 run_text (Replay file) left reason = replay_text left reason
 run_text (Tables file) left reason = tables_text left reason
@@ -34,6 +35,7 @@ run_text (Rehearse seed) left reason = rehearse_text seed left reason
 run_text (Decode file) left reason = []
 run_text (Migrate file) left reason = []
 run_text (Discover file script) left reason = []
+run_text (Switchover file script) left reason = []
 
 -- the text and the network of a run
 pub record TellsRun (asked : Asked) (scenario : Scenario) (captures : List (List (List ℕ))) (text : List ℕ) (network : Option NetLists) (reason : Option NetStop) : Type 0 where
@@ -53,6 +55,7 @@ Makes asked (Run scenario captures) text network outcome = MakesRun asked scenar
 Makes asked (Stream octets) text network outcome = IsDecoding octets text network outcome
 Makes asked (Migration scenario) text network outcome = IsMigration scenario text network outcome
 Makes asked (Discovery plan lines) text network outcome = IsDiscovery plan lines text network outcome
+Makes asked (Exchange plan lines) text network outcome = IsExchange plan lines text network outcome
 
 -- the outcome of this work alone
 abbrev pub IsEndOf : Work → Outcome → Type 0
@@ -60,6 +63,7 @@ IsEndOf (Run scenario captures) outcome = outcome ≡ outcome_by (whole_run scen
 IsEndOf (Stream octets) outcome = IsDecodedAs octets outcome
 IsEndOf (Migration scenario) outcome = outcome ≡ Done
 IsEndOf (Discovery plan lines) outcome = outcome ≡ outcome_by (run_of plan (events_made plan lines)).stop
+IsEndOf (Exchange plan lines) outcome = outcome ≡ Done
 
 -- the files were read, and the command had its work, and makes this text, the network of this run and this outcome of it
 pub record IsMade (around : Around) (asked : Asked) (text : List ℕ) (network : Option NetLists) (outcome : Outcome) : Type 0 where
@@ -123,6 +127,7 @@ SaysWant around (Capture file circuit) network = IsUntouched around network
 SaysWant around (Rehearse seed) network = IsUntouched around network
 SaysWant around (Migrate file) network = IsUntouched around network
 SaysWant around (Discover file script) network = IsUntouched around network
+SaysWant around (Switchover file script) network = IsUntouched around network
 SaysWant around (Decode file) network = IsUntouched around network ⊎ IsGivenUp around (Decode file) network
 
 -- What an outcome says, its cause among it.

@@ -6,7 +6,7 @@ use Rattle.net_base.specs.declared.plan.places.CircuitId.{CircuitId}
 use Rattle.psn_net.specs.declared.net_stop.NetStop.{NetStop}
 use Rattle.psn_net.specs.Lists.{NetLists}
 use Rattle.capture_text.specs.Capture.{capture_text}
-use Rattle.vplsnet.specs.Asked.{Asked, Replay, Tables, Capture, Decode, Rehearse, Migrate, Discover}
+use Rattle.vplsnet.specs.Asked.{Asked, Replay, Tables, Capture, Decode, Rehearse, Migrate, Discover, Switchover}
 
 -- the place of the circuit of this name
 abbrev pub circuit_of : Plan → List ℕ → Option ℕ
@@ -26,6 +26,7 @@ lacks_circuit (Decode file) plan = None
 lacks_circuit (Rehearse seed) plan = None
 lacks_circuit (Migrate file) plan = None
 lacks_circuit (Discover file script) plan = None
+lacks_circuit (Switchover file script) plan = None
 
 -- the frames that left the circuit at this place, as a capture; nothing where there is none
 abbrev pub left_at : NetLists → Option ℕ → List ℕ

@@ -15,9 +15,11 @@ use Rattle.scenario_text.specs.declared.scenario.Scenario.{Scenario}
 use Rattle.scenario_text.specs.Document.{document}
 use Rattle.script_text.specs.declared.script_fault.ScriptFault.{ScriptFault}
 use Rattle.script_text.specs.declared.script_fault.ScriptFault.TheVariants as script_fault
+use Rattle.switchover_model.specs.declared.switch_line.SwitchLine.{SwitchLine}
+use Rattle.switchover_script.specs.Lines.{switch_lines_in}
 use Rattle.vplsnet.specs.declared.outcome.Outcome.{Outcome}
 use Rattle.vplsnet.specs.declared.outcome.Outcome.TheVariants.{ScenarioRefused, NoCircuit, CaptureRefused, ScriptRefused, NoMemory}
-use Rattle.vplsnet.specs.Asked.{Asked, Replay, Tables, Capture, Decode, Rehearse, Migrate, Discover}
+use Rattle.vplsnet.specs.Asked.{Asked, Replay, Tables, Capture, Decode, Rehearse, Migrate, Discover, Switchover}
 use Rattle.vplsnet.specs.Capture.{lacks_circuit}
 
 -- the most octets of a scenario, of a capture, of a stream and of a script
@@ -39,13 +41,14 @@ pub record Wanted : Type 0 where
   pub limit : ℕ
 
 -- what a command works on once its files are read: a scenario with the frames of the captures that it plays, in the order of its
--- commands, the octets of a stream, a scenario that is written as a text of version 2, or the lines of a script of discovery with the plan
--- of its scenario
+-- commands, the octets of a stream, a scenario that is written as a text of version 2, or the lines of a script of discovery or of
+-- switchover with the plan of its scenario
 pub data Work : Type 0 where
   Run : (scenario : Scenario) (captures : List (List (List ℕ))) → Work
   Stream : (octets : List ℕ) → Work
   Migration : (scenario : Scenario) → Work
   Discovery : (plan : Plan) (lines : List ScriptLine) → Work
+  Exchange : (plan : Plan) (lines : List SwitchLine) → Work
 
 -- what comes next where some files were read: a further file is, or an outcome before any run ends the call, or the command has its work
 pub data Next : Type 0 where
@@ -115,6 +118,9 @@ next_script work (Ok lines) = Works (work lines)
 abbrev pub IsNextDiscovery : Scenario → List ℕ → Next → Type 0
 IsNextDiscovery scenario octets next = next ≡ next_script (Discovery scenario.plan) (lines_in (names_of scenario.plan) octets)
 
+abbrev pub IsNextExchange : Scenario → List ℕ → Next → Type 0
+IsNextExchange scenario octets next = next ≡ next_script (Exchange scenario.plan) (switch_lines_in scenario.plan octets)
+
 -- behind the octets of the files that were read, in their order
 abbrev pub IsNext : Asked → List (List ℕ) → Next → Type 0
 IsNext (Replay file) [] next = next ≡ scenario_file file
@@ -130,6 +136,8 @@ IsNext (Migrate file) [] next = next ≡ scenario_file file
 IsNext (Migrate file) (octets ∷ read) next = IsNextAfter (λ scenario it. it ≡ Works (Migration scenario)) (document octets) next
 IsNext (Discover file script) [] next = next ≡ scenario_file file
 IsNext (Discover file script) (octets ∷ read) next = IsNextAfter (λ scenario it. IsNextBehind (script_file script) (IsNextDiscovery scenario) read it) (document octets) next
+IsNext (Switchover file script) [] next = next ≡ scenario_file file
+IsNext (Switchover file script) (octets ∷ read) next = IsNextAfter (λ scenario it. IsNextBehind (script_file script) (IsNextExchange scenario) read it) (document octets) next
 
 -- a file that comes next has these octets, and they are within its limit
 pub record IsReadNext (Holds : List ℕ → List ℕ → Type 0) (asked : Asked) (before : List (List ℕ)) (octets : List ℕ) : Type 0 where

@@ -24,5 +24,6 @@ pub mod StopText
 pub mod StreamFaultText
 pub mod StreamSteps
 pub mod StreamText
+pub mod Switchover
 pub mod Tables
 pub mod Writing

@@ -8,15 +8,18 @@ use Rattle.migration.specs.Law.{IsMigrated}
 use Rattle.psn_net.specs.declared.net_stop.NetStop.{NetStop}
 use Rattle.psn_net.specs.Lists.{NetLists}
 use Rattle.scenario_text.specs.declared.scenario.Scenario.{Scenario}
+use Rattle.switchover_model.specs.declared.switch_line.SwitchLine.{SwitchLine}
+use Rattle.switchover_text.specs.Text.{switchover_report}
 use Rattle.text_lines.specs.Written.{Written, AppendsFront, Writes}
 use Rattle.vplsnet.specs.declared.outcome.Outcome.{Outcome}
 use Rattle.vplsnet.specs.declared.outcome.Outcome.TheVariants.{Done, WriteFault, NoMemory}
 use Rattle.vplsnet.specs.Answers.{run_text}
-use Rattle.vplsnet.specs.Asked.{Asked, Replay, Tables, Capture, Decode, Rehearse, Migrate, Discover}
+use Rattle.vplsnet.specs.Asked.{Asked, Replay, Tables, Capture, Decode, Rehearse, Migrate, Discover, Switchover}
 use Rattle.vplsnet.specs.Decode.{AppendsPart, IsDecoding}
 use Rattle.vplsnet.specs.Discover.{IsDiscoveryRun, discovery_text}
 use Rattle.vplsnet.specs.RunOver.{outcome_by}
 use Rattle.vplsnet.specs.ScenarioRun.{IsScenarioRun}
+use Rattle.vplsnet.specs.Switchover.{AgreesBehindEach}
 
 -- the whole text was taken, and the call ends as it was to end
 pub record WritesWhole (text : List ℕ) (left : Option NetLists) (made : Outcome) (old now : Written) (network : Option NetLists) (outcome : Outcome) : Type 0 where
@@ -88,6 +91,14 @@ pub record TellsScript (plan : Plan) (lines : List ScriptLine) (old now : Writte
 abbrev pub EndsDiscovery : Plan → List ScriptLine → Written → Written → Option NetLists → Outcome → Type 0
 EndsDiscovery plan lines old now network outcome = TellsScript plan lines old now network outcome ⊎ WritesNone old now network outcome
 
+-- the exchange of a script, of which the text is written; no network of the full machine runs
+pub record TellsExchange (plan : Plan) (lines : List SwitchLine) (old now : Written) (network : Option NetLists) (outcome : Outcome) : Type 0 where
+  pub agrees : AgreesBehindEach plan lines
+  pub ends : EndsText (switchover_report plan lines) None Done old now network outcome
+
+abbrev pub EndsExchange : Plan → List SwitchLine → Written → Written → Option NetLists → Outcome → Type 0
+EndsExchange plan lines old now network outcome = TellsExchange plan lines old now network outcome ⊎ WritesNone old now network outcome
+
 -- the command runs a scenario
 abbrev pub RunsScenario : Asked → Type 0
 RunsScenario (Replay file) = Unit {0}
@@ -97,3 +108,4 @@ RunsScenario (Rehearse seed) = Unit {0}
 RunsScenario (Decode file) = ⊥
 RunsScenario (Migrate file) = ⊥
 RunsScenario (Discover file script) = ⊥
+RunsScenario (Switchover file script) = ⊥

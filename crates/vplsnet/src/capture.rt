@@ -23,7 +23,8 @@ pub fn missing_circuit<'a>(request: Request<'a>, plan: &Plan) -> Option<&'a str>
         | Request::Decode { .. }
         | Request::Rehearse { .. }
         | Request::Migrate { .. }
-        | Request::Discover { .. } => None,
+        | Request::Discover { .. }
+        | Request::Switchover { .. } => None,
     }
 }
 

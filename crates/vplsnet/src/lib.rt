@@ -31,6 +31,7 @@ mod stop_text;
 mod stream_fault_text;
 mod stream_stop;
 mod stream_text;
+mod switchover;
 mod types;
 mod work;
 

@@ -20,6 +20,8 @@ pub enum Request<'a> {
     Migrate { file: &'a str },
     /// `discover FILE SCRIPT`: the report of the script in SCRIPT over the network of the scenario in FILE.
     Discover { file: &'a str, script: &'a str },
+    /// `switchover FILE SCRIPT`: what the script in SCRIPT makes of the edges of FILE's scenario in independent mode.
+    Switchover { file: &'a str, script: &'a str },
     /// `rehearse SEED`: two lines on the run of the scenario that the seed makes.
     Rehearse { seed: u64 },
 }
@@ -74,6 +76,8 @@ fn two_word_request<'a>(command: &str, file: &'a str, word: &'a str) -> Option<R
         })
     } else if is_same(command, "discover") {
         Some(Request::Discover { file, script: word })
+    } else if is_same(command, "switchover") {
+        Some(Request::Switchover { file, script: word })
     } else {
         None
     }

@@ -21,6 +21,7 @@ use crate::request::{Request, request_of};
 use crate::run_text::put_run;
 use crate::scenario_file::scenario_of;
 use crate::scenario_run::{outcome_of, run_scenario};
+use crate::switchover::switchover_files;
 use crate::work::Work;
 use net_base::{List, NoMemory, Shelf, Sink};
 use rehearsal::rehearsal;
@@ -48,6 +49,9 @@ use text_lines::Page;
 /// the scenario, whose own events are not done. In this order come `ReadFault` and `TooLong` of the file, `ScenarioRefused`, `ReadFault` and
 /// `TooLong` of the script, and `ScriptRefused`. Only then the report of the script is written, also where a limit stopped it. A connection
 /// opens only where both edges hold a Hello adjacency with the other one (RFC 5036 section 2.4.2).
+///
+/// `switchover FILE SCRIPT` reads both in the same order, and has the edges of the scenario, in independent mode (RFC 6870 section 4),
+/// exchange statuses as the lines of the script say. No run of the network begins.
 ///
 /// Only files that come next in this order are read, each for at most one octet more than its limit.
 ///
@@ -86,6 +90,9 @@ pub fn run<F: Shelf, K: Sink>(
     if let Request::Discover { file, script } = request {
         return discover_files(alloc, file, script, shelf, sink);
     }
+    if let Request::Switchover { file, script } = request {
+        return switchover_files(alloc, file, script, shelf, sink);
+    }
     match work_of(alloc, request, shelf) {
         Ok(work) => finish_work(alloc, request, work, sink),
         Err(outcome) => Finish::without_run(outcome),
@@ -115,9 +122,10 @@ fn work_of<F: Shelf>(alloc: Global, request: Request<'_>, shelf: &mut F) -> Resu
             }),
             Err(NoMemory) => Err(Outcome::NoMemory),
         },
-        Request::Decode { .. } | Request::Migrate { .. } | Request::Discover { .. } => {
-            unreachable!()
-        }
+        Request::Decode { .. }
+        | Request::Migrate { .. }
+        | Request::Discover { .. }
+        | Request::Switchover { .. } => unreachable!(),
     }
 }
 

@@ -14,7 +14,7 @@ use tables_text::{Sorting, put_tables};
 use text_lines::Page;
 
 /// Puts the text of a request, with the room in which addresses are sorted. Of a run that a limit stopped there is a report alone, and
-/// what `decode`, `migrate` and `discover` write is no text of a scenario's run.
+/// what `decode`, `migrate`, `discover` and `switchover` write is no text of a scenario's run.
 #[tactic(auto, using(text_lines::proofs::WrittenLemmas::goes_none))]
 pub fn put_run<K: Sink>(
     page: &mut Page,
@@ -34,6 +34,9 @@ pub fn put_run<K: Sink>(
         Request::Rehearse { seed } => {
             put_counts(page, sink, run.network.trace().as_slice(), seed)
         }
-        Request::Decode { .. } | Request::Migrate { .. } | Request::Discover { .. } => Ok(()),
+        Request::Decode { .. }
+        | Request::Migrate { .. }
+        | Request::Discover { .. }
+        | Request::Switchover { .. } => Ok(()),
     }
 }
