@@ -1,0 +1,4 @@
+pub mod EventEntries
+pub mod Laws
+pub mod Past
+pub mod Verdict

@@ -1,0 +1,14 @@
+//! What becomes of windows.
+ghost use Rattle.seen_windows.specs.Laws.{WindowsGoOn, WindowsTell};
+
+/// The windows that one event more leaves open are those that a trace with this event has open, and those that it closes and that were
+/// flooded are, with those before, those whose frames have to leave once at each site.
+pub fn windows_go_on()
+    ensures { WindowsGoOn }
+{}
+
+/// Each flooded frame of a calm service was seen exactly once where each frame that has to leave once at each site did; and else the
+/// first of those that did not is the first that was not.
+pub fn windows_tell()
+    ensures { WindowsTell }
+{}
