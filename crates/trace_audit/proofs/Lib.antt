@@ -1,0 +1,4 @@
+pub mod FirstLemmas
+pub mod HeardLemmas
+pub mod JudgeLemmas
+pub mod PathLemmas

@@ -1,0 +1,314 @@
+-- What is known of the frames that entered and left, and of the packets that were sent, is what the rules say of the trace.
+use Rattle.std.proofs.Common.{◌≡◌, ◌+◌, ◌++◌, ◌&&◌, ◌||◌, ◌∙◌, ◌↔◌, not, ℕ, Bool, true, false, List, [], ◌∷◌, Option, Some, None, Result, Ok, Err, nat_eq, refl, sym, ap, append_assoc, append-nil, inl, inr}
+use Rattle.std.proofs.lemmas.Bool.{eq-eqb, eqb-true}
+use Rattle.std.proofs.lemmas.Slice.Eq.{bytes_eq-Decides}
+use Rattle.std.specs.List.{list_any}
+use Rattle.std.specs.Str.{bytes_eq}
+use Rattle.net_base.specs.declared.plan.Plan.{Plan}
+use Rattle.net_base.specs.declared.plan.places.CircuitId.{CircuitId}
+use Rattle.net_base.specs.declared.plan.places.EdgeId.{EdgeId}
+use Rattle.net_base.specs.declared.plan.places.ServiceId.{ServiceId}
+use Rattle.net_base.specs.declared.plan.places.WireId.{WireId}
+use Rattle.net_base.specs.declared.trace.arrival.Arrival.{Arrival}
+use Rattle.net_base.specs.declared.trace.arrival.Arrival.TheVariants as arrival
+use Rattle.net_base.specs.declared.trace.drop_cause.DropCause.{DropCause}
+use Rattle.net_base.specs.declared.trace.entry.Entry.{Entry}
+use Rattle.net_base.specs.declared.trace.entry.Entry.TheVariants as entry
+use Rattle.net_base.specs.plan.Places.{is_mesh_wire, service_of}
+use Rattle.net_base.specs.trace.Isolated.{Among, CameIn, Isolated, IsolatedAfter, IsolatedEntry, inner_at}
+use Rattle.net_base.specs.trace.Split.{Split, SplitEntry, SplitSent, is_switching_point}
+use Rattle.report_entries.specs.Reading.{ok_of}
+use Rattle.trace_audit.specs.declared.came.Came.{Came}
+use Rattle.trace_audit.specs.declared.judge.Judge.{Judge}
+use Rattle.trace_audit.specs.Judged.{begun, came_after, crosses, first_line, has_come, inner_found, is_came, is_crossing, is_stray, judges, judges_all, with_came}
+
+pub clash : {P : Type 0} → false ≡ true → P
+clash e = absurd (cc)
+
+parts : (a b : Bool) → (a && b) ≡ true → (a ≡ true) × (b ≡ true)
+parts true b e = (refl, e)
+parts false b e = cc e
+
+-- ---- the frames that entered
+
+abbrev entry_came : Plan → Entry → List Came
+entry_came plan e = came_after plan e []
+
+pub came_list : Plan → List Entry → List Came
+came_list plan [] = []
+came_list plan (e ∷ es) = entry_came plan e ++ came_list plan es
+
+with_came_is : (number : ℕ) (service : Option ServiceId) (frame : Option (List ℕ)) (came : List Came) → with_came number service frame came ≡ came ++ with_came number service frame []
+with_came_is number None frame came = sym (append-nil came)
+with_came_is number (Some service) None came = sym (append-nil came)
+with_came_is number (Some service) (Some frame) came = refl
+
+came_after_is : (plan : Plan) (e : Entry) (came : List Came) → came_after plan e came ≡ came ++ entry_came plan e
+came_after_is plan (entry.Did event) came = sym (append-nil came)
+came_after_is plan entry.Idle came = sym (append-nil came)
+came_after_is plan (entry.Said from to octets) came = sym (append-nil came)
+came_after_is plan (entry.In circuit number octets) came = with_came_is number (service_of plan circuit) (inner_found plan circuit octets) came
+came_after_is plan (entry.Sent from to wire came' packet origin hops octets) came = sym (append-nil came)
+came_after_is plan (entry.Copied packet of) came = sym (append-nil came)
+came_after_is plan (entry.Aged packet) came = sym (append-nil came)
+came_after_is plan (entry.Left circuit origin hops octets) came = sym (append-nil came)
+came_after_is plan (entry.Dropped edge origin cause) came = sym (append-nil came)
+came_after_is plan (entry.Session edge peer name) came = sym (append-nil came)
+came_after_is plan (entry.Wire edge wire down) came = sym (append-nil came)
+came_after_is plan (entry.Pong edge wire sequence) came = sym (append-nil came)
+
+list-append : (plan : Plan) (xs : List Entry) (e : Entry) → came_list plan (xs ++ e ∷ []) ≡ came_list plan xs ++ entry_came plan e
+unfolding came_list
+list-append plan [] e = append-nil (entry_came plan e)
+list-append plan (x ∷ xs) e = ap (λ (l : List Came). entry_came plan x ++ l) (list-append plan xs e) ∙ sym (append_assoc (entry_came plan x) (came_list plan xs) (entry_came plan e))
+
+any-append : {A : Type 0} (test : A → Bool) (xs ys : List A) → list_any test (xs ++ ys) ≡ (list_any test xs || list_any test ys)
+any-append test [] ys = refl
+any-append test (x ∷ xs) ys = by (test x) (any-append test xs ys) where
+  by : (b : Bool) → list_any test (xs ++ ys) ≡ (list_any test xs || list_any test ys) → (b || list_any test (xs ++ ys)) ≡ ((b || list_any test xs) || list_any test ys)
+  by true rest = refl
+  by false rest = rest
+
+-- a frame with this number entered the service, and is this one
+record HasCome (plan : Plan) (earlier : List Entry) (origin : ℕ) (service : ServiceId) (frame : List ℕ) : Type 0 where
+  sender : CircuitId
+  entered : List ℕ
+  before : Among (entry.In sender origin entered) earlier
+  of_service : service_of plan sender ≡ Some service
+  as_entered : inner_at plan sender entered ≡ Ok frame
+
+here_came : (plan : Plan) (circuit : CircuitId) (number : ℕ) (octets : List ℕ) (es : List Entry) (origin : ℕ) (service : ServiceId) (frame : List ℕ) (of : Option ServiceId) (inner : Result (List ℕ) DropCause)
+    → service_of plan circuit ≡ of → inner_at plan circuit octets ≡ inner → list_any (is_came origin service frame) (with_came number of (ok_of inner) []) ≡ true → HasCome plan (entry.In circuit number octets ∷ es) origin service frame
+here_came plan circuit number octets es origin service frame None inner is_of is_inner any = clash any
+here_came plan circuit number octets es origin service frame (Some own) (Err why) is_of is_inner any = clash any
+here_came plan circuit number octets es origin service frame (Some own) (Ok mine) is_of is_inner any = record {
+  sender = circuit;
+  entered = octets;
+  before = inl (ap (λ (n : ℕ). entry.In circuit n octets) (sym (eqb-true number origin first.0)));
+  of_service = is_of ∙ ap Some same_service;
+  as_entered = is_inner ∙ ap Ok ((bytes_eq-Decides mine frame).0 second.1);
+}
+  where
+    left : (b : Bool) → (b || false) ≡ true → b ≡ true
+    left true e = refl
+    left false e = e
+
+    first : (nat_eq number origin ≡ true) × ((nat_eq own.0 service.0 && bytes_eq mine frame) ≡ true)
+    first = parts (nat_eq number origin) (nat_eq own.0 service.0 && bytes_eq mine frame) (left _ any)
+
+    second : (nat_eq own.0 service.0 ≡ true) × (bytes_eq mine frame ≡ true)
+    second = parts (nat_eq own.0 service.0) (bytes_eq mine frame) first.1
+
+    same_service : own ≡ service
+    same_service = ap (λ (n : ℕ). record { 0 = n }) (eqb-true own.0 service.0 second.0)
+
+later_came : (plan : Plan) (e : Entry) (es : List Entry) (origin : ℕ) (service : ServiceId) (frame : List ℕ) → HasCome plan es origin service frame → HasCome plan (e ∷ es) origin service frame
+later_came plan e es origin service frame come = record { sender = come.sender; entered = come.entered; before = inr come.before; of_service = come.of_service; as_entered = come.as_entered }
+
+come_found : (plan : Plan) (es : List Entry) (origin : ℕ) (service : ServiceId) (frame : List ℕ) → list_any (is_came origin service frame) (came_list plan es) ≡ true → HasCome plan es origin service frame
+unfolding came_list
+come_found plan [] origin service frame any = clash any
+come_found plan (entry.In circuit number octets ∷ es) origin service frame any = by (list_any (is_came origin service frame) (with_came number (service_of plan circuit) (inner_found plan circuit octets) [])) refl (come_found plan es origin service frame) where
+  by : (b : Bool) → list_any (is_came origin service frame) (with_came number (service_of plan circuit) (inner_found plan circuit octets) []) ≡ b
+      → (list_any (is_came origin service frame) (came_list plan es) ≡ true → HasCome plan es origin service frame) → HasCome plan (entry.In circuit number octets ∷ es) origin service frame
+  by true here rest = here_came plan circuit number octets es origin service frame (service_of plan circuit) (inner_at plan circuit octets) refl refl here
+  by false not_here rest = later_came plan (entry.In circuit number octets) es origin service frame (rest (sym (ap (λ (b : Bool). b || list_any (is_came origin service frame) (came_list plan es)) not_here)
+      ∙ (sym (any-append (is_came origin service frame) (with_came number (service_of plan circuit) (inner_found plan circuit octets) []) (came_list plan es)) ∙ any)))
+come_found plan (entry.Did event ∷ es) origin service frame any = later_came plan _ es origin service frame (come_found plan es origin service frame any)
+come_found plan (entry.Idle ∷ es) origin service frame any = later_came plan _ es origin service frame (come_found plan es origin service frame any)
+come_found plan (entry.Said from to octets ∷ es) origin service frame any = later_came plan _ es origin service frame (come_found plan es origin service frame any)
+come_found plan (entry.Sent from to wire came packet number hops octets ∷ es) origin service frame any = later_came plan _ es origin service frame (come_found plan es origin service frame any)
+come_found plan (entry.Copied packet of ∷ es) origin service frame any = later_came plan _ es origin service frame (come_found plan es origin service frame any)
+come_found plan (entry.Aged packet ∷ es) origin service frame any = later_came plan _ es origin service frame (come_found plan es origin service frame any)
+come_found plan (entry.Left circuit number hops octets ∷ es) origin service frame any = later_came plan _ es origin service frame (come_found plan es origin service frame any)
+come_found plan (entry.Dropped edge number cause ∷ es) origin service frame any = later_came plan _ es origin service frame (come_found plan es origin service frame any)
+come_found plan (entry.Session edge peer name ∷ es) origin service frame any = later_came plan _ es origin service frame (come_found plan es origin service frame any)
+come_found plan (entry.Wire edge wire down ∷ es) origin service frame any = later_came plan _ es origin service frame (come_found plan es origin service frame any)
+come_found plan (entry.Pong edge wire sequence ∷ es) origin service frame any = later_came plan _ es origin service frame (come_found plan es origin service frame any)
+
+-- and the other way round
+some_here : (a b : Bool) → a ≡ true → (a || b) ≡ true
+some_here a b is = rw is refl
+
+some_later : (a b : Bool) → b ≡ true → (a || b) ≡ true
+some_later true b is = refl
+some_later false b is = is
+
+same_octets : (a : List ℕ) → bytes_eq a a ≡ true
+same_octets a = (bytes_eq-Decides a a).1 refl
+
+one_came : (plan : Plan) (sender : CircuitId) (origin : ℕ) (entered : List ℕ) (service : ServiceId) (frame : List ℕ) → service_of plan sender ≡ Some service → inner_at plan sender entered ≡ Ok frame
+    → list_any (is_came origin service frame) (entry_came plan (entry.In sender origin entered)) ≡ true
+one_came plan sender origin entered service frame of_service as_entered =
+    ap (λ (of : Option ServiceId). list_any (is_came origin service frame) (with_came origin of (inner_found plan sender entered) [])) of_service
+    ∙ (ap (λ (inner : Result (List ℕ) DropCause). list_any (is_came origin service frame) (with_came origin (Some service) (ok_of inner) [])) as_entered ∙ rw (eq-eqb origin origin refl, eq-eqb service.0 service.0 refl, same_octets frame) refl)
+
+come_listed : (plan : Plan) (es : List Entry) (sender : CircuitId) (origin : ℕ) (entered : List ℕ) (service : ServiceId) (frame : List ℕ) → Among (entry.In sender origin entered) es → service_of plan sender ≡ Some service → inner_at plan sender entered ≡ Ok frame
+    → list_any (is_came origin service frame) (came_list plan es) ≡ true
+unfolding came_list
+come_listed plan [] sender origin entered service frame among of_service as_entered = absurd among
+come_listed plan (e ∷ es) sender origin entered service frame (inl here) of_service as_entered = any-append (is_came origin service frame) (entry_came plan e) (came_list plan es)
+    ∙ some_here (list_any (is_came origin service frame) (entry_came plan e)) (list_any (is_came origin service frame) (came_list plan es))
+    (ap (λ (x : Entry). list_any (is_came origin service frame) (entry_came plan x)) (sym here) ∙ one_came plan sender origin entered service frame of_service as_entered)
+come_listed plan (e ∷ es) sender origin entered service frame (inr later) of_service as_entered = any-append (is_came origin service frame) (entry_came plan e) (came_list plan es)
+    ∙ some_later (list_any (is_came origin service frame) (entry_came plan e)) (list_any (is_came origin service frame) (came_list plan es)) (come_listed plan es sender origin entered service frame later of_service as_entered)
+
+not_false : (b : Bool) → not b ≡ false → b ≡ true
+not_false true e = refl
+not_false false e = clash (sym e)
+
+come_in : (plan : Plan) (earlier : List Entry) (circuit : CircuitId) (origin : ℕ) (octets : List ℕ) (of : Option ServiceId) (inner : Result (List ℕ) DropCause) → service_of plan circuit ≡ of → inner_at plan circuit octets ≡ inner
+    → has_come (came_list plan earlier) origin of (ok_of inner) ≡ true → CameIn plan earlier circuit origin octets
+come_in plan earlier circuit origin octets None inner is_of is_inner come = clash come
+come_in plan earlier circuit origin octets (Some service) (Err why) is_of is_inner come = clash come
+come_in plan earlier circuit origin octets (Some service) (Ok frame) is_of is_inner come =
+    let has : HasCome plan earlier origin service frame = come_found plan earlier origin service frame come in
+    record { sender = has.sender; entered = has.entered; before = has.before; service = service; sender_service = has.of_service; receiver_service = is_of; frame = frame; as_entered = has.as_entered; as_left = is_inner }
+
+-- what is no stray is isolated, and what is isolated is no stray
+pub entry_isolated : (plan : Plan) (earlier : List Entry) (e : Entry) → is_stray plan (came_list plan earlier) e ≡ false → IsolatedEntry plan earlier e
+entry_isolated plan earlier (entry.Left circuit origin hops octets) is = come_in plan earlier circuit origin octets (service_of plan circuit) (inner_at plan circuit octets) refl refl (not_false _ is)
+entry_isolated plan earlier (entry.Did event) is = tt
+entry_isolated plan earlier entry.Idle is = tt
+entry_isolated plan earlier (entry.Said from to octets) is = tt
+entry_isolated plan earlier (entry.In circuit number octets) is = tt
+entry_isolated plan earlier (entry.Sent from to wire came packet origin hops octets) is = tt
+entry_isolated plan earlier (entry.Copied packet of) is = tt
+entry_isolated plan earlier (entry.Aged packet) is = tt
+entry_isolated plan earlier (entry.Dropped edge origin cause) is = tt
+entry_isolated plan earlier (entry.Session edge peer name) is = tt
+entry_isolated plan earlier (entry.Wire edge wire down) is = tt
+entry_isolated plan earlier (entry.Pong edge wire sequence) is = tt
+
+pub isolated_entry : (plan : Plan) (earlier : List Entry) (e : Entry) → IsolatedEntry plan earlier e → is_stray plan (came_list plan earlier) e ≡ false
+isolated_entry plan earlier (entry.Left circuit origin hops octets) is =
+    ap (λ (of : Option ServiceId). not (has_come (came_list plan earlier) origin of (inner_found plan circuit octets))) is.receiver_service
+    ∙ (ap (λ (inner : Result (List ℕ) DropCause). not (has_come (came_list plan earlier) origin (Some is.service) (ok_of inner))) is.as_left
+    ∙ ap not (come_listed plan earlier is.sender origin is.entered is.service is.frame is.before is.sender_service is.as_entered))
+isolated_entry plan earlier (entry.Did event) is = refl
+isolated_entry plan earlier entry.Idle is = refl
+isolated_entry plan earlier (entry.Said from to octets) is = refl
+isolated_entry plan earlier (entry.In circuit number octets) is = refl
+isolated_entry plan earlier (entry.Sent from to wire came packet origin hops octets) is = refl
+isolated_entry plan earlier (entry.Copied packet of) is = refl
+isolated_entry plan earlier (entry.Aged packet) is = refl
+isolated_entry plan earlier (entry.Dropped edge origin cause) is = refl
+isolated_entry plan earlier (entry.Session edge peer name) is = refl
+isolated_entry plan earlier (entry.Wire edge wire down) is = refl
+isolated_entry plan earlier (entry.Pong edge wire sequence) is = refl
+
+-- ---- all entries
+
+-- what was known of the entries before is of them
+pub record Knows (plan : Plan) (earlier : List Entry) (judge : Judge) : Type 0 where
+  pub came : judge.came ≡ came_list plan earlier
+
+pub knows_more : (plan : Plan) (earlier : List Entry) (judge : Judge) (e : Entry) → Knows plan earlier judge → Knows plan (earlier ++ e ∷ []) (judges plan e judge)
+unfolding judges
+knows_more plan earlier judge e knows = record { came = came_after_is plan e judge.came ∙ (ap (λ (l : List Came). l ++ entry_came plan e) knows.came ∙ sym (list-append plan earlier e)) }
+
+-- a first line stays the first one
+pub stray_stays : (plan : Plan) (es : List Entry) (judge : Judge) (line : ℕ) → judge.stray ≡ Some line → (judges_all plan judge es).stray ≡ Some line
+unfolding judges
+stray_stays plan [] judge line is = is
+stray_stays plan (e ∷ es) judge line is = stray_stays plan es (judges plan e judge) line (ap (λ (o : Option ℕ). first_line o (is_stray plan judge.came e) (judge.line + 1)) is)
+
+pub crossed_stays : (plan : Plan) (es : List Entry) (judge : Judge) (line : ℕ) → judge.crossed ≡ Some line → (judges_all plan judge es).crossed ≡ Some line
+unfolding judges
+crossed_stays plan [] judge line is = is
+crossed_stays plan (e ∷ es) judge line is = crossed_stays plan es (judges plan e judge) line (ap (λ (o : Option ℕ). first_line o (is_crossing plan e) (judge.line + 1)) is)
+
+pub none_some : {P : Type 0} (line : ℕ) → None ≡ Some line → P
+none_some line e = absurd (cc e)
+
+pub isolated_by : (plan : Plan) (earlier es : List Entry) (judge : Judge) → Knows plan earlier judge → judge.stray ≡ None → (judges_all plan judge es).stray ≡ None → IsolatedAfter plan earlier es
+unfolding judges
+isolated_by plan earlier [] judge knows none last = tt
+isolated_by plan earlier (e ∷ es) judge knows none last = by (is_stray plan judge.came e) refl (λ next. isolated_by plan (earlier ++ e ∷ []) es (judges plan e judge) (knows_more plan earlier judge e knows) next last) where
+  by : (b : Bool) → is_stray plan judge.came e ≡ b → ((judges plan e judge).stray ≡ None → IsolatedAfter plan (earlier ++ e ∷ []) es) → IsolatedEntry plan earlier e × IsolatedAfter plan (earlier ++ e ∷ []) es
+  by true strays rest = none_some (judge.line + 1) (sym last ∙ stray_stays plan es (judges plan e judge) (judge.line + 1) (rw (none, strays) refl))
+  by false stays rest = (entry_isolated plan earlier e (ap (λ (l : List Came). is_stray plan l e) (sym knows.came) ∙ stays), rest (rw (none, stays) refl))
+
+pub by_isolated : (plan : Plan) (earlier es : List Entry) (judge : Judge) → Knows plan earlier judge → judge.stray ≡ None → IsolatedAfter plan earlier es → (judges_all plan judge es).stray ≡ None
+unfolding judges
+by_isolated plan earlier [] judge knows none is = none
+by_isolated plan earlier (e ∷ es) judge knows none is = by_isolated plan (earlier ++ e ∷ []) es (judges plan e judge) (knows_more plan earlier judge e knows) (rw (none, stays) refl) is.1 where
+  stays : is_stray plan judge.came e ≡ false
+  stays = ap (λ (l : List Came). is_stray plan l e) knows.came ∙ isolated_entry plan earlier e is.0
+
+-- ---- split horizon
+
+by_one_mesh : (plan : Plan) (from : EdgeId) (wire came : WireId) → crosses plan from wire (arrival.Wire came) ≡ false → is_mesh_wire plan wire ≡ true → is_mesh_wire plan came ≡ true → (came ≡ wire) × (is_switching_point plan from wire ≡ true)
+by_one_mesh plan from wire came none over by_mesh = by (nat_eq came.0 wire.0) (is_switching_point plan from wire) refl refl where
+  by : (a b : Bool) → nat_eq came.0 wire.0 ≡ a → is_switching_point plan from wire ≡ b → (came ≡ wire) × (is_switching_point plan from wire ≡ true)
+  by true true same inside = (ap (λ (n : ℕ). record { 0 = n }) (eqb-true came.0 wire.0 same), inside)
+  by true false same outside = clash (sym none ∙ rw (over, by_mesh, same, outside) refl)
+  by false b other inside = clash (sym none ∙ rw (over, by_mesh, other) refl)
+
+sent_split : (plan : Plan) (from : EdgeId) (wire : WireId) (came : Arrival) → crosses plan from wire came ≡ false → SplitSent plan from wire came
+sent_split plan from wire (arrival.Wire came) none = λ over by_mesh. by_one_mesh plan from wire came none over by_mesh
+sent_split plan from wire (arrival.Circuit circuit) none = tt
+sent_split plan from wire arrival.Own none = tt
+
+split_sent : (plan : Plan) (from : EdgeId) (wire : WireId) (came : Arrival) → SplitSent plan from wire came → crosses plan from wire came ≡ false
+split_sent plan from wire (arrival.Wire came) split = by (is_mesh_wire plan wire) (is_mesh_wire plan came) refl refl where
+  by : (a b : Bool) → is_mesh_wire plan wire ≡ a → is_mesh_wire plan came ≡ b → ((a && b) && not (nat_eq came.0 wire.0 && is_switching_point plan from wire)) ≡ false
+  by true true over by_mesh = let is = split over by_mesh in rw (eq-eqb came.0 wire.0 (ap (λ (w : WireId). w.0) is.0), is.1) refl
+  by true false over by_other = refl
+  by false b by_spoke is = refl
+split_sent plan from wire (arrival.Circuit circuit) split = refl
+split_sent plan from wire arrival.Own split = refl
+
+pub entry_split : (plan : Plan) (e : Entry) → is_crossing plan e ≡ false → SplitEntry plan e
+entry_split plan (entry.Sent from to wire came packet origin hops octets) is = sent_split plan from wire came is
+entry_split plan (entry.Did event) is = tt
+entry_split plan entry.Idle is = tt
+entry_split plan (entry.Said from to octets) is = tt
+entry_split plan (entry.In circuit number octets) is = tt
+entry_split plan (entry.Copied packet of) is = tt
+entry_split plan (entry.Aged packet) is = tt
+entry_split plan (entry.Left circuit origin hops octets) is = tt
+entry_split plan (entry.Dropped edge origin cause) is = tt
+entry_split plan (entry.Session edge peer name) is = tt
+entry_split plan (entry.Wire edge wire down) is = tt
+entry_split plan (entry.Pong edge wire sequence) is = tt
+
+pub split_entry : (plan : Plan) (e : Entry) → SplitEntry plan e → is_crossing plan e ≡ false
+split_entry plan (entry.Sent from to wire came packet origin hops octets) is = split_sent plan from wire came is
+split_entry plan (entry.Did event) is = refl
+split_entry plan entry.Idle is = refl
+split_entry plan (entry.Said from to octets) is = refl
+split_entry plan (entry.In circuit number octets) is = refl
+split_entry plan (entry.Copied packet of) is = refl
+split_entry plan (entry.Aged packet) is = refl
+split_entry plan (entry.Left circuit origin hops octets) is = refl
+split_entry plan (entry.Dropped edge origin cause) is = refl
+split_entry plan (entry.Session edge peer name) is = refl
+split_entry plan (entry.Wire edge wire down) is = refl
+split_entry plan (entry.Pong edge wire sequence) is = refl
+
+pub split_by : (plan : Plan) (es : List Entry) (judge : Judge) → judge.crossed ≡ None → (judges_all plan judge es).crossed ≡ None → Split plan es
+unfolding judges
+split_by plan [] judge none last = tt
+split_by plan (e ∷ es) judge none last = by (is_crossing plan e) refl (λ next. split_by plan es (judges plan e judge) next last) where
+  by : (b : Bool) → is_crossing plan e ≡ b → ((judges plan e judge).crossed ≡ None → Split plan es) → SplitEntry plan e × Split plan es
+  by true crosses rest = none_some (judge.line + 1) (sym last ∙ crossed_stays plan es (judges plan e judge) (judge.line + 1) (rw (none, crosses) refl))
+  by false stays rest = (entry_split plan e stays, rest (rw (none, stays) refl))
+
+pub by_split : (plan : Plan) (es : List Entry) (judge : Judge) → judge.crossed ≡ None → Split plan es → (judges_all plan judge es).crossed ≡ None
+unfolding judges
+by_split plan [] judge none is = none
+by_split plan (e ∷ es) judge none is = by_split plan es (judges plan e judge) (rw (none, split_entry plan e is.0) refl) is.1
+
+-- ---- the whole trace
+
+pub begun_knows : (plan : Plan) → Knows plan [] begun
+unfolding came_list
+begun_knows plan = record { came = refl }
+
+pub strays_told : (plan : Plan) (trace : List Entry) → ((judges_all plan begun trace).stray ≡ None) ↔ Isolated plan trace
+unfolding came_list
+strays_told plan trace = (isolated_by plan [] trace begun (record { came = refl }) refl, by_isolated plan [] trace begun (record { came = refl }) refl)
+
+pub crossings_told : (plan : Plan) (trace : List Entry) → ((judges_all plan begun trace).crossed ≡ None) ↔ Split plan trace
+crossings_told plan trace = (split_by plan trace begun refl, by_split plan trace begun refl)

@@ -1,0 +1,84 @@
+-- What is known of a report behind the lines that were read.
+use Rattle.std.specs.Prelude.{◌==◌, ◌&&◌, ◌+◌, ◌++◌, not, ℕ, Bool, false, List, [], ◌∷◌, Option, Some, None, if◌then◌else◌}
+use Rattle.std.specs.List.{list_any}
+use Rattle.std.specs.Str.{bytes_eq}
+use Rattle.net_base.specs.declared.plan.Plan.{Plan}
+use Rattle.net_base.specs.declared.plan.places.CircuitId.{CircuitId}
+use Rattle.net_base.specs.declared.plan.places.EdgeId.{EdgeId}
+use Rattle.net_base.specs.declared.plan.places.ServiceId.{ServiceId}
+use Rattle.net_base.specs.declared.plan.places.WireId.{WireId}
+use Rattle.net_base.specs.declared.trace.arrival.Arrival.{Arrival}
+use Rattle.net_base.specs.declared.trace.arrival.Arrival.TheVariants as arrival
+use Rattle.net_base.specs.declared.trace.entry.Entry.{Entry}
+use Rattle.net_base.specs.declared.trace.entry.Entry.TheVariants.{In, Left, Sent}
+use Rattle.net_base.specs.plan.Places.{is_mesh_wire, service_of}
+use Rattle.net_base.specs.trace.Isolated.{inner_at}
+use Rattle.net_base.specs.trace.Split.{is_switching_point}
+use Rattle.report_entries.specs.Reading.{ok_of}
+use Rattle.trace_audit.specs.declared.came.Came.{Came}
+use Rattle.trace_audit.specs.declared.judge.Judge.{Judge}
+
+-- before the first entry, behind the line that names the format
+abbrev pub begun : Judge
+begun = record { line = 1; came = []; stray = None; crossed = None }
+
+-- ---- frames that leave
+
+abbrev pub is_came : ℕ → ServiceId → List ℕ → Came → Bool
+is_came origin service frame c = c.number == origin && (c.service.0 == service.0 && bytes_eq c.frame frame)
+
+-- a frame with this number entered the service, and is this one
+abbrev pub has_come : List Came → ℕ → Option ServiceId → Option (List ℕ) → Bool
+has_come came origin None frame = false
+has_come came origin (Some service) None = false
+has_come came origin (Some service) (Some frame) = list_any (is_came origin service frame) came
+
+-- the frame without the tag of the circuit, where it has no fault
+abbrev pub inner_found : Plan → CircuitId → List ℕ → Option (List ℕ)
+inner_found plan circuit octets = ok_of (inner_at plan circuit octets)
+
+abbrev pub with_came : ℕ → Option ServiceId → Option (List ℕ) → List Came → List Came
+with_came number None frame came = came
+with_came number (Some service) None came = came
+with_came number (Some service) (Some frame) came = came ++ record { number = number; service = service; frame = frame } ∷ []
+
+abbrev pub came_after : Plan → Entry → List Came → List Came
+came_after plan (In circuit number octets) came = with_came number (service_of plan circuit) (inner_found plan circuit octets) came
+came_after plan entry came = came
+
+-- what left entered before, at a circuit of the same service, as the same frame
+abbrev pub is_stray : Plan → List Came → Entry → Bool
+is_stray plan came (Left circuit origin hops octets) = not (has_come came origin (service_of plan circuit) (inner_found plan circuit octets))
+is_stray plan came entry = false
+
+-- ---- packets that are sent
+
+-- what came by a mesh wire goes out by a mesh wire, and not by the same one at a switching point of it
+abbrev pub crosses : Plan → EdgeId → WireId → Arrival → Bool
+crosses plan from wire (arrival.Wire came) = (is_mesh_wire plan wire && is_mesh_wire plan came) && not (came.0 == wire.0 && is_switching_point plan from wire)
+crosses plan from wire (arrival.Circuit circuit) = false
+crosses plan from wire arrival.Own = false
+
+abbrev pub is_crossing : Plan → Entry → Bool
+is_crossing plan (Sent from to wire came packet origin hops octets) = crosses plan from wire came
+is_crossing plan entry = false
+
+-- ---- one entry more
+
+-- the first line where something holds
+abbrev pub first_line : Option ℕ → Bool → ℕ → Option ℕ
+first_line (Some line) holds here = Some line
+first_line None holds here = if holds then Some here else None
+
+unfoldable pub judges : Plan → Entry → Judge → Judge
+judges plan entry judge = record {
+  line = judge.line + 1;
+  came = came_after plan entry judge.came;
+  stray = first_line judge.stray (is_stray plan judge.came entry) (judge.line + 1);
+  crossed = first_line judge.crossed (is_crossing plan entry) (judge.line + 1);
+}
+
+-- what is known behind entries
+abbrev pub judges_all : Plan → Judge → List Entry → Judge
+judges_all plan judge [] = judge
+judges_all plan judge (e ∷ es) = judges_all plan (judges plan e judge) es

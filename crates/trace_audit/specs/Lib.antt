@@ -1,0 +1,4 @@
+pub mod Audited
+pub mod Heard
+pub mod Judged
+pub mod Laws

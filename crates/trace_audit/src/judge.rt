@@ -1,0 +1,313 @@
+//! What is known of a report behind the lines that were read.
+ghost use Rattle.std.specs.Prelude.{◌≡◌, ◌<◌, ◌+◌, ◌++◌, ◌^◌, IfOk, OnOk};
+ghost use Rattle.std.specs.List.{list_any};
+ghost use Rattle.net_base.specs.plan.Places.{is_mesh_wire, service_of};
+ghost use Rattle.net_base.specs.trace.Split.{is_inside, is_switching_point};
+ghost use Rattle.trace_audit.specs.Judged.{begun, came_after, crosses, first_line, has_come, inner_found, is_came, is_crossing, is_stray, judges, with_came};
+
+use crate::came::Came;
+use eth_encap::inner_parts;
+use net_base::{
+    Arrival, CircuitId, Class, EdgeId, Entry, List, NoMemory, Octets, Plan, ServiceId, WireId,
+};
+use std::alloc::Global;
+
+/// What is known of a report behind the lines that were read.
+#[derive(Debug, Drop)]
+pub struct Judge {
+    /// How many lines were read.
+    pub line: u64,
+    /// The frames that entered.
+    pub came: List<Came>,
+    /// The first line of a frame that left as none that had entered.
+    pub stray: Option<u64>,
+    /// The first line of a packet that went from one mesh wire to another one.
+    pub crossed: Option<u64>,
+}
+
+// The inner frame of what passes a circuit, in one piece; `None` where the circuit is none of the plan, or the frame has a fault.
+fn inner_octets(
+    alloc: Global,
+    plan: &Plan,
+    circuit: CircuitId,
+    octets: &[u8],
+) -> Result<Option<Octets>, NoMemory>
+    ensures { IfOk result (λ frame. frame ≡ inner_found plan.now circuit octets.now) }
+{
+    let Some(row) = plan.circuits.get(circuit.0 as usize) else {
+        return Ok(None);
+    };
+    let Some(service) = plan.services.get(row.service.0 as usize) else {
+        return Ok(None);
+    };
+    match inner_parts(row.tag, service.mtu, octets) {
+        Ok((front, back)) => match joined(alloc, front, back) {
+            Ok(frame) => Ok(Some(frame)),
+            Err(NoMemory) => Err(NoMemory),
+        },
+        Err(_) => Ok(None),
+    }
+}
+
+// Two parts in one piece.
+fn joined(alloc: Global, front: &[u8], back: &[u8]) -> Result<Octets, NoMemory>
+    ensures { IfOk result (λ octets. octets ≡ front.now ++ back.now) }
+{
+    let mut octets = List::from_bytes(alloc, front)?;
+    octets.extend_from_slice(back)?;
+    Ok(octets)
+}
+
+// The service of a circuit.
+fn service_at(plan: &Plan, circuit: CircuitId) -> Option<ServiceId>
+    ensures { result ≡ service_of plan.now circuit }
+{
+    match plan.circuits.get(circuit.0 as usize) {
+        Some(row) => Some(row.service),
+        None => None,
+    }
+}
+
+// Whether a frame is this one.
+fn is_this(came: &Came, origin: u64, service: ServiceId, frame: &[u8]) -> bool
+    ensures { result ≡ is_came origin service frame.now came.now }
+{
+    came.number == origin && came.service.0 == service.0 && came.frame.as_slice() == frame
+}
+
+// Whether a frame came under this number. Frames of a run are numbered from 1, so the one at that place is looked at first.
+#[tactic(auto, using(crate::proofs::JudgeLemmas::any_at))]
+fn is_among(came: &[Came], origin: u64, service: ServiceId, frame: &[u8]) -> bool
+    ensures { result ≡ list_any (is_came origin service frame.now) came.now }
+{
+    if origin >= 1 && origin <= came.len() as u64 {
+        let likely = (origin - 1) as usize;
+        if is_this(&came[likely], origin, service, frame) {
+            return true;
+        }
+    }
+    came.iter().any(|c| is_this(c, origin, service, frame))
+}
+
+// Whether a frame that leaves at a circuit entered before, at a circuit of the same service.
+fn has_come_in(
+    alloc: Global,
+    plan: &Plan,
+    came: &List<Came>,
+    circuit: CircuitId,
+    origin: u64,
+    octets: &[u8],
+) -> Result<bool, NoMemory>
+    ensures { IfOk result (λ come. come ≡ has_come came.now origin (service_of plan.now circuit) (inner_found plan.now circuit octets.now)) }
+{
+    let Some(service) = service_at(plan, circuit) else {
+        return Ok(false);
+    };
+    match inner_octets(alloc, plan, circuit, octets) {
+        Ok(Some(frame)) => Ok(is_among(came.as_slice(), origin, service, frame.as_slice())),
+        Ok(None) => Ok(false),
+        Err(NoMemory) => Err(NoMemory),
+    }
+}
+
+// Whether an entry tells of a frame that left as none that had entered.
+fn is_stray_entry(
+    alloc: Global,
+    plan: &Plan,
+    came: &List<Came>,
+    entry: &Entry,
+) -> Result<bool, NoMemory>
+    ensures { IfOk result (λ strays. strays ≡ is_stray plan.now came.now entry.now) }
+{
+    match *entry {
+        Entry::Left {
+            circuit,
+            origin,
+            ref bytes,
+            ..
+        } => match has_come_in(alloc, plan, came, circuit, origin, bytes.as_slice()) {
+            Ok(come) => Ok(!come),
+            Err(NoMemory) => Err(NoMemory),
+        },
+        _ => Ok(false),
+    }
+}
+
+// Keeps a frame that entered.
+fn keep(
+    alloc: Global,
+    plan: &Plan,
+    came: &mut List<Came>,
+    circuit: CircuitId,
+    number: u64,
+    octets: &[u8],
+) -> Result<(), NoMemory>
+    ensures { OnOk result (came.new ≡ with_came number (service_of plan.now circuit) (inner_found plan.now circuit octets.now) came.old) }
+{
+    let Some(service) = service_at(plan, circuit) else {
+        return Ok(());
+    };
+    match inner_octets(alloc, plan, circuit, octets) {
+        Ok(Some(frame)) => came.push(Came {
+            number,
+            service,
+            frame,
+        }),
+        Ok(None) => Ok(()),
+        Err(NoMemory) => Err(NoMemory),
+    }
+}
+
+// Keeps the frame of an entry, where it tells of one that entered.
+fn keep_entry(
+    alloc: Global,
+    plan: &Plan,
+    came: &mut List<Came>,
+    entry: &Entry,
+) -> Result<(), NoMemory>
+    ensures { OnOk result (came.new ≡ came_after plan.now entry.now came.old) }
+{
+    match *entry {
+        Entry::In {
+            circuit,
+            number,
+            ref bytes,
+        } => keep(alloc, plan, came, circuit, number, bytes.as_slice()),
+        _ => Ok(()),
+    }
+}
+
+// Whether a wire is a mesh wire.
+fn is_mesh(plan: &Plan, wire: WireId) -> bool
+    ensures { result ≡ is_mesh_wire plan.now wire }
+{
+    match plan.wires.get(wire.0 as usize) {
+        Some(row) => match row.class {
+            Class::Mesh => true,
+            Class::Spoke => false,
+        },
+        None => false,
+    }
+}
+
+// Whether an edge stands on a path between its ends.
+#[tactic(auto, using(crate::proofs::JudgeLemmas::none_inside))]
+fn stands_inside(edge: EdgeId, path: &[EdgeId]) -> bool
+    ensures { result ≡ is_inside edge path.now }
+{
+    let mut at = 1;
+    'walking: while at + 1 < path.len() {
+        if path[at].0 == edge.0 {
+            return true;
+        }
+        at += 1;
+    }
+    false
+}
+
+// Whether an edge is a switching point of a wire.
+fn is_switching(plan: &Plan, edge: EdgeId, wire: WireId) -> bool
+    ensures { result ≡ is_switching_point plan.now edge wire }
+{
+    match plan.wires.get(wire.0 as usize) {
+        Some(row) => stands_inside(edge, row.path.as_slice()),
+        None => false,
+    }
+}
+
+// Whether what came so goes from one mesh wire to another one.
+fn crosses_mesh(plan: &Plan, from: EdgeId, wire: WireId, arrival: Arrival) -> bool
+    ensures { result ≡ crosses plan.now from wire arrival }
+{
+    match arrival {
+        Arrival::Wire(came) => {
+            is_mesh(plan, wire)
+                && is_mesh(plan, came)
+                && !(came.0 == wire.0 && is_switching(plan, from, wire))
+        }
+        Arrival::Circuit(_) => false,
+        Arrival::Own => false,
+    }
+}
+
+// Whether an entry tells of a packet that went from one mesh wire to another one.
+fn is_crossing_entry(plan: &Plan, entry: &Entry) -> bool
+    ensures { result ≡ is_crossing plan.now entry.now }
+{
+    match *entry {
+        Entry::Sent {
+            from,
+            wire,
+            arrival,
+            ..
+        } => crosses_mesh(plan, from, wire, arrival),
+        _ => false,
+    }
+}
+
+// The first line of a frame that left as none that had entered. Behind it none is sought.
+fn stray_line(
+    alloc: Global,
+    plan: &Plan,
+    came: &List<Came>,
+    line: Option<u64>,
+    entry: &Entry,
+    here: u64,
+) -> Result<Option<u64>, NoMemory>
+    ensures { IfOk result (λ first. first ≡ first_line line (is_stray plan.now came.now entry.now) here) }
+{
+    match line {
+        Some(line) => Ok(Some(line)),
+        None => match is_stray_entry(alloc, plan, came, entry) {
+            Ok(true) => Ok(Some(here)),
+            Ok(false) => Ok(None),
+            Err(NoMemory) => Err(NoMemory),
+        },
+    }
+}
+
+// The first line of a packet that went from one mesh wire to another one.
+fn crossed_line(plan: &Plan, line: Option<u64>, entry: &Entry, here: u64) -> Option<u64>
+    ensures { result ≡ first_line line (is_crossing plan.now entry.now) here }
+{
+    match line {
+        Some(line) => Some(line),
+        None => {
+            if is_crossing_entry(plan, entry) {
+                Some(here)
+            } else {
+                None
+            }
+        }
+    }
+}
+
+impl Judge {
+    /// What is known behind the line that names the format.
+    pub fn new(alloc: Global) -> Judge
+        ensures { result ≡ begun }
+    {
+        Judge {
+            line: 1,
+            came: List::new(alloc),
+            stray: None,
+            crossed: None,
+        }
+    }
+
+    /// Judges an entry more.
+    #[tactic(auto, unfolding(crate::specs::Judged::judges))]
+    pub fn hear(&mut self, alloc: Global, plan: &Plan, entry: &Entry) -> Result<(), NoMemory>
+        requires { self.old.line < 2 ^ 63 }
+        ensures judged { OnOk result (self.new ≡ judges plan.now entry.now self.old) }
+        ensures line { OnOk result (self.new.line ≡ self.old.line + 1) }
+    {
+        let here = self.line + 1;
+        let stray = stray_line(alloc, plan, &self.came, self.stray, entry, here)?;
+        keep_entry(alloc, plan, &mut self.came, entry)?;
+        self.stray = stray;
+        self.crossed = crossed_line(plan, self.crossed, entry, here);
+        self.line = here;
+        Ok(())
+    }
+}
