@@ -1,4 +1,4 @@
-"""A run as a capture: what each edge hears of LDP, as TCP, and the packets that it sends and receives."""
+"""A run as a capture: what each edge hears of LDP, as TCP, the Hellos that it says, as UDP, and the packets that it sends and receives."""
 
 import ipaddress
 
@@ -33,11 +33,14 @@ class Capture:
         self.address = {edge: row["address"] for edge, row in plan.edges.items()}
         self.connections, self.made = {}, 0
         self.packets, self.blocks = {}, [pcapng.section(), *(pcapng.interface(edge) for edge in plan.edges)]
-        self.time, self.event, self.segments, self.frames = 0, None, 0, 0
+        self.time, self.event = 0, None
+        self.segments, self.frames, self.hellos = 0, 0, 0
         self.kinds = {}
 
     def make(self):
         """The octets of the whole file."""
+        for entry in self.report.front:
+            self.take(entry)
         for event in self.report.events:
             self.event, self.time = event, event.number * SECOND
             if not event.is_idle():
@@ -48,7 +51,7 @@ class Capture:
 
     def write(self, edge, octets, direction):
         """A packet at an edge's interface, at the next microsecond of the event."""
-        comment = f"event {self.event.number}: {self.event.text[:80]}"
+        comment = f"event {self.event.number}: {self.event.text[:80]}" if self.event else "before the first event"
         self.blocks.append(pcapng.packet(self.number[edge], self.time, octets, direction, comment))
         self.time += 1
 
@@ -82,6 +85,10 @@ class Capture:
             self.kinds.setdefault(label_of(words[7]), set()).add(self.kind_of(words[3], words[5]))
             self.packets[words[0]] = (words[1], words[2], octets)
             self.mpls(words[1], words[2], octets, words[1], pcapng.OUTBOUND)
+        elif entry.kind == "hello":
+            ends = self.address[words[1]], self.address[words[2]]
+            self.hellos += 1
+            self.write(words[1], headers.udp(*ends, (LDP, LDP), bytes.fromhex(words[3])), pcapng.OUTBOUND)
         elif entry.kind == "copied":
             self.packets[words[0]] = self.packets[words[1]]
         elif entry.kind == "aged":

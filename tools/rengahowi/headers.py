@@ -1,9 +1,10 @@
-"""Ethernet, IPv4 and TCP headers in front of octets (IEEE 802.3, RFC 791, RFC 9293)."""
+"""Ethernet, IPv4, TCP and UDP headers in front of octets (IEEE 802.3, RFC 791, RFC 9293, RFC 768)."""
 
 import ipaddress
 import struct
 
 IPV4, MPLS = 0x0800, 0x8847
+TCP, UDP = 6, 17
 FIN, SYN, RST, PSH, ACK = 0x01, 0x02, 0x04, 0x08, 0x10
 
 
@@ -27,17 +28,28 @@ def ethernet(source, destination, kind, octets):
     return station(destination) + station(source) + struct.pack(">H", kind) + octets
 
 
-def ipv4(source, destination, octets):
-    """An IPv4 packet that carries TCP."""
+def ipv4(source, destination, protocol, octets):
+    """An IPv4 packet."""
     ends = ipaddress.IPv4Address(source).packed + ipaddress.IPv4Address(destination).packed
-    head = struct.pack(">BBHHHBBH", 0x45, 0, 20 + len(octets), 0, 0x4000, 64, 6, 0) + ends
+    head = struct.pack(">BBHHHBBH", 0x45, 0, 20 + len(octets), 0, 0x4000, 64, protocol, 0) + ends
     return head[:10] + struct.pack(">H", checksum(head)) + head[12:] + octets
 
 
 def tcp(source, destination, ports, counts, flags, octets=b""):
     """A TCP segment in a frame: `ports` of both ends, `counts` the sequence and the acknowledgment number."""
     head = struct.pack(">HHIIBBHHH", *ports, counts[0] & 0xFFFFFFFF, counts[1] & 0xFFFFFFFF, 0x50, flags, 65535, 0, 0)
+    head = head[:16] + struct.pack(">H", checksum(pseudo(source, destination, TCP, head + octets))) + head[18:]
+    return ethernet(source, destination, IPV4, ipv4(source, destination, TCP, head + octets))
+
+
+def udp(source, destination, ports, octets):
+    """A UDP datagram in a frame."""
+    head = struct.pack(">HHHH", *ports, 8 + len(octets), 0)
+    head = head[:6] + struct.pack(">H", checksum(pseudo(source, destination, UDP, head + octets)))
+    return ethernet(source, destination, IPV4, ipv4(source, destination, UDP, head + octets))
+
+
+def pseudo(source, destination, protocol, octets):
+    """What the checksum of a segment or a datagram is taken over (RFC 9293 section 3.1, RFC 768)."""
     ends = ipaddress.IPv4Address(source).packed + ipaddress.IPv4Address(destination).packed
-    pseudo = ends + struct.pack(">BBH", 0, 6, len(head) + len(octets))
-    head = head[:16] + struct.pack(">H", checksum(pseudo + head + octets)) + head[18:]
-    return ethernet(source, destination, IPV4, ipv4(source, destination, head + octets))
+    return ends + struct.pack(">BBH", 0, protocol, len(octets)) + octets

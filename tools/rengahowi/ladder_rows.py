@@ -47,6 +47,8 @@ class Rows:
 
     def make(self):
         """All rows. The names of the messages are added at the end, by one call of `decode` for all of them."""
+        for entry in self.report.front:
+            self.add(entry.line, getattr(self, entry.kind)(*entry.words))
         for event in self.report.events:
             self.add(event.line, self.event_row(event))
             self.network.begin(event)
@@ -144,12 +146,24 @@ class Rows:
         """An answer to a ping."""
         return self.row("pong", f"pong {number} on {wire}", [("edge", edge)])
 
+    def hello(self, number, start, end, octets):
+        """A Hello, by its number; its name comes later."""
+        return self.row("hello", f"{number}: ", [("edge", start), ("edge", end)], o=octets)
+
+    def adjacency(self, edge, peer, state):
+        """An edge's adjacency that came up, or ended."""
+        return self.row("adjacency", f"adjacency with {peer}: {state}", [("edge", edge)])
+
+    def barred(self, edge, peer):
+        """A connection that does not open, since an adjacency is missing."""
+        return self.row("barred", f"no connection with {peer}: barred", [("edge", edge)])
+
     def name_messages(self):
         """The text of each message is what `decode` tells of it."""
-        said = [row for row in self.rows if row["k"] == "said"]
+        said = [row for row in self.rows if row["k"] in ("said", "hello")]
         lines = decoded([bytes.fromhex(row["o"]) for row in said])
         for number, row in enumerate(said):
-            row["t"] = " + ".join(lines[number]) if lines and lines[number] else f"type {row['o'][20:24]}"
+            row["t"] += " + ".join(lines[number]) if lines and lines[number] else f"type {row['o'][20:24]}"
 
 
 setattr(Rows, "in", Rows.in_)

@@ -1,4 +1,4 @@
-"""A report of `replay`: its events in order, each with the entries that it told (docs/FORMATS.md)."""
+"""A report of `replay` or `discover`: its events in order, each with the entries that it told (docs/FORMATS.md)."""
 
 import re
 from typing import NamedTuple
@@ -18,7 +18,12 @@ ENTRIES = {
     "session": ("edge", "edge", "word"),
     "wire": ("edge", "wire", "word"),
     "pong": ("edge", "wire", "number"),
+    "hello": ("number", "edge", "edge", "octets"),
+    "adjacency": ("edge", "edge", "word"),
+    "barred": ("edge", "edge"),
 }
+# Those that lines of a script tell, which no event belongs to.
+NOTES = {"hello", "adjacency", "barred", "idle"}
 # The words of each kind of event behind its first one.
 EVENTS = {
     "connect": ("edge", "edge"),
@@ -54,15 +59,17 @@ class Event:
         self.entries = []
 
     def is_idle(self):
-        """Whether it did not apply, and changed nothing."""
-        return bool(self.entries) and self.entries[0].kind == "idle"
+        """Whether it did not apply, and changed nothing. Where a line of a script is idle behind it, the line stands by itself; but
+        behind one that told nothing it is taken for the event's, unless the event always applies."""
+        return bool(self.entries) and self.entries[0].kind == "idle" and self.kind not in ("restart", "tick")
 
 
 class Report(NamedTuple):
-    """The events of a report, and its last line."""
+    """The events of a report, its last line, and what a script's lines told before the first event."""
 
     events: list
     ending: str
+    front: list = []
 
 
 # How a word of each kind looks; a name is looked up in the plan.
@@ -141,11 +148,13 @@ def read_report(path, plan):
         raise words.fault(1, "a report begins with 'vplsnet 1'")
     if len(lines) < 3 or lines[-1] or not lines[-2].startswith(("end ", "stop ")):
         raise Fault(f"{path} has no last line 'end ..' or 'stop ..': it is not whole")
-    return Report(events_of(words, enumerate(lines[1:-2], 2), 1), lines[-2])
+    front = []
+    return Report(events_of(words, enumerate(lines[1:-2], 2), 1, front), lines[-2], front)
 
 
-def events_of(words, lines, first):
-    """The events of lines, each with its number in the report; the first one has this number."""
+def events_of(words, lines, first, front=None):
+    """The events of lines, each with its number in the report; the first one has this number. What a script's lines told before it
+    is put in front."""
     events = []
     for line, text in lines:
         kind = text.partition(" ")[0]
@@ -156,8 +165,9 @@ def events_of(words, lines, first):
                 raise words.fault(line, f"{kind!r} is no event")
             event = Event(len(events) + first, line, kind, words.read(line, EVENT_LOOKS[kind], kind, text), text)
             events.append(event)
-        elif kind in ENTRIES and events:
-            event.entries.append(Entry(line, kind, words.read(line, ENTRY_LOOKS[kind], kind, text)))
+        elif kind in ENTRIES and (events or front is not None and kind in NOTES):
+            entries = event.entries if events else front
+            entries.append(Entry(line, kind, words.read(line, ENTRY_LOOKS[kind], kind, text)))
         else:
             raise words.fault(line, f"{kind!r} is no entry that may stand here")
     return events

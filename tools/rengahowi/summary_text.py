@@ -7,6 +7,7 @@ def text_of(summary):
     """The whole text."""
     parts = [
         [f"{summary['events']} events; {summary['ending']}" + (f"; from event {summary['from']} on" if summary["from"] > 1 else "")],
+        discovery(summary["discovery"]),
         sessions(summary["sessions"]),
         wires(summary["wires"]),
         *(service(row) for row in summary["services"]),
@@ -23,6 +24,17 @@ def cut(lines):
     """The first lines of a list, and how many more there are."""
     lines = list(lines)
     return lines[:MOST] + ([f"  .. and {len(lines) - MOST} more (--json has all)"] if len(lines) > MOST else [])
+
+
+def discovery(found):
+    """How many Hellos were said, which connections were barred, and which adjacencies ended; nothing of a run without them."""
+    ended = [row for row in found["adjacencies"] if row["state"] == "down"]
+    if not (found["hellos"] or found["barred"] or ended):
+        return []
+    head = f"Discovery: {counted(found['hellos'], 'Hello')} said, {len(found['barred'])} connections barred, "
+    lines = [(row["line"], f"  {'-'.join(row['edges'])} barred, behind event {row['event']}") for row in found["barred"]]
+    lines += [(row["line"], f"  {row['edge']}'s adjacency with {row['peer']} ended, behind event {row['event']}") for row in ended]
+    return [head + f"{counted(len(ended), 'adjacency', 'adjacencies')} ended", *cut(line for _, line in sorted(lines))]
 
 
 def sessions(rows):

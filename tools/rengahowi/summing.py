@@ -11,6 +11,7 @@ def sum_up(plan, run, first=1):
         "events": len(run.report.events),
         "from": first,
         "ending": run.report.ending,
+        "discovery": discovery(run.report, first),
         "sessions": [session_row(run, *pair) for pair in plan.pairs()],
         "wires": [wire_row(run, wire) for wire in plan.wires.values()],
         "services": [service_row(plan, run, service, first) for service in plan.services],
@@ -24,6 +25,21 @@ def sum_up(plan, run, first=1):
         "drops": drop_rows(run, first),
         "under_way": under_way(run.network),
     }
+
+
+def discovery(report, first):
+    """What a script told of Hellos from an event on: how many were said, which connections were barred, and which adjacencies came up
+    and ended, each with its line and the event that it stands behind (0 before the first one)."""
+    behind = [(event.number, entry) for event in report.events for entry in event.entries]
+    found = [(number, entry) for number, entry in [(0, entry) for entry in report.front] + behind if number >= first or first == 1]
+    rows = {"hellos": sum(entry.kind == "hello" for _, entry in found), "barred": [], "adjacencies": []}
+    for number, entry in found:
+        place = {"event": number, "line": entry.line}
+        if entry.kind == "barred":
+            rows["barred"].append({"edges": list(entry.words), **place})
+        elif entry.kind == "adjacency":
+            rows["adjacencies"].append({"edge": entry.words[0], "peer": entry.words[1], "state": entry.words[2], **place})
+    return rows
 
 
 def event_from(report, words):
