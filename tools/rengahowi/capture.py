@@ -7,7 +7,7 @@ from .labels import label_of
 
 LDP = 646
 FIRST_PORT = 49152
-MOST = 1460
+MOST, ALL = 1460, 65535
 SECOND = 1_000_000
 
 
@@ -43,6 +43,9 @@ class Capture:
             self.take(entry)
         for event in self.report.events:
             self.event, self.time = event, event.number * SECOND
+            if event.kind == "settle":
+                self.settle(event.words[0], list(event.entries))
+                continue
             if not event.is_idle():
                 self.begin(event)
             for entry in event.entries:
@@ -62,6 +65,9 @@ class Capture:
             self.connect(*words)
         elif event.kind == "deliver":
             self.deliver(*words)
+        elif event.kind == "cut":
+            self.close(*words)
+            self.close(*words[::-1])
         elif event.kind == "restart":
             for pair in [pair for pair in self.connections if words[0] in pair]:
                 self.close(words[0], *(pair - set(words)))
@@ -70,6 +76,31 @@ class Capture:
             self.mpls(start, end, octets, end, pcapng.INBOUND)
         elif event.kind == "drop":
             self.packets.pop(words[0], None)
+
+    def settle(self, count, entries):
+        """The deliveries of a line of `switchover`: of all that waits between the first two edges, in the plan's order, so many times or
+        until nothing waits. Behind each stands what its receiver says of it."""
+        ways = [way for a, b in self.plan.pairs() for way in ((a, b), (b, a))]
+        ways.sort(key=lambda way: (self.number[way[0]], self.number[way[1]]))
+        for _ in range(count):
+            way = next((way for way in ways if self.waits(*way)), None)
+            if way is None:
+                break
+            self.deliver(*way, ALL)
+            while entries and self.is_of(entries[0], *way):
+                self.take(entries.pop(0))
+        for entry in entries:
+            self.take(entry)
+
+    def is_of(self, entry, sender, receiver):
+        """Whether the receiver tells it of what it hears from the sender: it answers that edge alone, and of a wire with it."""
+        edge, other = entry.words[:2] if entry.words else (None, None)
+        return edge == receiver and sender in (self.plan.wires[other].path if entry.kind == "uses" else (other,))
+
+    def waits(self, sender, receiver):
+        """Whether something waits to be delivered."""
+        connection = self.connections.get(frozenset((sender, receiver)))
+        return connection is not None and bool(connection.waiting.get(receiver))
 
     def take(self, entry):
         """What an entry tells of a connection or a packet."""

@@ -1,4 +1,4 @@
-"""A report as the rows of a ladder: a row for each line, drawn between the columns of edges and circuits."""
+"""A report, or a text of `switchover`, as the rows of a ladder: a row for each line, drawn between the columns of edges and circuits."""
 
 from .labels import label_of
 from .network import NEVER, Network
@@ -157,6 +157,11 @@ class Rows:
     def barred(self, edge, peer):
         """A connection that does not open, since an adjacency is missing."""
         return self.row("barred", f"no connection with {peer}: barred", [("edge", edge)])
+
+    def uses(self, edge, wire, answer):
+        """A wire that an edge uses from here on, or no more."""
+        self.change(self.lane_of["wire", edge, wire], "up" if answer == "yes" else "NoLocal")
+        return self.row("uses", f"uses {wire}" if answer == "yes" else f"uses {wire} no more", [("edge", edge)])
 
     def name_messages(self):
         """The text of each message is what `decode` tells of it."""

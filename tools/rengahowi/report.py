@@ -1,4 +1,5 @@
-"""A report of `replay` or `discover`: its events in order, each with the entries that it told (docs/FORMATS.md)."""
+"""A report of `replay` or `discover`: its events in order, each with the entries that it told (docs/FORMATS.md). A text of
+`switchover` is read in the same way, its lines as events."""
 
 import re
 from typing import NamedTuple
@@ -40,6 +41,17 @@ EVENTS = {
     "status": ("edge", "wire", "number"),
     "priority": ("edge", "wire", "number"),
     "ping": ("edge", "wire"),
+}
+# The same of a text of `switchover`.
+SWITCH_ENTRIES = {"idle": (), "said": ("edge", "edge", "octets"), "uses": ("edge", "wire", "word")}
+SWITCH_EVENTS = {
+    "connect": ("edge", "edge"),
+    "cut": ("edge", "edge"),
+    "deliver": ("edge", "edge", "number"),
+    "settle": ("number",),
+    "active": ("edge", "wire"),
+    "standby": ("edge", "wire"),
+    "ask": ("edge", "wire"),
 }
 
 
@@ -95,14 +107,22 @@ def look_of(kinds):
     return Look(kinds, re.compile(text, re.ASCII), numbers, octets, names)
 
 
-EVENT_LOOKS, ENTRY_LOOKS = ({kind: look_of(kinds) for kind, kinds in table.items()} for table in (EVENTS, ENTRIES))
+def looks_of(*tables):
+    """How the lines of these tables look, by their kind."""
+    return tuple({kind: look_of(kinds) for kind, kinds in table.items()} for table in tables)
+
+
+REPORT, SWITCHOVER = "vplsnet 1", "switchover 1"
+# The first line of each text, with how its events and entries look.
+LOOKS_BEHIND = {REPORT: looks_of(EVENTS, ENTRIES), SWITCHOVER: looks_of(SWITCH_EVENTS, SWITCH_ENTRIES)}
 
 
 class Words:
-    """Reads the words of lines over the names of a plan."""
+    """Reads the words of lines over the names of a plan, of a text with this first line."""
 
-    def __init__(self, plan, path):
+    def __init__(self, plan, path, head=REPORT):
         self.path = path
+        self.events, self.entries = LOOKS_BEHIND[head]
         self.known = {"edge": plan.edges, "circuit": plan.circuits, "wire": plan.wires}
 
     def fault(self, line, text):
@@ -141,15 +161,18 @@ class Words:
         return self.fault(line, "a word is empty")
 
 
-def read_report(path, plan):
-    """The report of a file, of a run over this plan."""
-    words, lines = Words(plan, path), text_of(path).split("\n")
-    if lines[0] != "vplsnet 1":
-        raise words.fault(1, "a report begins with 'vplsnet 1'")
+def read_report(path, plan, heads=(REPORT,)):
+    """The report of a file, of a run over this plan; or a text of `switchover`, for who takes both."""
+    lines = text_of(path).split("\n")
+    if lines[0] == SWITCHOVER and SWITCHOVER not in heads:
+        raise Fault(f"{path}, line 1: a text of `switchover` has no frames and no sessions: tools/ladder and tools/to-pcap read it, and no others")
+    if lines[0] not in heads:
+        raise Fault(f"{path}, line 1: a report begins with 'vplsnet 1'")
+    words = Words(plan, path, lines[0])
     if len(lines) < 3 or lines[-1] or not lines[-2].startswith(("end ", "stop ")):
         raise Fault(f"{path} has no last line 'end ..' or 'stop ..': it is not whole")
-    front = []
-    return Report(events_of(words, enumerate(lines[1:-2], 2), 1, front), lines[-2], front)
+    front = [] if lines[0] == REPORT else None
+    return Report(events_of(words, enumerate(lines[1:-2], 2), 1, front), lines[-2], front or [])
 
 
 def events_of(words, lines, first, front=None):
@@ -161,13 +184,13 @@ def events_of(words, lines, first, front=None):
         if kind == ">":
             text = text[2:]
             kind = text.partition(" ")[0]
-            if kind not in EVENTS:
+            if kind not in words.events:
                 raise words.fault(line, f"{kind!r} is no event")
-            event = Event(len(events) + first, line, kind, words.read(line, EVENT_LOOKS[kind], kind, text), text)
+            event = Event(len(events) + first, line, kind, words.read(line, words.events[kind], kind, text), text)
             events.append(event)
-        elif kind in ENTRIES and (events or front is not None and kind in NOTES):
+        elif kind in words.entries and (events or front is not None and kind in NOTES):
             entries = event.entries if events else front
-            entries.append(Entry(line, kind, words.read(line, ENTRY_LOOKS[kind], kind, text)))
+            entries.append(Entry(line, kind, words.read(line, words.entries[kind], kind, text)))
         else:
             raise words.fault(line, f"{kind!r} is no entry that may stand here")
     return events
