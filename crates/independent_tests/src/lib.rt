@@ -1,0 +1,7 @@
+//! Tests of an edge in independent mode, over links in memory.
+#![tactic(auto)]
+
+#[cfg(test)]
+mod pair;
+#[cfg(test)]
+mod rows;
