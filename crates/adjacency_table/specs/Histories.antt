@@ -1,4 +1,4 @@
--- What each edge has said, heard and counted.
+-- What each edge has said, heard and counted of Hellos (RFC 5036 section 2.4.2).
 use Rattle.std.specs.Prelude.{◌≡◌, ◌==◌, ◌&&◌, not, ℕ, Bool, List, ◌∷◌, length, slice_get, IfSome, Some, if◌then◌else◌}
 use Rattle.net_base.specs.declared.plan.Plan.{Plan}
 use Rattle.net_base.specs.declared.plan.places.EdgeId.{EdgeId}

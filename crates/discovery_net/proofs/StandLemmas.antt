@@ -17,8 +17,8 @@ use Rattle.network_model.specs.Packet.{arrival_of, next_arrival}
 use Rattle.network_model.specs.Run.{state_after}
 use Rattle.network_model.specs.State.{NetworkState, stands}
 use Rattle.network_model.specs.Step.{step}
-use Rattle.connection_model.specs.Laws.{connects_them}
-use Rattle.connection_model.proofs.NetworkLemmas.{are_lost, come_by_connections}
+use Rattle.connection_laws.specs.Laws.{connects_them}
+use Rattle.connection_laws.proofs.NetworkLemmas.{are_lost, come_by_connections}
 use Rattle.command_text.specs.declared.command.Command.{Command}
 use Rattle.command_text.specs.declared.command.Command.TheVariants.{One, Settle, Flow, Ticks, Play}
 use Rattle.command_run.specs.Made.{event_and, made_by, turns}

@@ -1,4 +1,4 @@
--- What a network with adjacencies does: events of the network, and notes between them.
+-- What a network with Hello adjacencies does (RFC 5036 section 2.4.2): events of the network, and notes between them.
 use Rattle.std.specs.Prelude.{◌++◌, length, List, [], ◌∷◌, map, Option, Some, None}
 use Rattle.net_base.specs.declared.plan.Plan.{Plan}
 use Rattle.net_base.specs.declared.trace.entry.Entry.{Entry}

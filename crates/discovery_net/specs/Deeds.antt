@@ -1,4 +1,4 @@
--- A network whose edges hold Hello adjacencies, as its history tells it.
+-- A network whose edges hold Hello adjacencies (RFC 5036 section 2.4.2), as its history tells it.
 use Rattle.std.specs.Prelude.{◌==◌, ◌-◌, ℕ, List, [], Bool, Option, Some, None, slice_get, if◌then◌else◌}
 use Rattle.net_values.specs.declared.addr.Addr.{Addr}
 use Rattle.net_base.specs.declared.plan.Plan.{Plan}

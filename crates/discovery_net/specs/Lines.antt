@@ -1,4 +1,4 @@
--- What each line of a script does.
+-- What each line of a script does: Hellos that come, ticks, and events between the edges (RFC 5036 section 2.4.2).
 use Rattle.std.specs.Prelude.{◌+◌, ◌++◌, ◌&&◌, ℕ, zero, suc, List, [], ◌∷◌, Bool, Option, Some, None, length, if◌then◌else◌}
 use Rattle.net_base.specs.declared.plan.Plan.{Plan}
 use Rattle.net_base.specs.declared.plan.places.EdgeId.{EdgeId}

@@ -1,4 +1,4 @@
--- The run of a script: one line after another.
+-- The run of a script of Hellos and events (RFC 5036 section 2.4.2): one line after another.
 use Rattle.std.specs.Prelude.{◌≡◌, ◌++◌, ℕ, true, List, [], ◌∷◌}
 use Rattle.net_base.specs.declared.plan.Plan.{Plan}
 use Rattle.net_base.specs.declared.trace.event.Event.{Event}

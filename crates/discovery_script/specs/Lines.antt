@@ -1,4 +1,4 @@
--- The lines of a script by their words.
+-- The lines of a script of Hellos and events (RFC 5036 section 2.4.2) by their words.
 use Rattle.std.specs.Prelude.{◌+◌, ◌-◌, ◌^◌, ◌||◌, codes, drop, ℕ, Bool, List, [], ◌∷◌, Result, Ok, Err, if◌then◌else◌}
 use Rattle.std.specs.Str.{bytes_eq}
 use Rattle.command_text.specs.declared.command.Command.{Command}

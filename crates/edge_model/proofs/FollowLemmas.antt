@@ -13,7 +13,7 @@ use Rattle.net_base.specs.plan.Places.{wire_row}
 use Rattle.pw_tlvs.specs.declared.pw_fec.PwFec.{PwFec}
 use Rattle.pw_signalling.specs.declared.told.Told.{Told}
 use Rattle.pw_signalling.specs.End.{EndState, Idle, Advertised, fresh}
-use Rattle.pw_signalling.specs.Rows.{bound, group_stated, group_unbound, lost, released, renewed, stated, unbound, withdrawn, advertised}
+use Rattle.pw_signalling.specs.Rows.{bound, group_stated, group_unbound, released, renewed, stated, unbound, withdrawn, advertised}
 use Rattle.session_core.specs.declared.reply.Reply.{Reply}
 use Rattle.session_core.specs.Table.{SessionEvent}
 use Rattle.ldp_grammar.specs.declared.message.Message.{Message}

@@ -33,7 +33,7 @@ use Rattle.pw_tlvs.specs.declared.pw_fec.PwFec.{PwFec}
 use Rattle.pw_tlvs.specs.declared.pw_status.PwStatus.{PwStatus}
 use Rattle.pw_signalling.specs.declared.told.Told.{Told}
 use Rattle.pw_signalling.specs.End.{EndState, LocalPart, Idle, Advertised, Withdrawing}
-use Rattle.pw_signalling.specs.Rows.{group_stated, group_unbound, lost, released, stated, unbound, bound}
+use Rattle.pw_signalling.specs.Rows.{group_stated, group_unbound, stated, unbound, bound}
 use Rattle.session_core.specs.declared.reply.Reply.{Reply}
 use Rattle.session_core.specs.Phase.{Phase}
 use Rattle.session_core.specs.Phase as phase

@@ -25,7 +25,6 @@ use Rattle.ldp_grammar.specs.Written.{written}
 use Rattle.mac_withdraw.specs.Passing.{is_passed_to}
 use Rattle.mac_withdraw.specs.Pieces.{pieces_of}
 use Rattle.pw_signalling.specs.declared.told.Told.{Told}
-use Rattle.pw_signalling.specs.Rows.{lost}
 use Rattle.pw_signalling.specs.End.{EndState, LocalPart, Idle, Advertised, Withdrawing}
 use Rattle.pw_tlvs.specs.declared.pw_fec.PwFec.{PwFec}
 use Rattle.session_core.specs.declared.peers.Peers.{Peers}

@@ -1,11 +1,11 @@
 -- What an edge keeps of others goes with what it says, hears and counts.
-use Rattle.std.proofs.Common.{◌≡◌, ◌≢◌, ◌<◌, ◌≤◌, ◌∙◌, ◌+◌, ◌++◌, nat_eq, ◌==◌, ℕ, zero, suc, Bool, true, false, List, [], ◌∷◌, length, get_or, set, take, drop, map, refl, sym, ap, subst, arith, inl, inr, if◌then◌else◌}
+use Rattle.std.proofs.Common.{◌≡◌, ◌≢◌, ◌<◌, ◌∙◌, ◌+◌, ◌++◌, nat_eq, ◌==◌, ℕ, zero, suc, List, [], ◌∷◌, length, get_or, set, take, drop, map, refl, ap, arith, inl, inr, if◌then◌else◌}
 use Rattle.std.proofs.lemmas.Bool.{cases_Bool, eqb-true}
 use Rattle.std.proofs.lemmas.Bool.Decides.{nat_tests}
 use Rattle.std.proofs.lemmas.List.{get_or-set_same, get_or-set_other, length-set, length-map}
 use Rattle.ldp_discovery.specs.declared.adjacency.Adjacency.{Adjacency}
 use Rattle.ldp_discovery.specs.Adjacencies.{AdjacencyLists, DeedsAreKept, IsAfter, after, id_after, known_of}
-use Rattle.ldp_discovery.specs.Live.{Deed, said, heard, ticked, AreHolds, aged, is_live, kept, live, proposed, refreshed, unknown}
+use Rattle.ldp_discovery.specs.Live.{Deed, said, heard, ticked, AreHolds, aged, is_live, live, proposed, refreshed, unknown}
 use Rattle.ldp_discovery.proofs.LiveLemmas.{stands}
 
 -- ---- a list whose items are changed one by one

@@ -1,10 +1,9 @@
 -- Each command is read from its text.
-use Rattle.std.proofs.Common.{◌≡◌, ◌<◌, ◌≤◌, ◌+◌, ◌^◌, ◌∙◌, nat_lt, not, ℕ, suc, Bool, true, false, List, [], ◌∷◌, length, Some, Result, Ok, codes, lt-ltb, refl, ap, arith}
+use Rattle.std.proofs.Common.{◌≡◌, ◌≤◌, ◌+◌, ◌∙◌, not, ℕ, Bool, true, false, List, [], ◌∷◌, length, Some, Ok, codes, lt-ltb, refl, ap, arith}
 use Rattle.std.specs.Fmt.{decimal}
 use Rattle.std.specs.List.{list_all}
 use Rattle.toml.specs.View.{items_of}
 use Rattle.net_base.specs.declared.plan.Plan.{Plan}
-use Rattle.net_base.specs.declared.plan.places.CircuitId.{CircuitId}
 use Rattle.net_base.specs.plan.NameFaults.{circuit_names}
 use Rattle.report_text.specs.Words.{circuit_name}
 use Rattle.command_text.specs.declared.command.Command.{Command}
@@ -14,10 +13,10 @@ use Rattle.command_text.specs.Planned.{IsCount, names_of}
 use Rattle.command_text.specs.Events.{repeats_in, play_in, many_of, part_command, packet_command, command_of, command_in, commands_in, plays_after}
 use Rattle.command_text.specs.Names.{place_in}
 use Rattle.command_text.specs.Words.{is_space, decimal_from, some_word}
-use Rattle.event_words.specs.Law.{joined_words, HasNames}
-use Rattle.event_words.proofs.WordLemmas.{IsWhole, AreWhole, first_of, word_is, said_is, ends_is}
-use Rattle.event_words.proofs.ValueLemmas.{whole_by, decimal_whole, number_said, row_said, row_whole}
-use Rattle.event_words.proofs.EventLemmas.{reads}
+use Rattle.event_laws.specs.Law.{joined_words, HasNames}
+use Rattle.event_laws.proofs.WordLemmas.{IsWhole, AreWhole, first_of, word_is, said_is, ends_is}
+use Rattle.event_laws.proofs.ValueLemmas.{whole_by, decimal_whole, number_said, row_said, row_whole}
+use Rattle.event_laws.proofs.EventLemmas.{reads}
 use Rattle.migrated_text.specs.Commands.{command_text, event_items}
 use Rattle.migrated_text.specs.Law.{HasNoBlank, IsSaidCommand, AreSaidCommands, ReadsMigratedCommands}
 

@@ -1,8 +1,7 @@
 -- A migrated document is not deep.
-use Rattle.std.proofs.Common.{◌≡◌, ◌≤◌, ℕ, suc, Bool, true, false, List, Option, codes, map, arith, lit≤, if◌then◌else◌}
-use Rattle.std.specs.Prelude.{◌==◌, unwrap_or}
-use Rattle.std.specs.Net.Text.{ipv4_text}
-use Rattle.toml.specs.Data.{Data, Members, no_members, string, boolean, integer, array, table, depth, items_depth, members_depth}
+use Rattle.std.proofs.Common.{◌≤◌, ℕ, Bool, true, false, List, codes, map, arith, if◌then◌else◌}
+use Rattle.std.specs.Prelude.{◌==◌}
+use Rattle.toml.specs.Data.{Members, string, array, table, members_depth}
 use Rattle.toml.specs.View.{items_of}
 use Rattle.net_base.specs.declared.plan.Plan.{Plan}
 use Rattle.net_base.specs.declared.plan.edge_plan.EdgePlan.{EdgePlan}
@@ -12,11 +11,11 @@ use Rattle.net_base.specs.declared.plan.wire_plan.WirePlan.{WirePlan}
 use Rattle.net_base.specs.declared.plan.offer.Offer.{Offer}
 use Rattle.command_text.specs.declared.command.Command.{Command}
 use Rattle.report_text.specs.Words.{edge_name}
-use Rattle.toml_tables.specs.Tables.{put, put_told, put_some}
+use Rattle.toml_tables.specs.Tables.{put}
 use Rattle.toml_tables.proofs.DepthLemmas.{put_depth, told_depth, some_depth, rows_depth, texts_depth}
 use Rattle.migrated_text.specs.Commands.{command_text, event_items}
 use Rattle.migrated_text.specs.Groups.{group_name, used_groups}
-use Rattle.migrated_text.specs.Rows.{number, put_group, offer_table, edge_table, service_table, group_table, circuit_table, ends_table, wire_table}
+use Rattle.migrated_text.specs.Rows.{put_group, offer_table, edge_table, service_table, group_table, circuit_table, ends_table, wire_table}
 use Rattle.migrated_text.specs.Migrated.{plan_table, top_table, migrated}
 
 group_depth : (group : ℕ) (ms : Members) → members_depth ms ≤ 0 → members_depth (put_group group ms) ≤ 0

@@ -1,5 +1,5 @@
 -- Names, numbers and octets in hexadecimal are text, and so are commands.
-use Rattle.std.proofs.Common.{◌≡◌, ◌<◌, ◌≤◌, ◌++◌, ◌∙◌, ◌/◌, ◌%◌, ◌^◌, ◌&&◌, ℕ, zero, suc, Bool, true, false, List, [], ◌∷◌, Option, Some, None, length, map, codes, slice_index, slice_get, get_or, option_map, nat_le, nat_lt, inl, inr, refl, sym, ap, subst, append-nil, arith}
+use Rattle.std.proofs.Common.{◌≡◌, ◌<◌, ◌++◌, ◌∙◌, ◌/◌, ◌%◌, ◌^◌, ◌&&◌, ℕ, zero, suc, Bool, true, false, List, [], ◌∷◌, length, map, codes, slice_index, slice_get, option_map, nat_le, nat_lt, inl, inr, refl, sym, ap, append-nil, arith}
 use Rattle.std.proofs.lemmas.Bool.{and_parts, cases_lt}
 use Rattle.std.proofs.lemmas.Bool.Decides.{Decides-ltb, nat_tests}
 use Rattle.std.proofs.lemmas.Fmt.{IsAscii-decimal}
@@ -17,7 +17,7 @@ use Rattle.net_base.specs.declared.trace.event.Event.{Event}
 use Rattle.net_base.specs.declared.trace.event.Event.TheVariants.{Connect, Deliver, Lose, Restart, Tick, Frame, Arrive, Discard, Again, Wire, Circuit, Status, Priority, Ping}
 use Rattle.net_base.specs.plan.Planned.{IsEventOf}
 use Rattle.report_text.specs.Words.{circuit_name, edge_name, event_words, name_or_empty, switch_name, wire_name}
-use Rattle.event_words.specs.Law.{joined_words, HasNames, IsEventInRange}
+use Rattle.event_laws.specs.Law.{joined_words, HasNames, IsEventInRange}
 use Rattle.text_lines.specs.declared.word.Word.{Word}
 use Rattle.text_lines.specs.Lines.{word_octets}
 use Rattle.text_pieces.specs.Pieces.{hex, spaced}

@@ -8,7 +8,7 @@ use Rattle.command_text.specs.declared.command.Command.TheVariants.{One, Settle,
 use Rattle.command_text.specs.Events.{commands_in, plays_after}
 use Rattle.command_text.specs.Planned.{IsCount, names_of}
 use Rattle.command_text.specs.Words.{is_space}
-use Rattle.event_words.specs.Law.{HasNames, IsEventInRange}
+use Rattle.event_laws.specs.Law.{HasNames, IsEventInRange}
 use Rattle.migrated_text.specs.Commands.{event_items}
 
 -- no blank is in the word

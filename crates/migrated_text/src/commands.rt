@@ -3,7 +3,7 @@ ghost use Rattle.std.specs.Prelude.{◌≡◌, ◌∷◌, ◌++◌, [], map, str
 ghost use Rattle.std.specs.List.{All};
 ghost use Rattle.std.specs.Str.{IsUtf8};
 ghost use Rattle.toml.specs.View.{view};
-ghost use Rattle.event_words.specs.Law.{joined_words, HasNames};
+ghost use Rattle.event_laws.specs.Law.{joined_words, HasNames};
 ghost use Rattle.text_lines.specs.Lines.{word_octets};
 ghost use Rattle.text_pieces.specs.Pieces.{spaced};
 ghost use Rattle.migrated_text.specs.Commands.{command_text, event_items};

@@ -10,7 +10,7 @@ ghost use Rattle.migrated_text.specs.Groups.{used_groups};
 ghost use Rattle.migrated_text.specs.Migrated.{plan_table, migrated};
 ghost use Rattle.migrated_text.specs.Rows.{edge_table, service_table, group_table, circuit_table, wire_table};
 ghost use Rattle.migrated_text.specs.Sayable.{HasTexts, IsSayable, IsSayableScenario};
-ghost use Rattle.event_words.specs.Law.{HasNames};
+ghost use Rattle.event_laws.specs.Law.{HasNames};
 
 use crate::commands::command_lines;
 use crate::groups::groups_of;

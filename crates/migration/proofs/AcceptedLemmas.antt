@@ -1,22 +1,16 @@
 -- What holds of a scenario that was read.
-use Rattle.std.proofs.Common.{◌≡◌, ◌<◌, ◌≤◌, ◌+◌, ◌++◌, ◌∙◌, nat_le, ℕ, suc, Bool, true, false, List, [], ◌∷◌, codes, length, map, Option, Some, None, Result, Ok, Err, IfOk, leb-true, refl, sym, ap, subst, arith, if◌then◌else◌}
-use Rattle.std.specs.List.{All}
-use Rattle.std.specs.Str.{bytes_eq, is_utf8}
+use Rattle.std.proofs.Common.{◌≡◌, ◌≤◌, ◌+◌, ◌++◌, nat_le, ℕ, suc, Bool, true, false, List, [], ◌∷◌, codes, length, Option, Some, None, Result, Ok, Err, IfOk, leb-true, refl, sym, ap, subst, arith, if◌then◌else◌}
+use Rattle.std.specs.Str.{is_utf8}
 use Rattle.toml.specs.Data.{Items, no_items, item, Members}
 use Rattle.toml.specs.Parse.{parse_document}
-use Rattle.net_values.specs.Name.{IsName}
 use Rattle.net_base.proofs.AcceptedLemmas.{checked as checked_plan}
 use Rattle.net_base.specs.declared.plan.Plan.{Plan}
 use Rattle.net_base.specs.declared.plan.edge_plan.EdgePlan.{EdgePlan}
 use Rattle.net_base.specs.declared.plan.service_plan.ServicePlan.{ServicePlan}
-use Rattle.net_base.specs.declared.plan.circuit_plan.CircuitPlan.{CircuitPlan}
-use Rattle.net_base.specs.declared.plan.wire_plan.WirePlan.{WirePlan}
 use Rattle.net_base.specs.declared.plan.table.Table.{Table}
 use Rattle.net_base.specs.declared.plan.table.Table.TheVariants as kind
-use Rattle.net_base.specs.plan.Accepted.{IsWithinLimits, IsChecked, NonePair}
+use Rattle.net_base.specs.plan.Accepted.{IsWithinLimits}
 use Rattle.net_base.specs.plan.NameFaults.{edge_names, service_names, circuit_names, wire_names}
-use Rattle.net_base.specs.plan.PlanFault.{plan_fault}
-use Rattle.command_text.specs.declared.command.Command.{Command}
 use Rattle.command_text.specs.declared.plan_names.PlanNames.{PlanNames}
 use Rattle.command_text.specs.declared.row_place.RowPlace.{RowPlace}
 use Rattle.command_text.specs.declared.scenario_fault.ScenarioFault.{ScenarioFault}
@@ -24,13 +18,13 @@ use Rattle.command_text.specs.declared.scenario_fault.ScenarioFault.TheVariants.
 use Rattle.command_text.specs.Events.{commands_in, event_in, plays_after, most_events}
 use Rattle.command_text.specs.Places.{top_row}
 use Rattle.command_text.specs.Planned.{names_of}
-use Rattle.command_text.specs.Reading.{◌>>=◌, checked}
-use Rattle.event_words.specs.Law.{HasNames}
+use Rattle.command_text.specs.Reading.{checked}
+use Rattle.event_laws.specs.Law.{HasNames}
 use Rattle.scenario_text.specs.declared.circuit_row.CircuitRow.{CircuitRow}
 use Rattle.scenario_text.specs.declared.group_row.GroupRow.{GroupRow}
 use Rattle.scenario_text.specs.declared.scenario.Scenario.{Scenario}
 use Rattle.scenario_text.specs.declared.wire_row.WireRow.{WireRow}
-use Rattle.scenario_text.specs.Document.{plan_in, scenario_in, scenario_or, scenario_with, document}
+use Rattle.scenario_text.specs.Document.{plan_in, scenario_in, scenario_or, document}
 use Rattle.scenario_text.specs.Keys.{only_known}
 use Rattle.scenario_text.specs.References.{circuit_in, circuit_plans, groups_differ, placed_rows, plan_of, sound, wire_in, wires_in}
 use Rattle.scenario_text.specs.Rows.{circuit_row_in, edge_in, group_row_in, items_length, row_members, rows_in, service_in, wire_row_in}
@@ -40,7 +34,7 @@ use Rattle.migrated_text.proofs.SaidLemmas.{commands_said}
 use Rattle.migrated_text.specs.Law.{AreSaidCommands}
 use Rattle.migration.proofs.PlanLemmas.{pair_left, pair_right}
 use Rattle.migration.proofs.ReadPlanLemmas.{read_plan}
-use Rattle.migration.proofs.SaidLemmas.{if_ok, if_any, IsSaidPlan, plan_in_ok, sound_ok}
+use Rattle.migration.proofs.SaidLemmas.{if_ok, if_any, plan_in_ok, sound_ok}
 use Rattle.migration.specs.ReadPlan.{IsReadPlan}
 
 if_then : {A : Type 0} (P Q : A → Type 0) (r : Result A ScenarioFault) → IfOk r P → ((x : A) → P x → Q x) → IfOk r Q

@@ -1,24 +1,21 @@
 -- A scenario that is written as a document of version 2 is read again.
-use Rattle.std.proofs.Common.{◌≡◌, ◌<◌, ◌≤◌, ◌+◌, ◌∙◌, ℕ, zero, suc, Bool, true, false, List, [], ◌∷◌, length, map, Option, Some, Result, Ok, Err, IfOk, String, Global, string_bytes, refl, sym, ap, subst, arith}
+use Rattle.std.proofs.Common.{◌≡◌, ◌∙◌, ℕ, zero, suc, true, false, List, [], ◌∷◌, length, Some, Result, Ok, Err, IfOk, String, Global, string_bytes, refl, ap, subst, arith}
 use Rattle.std.proofs.lemmas.Str.{IsUtf8-string_bytes}
 use Rattle.std.specs.List.{All}
-use Rattle.std.specs.Str.{IsUtf8}
-use Rattle.toml.specs.Data.{Data, string}
 use Rattle.toml.specs.Parse.{parse_document}
 use Rattle.toml.specs.Text.{IsDocumentText}
 use Rattle.toml.specs.View.{items_of}
 use Rattle.net_base.specs.declared.plan.Plan.{Plan}
 use Rattle.command_text.specs.declared.command.Command.{Command}
 use Rattle.command_text.specs.declared.command.Command.TheVariants.{One, Settle, Flow, Ticks, Play}
-use Rattle.command_text.specs.Events.{commands_in, most_events, plays_after}
-use Rattle.command_text.specs.Planned.{names_of}
+use Rattle.command_text.specs.Events.{plays_after}
 use Rattle.scenario_text.proofs.DocumentLemmas.{document_text}
 use Rattle.scenario_text.specs.declared.scenario.Scenario.{Scenario}
 use Rattle.scenario_text.specs.Document.{document, scenario_in, scenario_or, scenario_with}
 use Rattle.scenario_text.specs.Rows.{items_length}
 use Rattle.scenario_text.specs.Values.{all_items, is_string}
 use Rattle.migrated_text.proofs.CommandLemmas.{reads_all}
-use Rattle.migrated_text.specs.Commands.{command_text, event_items}
+use Rattle.migrated_text.specs.Commands.{event_items}
 use Rattle.migrated_text.specs.Law.{AreSaidCommands, IsSaidCommand}
 use Rattle.migrated_text.specs.Migrated.{migrated}
 use Rattle.migrated_text.specs.Sayable.{IsSayable, IsSayableScenario}

@@ -1,5 +1,5 @@
 -- What rows name is found.
-use Rattle.std.proofs.Common.{◌≡◌, ◌<◌, ◌≤◌, ◌==◌, ◌+◌, ◌++◌, ◌||◌, ◌∙◌, ◌^◌, not, ℕ, zero, suc, Bool, true, false, List, [], ◌∷◌, length, map, get_or, slice_get, Option, Some, None, option_map, Result, Ok, codes, nat_lt, append-nil, refl, sym, ap, arith, inl, inr, if◌then◌else◌}
+use Rattle.std.proofs.Common.{◌≡◌, ◌<◌, ◌≤◌, ◌==◌, ◌+◌, ◌++◌, ◌||◌, ◌∙◌, ◌^◌, ℕ, zero, suc, Bool, true, false, List, [], ◌∷◌, length, map, get_or, slice_get, Option, Some, None, option_map, Ok, append-nil, refl, sym, ap, arith, inl, inr, if◌then◌else◌}
 use Rattle.std.proofs.lemmas.Bool.{cases_Bool, eqb-true, lt-ltb, false≢true}
 use Rattle.std.proofs.lemmas.Bool.Decides.{nat_tests}
 use Rattle.std.proofs.lemmas.List.{append_assoc, length-map}
@@ -7,12 +7,11 @@ use Rattle.std.proofs.lemmas.Slice.Eq.{bytes_eq-Decides}
 use Rattle.std.specs.List.{All, list_any, position_or_len}
 use Rattle.std.specs.Str.{bytes_eq}
 use Rattle.net_values.specs.Name.{IsName}
-use Rattle.net_base.specs.declared.plan.Plan.{Plan}
 use Rattle.net_base.specs.plan.Accepted.{NonePair}
 use Rattle.net_base.specs.plan.Faults.{clash_after, first_clash}
 use Rattle.command_text.specs.declared.row_place.RowPlace.{RowPlace}
 use Rattle.command_text.specs.Names.{place_in}
-use Rattle.scenario_text.specs.References.{named, group_in, group_names, groups_differ, number_at, without_repeat}
+use Rattle.scenario_text.specs.References.{group_in, group_names, groups_differ, number_at, without_repeat}
 use Rattle.migrated_text.specs.Groups.{group_name}
 use Rattle.report_text.specs.Words.{name_or_empty}
 use Rattle.migration.proofs.GroupNameLemmas.{group_apart}

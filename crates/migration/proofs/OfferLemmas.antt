@@ -1,22 +1,19 @@
 -- An offer is read from its table.
-use Rattle.std.proofs.Common.{◌≡◌, ◌<◌, ◌≤◌, ◌==◌, ◌^◌, ◌∙◌, ℕ, zero, suc, Bool, true, false, List, [], ◌∷◌, length, Option, Some, None, unwrap_or, Result, Ok, codes, refl, sym, ap, arith, inl, inr, if◌then◌else◌}
-use Rattle.std.proofs.lemmas.Bool.{cases_Bool}
+use Rattle.std.proofs.Common.{◌≡◌, ◌≤◌, ◌==◌, ◌∙◌, ℕ, Bool, true, false, List, [], Option, Some, None, unwrap_or, Ok, codes, refl, arith, if◌then◌else◌}
 use Rattle.std.proofs.lemmas.Bool.Decides.{nat_tests}
-use Rattle.toml.specs.Data.{Data, Members, no_members, string, boolean, table, get_member, same_key}
+use Rattle.toml.specs.Data.{Data, Members, string, boolean, table, get_member, same_key}
 use Rattle.net_values.specs.Name.{IsName}
 use Rattle.net_base.specs.declared.plan.offer.Offer.{Offer}
-use Rattle.net_base.specs.declared.plan.table.Table.{Table}
 use Rattle.net_base.specs.declared.plan.table.Table.TheVariants as kind
 use Rattle.net_base.specs.plan.Accepted.{IsOffer}
 use Rattle.net_base.specs.plan.Faults.{is_told_within}
 use Rattle.command_text.specs.declared.row_place.RowPlace.{RowPlace}
-use Rattle.command_text.specs.Places.{place_at}
 use Rattle.scenario_text.specs.declared.document_version.DocumentVersion.TheVariants.{Two}
 use Rattle.scenario_text.specs.declared.group_use.GroupUse.{GroupUse}
 use Rattle.scenario_text.specs.declared.group_use.GroupUse.TheVariants.{Number, Named}
 use Rattle.scenario_text.specs.declared.offer_row.OfferRow.{OfferRow}
-use Rattle.scenario_text.specs.Keys.{is_known_key, is_offer_key}
-use Rattle.scenario_text.specs.Values.{a_boolean, a_mode, a_number, a_description, needed, defaulted, optional}
+use Rattle.scenario_text.specs.Keys.{is_offer_key}
+use Rattle.scenario_text.specs.Values.{a_boolean, a_mode, a_number, a_description, defaulted, optional}
 use Rattle.scenario_text.specs.Rows.{a_group, near_in, end_in}
 use Rattle.scenario_text.specs.References.{told_unless_zero, offer_from}
 use Rattle.toml_tables.specs.Tables.{put, put_told}
@@ -25,7 +22,7 @@ use Rattle.migrated_text.specs.Groups.{group_name}
 use Rattle.migrated_text.specs.Rows.{number, mode_name, put_group, offer_table}
 use Rattle.migration.specs.ReadPlan.{IsSaid, IsTold}
 use Rattle.migration.proofs.GroupNameLemmas.{group_named}
-use Rattle.migration.proofs.ReadLemmas.{skip, skip_told, defaulted_is, defaulted_none, optional_is, optional_none, number_is, mode_is, description_is, name_is, known}
+use Rattle.migration.proofs.ReadLemmas.{skip, skip_told, defaulted_is, defaulted_none, optional_is, optional_none, number_is, mode_is, description_is, known}
 
 -- the group of an end as its row names it
 abbrev pub use_of : ℕ → GroupUse

@@ -1,11 +1,11 @@
 -- The rows of a plan are read from its tables.
-use Rattle.std.proofs.Common.{◌≡◌, ◌<◌, ◌≤◌, ◌==◌, ◌+◌, ◌*◌, ◌++◌, ◌&&◌, ◌^◌, ◌∙◌, nat_lt, ℕ, zero, suc, Bool, true, false, List, [], ◌∷◌, length, map, get_or, slice_get, Option, Some, None, option_map, Result, Ok, codes, length-append, refl, sym, ap, arith}
+use Rattle.std.proofs.Common.{◌≡◌, ◌≤◌, ◌+◌, ◌++◌, ℕ, suc, true, List, [], ◌∷◌, length, map, Ok, length-append, refl, arith}
 use Rattle.std.proofs.lemmas.Bool.{and_parts}
 use Rattle.std.proofs.lemmas.Bool.Decides.{Decides-ltb}
 use Rattle.std.proofs.lemmas.List.{get_or_append_left, get_or-append-add}
 use Rattle.std.specs.List.{All, list_all}
 use Rattle.std.specs.Str.{bytes_eq}
-use Rattle.toml.specs.Data.{Items, table}
+use Rattle.toml.specs.Data.{table}
 use Rattle.toml.specs.View.{items_of}
 use Rattle.net_values.specs.Name.{IsName}
 use Rattle.net_base.specs.declared.plan.Plan.{Plan}
@@ -14,25 +14,20 @@ use Rattle.net_base.specs.declared.plan.service_plan.ServicePlan.{ServicePlan}
 use Rattle.net_base.specs.declared.plan.circuit_plan.CircuitPlan.{CircuitPlan}
 use Rattle.net_base.specs.declared.plan.wire_plan.WirePlan.{WirePlan}
 use Rattle.net_base.specs.declared.plan.places.EdgeId.{EdgeId}
-use Rattle.net_base.specs.declared.plan.places.ServiceId.{ServiceId}
 use Rattle.net_base.specs.declared.plan.table.Table.TheVariants as kind
 use Rattle.net_base.specs.plan.Accepted.{IsEdgePlan, IsService, IsCircuitOf, IsWireOf, NonePair}
 use Rattle.net_base.specs.plan.NameFaults.{edge_names, service_names, circuit_names, wire_names}
-use Rattle.net_base.specs.plan.PlanFault.{plan_fault}
 use Rattle.net_base.specs.plan.RowFaults.{is_edge_of}
 use Rattle.command_text.specs.declared.row_place.RowPlace.{RowPlace}
-use Rattle.command_text.specs.Reading.{◌>>=◌}
 use Rattle.scenario_text.specs.declared.document_version.DocumentVersion.TheVariants.{Two}
-use Rattle.scenario_text.specs.declared.group_row.GroupRow.{GroupRow}
 use Rattle.scenario_text.specs.Rows.{edge_in, service_in, group_row_in, circuit_row_in, wire_row_in, rows_in}
-use Rattle.scenario_text.specs.References.{circuit_in, circuit_plans, path_in, wire_in, wires_in, group_names, placed_rows, plan_of, mtu_at}
-use Rattle.migrated_text.specs.Groups.{group_name, used_groups}
-use Rattle.report_text.specs.Words.{edge_name}
-use Rattle.migrated_text.specs.Rows.{service_name, edge_table, service_table, group_table, circuit_table, wire_table}
+use Rattle.scenario_text.specs.References.{circuit_in, circuit_plans, path_in, wire_in, wires_in, placed_rows, plan_of, mtu_at}
+use Rattle.migrated_text.specs.Groups.{used_groups}
+use Rattle.migrated_text.specs.Rows.{edge_table, service_table, group_table, circuit_table, wire_table}
 use Rattle.migration.specs.ReadPlan.{IsQuad, IsSaid, IsReadPlan}
 use Rattle.migration.proofs.GroupNameLemmas.{group_named}
 use Rattle.migration.proofs.RowLemmas.{edge_read, service_read, group_of, group_read}
-use Rattle.migration.proofs.OfferLemmas.{row_of, use_of, offer_back}
+use Rattle.migration.proofs.OfferLemmas.{offer_back}
 use Rattle.migration.proofs.WireLemmas.{AreNamed, circuit_of, circuit_read, path_names, wire_of, wire_read}
 use Rattle.migration.proofs.NamedLemmas.{AreNumbers, row_found, row_named, group_found, groups_once}
 use Rattle.migration.proofs.UseLemmas.{AreUsed, AreSmall, is_used, all_used, groups_are}

@@ -1,9 +1,9 @@
 -- What is read from keys that were put.
-use Rattle.std.proofs.Common.{◌≡◌, ◌<◌, ◌≤◌, ◌&&◌, ◌==◌, ◌∙◌, not, nat_le, ℕ, Bool, true, false, List, [], ◌∷◌, length, Option, Some, None, Result, Ok, Err, pos, le-leb, refl, sym, ap, if◌then◌else◌}
+use Rattle.std.proofs.Common.{◌≡◌, ◌<◌, ◌≤◌, ◌∙◌, ℕ, Bool, true, false, List, [], ◌∷◌, length, Option, Some, None, Result, Ok, pos, le-leb, refl, ap, if◌then◌else◌}
 use Rattle.std.specs.Net.Text.{dotted_text, ipv4_text}
 use Rattle.std.proofs.lemmas.Bool.{and_parts}
 use Rattle.std.proofs.lemmas.Str.{is_utf8-from_IsUtf8}
-use Rattle.toml.specs.Data.{Data, Members, no_members, member, string, integer, boolean, get_member, same_key}
+use Rattle.toml.specs.Data.{Data, Members, no_members, member, string, integer, get_member, same_key}
 use Rattle.net_values.specs.Name.{IsName}
 use Rattle.net_values.specs.declared.addr.Addr.{Addr}
 use Rattle.net_base.specs.declared.plan.place.Place.{Place}
@@ -16,10 +16,10 @@ use Rattle.command_text.specs.declared.scenario_fault.ScenarioFault.{ScenarioFau
 use Rattle.command_text.specs.Places.{place_at}
 use Rattle.scenario_text.specs.declared.document_version.DocumentVersion.{DocumentVersion}
 use Rattle.scenario_text.specs.Keys.{is_known_key, unknown_keys, least, none_unknown, only_known}
-use Rattle.scenario_text.specs.Values.{a_name, an_address, address_in, a_number, a_mode, a_class, a_description, quad_of, needed, defaulted, optional}
+use Rattle.scenario_text.specs.Values.{a_name, an_address, a_number, a_mode, a_class, a_description, quad_of, needed, defaulted, optional}
 use Rattle.scenario_text.proofs.QuadLemmas.{quad_read}
 use Rattle.toml_tables.specs.Tables.{put, put_told, put_some}
-use Rattle.toml_tables.proofs.KeyLemmas.{put_same, put_other, told_other, some_other, all_keys}
+use Rattle.toml_tables.proofs.KeyLemmas.{put_other, told_other, some_other, all_keys}
 use Rattle.migrated_text.specs.Rows.{class_name, mode_name}
 use Rattle.migration.specs.ReadPlan.{IsDescription, IsQuad}
 

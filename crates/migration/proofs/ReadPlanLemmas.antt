@@ -1,5 +1,5 @@
 -- A plan that was read is one that a document can say.
-use Rattle.std.proofs.Common.{◌≡◌, ◌<◌, ◌≤◌, ℕ, zero, suc, List, [], ◌∷◌, length, map, arith}
+use Rattle.std.proofs.Common.{◌≤◌, ℕ, zero, suc, List, [], ◌∷◌, map, arith}
 use Rattle.std.specs.List.{All}
 use Rattle.net_values.specs.Name.{IsName}
 use Rattle.net_base.specs.declared.plan.Plan.{Plan}

@@ -1,31 +1,23 @@
 -- Each row is read from its table.
-use Rattle.std.proofs.Common.{◌≡◌, ◌<◌, ◌≤◌, ◌==◌, ◌^◌, ◌∙◌, ℕ, suc, Bool, true, false, List, [], ◌∷◌, length, map, Option, Some, None, unwrap_or, Result, Ok, codes, refl, sym, ap, arith, inl, inr, if◌then◌else◌}
-use Rattle.std.proofs.lemmas.Bool.{cases_Bool, cases_lt}
+use Rattle.std.proofs.Common.{◌≡◌, ◌≤◌, ℕ, true, Some, Ok, codes, refl, if◌then◌else◌}
 use Rattle.std.specs.Net.Text.{ipv4_text}
-use Rattle.toml.specs.Data.{Data, Items, Members, no_members, string, boolean, array, table, get_member}
-use Rattle.toml.specs.View.{items_of}
+use Rattle.toml.specs.Data.{string, get_member}
 use Rattle.net_values.specs.Name.{IsName}
-use Rattle.net_base.specs.declared.plan.Plan.{Plan}
 use Rattle.net_base.specs.declared.plan.edge_plan.EdgePlan.{EdgePlan}
 use Rattle.net_base.specs.declared.plan.service_plan.ServicePlan.{ServicePlan}
-use Rattle.net_base.specs.declared.plan.offer.Offer.{Offer}
-use Rattle.net_base.specs.declared.plan.table.Table.{Table}
 use Rattle.net_base.specs.declared.plan.table.Table.TheVariants as kind
 use Rattle.net_base.specs.plan.Accepted.{IsEdgePlan, IsService}
 use Rattle.command_text.specs.declared.row_place.RowPlace.{RowPlace}
-use Rattle.command_text.specs.declared.scenario_fault.ScenarioFault.{ScenarioFault}
-use Rattle.command_text.specs.Places.{place_at}
-use Rattle.command_text.specs.Reading.{◌>>=◌}
 use Rattle.scenario_text.specs.declared.document_version.DocumentVersion.TheVariants.{Two}
 use Rattle.scenario_text.specs.declared.group_row.GroupRow.{GroupRow}
 use Rattle.scenario_text.specs.Keys.{is_known_key}
-use Rattle.scenario_text.specs.Values.{a_name, an_address, a_number, needed, defaulted}
+use Rattle.scenario_text.specs.Values.{a_name, an_address, a_number}
 use Rattle.scenario_text.specs.Rows.{edge_in, service_in, group_row_in}
-use Rattle.toml_tables.proofs.KeyLemmas.{put_same, put_keys, told_keys, all_keys}
+use Rattle.toml_tables.proofs.KeyLemmas.{put_same, put_keys, all_keys}
 use Rattle.migrated_text.specs.Groups.{group_name}
 use Rattle.migrated_text.specs.Rows.{number, edge_table, service_table, group_table}
 use Rattle.migration.specs.ReadPlan.{IsQuad}
-use Rattle.migration.proofs.ReadLemmas.{skip, skip_told, needed_is, defaulted_is, name_is, number_is, address_is, known}
+use Rattle.migration.proofs.ReadLemmas.{skip, needed_is, defaulted_is, name_is, number_is, address_is, known}
 
 module _ (edge : EdgePlan) where
   edge_name_at : get_member (codes "name") (edge_table edge) ≡ Some (string edge.name)

@@ -1,15 +1,13 @@
 -- What was read can be said.
-use Rattle.std.proofs.Common.{◌≡◌, ◌<◌, ◌≤◌, ◌==◌, ◌&&◌, ◌++◌, ◌+◌, ◌^◌, ◌∙◌, not, nat_le, ℕ, zero, suc, ℤ, pos, negsuc, Bool, true, false, List, [], ◌∷◌, length, map, slice_get, Option, Some, None, unwrap_or, Result, Ok, Err, IfOk, IfSome, codes, leb-true, append-nil, refl, sym, ap, subst, arith, if◌then◌else◌}
+use Rattle.std.proofs.Common.{◌≡◌, ◌<◌, ◌≤◌, ◌==◌, ◌&&◌, ◌+◌, ◌^◌, not, nat_le, ℕ, zero, suc, ℤ, pos, negsuc, Bool, true, false, List, [], ◌∷◌, length, Option, Some, None, unwrap_or, Result, Ok, Err, IfOk, IfSome, codes, leb-true, refl, sym, subst, arith, if◌then◌else◌}
 use Rattle.std.proofs.NetLemmas.Ipv4.{read_ipv4_sound}
 use Rattle.std.proofs.lemmas.Bool.{and_parts}
 use Rattle.std.proofs.lemmas.Bool.Decides.{nat_tests}
 use Rattle.std.proofs.lemmas.Str.{IsUtf8-from_is_utf8, IsUtf8-nil}
-use Rattle.std.specs.Net.Grammar.{IsDotted}
 use Rattle.std.specs.Str.{is_utf8}
 use Rattle.std.specs.Net.Reader.{read_ipv4}
-use Rattle.toml.specs.Data.{Data, Items, no_items, item, Members, no_members, as_str, as_integer, as_table, get_member}
+use Rattle.toml.specs.Data.{Data, Items, no_items, item, Members, as_integer, get_member}
 use Rattle.net_values.specs.Name.{IsName, is_name_text}
-use Rattle.net_values.specs.declared.addr.Addr.{Addr}
 use Rattle.net_base.specs.declared.plan.place.Place.{Place}
 use Rattle.net_base.specs.declared.plan.edge_plan.EdgePlan.{EdgePlan}
 use Rattle.net_base.specs.declared.plan.service_plan.ServicePlan.{ServicePlan}

@@ -1,23 +1,20 @@
 -- The top of a document is read.
-use Rattle.std.proofs.Common.{◌≡◌, ◌<◌, ◌≤◌, ◌==◌, ◌*◌, ◌&&◌, ◌∙◌, nat_le, ℕ, suc, Bool, true, false, List, [], ◌∷◌, length, map, pos, Option, Some, None, Result, Ok, codes, le-leb, refl, sym, ap, arith}
-use Rattle.toml.specs.Data.{Data, Items, no_items, item, Members, no_members, integer, array, table, get_member}
+use Rattle.std.proofs.Common.{◌≡◌, ◌≤◌, ℕ, suc, true, List, [], ◌∷◌, length, map, Option, Some, None, Ok, codes, le-leb, refl, ap, arith}
+use Rattle.toml.specs.Data.{Data, Items, no_items, Members, no_members, array, table, get_member}
 use Rattle.toml.specs.View.{items_of}
 use Rattle.net_base.specs.declared.plan.Plan.{Plan}
 use Rattle.net_base.specs.declared.plan.table.Table.{Table}
 use Rattle.net_base.specs.declared.plan.table.Table.TheVariants as kind
-use Rattle.command_text.specs.declared.row_place.RowPlace.{RowPlace}
-use Rattle.command_text.specs.declared.scenario_fault.ScenarioFault.{ScenarioFault}
 use Rattle.command_text.specs.Events.{commands_in, most_events}
 use Rattle.command_text.specs.Places.{top_row}
 use Rattle.command_text.specs.Planned.{names_of}
-use Rattle.command_text.specs.Reading.{◌>>=◌}
 use Rattle.scenario_text.specs.declared.document_version.DocumentVersion.TheVariants.{Two}
 use Rattle.scenario_text.specs.Keys.{is_known_key}
-use Rattle.scenario_text.specs.Values.{all_items, an_array, is_string, needed, defaulted}
-use Rattle.scenario_text.specs.Rows.{edge_in, service_in, group_row_in, circuit_row_in, wire_row_in, rows_in, items_length}
-use Rattle.scenario_text.specs.Top.{Arrays, a_version, is_table, few, few_in, groups_at, arrays_at, arrays_in, most_edges, most_services, most_groups, most_circuits, most_wires}
+use Rattle.scenario_text.specs.Values.{all_items, an_array, is_string, defaulted}
+use Rattle.scenario_text.specs.Rows.{items_length}
+use Rattle.scenario_text.specs.Top.{Arrays, a_version, is_table, few, few_in, arrays_at, arrays_in, most_edges, most_services, most_groups, most_circuits, most_wires}
 use Rattle.scenario_text.specs.Document.{plan_in, scenario_in, scenario_with}
-use Rattle.toml_tables.specs.Tables.{put, put_some}
+use Rattle.toml_tables.specs.Tables.{put_some}
 use Rattle.toml_tables.proofs.KeyLemmas.{put_same, put_keys, some_keys, all_keys}
 use Rattle.migrated_text.specs.Groups.{used_groups}
 use Rattle.migrated_text.specs.Rows.{number, edge_table, service_table, group_table, circuit_table, wire_table}

@@ -1,7 +1,6 @@
 -- Circuits and wires are read from their tables.
-use Rattle.std.proofs.Common.{◌≡◌, ◌<◌, ◌≤◌, ◌==◌, ◌&&◌, ◌∙◌, ℕ, zero, suc, Bool, true, false, List, [], ◌∷◌, length, map, Option, Some, None, Result, Ok, codes, refl, sym, ap, arith}
-use Rattle.std.specs.List.{All}
-use Rattle.toml.specs.Data.{Data, Items, Members, no_members, string, array, table, get_member}
+use Rattle.std.proofs.Common.{◌≡◌, ◌≤◌, ℕ, true, List, [], ◌∷◌, map, Some, None, Ok, codes, refl, arith}
+use Rattle.toml.specs.Data.{Items, no_members, string, array, table, get_member}
 use Rattle.toml.specs.View.{items_of}
 use Rattle.net_values.specs.Name.{IsName}
 use Rattle.net_base.specs.declared.plan.Plan.{Plan}
@@ -13,19 +12,17 @@ use Rattle.net_base.specs.declared.plan.table.Table.TheVariants as kind
 use Rattle.net_base.specs.plan.Accepted.{IsOffer, IsWireOf}
 use Rattle.net_base.specs.plan.Faults.{is_told_within}
 use Rattle.command_text.specs.declared.row_place.RowPlace.{RowPlace}
-use Rattle.command_text.specs.Places.{place_at}
-use Rattle.command_text.specs.Reading.{◌>>=◌}
 use Rattle.scenario_text.specs.declared.document_version.DocumentVersion.TheVariants.{Two}
 use Rattle.scenario_text.specs.declared.circuit_row.CircuitRow.{CircuitRow}
 use Rattle.scenario_text.specs.declared.wire_row.WireRow.{WireRow}
 use Rattle.scenario_text.specs.Keys.{is_known_key}
-use Rattle.scenario_text.specs.Values.{a_name, a_number, a_class, a_path, all_items, is_string, names_in, needed, defaulted, optional}
-use Rattle.scenario_text.specs.Rows.{a_table, circuit_row_in, end_or, ends_by_tables, plain_offer, wire_row_in}
+use Rattle.scenario_text.specs.Values.{a_name, a_number, a_class, a_path, all_items, is_string, names_in}
+use Rattle.scenario_text.specs.Rows.{a_table, circuit_row_in, ends_by_tables, wire_row_in}
 use Rattle.toml_tables.proofs.KeyLemmas.{put_same, put_keys, told_keys, all_keys}
 use Rattle.report_text.specs.Words.{edge_name}
 use Rattle.migrated_text.specs.Rows.{number, service_name, class_name, offer_table, circuit_table, ends_table, wire_table}
 use Rattle.migration.specs.ReadPlan.{IsSaid}
-use Rattle.migration.proofs.ReadLemmas.{skip, skip_told, needed_is, defaulted_is, optional_is, optional_none, name_is, number_is, class_is, known}
+use Rattle.migration.proofs.ReadLemmas.{skip, needed_is, defaulted_is, optional_is, name_is, number_is, class_is, known}
 use Rattle.migration.proofs.OfferLemmas.{row_of, told_value, told_at_key, told_read, near_read, far_read}
 
 -- what the row of a circuit says

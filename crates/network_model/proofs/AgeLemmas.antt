@@ -1,5 +1,5 @@
 -- No packet under way is 64 ticks old. A mention of a label in a packet is younger than the rest of the label takes.
-use Rattle.std.proofs.Common.{◌≡◌, ◌<◌, ◌+◌, ◌∙◌, ℕ, Bool, true, false, List, [], ◌∷◌, Option, Some, None, cond, refl, sym, subst, nat_lt, length, arith}
+use Rattle.std.proofs.Common.{◌≡◌, ◌<◌, ◌+◌, ℕ, Bool, true, false, List, [], ◌∷◌, Option, Some, None, cond, refl, sym, subst, nat_lt, length, arith}
 use Rattle.std.proofs.lemmas.Bool.Decides.{nat_tests}
 use Rattle.std.specs.List.{AllByRecursion}
 use Rattle.net_base.specs.declared.plan.Plan.{Plan}
@@ -7,7 +7,6 @@ use Rattle.net_base.specs.declared.plan.circuit_plan.CircuitPlan.{CircuitPlan}
 use Rattle.net_base.specs.declared.plan.places.CircuitId.{CircuitId}
 use Rattle.net_base.specs.declared.plan.places.EdgeId.{EdgeId}
 use Rattle.net_base.specs.declared.plan.places.WireId.{WireId}
-use Rattle.net_base.specs.declared.trace.arrival.Arrival.{Arrival}
 use Rattle.net_base.specs.declared.trace.event.Event.{Event}
 use Rattle.net_base.specs.declared.trace.event.Event.TheVariants.{Tick, Frame, Arrive, Discard, Again, Ping}
 use Rattle.net_base.specs.plan.Places.{circuit_row}
@@ -17,7 +16,7 @@ use Rattle.edge_model.specs.Work.{Work}
 use Rattle.network_model.specs.declared.packet.Packet.{Packet}
 use Rattle.network_model.specs.Absorb.{absorb, idle}
 use Rattle.network_model.specs.Frame.{entering, frame_event, frame_work, next_origin}
-use Rattle.network_model.specs.Packet.{again_event, arrive_event, arriving, discard_event, packet_at, packet_work, repeating}
+use Rattle.network_model.specs.Packet.{again_event, arrive_event, discard_event, packet_at, packet_work, repeating}
 use Rattle.network_model.specs.Ping.{ping_event, ping_work}
 use Rattle.network_model.specs.Run.{state_after}
 use Rattle.network_model.specs.State.{NetworkState, all_older, empty_network, life_ticks, lives_on, older, with_frame, with_older, without_packet}

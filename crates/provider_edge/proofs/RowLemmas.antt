@@ -1,6 +1,5 @@
 -- The rows of the messages about pseudowires, and what an end puts, exit by exit.
 use Rattle.std.proofs.Common.{◌≡◌, ◌==◌, ◌∙◌, ℕ, Bool, true, false, List, [], ◌∷◌, ◌++◌, Option, Some, None, cond, option_map, option_and_then, ap, rules, sym}
-use Rattle.std.proofs.lemmas.Bool.{ne_eqb}
 use Rattle.std.specs.Option.{option_eq}
 use Rattle.net_base.specs.contracts.trace.down.DownPartialEq.TheImpl.{eq-value}
 use Rattle.net_base.specs.declared.outside.link_call.LinkCall.{LinkCall}

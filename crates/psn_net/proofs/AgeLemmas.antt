@@ -1,5 +1,5 @@
 -- A tick passes for the packets under way: one after another of those that it makes too old goes, and is told.
-use Rattle.std.proofs.Common.{◌≡◌, ◌+◌, ◌<◌, ◌≤◌, ◌++◌, ◌∷◌, ◌∙◌, [], ℕ, Bool, true, false, not, List, Option, Some, None, cond, refl, ap, sym, subst, arith, option_map, length, append_assoc, append-nil}
+use Rattle.std.proofs.Common.{◌≡◌, ◌+◌, ◌<◌, ◌++◌, ◌∷◌, ◌∙◌, [], ℕ, Bool, true, false, not, List, Option, Some, None, cond, refl, ap, sym, subst, arith, option_map, length, append_assoc, append-nil}
 use Rattle.std.specs.List.{find}
 use Rattle.net_base.specs.declared.plan.Plan.{Plan}
 use Rattle.net_base.specs.declared.trace.entry.Entry.{Entry}
@@ -8,7 +8,7 @@ use Rattle.network_model.specs.declared.packet.Packet.{Packet}
 use Rattle.network_model.specs.Age.{aged_entries, ageing}
 use Rattle.network_model.specs.State.{NetworkState, all_older, lives_on, older, with_older, without_number, without_packet}
 use Rattle.psn_net.specs.Lists.{HasStepped, NetLists, seen}
-use Rattle.psn_net.specs.Packets.{ArePacketsOf, IsPacketOf, is_aged, number_of, without_aged}
+use Rattle.psn_net.specs.Packets.{ArePacketsOf, is_aged, number_of, without_aged}
 
 -- ---- lists of packets
 

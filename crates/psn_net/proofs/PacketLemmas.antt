@@ -1,15 +1,15 @@
 -- The packets of a map by number, and of a set by when they were sent.
-use Rattle.std.proofs.Common.{◌≡◌, ◌==◌, ◌<◌, ◌≤◌, ◌+◌, ◌-◌, ◌++◌, ◌∷◌, ◌&&◌, ◌∙◌, [], ℕ, Bool, true, false, not, nat_lt, List, Option, Some, None, IfSome, cond, refl, ap, sym, subst, arith, length, option_map, slice_get, inl, inr}
-use Rattle.std.proofs.lemmas.Bool.{cases_Bool, eqb-true}
+use Rattle.std.proofs.Common.{◌≡◌, ◌==◌, ◌<◌, ◌≤◌, ◌+◌, ◌-◌, ◌++◌, ◌∷◌, ◌&&◌, ◌∙◌, [], ℕ, Bool, true, false, not, nat_lt, List, Option, Some, None, IfSome, cond, refl, ap, sym, subst, arith, length, option_map, slice_get}
+use Rattle.std.proofs.lemmas.Bool.{eqb-true}
 use Rattle.std.proofs.lemmas.Bool.Decides.{nat_tests}
 use Rattle.std.specs.BTreeMap.{insert_entry, is_at}
 use Rattle.std.specs.List.{AllByRecursion, find, list_any}
 use Rattle.std.specs.List.Sorted.{IsStrictlySortedBy}
-use Rattle.std.specs.Map.{keys_of, lookup, remove_entry}
+use Rattle.std.specs.Map.{keys_of, remove_entry}
 use Rattle.std.specs.declared.cmp.Ordering.TheVariants.{Less, Equal, Greater}
 use Rattle.std.specs.Ordering.{is_eq, is_gt, nat_cmp, ordering_then}
 use Rattle.network_model.specs.declared.packet.Packet.{Packet}
-use Rattle.network_model.specs.State.{all_older, lives_on, older, without_number}
+use Rattle.network_model.specs.State.{all_older, older, without_number}
 use Rattle.psn_net.specs.declared.carried.Carried.{Carried}
 use Rattle.psn_net.specs.declared.sending.Sending.{Sending}
 use Rattle.psn_net.specs.Packets.{AreKept, IsIndex, UnderWay, is_aged, is_numbered, is_since, kept_under, number_of, packet_of, packets_of, sending_order, with_copy_of, without_aged}

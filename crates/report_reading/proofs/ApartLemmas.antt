@@ -12,7 +12,7 @@ use Rattle.net_base.specs.plan.Accepted.{IsChecked, NonePair}
 use Rattle.net_base.specs.plan.NameFaults.{circuit_names, edge_names, service_names, wire_names}
 use Rattle.net_values.specs.Name.{IsName}
 use Rattle.report_text.specs.Words.{circuit_name, name_or_empty, wire_name}
-use Rattle.event_words.specs.Law.{HasNames}
+use Rattle.event_laws.specs.Law.{HasNames}
 use Rattle.report_reading.specs.Named.{HasNamesApart, IsCircuit, IsWire}
 
 clash : {P : Type 0} → false ≡ true → P

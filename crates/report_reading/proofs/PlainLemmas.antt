@@ -38,7 +38,7 @@ use Rattle.report_text.specs.declared.last_line.Counted.TheVariants as counted
 use Rattle.report_text.specs.Report.{entry_words, is_counted, last_words}
 use Rattle.report_reading.specs.Read.{IsEnding}
 use Rattle.report_text.specs.Words.{arrival_name, cause_name, circuit_name, edge_name, event_words, name_or_empty, state_name, switch_name, wire_end_name, wire_name}
-use Rattle.event_words.specs.Law.{AreNames, HasNames}
+use Rattle.event_laws.specs.Law.{AreNames, HasNames}
 use Rattle.read_lines.specs.Plain.{HasWords, IsPlain, IsPlainLine, is_plain}
 use Rattle.report_reading.proofs.ValueLemmas.{within_number}
 use Rattle.report_reading.specs.Named.{AreOctets, IsArrival, IsCircuit, IsEdge, IsNamed, IsNamedEvent, IsNumber, IsWire}

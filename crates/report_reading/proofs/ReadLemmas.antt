@@ -7,7 +7,7 @@ use Rattle.net_base.specs.plan.Accepted.{IsChecked}
 use Rattle.report_text.specs.declared.ending.Ending.{Ending}
 use Rattle.report_text.specs.declared.ending.Ending.TheVariants.{End, Crowded, TooMuch}
 use Rattle.report_text.specs.Report.{entry_line, entry_lines, entry_words, last_line, last_words, report}
-use Rattle.event_words.specs.Law.{HasNames}
+use Rattle.event_laws.specs.Law.{HasNames}
 use Rattle.read_lines.specs.Plain.{HasWords}
 use Rattle.read_lines.proofs.LineLemmas.{line_same}
 use Rattle.report_reading.specs.Named.{HasNamesApart, IsNamed}

@@ -23,8 +23,8 @@ use Rattle.command_text.specs.Names.{place_in}
 use Rattle.command_text.specs.Words.{decimal_from, switch_of}
 use Rattle.text_pieces.specs.Pieces.{hex}
 use Rattle.report_text.specs.Words.{arrival_name, cause_name, circuit_name, edge_name, state_name, switch_name, wire_end_name, wire_name}
-use Rattle.event_words.specs.Law.{HasNames}
-use Rattle.event_words.proofs.ValueLemmas.{number_said, octets_read, row_said, switch_said}
+use Rattle.event_laws.specs.Law.{HasNames}
+use Rattle.event_laws.proofs.ValueLemmas.{number_said, octets_read, row_said, switch_said}
 use Rattle.report_reading.specs.Named.{AreOctets, HasNamesApart, IsArrival, IsCircuit, IsEdge, IsNumber, IsWire, IsWithin}
 
 some_same : {A : Type 0} {a b : A} → Some a ≡ Some b → a ≡ b

@@ -3,7 +3,7 @@ use Rattle.std.specs.Prelude.{◌≡◌, ℕ, List}
 use Rattle.net_base.specs.declared.plan.Plan.{Plan}
 use Rattle.net_base.specs.declared.trace.entry.Entry.{Entry}
 use Rattle.net_base.specs.plan.Accepted.{IsChecked}
-use Rattle.event_words.specs.Law.{HasNames}
+use Rattle.event_laws.specs.Law.{HasNames}
 use Rattle.report_reading.specs.Read.{ReadReport}
 
 -- entries that name places of one checked plan are the same where the lines of their reports are

@@ -1,11 +1,11 @@
 -- Parts of a text by the first octet that parts it.
-use Rattle.std.proofs.Common.{◌≡◌, ◌<◌, ◌≤◌, ◌∙◌, ◌+◌, ◌-◌, ◌++◌, ◌==◌, ◌&&◌, not, nat_eq, ℕ, zero, suc, Bool, true, false, cond, List, [], ◌∷◌, length, take, drop, slice_get, nat_lt, Option, Some, None, count_by, if◌then◌else◌, refl, sym, ap, arith, inl, inr}
+use Rattle.std.proofs.Common.{◌≡◌, ◌<◌, ◌≤◌, ◌∙◌, ◌+◌, ◌-◌, ◌==◌, not, nat_eq, ℕ, zero, suc, Bool, true, false, cond, List, [], ◌∷◌, length, take, drop, slice_get, nat_lt, Option, Some, None, count_by, if◌then◌else◌, refl, sym, ap, arith, inl, inr}
 use Rattle.std.proofs.lemmas.Bool.{cases_Bool, cases_lt, eqb-true, false_from_ne_true}
 use Rattle.std.proofs.lemmas.Bool.Decides.{Decides-ltb, nat_tests}
 use Rattle.std.proofs.lemmas.List.{drop-drop, take_all}
 use Rattle.std.proofs.lemmas.List.Sums.{prefix_len-le-length}
 use Rattle.std.proofs.lemmas.List.Recursion.{is_count_by}
-use Rattle.std.specs.List.{position, position_or_len, after_first, before_first}
+use Rattle.std.specs.List.{position, position_or_len, after_first}
 use Rattle.script_text.specs.Parts.{before_part, parted, first_part, after_part}
 use Rattle.script_text.specs.Script.{space, bad_word, is_word, spaced, words_of}
 

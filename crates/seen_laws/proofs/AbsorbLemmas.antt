@@ -10,10 +10,10 @@ use Rattle.edge_model.specs.declared.effect.Effect.{Effect}
 use Rattle.edge_model.specs.declared.effect.Effect.TheVariants as effect
 use Rattle.edge_model.specs.State.{EdgeState, Peering, is_there}
 use Rattle.edge_model.specs.Work.{Work}
-use Rattle.flight_model.specs.Meeting.{closes}
-use Rattle.flight_model.proofs.PipeLemmas.{all_apart, all_edges, all_from, all_to, one_edges}
-use Rattle.flight_model.proofs.SettleLemmas.{edge_else, edge_pipes, edge_there}
-use Rattle.flight_model.proofs.WorkLemmas.{closes-append, same_place}
+use Rattle.flight_laws.specs.Meeting.{closes}
+use Rattle.flight_laws.proofs.PipeLemmas.{all_apart, all_edges, all_from, all_to, one_edges}
+use Rattle.flight_laws.proofs.SettleLemmas.{edge_else, edge_pipes, edge_there}
+use Rattle.flight_laws.proofs.WorkLemmas.{closes-append, same_place}
 use Rattle.network_model.specs.Absorb.{absorb, absorb_all, absorb_one, all_entries_of}
 use Rattle.network_model.specs.State.{NetworkState, held, held_by, stands, with_edge, with_packet, with_pipe}
 use Rattle.seen_network.specs.Seen.{Seen, is_up}

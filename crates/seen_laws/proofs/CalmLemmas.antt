@@ -10,9 +10,9 @@ use Rattle.net_base.specs.plan.Roles.{all_below, any_wire, are_joined_by, count_
 use Rattle.network_model.specs.Calm.{carries, has_live_spokes, is_calm, is_full, is_live_spoke, is_quiet, is_settled, meshes}
 use Rattle.network_model.specs.Run.{run}
 use Rattle.network_model.specs.State.{NetworkState}
-use Rattle.flight_model.specs.Laws.{IsRun, network_after}
-use Rattle.flight_model.proofs.AcrossLemmas.{runs_tell_across}
-use Rattle.flight_model.proofs.BoundRunLemmas.{runs_settle}
+use Rattle.flight_laws.specs.Laws.{IsRun, network_after}
+use Rattle.flight_laws.proofs.AcrossLemmas.{runs_tell_across}
+use Rattle.flight_laws.proofs.BoundRunLemmas.{runs_settle}
 use Rattle.seen_network.specs.Calm.{has_seen_spokes, is_seen_calm, is_seen_full, is_seen_mesh, is_seen_quiet, is_seen_settled, is_seen_spoke, is_seen_up}
 use Rattle.seen_network.specs.Seen.{Seen, seen_in}
 use Rattle.seen_laws.specs.Shows.{Shows}

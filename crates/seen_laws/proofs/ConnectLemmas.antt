@@ -1,6 +1,6 @@
 -- What is told of a connection that comes up shows what it makes of the network. Both ends stand before either one is told, so the
 -- first one's work is put into a network in which the other edge has its later sessions already.
-use Rattle.std.proofs.Common.{◌≡◌, ◌<◌, ◌+◌, ◌++◌, ◌&&◌, ◌||◌, ◌∙◌, not, ℕ, Bool, true, false, List, [], ◌∷◌, Option, Some, None, cond, length, map, nat_eq, nat_lt, slice_get, refl, sym, ap, subst, arith, inl, inr}
+use Rattle.std.proofs.Common.{◌≡◌, ◌+◌, ◌++◌, ◌&&◌, ◌||◌, ◌∙◌, not, ℕ, Bool, true, false, List, [], ◌∷◌, Option, Some, None, cond, length, map, nat_eq, nat_lt, slice_get, refl, sym, ap, subst, arith, inl, inr}
 use Rattle.std.proofs.lemmas.Bool.{cases_Bool, eqb-true}
 use Rattle.std.proofs.lemmas.Bool.Decides.{nat_tests}
 use Rattle.std.proofs.lemmas.List.Elements.{All-head, All-tail}
@@ -27,13 +27,13 @@ use Rattle.edge_model.proofs.SessionLemmas.{connects_works}
 use Rattle.network_model.specs.Absorb.{absorb_all, absorb_one, all_entries_of, begin_at, entries_told, idle, taken_all}
 use Rattle.network_model.specs.Connection.{connect_event, connected_work, connecting}
 use Rattle.network_model.specs.State.{NetworkState, held, held_by, stands, with_edge, with_packet, with_pipe}
-use Rattle.flight_model.specs.Ends.{HasTypes, IsOrdered}
-use Rattle.flight_model.specs.Meeting.{closes}
-use Rattle.flight_model.proofs.ConnectLemmas.{ConnectsOn, connected_is, mended_on, none_there}
-use Rattle.flight_model.proofs.PipeLemmas.{all_edges}
-use Rattle.flight_model.proofs.PlanLemmas.{both_in, ends_are, joined_apart, joined_turned}
-use Rattle.flight_model.proofs.SettleLemmas.{apart_turned, edge_else, edge_pipes, edge_there}
-use Rattle.flight_model.proofs.WorkLemmas.{same_place}
+use Rattle.flight_laws.specs.Ends.{HasTypes, IsOrdered}
+use Rattle.flight_laws.specs.Meeting.{closes}
+use Rattle.flight_laws.proofs.ConnectLemmas.{ConnectsOn, connected_is, mended_on, none_there}
+use Rattle.flight_laws.proofs.PipeLemmas.{all_edges}
+use Rattle.flight_laws.proofs.PlanLemmas.{both_in, ends_are, joined_apart, joined_turned}
+use Rattle.flight_laws.proofs.SettleLemmas.{apart_turned, edge_else, edge_pipes, edge_there}
+use Rattle.flight_laws.proofs.WorkLemmas.{same_place}
 use Rattle.seen_network.specs.Seen.{Seen, is_up, with_standing}
 use Rattle.seen_laws.specs.Events.{HasGone, IsShown, NoneAlone, WasIdle}
 use Rattle.seen_laws.specs.Shows.{AreUpTo, IsReady, Shows, copy_of, tolds}

@@ -14,14 +14,14 @@ use Rattle.edge_model.specs.Work.{Work}
 use Rattle.network_model.specs.Absorb.{absorb, begin_at, idle, taken_all}
 use Rattle.network_model.specs.Connection.{deliver_event, delivering, is_drained_pipe, losing, losing_work}
 use Rattle.network_model.specs.State.{NetworkState, held_by, stands, with_pipe}
-use Rattle.flight_model.specs.Ends.{IsOrdered, ends_at}
-use Rattle.flight_model.specs.Facts.{flight}
-use Rattle.flight_model.specs.Meeting.{closes}
-use Rattle.flight_model.specs.Pair.{ArePaired, StandsIf}
-use Rattle.flight_model.proofs.EventLemmas.{stands_apart}
-use Rattle.flight_model.proofs.SaidLemmas.{all_octets}
-use Rattle.flight_model.proofs.SettleLemmas.{apart_turned}
-use Rattle.flight_model.proofs.WorkLemmas.{same_place}
+use Rattle.flight_laws.specs.Ends.{IsOrdered, ends_at}
+use Rattle.flight_laws.specs.Facts.{flight}
+use Rattle.flight_laws.specs.Meeting.{closes}
+use Rattle.flight_laws.specs.Pair.{ArePaired, StandsIf}
+use Rattle.flight_laws.proofs.EventLemmas.{stands_apart}
+use Rattle.flight_laws.proofs.SaidLemmas.{all_octets}
+use Rattle.flight_laws.proofs.SettleLemmas.{apart_turned}
+use Rattle.flight_laws.proofs.WorkLemmas.{same_place}
 use Rattle.seen_network.specs.Seen.{Seen, cut, delivers, with_octets, with_rest}
 use Rattle.seen_laws.specs.Events.{IsShown, NoneAlone, WasIdle}
 use Rattle.seen_laws.specs.Shows.{IsReady, Shows}

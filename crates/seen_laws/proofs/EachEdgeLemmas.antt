@@ -19,10 +19,10 @@ use Rattle.edge_model.specs.declared.effect.Effect.{Effect}
 use Rattle.edge_model.specs.EndPlaces.{ends_here, passes}
 use Rattle.edge_model.specs.Frame.{frame_input, is_own}
 use Rattle.edge_model.specs.Hear.{hears_on, octets_input}
-use Rattle.edge_model.specs.Mend.{is_up_with, mends, wish_by, wish_of}
+use Rattle.edge_model.specs.Mend.{mends}
 use Rattle.edge_model.specs.Packet.{packet_input}
 use Rattle.edge_model.specs.Session.{happens_with_ends}
-use Rattle.edge_model.specs.State.{EdgeState, Peering, empty_edge, has_end, with_addresses, with_bits, with_circuit, with_learned, with_priority, with_renewed, with_wire, without_ends, without_peerings}
+use Rattle.edge_model.specs.State.{EdgeState, Peering, empty_edge, has_end, with_addresses, with_bits, with_circuit, with_priority, with_renewed, with_wire}
 use Rattle.edge_model.specs.Ping.{ping_input}
 use Rattle.edge_model.specs.Tick.{counted, forgetting, tick_input, ticks_sessions}
 use Rattle.edge_model.specs.Wire.{is_own_spoke, priority_input, status_input, turned_wire, wire_input}

@@ -19,7 +19,7 @@ use Rattle.network_model.specs.Connection.{lose_event, losing, losing_work}
 use Rattle.network_model.specs.Ping.{ping_event, ping_work}
 use Rattle.network_model.specs.State.{NetworkState, held_by, stands, with_edge}
 use Rattle.network_model.specs.Wire.{priority_event, status_event, wire_event}
-use Rattle.flight_model.proofs.EventLemmas.{losing_is}
+use Rattle.flight_laws.proofs.EventLemmas.{losing_is}
 use Rattle.seen_network.specs.Seen.{Seen, end_goes, happened, with_octets, with_rest, with_standing}
 use Rattle.seen_laws.specs.Events.{HasGone, IsShown, NoneAlone, WasIdle}
 use Rattle.seen_laws.specs.Shows.{AreUpTo, IsReady, Shows}
@@ -144,7 +144,7 @@ module _ (plan : Plan) (network : NetworkState) (me peer : EdgeId) (old seen : S
     ];
     far = λ a b away. but.stands a b (not_me a b away) ∙ shows.standing a b;
     inward = λ k. elim (cases_Bool (nat_eq k peer.0)) [
-      | inl same ↦ subst (λ (n : ℕ). cond (ended n work.effects) [] (seen.pipes n me.0) ≡ cond (Rattle.flight_model.specs.Meeting.closes n work.effects) [] (network.pipes n me.0)) (sym (eqb-true k peer.0 same))
+      | inl same ↦ subst (λ (n : ℕ). cond (ended n work.effects) [] (seen.pipes n me.0) ≡ cond (Rattle.flight_laws.specs.Meeting.closes n work.effects) [] (network.pipes n me.0)) (sym (eqb-true k peer.0 same))
           (rw (told_gone, closed peer.0 ∙ told_gone) refl)
       | inr other ↦ rw (but.pipes k me.0 (rw other refl), shows.pipes k me.0, closed k) refl
     ];
@@ -161,8 +161,8 @@ module _ (plan : Plan) (network : NetworkState) (me peer : EdgeId) (old seen : S
     counted = subst (AreUpTo network.sent) (sym but.under_way) shows.counted;
   }
     where
-      closed : (k : ℕ) → Rattle.flight_model.specs.Meeting.closes k work.effects ≡ ended k work.effects
-      closed k = ap (Rattle.flight_model.specs.Meeting.closes k) tells.given ∙ (tells.shut k ∙ ap (ended k) (sym tells.given))
+      closed : (k : ℕ) → Rattle.flight_laws.specs.Meeting.closes k work.effects ≡ ended k work.effects
+      closed k = ap (Rattle.flight_laws.specs.Meeting.closes k) tells.given ∙ (tells.shut k ∙ ap (ended k) (sym tells.given))
 
       nothing : (o : Option Peering) → is_there o ≡ false → held_by o ≡ []
       nothing None is = refl

@@ -18,7 +18,6 @@ use Rattle.net_base.specs.plan.Roles.{all_below}
 use Rattle.net_base.specs.trace.Frame.{destination_of, goes_to_group, of_size, pair_at, source_of, tag_protocol, untagged, vlan_id_of}
 use Rattle.net_base.specs.trace.Isolated.{inner_at, inner_by, mtu_by}
 use Rattle.mac_table.specs.Addresses.{has_address}
-use Rattle.edge_model.specs.State.{EdgeState}
 use Rattle.net_base.specs.declared.trace.arrival.Arrival.TheVariants as arrival
 use Rattle.edge_model.specs.Frame.{is_own, port_at, received}
 use Rattle.edge_model.specs.Work.{Work}
@@ -28,18 +27,18 @@ use Rattle.network_model.specs.declared.packet.Packet.{Packet}
 use Rattle.network_model.specs.Frame.{entering, frame_event, frame_work, next_origin}
 use Rattle.network_model.specs.Packet.{again_event, discard_event, packet_at}
 use Rattle.network_model.specs.OnceEach.{LeftWithin, ServedOnce, times_left}
-use Rattle.network_model.specs.Reach.{is_circuit_of, is_circuit_on, is_row_on, is_site}
+use Rattle.network_model.specs.Reach.{is_circuit_on, is_row_on, is_site}
 use Rattle.network_model.specs.Run.{entries_along, run, state_after}
 use Rattle.network_model.specs.State.{NetworkState, empty_network}
 use Rattle.network_model.specs.Step.{brings, step}
 use Rattle.network_model.specs.Window.{Window, all_spare, has_copies, is_copy, is_flooded_frame, is_sourced, is_unlearned, packet_teaches, some_teach, spares, teaches}
-use Rattle.flight_model.specs.Laws.{IsRun, network_after}
-use Rattle.flight_model.proofs.RunLemmas.{run_ordered}
-use Rattle.flight_model.proofs.WorkLemmas.{same_place}
+use Rattle.flight_laws.specs.Laws.{IsRun, network_after}
+use Rattle.flight_laws.proofs.RunLemmas.{run_ordered}
+use Rattle.flight_laws.proofs.WorkLemmas.{same_place}
 use Rattle.network_model.proofs.RunLemmas.{after-append, along-append}
 use Rattle.network_model.proofs.PacketListLemmas.{run_numbered}
-use Rattle.flood_model.proofs.RunLemmas.{runs_serve_once}
-use Rattle.flood_model.proofs.SoFarLemmas.{front_all}
+use Rattle.flood_laws.proofs.RunLemmas.{runs_serve_once}
+use Rattle.flood_laws.proofs.SoFarLemmas.{front_all}
 use Rattle.seen_network.specs.Once.{OnceSeen, SeenServed, SeenWindow, SeenWithin, all_spared, entered_as, is_row_of, is_seen_copy, is_seen_site, is_sourced_by, spares_seen, times_seen}
 use Rattle.seen_network.specs.Seen.{BeginsEvent, Seen, happened_or, is_idle_behind, seen_from, seen_in, told}
 use Rattle.seen_network.proofs.ReadLemmas.{idle_behind}

@@ -24,11 +24,11 @@ use Rattle.network_model.specs.Connection.{restart_event}
 use Rattle.network_model.specs.declared.packet.Packet.{Packet}
 use Rattle.network_model.specs.Frame.{entering, frame_event, frame_work, next_origin}
 use Rattle.network_model.specs.Packet.{again_event, arrive_event, discard_event, packet_at, packet_work}
-use Rattle.network_model.specs.State.{NetworkState, stands, with_copy, with_edge, with_frame, with_older, with_packet, without_number, without_octets_to, without_packet}
+use Rattle.network_model.specs.State.{NetworkState, with_copy, with_edge, with_frame, with_older, without_number, without_octets_to, without_packet}
 use Rattle.network_model.specs.Tick.{tick_at, tick_event, ticks_from}
 use Rattle.network_model.proofs.PacketListLemmas.{AreNumbered}
-use Rattle.flight_model.proofs.SettleLemmas.{edge_else, edge_there}
-use Rattle.flight_model.proofs.WorkLemmas.{same_place}
+use Rattle.flight_laws.proofs.SettleLemmas.{edge_else, edge_there}
+use Rattle.flight_laws.proofs.WorkLemmas.{same_place}
 use Rattle.seen_network.specs.Seen.{Seen, SeenCopy, copy_goes, origin_among, repeats, with_copies, with_on, without_copy, without_edge}
 use Rattle.seen_laws.specs.Events.{HasGone, IsShown, NoneAlone, WasIdle}
 use Rattle.seen_laws.specs.Shows.{AreTold, IsReady, Shows, copy_of, tolds}

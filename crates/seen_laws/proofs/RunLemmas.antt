@@ -17,9 +17,9 @@ use Rattle.network_model.specs.Run.{entries_along, run, state_after}
 use Rattle.network_model.specs.State.{NetworkState, empty_network}
 use Rattle.network_model.specs.Step.{brings, step}
 use Rattle.network_model.proofs.PacketListLemmas.{AreNumbered, step_numbered}
-use Rattle.flight_model.specs.Ends.{HasTypes, IsOrdered}
-use Rattle.flight_model.specs.Laws.{IsRun, network_after}
-use Rattle.flight_model.proofs.RunLemmas.{empty_ordered, step_keeps}
+use Rattle.flight_laws.specs.Ends.{HasTypes, IsOrdered}
+use Rattle.flight_laws.specs.Laws.{IsRun, network_after}
+use Rattle.flight_laws.proofs.RunLemmas.{empty_ordered, step_keeps}
 use Rattle.seen_network.specs.Seen.{BeginsEvent, Seen, happened, happened_or, is_idle_behind, nothing_seen, seen_from, seen_in, told}
 use Rattle.seen_network.proofs.ReadLemmas.{seen_on}
 use Rattle.seen_laws.specs.Events.{HasGone, IsShown, NoneAlone, WasIdle}

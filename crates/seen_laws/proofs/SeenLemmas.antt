@@ -8,8 +8,8 @@ use Rattle.net_base.specs.declared.trace.state_name.StateName.{StateName}
 use Rattle.net_base.specs.declared.trace.state_name.StateName.TheVariants as state
 use Rattle.edge_model.specs.declared.effect.Effect.{Effect}
 use Rattle.edge_model.specs.declared.effect.Effect.TheVariants as effect
-use Rattle.flight_model.specs.Meeting.{said_to}
-use Rattle.flight_model.proofs.WorkLemmas.{said-append, same_end, same_place}
+use Rattle.flight_laws.specs.Meeting.{said_to}
+use Rattle.flight_laws.proofs.WorkLemmas.{said-append, same_end, same_place}
 use Rattle.network_model.specs.Absorb.{absorb_all, absorb_one, all_entries_of, entries_told}
 use Rattle.network_model.specs.State.{NetworkState, with_packet, with_pipe}
 use Rattle.seen_network.specs.Seen.{Seen, SeenCopy, copy_comes, end_goes, is_up, said_towards, session_told, told, with_copies, with_octets, with_rest, with_standing, with_up, without_copy}

@@ -38,10 +38,10 @@ use Rattle.network_model.proofs.AbsorbLemmas.{all_keep}
 use Rattle.network_model.proofs.CalmLemmas.{none_first, none_later}
 use Rattle.network_model.proofs.PacketListLemmas.{all_send, packet_holds, packets_of}
 use Rattle.network_model.proofs.RunLemmas.{after-append}
-use Rattle.flight_model.specs.Laws.{IsRun, network_after}
-use Rattle.flight_model.proofs.RuledRunLemmas.{run_ruled}
-use Rattle.packet_model.proofs.RunLemmas.{runs_keep_packet_rule}
-use Rattle.flood_model.proofs.StillLemmas.{IsUnlearned, step_unlearned}
+use Rattle.flight_laws.specs.Laws.{IsRun, network_after}
+use Rattle.flight_laws.proofs.RuledRunLemmas.{run_ruled}
+use Rattle.packet_laws.proofs.RunLemmas.{runs_keep_packet_rule}
+use Rattle.flood_laws.proofs.StillLemmas.{IsUnlearned, step_unlearned}
 use Rattle.seen_network.specs.Once.{OnceSeen, is_sourced_by}
 use Rattle.seen_laws.specs.Sources.{KnowsSources}
 use Rattle.seen_laws.proofs.OnceLemmas.{frame_seen, front_run, once_seen}

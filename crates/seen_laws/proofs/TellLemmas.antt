@@ -37,8 +37,8 @@ use Rattle.edge_model.specs.Work.{Work, changes, gives, next_answer, puts}
 use Rattle.pw_messages.specs.LinkAnswers.{Answers}
 use Rattle.edge_model.proofs.BridgeLemmas.{ForgetsOnly, forgetting_only, withdrawing_only}
 use Rattle.edge_model.proofs.WalkLemmas.{HearSteps, MendSteps}
-use Rattle.flight_model.specs.Meeting.{closes}
-use Rattle.flight_model.proofs.WorkLemmas.{closes-append}
+use Rattle.flight_laws.specs.Meeting.{closes}
+use Rattle.flight_laws.proofs.WorkLemmas.{closes-append}
 use Rattle.network_model.specs.State.{held_by}
 use Rattle.seen_network.specs.Seen.{is_up}
 use Rattle.seen_laws.specs.Work.{Tells, ended, is_ended, up_after}

@@ -30,13 +30,13 @@ use Rattle.edge_model.proofs.PlaceLemmas.{IsEndOf, places_are}
 use Rattle.edge_model.proofs.SyncLemmas.{cause_same, forwards_as_told}
 use Rattle.network_model.specs.Calm.{carries, inner_stitched, is_drained, is_quiet, last_forwards}
 use Rattle.network_model.specs.State.{NetworkState, stands}
-use Rattle.flight_model.specs.Across.{PassesOn, TellsAcross}
-use Rattle.flight_model.specs.Binding.{advertised_by, is_idle}
-use Rattle.flight_model.specs.Laws.{AreSettled}
-use Rattle.flight_model.proofs.PlaceLemmas.{IsFound, NamedEnd, end_of, find_holds}
-use Rattle.packet_model.proofs.PackLemmas.{wire_checked}
-use Rattle.flood_model.proofs.FarLemmas.{are_settled, far_advertises, joined_by}
-use Rattle.flight_model.proofs.WorkLemmas.{same_place}
+use Rattle.flight_laws.specs.Across.{PassesOn, TellsAcross}
+use Rattle.flight_laws.specs.Binding.{advertised_by, is_idle}
+use Rattle.flight_laws.specs.Laws.{AreSettled}
+use Rattle.flight_laws.proofs.PlaceLemmas.{IsFound, NamedEnd, end_of, find_holds}
+use Rattle.packet_laws.proofs.PackLemmas.{wire_checked}
+use Rattle.flood_laws.proofs.FarLemmas.{are_settled, far_advertises, joined_by}
+use Rattle.flight_laws.proofs.WorkLemmas.{same_place}
 use Rattle.seen_network.specs.Calm.{is_seen_up, last_up}
 use Rattle.seen_network.specs.Seen.{Seen, is_up}
 use Rattle.seen_laws.proofs.MateLemmas.{GoesBack, Mates, OfEach, OfFirst, OfLast, from_first, from_last, mates_of, of_joined}

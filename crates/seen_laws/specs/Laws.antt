@@ -3,7 +3,7 @@ use Rattle.std.specs.Prelude.{◌≡◌, List}
 use Rattle.net_base.specs.declared.plan.Plan.{Plan}
 use Rattle.net_base.specs.declared.plan.places.ServiceId.{ServiceId}
 use Rattle.net_base.specs.declared.trace.event.Event.{Event}
-use Rattle.flight_model.specs.Laws.{IsRun, network_after}
+use Rattle.flight_laws.specs.Laws.{IsRun, network_after}
 use Rattle.network_model.specs.Calm.{is_calm}
 use Rattle.network_model.specs.Run.{run}
 use Rattle.seen_network.specs.Calm.{is_seen_calm}

@@ -10,7 +10,7 @@ use Rattle.net_base.specs.declared.trace.entry.Entry.TheVariants.{Did, Idle}
 use Rattle.net_base.specs.plan.Places.{circuit_row}
 use Rattle.edge_model.specs.State.{is_there}
 use Rattle.edge_model.specs.Work.{Work}
-use Rattle.flight_model.specs.Meeting.{closes}
+use Rattle.flight_laws.specs.Meeting.{closes}
 use Rattle.network_model.specs.declared.packet.Packet.{Packet}
 use Rattle.network_model.specs.State.{NetworkState, held, held_by, stands, with_edge}
 use Rattle.seen_network.specs.Seen.{Seen, SeenCopy, is_up, told}

@@ -1,4 +1,4 @@
--- The network of edges in independent mode, as lists and as its state.
+-- The network of edges in independent mode (RFC 6870 section 4), as lists and as its state.
 use Rattle.std.specs.Prelude.{◌≡◌, ◌++◌, ℕ, List, length}
 use Rattle.net_base.specs.declared.plan.Plan.{Plan}
 use Rattle.switchover_model.specs.declared.switch_entry.SwitchEntry.{SwitchEntry}

@@ -1,4 +1,4 @@
--- The edges of a plan as contracts see them: lists by the plan's places, and by `seen_row` a map.
+-- The edges of a plan in independent mode (RFC 6870 section 4) as contracts see them: lists by the plan's places, and by `seen_row` a map.
 use Rattle.std.specs.Prelude.{◌≡◌, ◌<◌, ℕ, List, [], length, slice_index_or, Result, Ok, Err}
 use Rattle.independent_model.specs.declared.indep_stop.IndepStop.{IndepStop}
 use Rattle.independent_model.specs.declared.indep_stop.IndepStop.TheVariants as stop

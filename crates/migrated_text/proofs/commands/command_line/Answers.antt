@@ -1,6 +1,6 @@
 use Rattle.std.proofs.Common.{◌≡◌, [], ◌∷◌, List, ℕ, codes, subst, sym, rules}
 use Rattle.std.specs.Str.{IsUtf8}
-use Rattle.event_words.specs.Law.{joined_words}
+use Rattle.event_laws.specs.Law.{joined_words}
 use Rattle.migrated_text.specs.Sayable.{IsSayable}
 use Rattle.migrated_text.proofs.TextLemmas.{play_is_text}
 use Rattle.migrated_text.proofs.commands.command_line.Goals as goal

@@ -1,5 +1,5 @@
 -- `with_read` picks the reads of the new log.
-use Rattle.std.proofs.Common.{List, [], ◌∷◌, ◌++◌, true, refl}
+use Rattle.std.proofs.Common.{List, [], ◌∷◌, ◌++◌, refl}
 use seplogic.Ra.Ura.{Ura}
 use mir.Syntax.{Fn}
 use mir.Val.{Val, vptr}

@@ -1,5 +1,0 @@
-use Rattle.address_model.proofs.laws.runs_reach_known.Goals as goal
-use Rattle.address_model.proofs.KnownLemmas.{runs_reach_known}
-
-pub returns : goal.returns
-returns c = runs_reach_known

@@ -1,5 +1,0 @@
-use Rattle.flight_model.proofs.laws.runs_follow_table.Goals as goal
-use Rattle.flight_model.proofs.RunLemmas as run
-
-pub returns : goal.returns
-returns c = run.runs_follow_table

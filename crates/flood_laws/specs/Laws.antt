@@ -1,0 +1,41 @@
+-- What holds of flooded frames, and of the wires that carry them, in every run of a checked plan.
+use Rattle.std.specs.Prelude.{◌≡◌, true, List, Some}
+use Rattle.net_base.specs.declared.plan.Plan.{Plan}
+use Rattle.net_base.specs.declared.plan.places.EdgeId.{EdgeId}
+use Rattle.net_base.specs.declared.plan.places.ServiceId.{ServiceId}
+use Rattle.net_base.specs.declared.plan.places.WireId.{WireId}
+use Rattle.net_base.specs.declared.plan.wire_plan.WirePlan.{WirePlan}
+use Rattle.net_base.specs.declared.trace.event.Event.{Event}
+use Rattle.net_base.specs.plan.Paths.{is_first}
+use Rattle.net_base.specs.plan.Places.{wire_row}
+use Rattle.net_base.specs.plan.Roles.{is_wire_of}
+use Rattle.edge_model.specs.Ends.{end_forwards}
+use Rattle.network_model.specs.Calm.{carries, is_calm, is_quiet}
+use Rattle.network_model.specs.State.{NetworkState}
+use Rattle.flight_laws.specs.Laws.{IsRun, network_after}
+use Rattle.network_model.specs.OnceEach.{OnceEach}
+use Rattle.flood_laws.specs.Chain.{TellsInChains}
+use Rattle.flood_laws.specs.Shares.{SharesEach}
+
+-- twelve segments at most: a spoke, a mesh wire and a spoke, of four segments each
+abbrev pub RunsServeOnce : Type 0
+RunsServeOnce = (plan : Plan) (events : List Event) → IsRun plan events → OnceEach 12 plan events
+
+abbrev pub RunsShareSites : Type 0
+RunsShareSites = (plan : Plan) (events : List Event) → IsRun plan events → SharesEach plan events
+
+-- in a service that is quiet, each wire
+abbrev pub TellsWhereQuiet : Plan → NetworkState → Type 0
+TellsWhereQuiet plan network = (service : ServiceId) → is_quiet plan network service ≡ true → (wire : WireId) (row : WirePlan) → wire_row plan wire ≡ Some row → is_wire_of service row ≡ true → TellsInChains plan network wire row
+
+abbrev pub RunsTellInChains : Type 0
+RunsTellInChains = (plan : Plan) (events : List Event) → IsRun plan events → TellsWhereQuiet plan (network_after plan events)
+
+-- Where a service is calm, a wire of it that forwards at the first edge of its path carries frames: it forwards at the last edge too,
+-- and each switching point between them advertises on both sides and is bound on both.
+abbrev pub IsWholeWhereCalm : Plan → NetworkState → Type 0
+IsWholeWhereCalm plan network = (service : ServiceId) → is_calm plan network service ≡ true → (wire : WireId) (row : WirePlan) → wire_row plan wire ≡ Some row → is_wire_of service row ≡ true
+    → (near : EdgeId) → is_first near.0 row.path ≡ true → end_forwards plan (network.edges near.0) wire ≡ true → carries plan network wire.0 row ≡ true
+
+abbrev pub RunsKeepWiresWhole : Type 0
+RunsKeepWiresWhole = (plan : Plan) (events : List Event) → IsRun plan events → IsWholeWhereCalm plan (network_after plan events)

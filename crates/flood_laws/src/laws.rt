@@ -1,0 +1,35 @@
+//! What holds of flooded frames, and of the wires that carry them, in every run of the network.
+ghost use Rattle.flood_laws.specs.Laws.{RunsKeepWiresWhole, RunsServeOnce, RunsShareSites, RunsTellInChains};
+
+/// A flooded frame that enters a calm service, and of which no copy is lost or repeated, leaves at each other site of the service
+/// exactly once, within twelve segments, however its copies and other frames cross: over the full mesh of the core edges and the
+/// spokes that hang on them (RFC 4762 sections 4.4 and 10), each stitched together at up to three switching points (RFC 6073
+/// section 4).
+pub fn runs_serve_once()
+    ensures { RunsServeOnce }
+{}
+
+/// At each moment of such a window each other site of the service either was served, exactly once, and is ahead of no copy under
+/// way, or was not served yet and is ahead of exactly one; the sender is neither. Between switching points a copy counts as one that
+/// arrives at the terminal edge to which it travels. Each copy has passed at most four segments for each wire of its way before the
+/// one that it is on, and on that one a segment more than switching points (RFC 6073 section 4).
+pub fn runs_share_sites()
+    ensures { RunsShareSites }
+{}
+
+/// Where a service is quiet, whatever an edge advertises along a wire of it has come from the terminal edge behind it, edge by edge:
+/// a terminal edge tells of itself, and a switching point what its other neighbour advertises to it, the status too, behind its own
+/// point. Where a neighbour advertises to a switching point at which the wire is on and the session with the next edge is up, the
+/// switching point tells it on, unless that edge has released the label unasked or no label is left (RFC 6073 sections 4 and 7).
+#[tactic(auto, using(crate::proofs::ChainLemmas::runs_tell_in_chains))]
+pub fn runs_tell_in_chains()
+    ensures { RunsTellInChains }
+{}
+
+/// Where a service is calm, a wire of it that forwards at the first edge of its path carries frames: it forwards at the last edge
+/// too, and each switching point between them advertises on both sides and is bound on both (RFC 4762 section 10, RFC 6073 section
+/// 4).
+#[tactic(auto, using(crate::proofs::WholeLemmas::runs_keep_wires_whole))]
+pub fn runs_keep_wires_whole()
+    ensures { RunsKeepWiresWhole }
+{}

@@ -1,5 +1,0 @@
-use Rattle.flood_model.proofs.laws.runs_serve_once.Goals as goal
-use Rattle.flood_model.proofs.RunLemmas.{runs_serve_once}
-
-pub returns : goal.returns
-returns c = runs_serve_once

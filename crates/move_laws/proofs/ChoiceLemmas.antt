@@ -1,0 +1,414 @@
+-- A spoke edge that has chosen another one of its spokes says there that all addresses are to be forgotten.
+use Rattle.pw_messages.specs.Content.{mac_withdrawal, status_notification}
+use Rattle.edge_model.proofs.MendLemmas.{mends_takes}
+use Rattle.edge_model.proofs.SessionLemmas.{any, says_works}
+use Rattle.edge_model.specs.EndPlaces.{end_places}
+use Rattle.edge_model.specs.Mend.{and_says, cause_number, each_end, forgets_down, forgets_downs, forgetting_wire, is_new_choice, is_up_with, mends, mends_choice, mends_end, mends_status, mends_status_of, telling_status, tells_down, tells_downs, tells_new_status, tells_over, then_changes}
+use Rattle.edge_model.specs.Put.{Spoken, stays}
+use Rattle.edge_model.specs.Role.{down_at, is_chosen, status_to_tell}
+use Rattle.edge_model.specs.Session.{says}
+use Rattle.edge_model.specs.Spokes.{choice, choosing}
+use Rattle.edge_model.specs.State.{Peering, end_at, with_addresses, with_chosen, with_end, with_told_down}
+use Rattle.edge_model.specs.Withdraw.{tells_piece, tells_piece_by}
+use Rattle.edge_model.specs.Work.{Work, changes, gives}
+use Rattle.edge_model.specs.declared.effect.Effect.TheVariants.{Wire}
+use Rattle.edge_model.specs.declared.end_place.EndPlace.{EndPlace}
+use Rattle.flight_laws.proofs.MendingLemmas.{KeptByRows, choice_keeps, chooses_keep, downs_keep, each_keeps, end_keeps, forgets_keep, status_keeps}
+use Rattle.flight_laws.proofs.NameLemmas.{end_fact}
+use Rattle.flight_laws.proofs.OfferLemmas.{IsOfWires, clearance_is}
+use Rattle.flight_laws.proofs.PieceLemmas.{none_are_piece}
+use Rattle.flight_laws.proofs.PlaceLemmas.{IsEndOf, places_are}
+use Rattle.flight_laws.proofs.RowLemmas.{clash}
+use Rattle.flight_laws.proofs.SaidLemmas.{all_joined, said-append}
+use Rattle.flight_laws.proofs.SayLemmas.{says_none}
+use Rattle.flight_laws.proofs.SpokenLemmas.{says_spoken}
+use Rattle.flight_laws.proofs.SteadyLemmas.{advertised_up, end_small}
+use Rattle.flight_laws.proofs.WorkLemmas.{same_end, same_place}
+use Rattle.flight_laws.specs.Bound.{some_message}
+use Rattle.flight_laws.specs.Ends.{HasTypes, ends_at}
+use Rattle.flight_laws.specs.Facts.{flight}
+use Rattle.flight_laws.specs.Meeting.{said_to}
+use Rattle.flight_laws.specs.Messages.{octets_of_all}
+use Rattle.flight_laws.specs.Sound.{point_limit}
+use Rattle.move_laws.specs.Moves.{has_short_paths}
+use Rattle.ldp_grammar.specs.declared.message.Message.{Message}
+use Rattle.move_laws.proofs.ForwardLemmas.{IsChoice, advertises_it, all_get, choice_is}
+use Rattle.move_laws.proofs.PendingLemmas.{tells_on}
+use Rattle.move_laws.proofs.SpeakLemmas.{Speaks, said_more, speaks_first}
+use Rattle.move_laws.proofs.StayLemmas.{rows_speak}
+use Rattle.move_laws.proofs.WireLemmas.{IsSpokeLink, spoke_link}
+use Rattle.move_laws.specs.Clearing.{clears}
+use Rattle.move_laws.specs.Healing.{HasWays, IsSpokeTo, Stays, TellsChoice, WillTell, is_advertising}
+use Rattle.net_base.specs.declared.plan.Plan.{Plan}
+use Rattle.net_base.specs.declared.plan.places.EdgeId.{EdgeId}
+use Rattle.net_base.specs.declared.plan.places.ServiceId.{ServiceId}
+use Rattle.net_base.specs.declared.plan.places.WireId.{WireId}
+use Rattle.net_base.specs.declared.plan.wire_plan.WirePlan.{WirePlan}
+use Rattle.net_base.specs.declared.trace.down.Down.{Down}
+use Rattle.net_values.specs.declared.addr.Addr.{Addr}
+use Rattle.net_values.specs.declared.mac.Mac.{Mac}
+use Rattle.net_base.specs.plan.Accepted.{IsChecked}
+use Rattle.net_base.specs.plan.Paths.{joins}
+use Rattle.net_base.specs.plan.Places.{wire_row}
+use Rattle.net_base.specs.plan.Roles.{are_joined_by}
+use Rattle.network_model.specs.Absorb.{taken_all}
+use Rattle.network_model.specs.State.{NetworkState, stands}
+use Rattle.pw_signalling.proofs.LawLemmas.{forwards_where_both_agree}
+use Rattle.pw_signalling.specs.End.{Advertised, EndState, Idle, LocalPart, Withdrawing}
+use Rattle.pw_signalling.specs.Rows.{tell_part, telling}
+use Rattle.pw_signalling.specs.declared.end_role.EndRole.TheVariants as role
+use Rattle.pw_signalling.specs.declared.told.Told.{Told}
+use Rattle.pw_tlvs.specs.declared.pw_status.PwStatus.{PwStatus}
+use Rattle.session_core.specs.declared.peers.Peers.{Peers}
+use Rattle.std.proofs.Common.{Bool, List, None, Option, Some, [], ap, append_assoc, arith, cond, false, inl, inr, not, refl, slice_get, subst, suc, sym, true, zero, ℕ, ◌&&◌, ◌++◌, ◌==◌, ◌||◌, ◌∙◌, ◌∷◌, ◌≡◌, ◌⊎◌}
+use Rattle.std.proofs.lemmas.Bool.Decides.{nat_tests}
+use Rattle.std.proofs.lemmas.Bool.{cases_Bool, eqb-true}
+use Rattle.std.specs.List.{AllByRecursion}
+
+-- ---- what telling leaves
+
+-- the choice is as it was, and what advertised goes on to
+pub record KeepsChoice (old new : Work) : Type 0 where
+  pub me : new.edge.me ≡ old.edge.me
+  pub chosen : new.edge.chosen ≡ old.edge.chosen
+  pub told : (wire k : ℕ) → is_advertising (old.edge.ends wire k).local ≡ true → is_advertising (new.edge.ends wire k).local ≡ true
+
+choice_same : (work : Work) → KeepsChoice work work
+choice_same work = record { me = refl; chosen = refl; told = λ wire k is. is }
+
+choice_then : (a b c : Work) → KeepsChoice a b → KeepsChoice b c → KeepsChoice a c
+choice_then a b c one next = record { me = next.me ∙ one.me; chosen = next.chosen ∙ one.chosen; told = λ wire k is. next.told wire k (one.told wire k is) }
+
+pub says_choice : (to : EdgeId) (message : ℕ → Message) (work : Work) → KeepsChoice work (says taken_all to message work).work
+says_choice to message work = record {
+  me = (says_works taken_all any to message work refl).edge.me;
+  chosen = (says_works taken_all any to message work refl).edge.chosen;
+  told = λ wire k is. by_end (work.edge.peering to.0) refl wire k is;
+}
+  where
+    by_end : (near : Option Peering) → work.edge.peering to.0 ≡ near → (wire k : ℕ) → is_advertising (work.edge.ends wire k).local ≡ true → is_advertising ((says taken_all to message work).work.edge.ends wire k).local ≡ true
+    by_end None at wire k is = ap (λ (w : Work). is_advertising (w.edge.ends wire k).local) (says_none to message work at) ∙ is
+    by_end (Some kept) at wire k is = ap (λ (f : ℕ → ℕ → EndState). is_advertising (f wire k).local) (says_spoken to kept message work at).ends ∙ is
+
+telling_choice : (place : EndPlace) (status : PwStatus) (work : Work) → KeepsChoice work (changes (telling_status place status) work)
+unfolding changes with_end
+telling_choice place status work = record {
+  me = refl;
+  chosen = refl;
+  told = λ wire k is. end_fact (λ w p e. w ≡ wire → p ≡ k → is_advertising e.local ≡ true) place (telling status (end_at work.edge place)) work.edge wire k
+      (λ same also. tells (end_at work.edge place).local (subst (λ (p : ℕ). is_advertising (work.edge.ends place.wire.0 p).local ≡ true) (sym also) (subst (λ (w : ℕ). is_advertising (work.edge.ends w k).local ≡ true) (sym same) is)))
+      (λ same also. is) refl refl;
+}
+  where
+    tells : (local : LocalPart) → is_advertising local ≡ true → is_advertising (tell_part status local) ≡ true
+    tells (Idle declined) is = clash is
+    tells (Advertised label content) is = refl
+    tells (Withdrawing label) is = clash is
+
+status_choice : (plan : Plan) (place : EndPlace) (work : Work) → KeepsChoice work (mends_status plan taken_all place work).work
+status_choice plan place work = by_local (end_at work.edge place).local where
+  by_status : (content : Told) (status : PwStatus) (last : Option PwStatus) → KeepsChoice work (tells_over taken_all place content status last work).work
+  by_status content status None = choice_same work
+  by_status content status (Some last) = by (last.0 == status.0) where
+    by : (b : Bool) → KeepsChoice work (cond b (stays work) (tells_new_status taken_all place content status work)).work
+    by true = choice_same work
+    by false = choice_then work (changes (telling_status place status) work) (tells_new_status taken_all place content status work).work (telling_choice place status work)
+        (says_choice place.peer (status_notification place.pw_id status content) (changes (telling_status place status) work))
+
+  by_local : (local : LocalPart) → KeepsChoice work (mends_status_of plan taken_all place local work).work
+  by_local (Idle declined) = choice_same work
+  by_local (Advertised label content) = by_status content (status_to_tell plan work.edge place) content.status
+  by_local (Withdrawing label) = choice_same work
+
+pub piece_choice : (place : EndPlace) (addresses : List Mac) (work : Work) → KeepsChoice work (tells_piece taken_all place addresses work).work
+piece_choice place addresses work = by_local (end_at work.edge place).local where
+  by_local : (local : LocalPart) → KeepsChoice work (tells_piece_by taken_all place addresses local work).work
+  by_local (Idle declined) = choice_same work
+  by_local (Advertised label content) = says_choice place.peer (mac_withdrawal place.pw_id addresses content) work
+  by_local (Withdrawing label) = choice_same work
+
+mends_choice_keeps : (plan : Plan) (before : ℕ → Option WireId) (place : EndPlace) (work : Work) → KeepsChoice work (mends_choice plan taken_all before place work).work
+mends_choice_keeps plan before place work = by (is_new_choice before work.edge.chosen place.wire (wire_row plan place.wire)) where
+  by : (b : Bool) → KeepsChoice work (cond b (tells_piece taken_all place [] work) (stays work)).work
+  by true = piece_choice place [] work
+  by false = choice_same work
+
+each_choice : (mend : EndPlace → Work → Spoken) → ((place : EndPlace) (work : Work) → KeepsChoice work (mend place work).work) → (places : List EndPlace) (m : Spoken) → KeepsChoice m.work (each_end mend places m).work
+each_choice mend one [] m = choice_same m.work
+each_choice mend one (place ∷ places) m = choice_then m.work (mend place m.work).work (each_end mend places (and_says m (mend place))).work (one place m.work) (each_choice mend one places (and_says m (mend place)))
+
+forgetting_choice : (plan : Plan) (wire : WireId) (row : Option WirePlan) (work : Work) → KeepsChoice work (changes (forgetting_wire plan wire row) work)
+unfolding changes with_addresses
+forgetting_choice plan wire None work = choice_same work
+forgetting_choice plan wire (Some row) work = record { me = refl; chosen = refl; told = λ wire k is. is }
+
+forgets_choice : (plan : Plan) (places : List EndPlace) (work : Work) → KeepsChoice work (forgets_downs plan places work)
+forgets_choice plan [] work = choice_same work
+forgets_choice plan (place ∷ places) work =
+    choice_then work (cond place.terminal (forgets_down plan place (down_at plan work.edge place) work) work) _ (by place.terminal)
+    (forgets_choice plan places (cond place.terminal (forgets_down plan place (down_at plan work.edge place) work) work))
+  where
+    by_down : (down : Option Down) → KeepsChoice work (forgets_down plan place down work)
+    by_down None = choice_same work
+    by_down (Some why) = forgetting_choice plan place.wire (wire_row plan place.wire) work
+
+    by : (b : Bool) → KeepsChoice work (cond b (forgets_down plan place (down_at plan work.edge place) work) work)
+    by true = by_down (down_at plan work.edge place)
+    by false = choice_same work
+
+telling_down_choice : (place : EndPlace) (down : Option Down) (work : Work) → KeepsChoice work (gives (Wire place.wire down) (changes (with_told_down place.wire down) work))
+unfolding changes gives with_told_down
+telling_down_choice place down work = record { me = refl; chosen = refl; told = λ wire k is. is }
+
+downs_choice : (plan : Plan) (places : List EndPlace) (work : Work) → KeepsChoice work (tells_downs plan places work)
+downs_choice plan [] work = choice_same work
+downs_choice plan (place ∷ places) work =
+    choice_then work (cond place.terminal (tells_down place (down_at plan work.edge place) work) work) _ (by place.terminal)
+    (downs_choice plan places (cond place.terminal (tells_down place (down_at plan work.edge place) work) work))
+  where
+    by_cause : (down : Option Down) (same : Bool) → KeepsChoice work (cond same work (gives (Wire place.wire down) (changes (with_told_down place.wire down) work)))
+    by_cause down true = choice_same work
+    by_cause down false = telling_down_choice place down work
+
+    by : (b : Bool) → KeepsChoice work (cond b (tells_down place (down_at plan work.edge place) work) work)
+    by true = by_cause (down_at plan work.edge place) (cause_number (work.edge.told_down place.wire.0) == cause_number (down_at plan work.edge place))
+    by false = choice_same work
+
+choosing_told : (plan : Plan) (work : Work) (wire k : ℕ) → is_advertising (work.edge.ends wire k).local ≡ true → is_advertising ((changes (choosing plan) work).edge.ends wire k).local ≡ true
+unfolding changes with_chosen
+choosing_told plan work wire k is = is
+
+choosing_chosen : (plan : Plan) (work : Work) (service : ServiceId) → (changes (choosing plan) work).edge.chosen service.0 ≡ choice plan work.edge service
+unfolding changes with_chosen
+choosing_chosen plan work service = refl
+
+-- ---- a withdrawal is said
+
+module _ (plan : Plan) (service : ServiceId) (network : NetworkState) (me : EdgeId) (peer : ℕ) (checked : IsChecked plan) (types : HasTypes plan) (ways : HasWays plan service network me) where
+  abbrev At : Work → Type 0
+  At work = Speaks plan service network me peer work work
+
+  pub again : (base work : Work) → Speaks plan service network me peer base work → At work
+  again base work speaks = record {
+    place = speaks.place;
+    sound = speaks.sound;
+    speaks = speaks.speaks;
+    apart = speaks.apart;
+    mesh = speaks.mesh;
+    more = λ place joined there. record { more = []; is = sym (same_end (said_to place work.effects)); said = tt };
+  }
+
+  -- where a session is up, it stood from the first
+  stood : (base work : Work) → Speaks plan service network me peer base work → (place : ℕ) → are_joined_by plan service me.0 place ≡ true → is_up_with (work.edge.peering place) ≡ true → stands network me.0 place ≡ true
+  stood base work speaks place joined up = by (stands network me.0 place) refl where
+    by : (b : Bool) → stands network me.0 place ≡ b → b ≡ true
+    by true is = refl
+    by false is = clash (sym (ap is_up_with (speaks.apart place joined is)) ∙ up)
+
+  cleared_by : (pw_id : ℕ) (content : Told) (id : ℕ) → clears pw_id (mac_withdrawal pw_id [] content id) ≡ true
+  cleared_by pw_id content id = rw (same_place pw_id) refl
+
+  last_among : (test : Message → Bool) (xs : List Message) (m : Message) → test m ≡ true → some_message test (xs ++ m ∷ []) ≡ true
+  last_among test [] m is = rw is refl
+  last_among test (x ∷ xs) m is = or_later (test x) (some_message test (xs ++ m ∷ [])) (last_among test xs m is)
+    where
+      or_later : (a b : Bool) → b ≡ true → a || b ≡ true
+      or_later true b is = refl
+      or_later false b is = is
+
+  said_with : (router : Addr) (front said : List ℕ) (ms ns : List Message) → front ≡ octets_of_all router ms → said ≡ octets_of_all router ns → front ++ said ≡ octets_of_all router (ms ++ ns)
+  said_with router front said ms ns one other = rw (one, other) (sym (all_joined router ms ns))
+
+  joined_all : (xs ys : List Message) (m : Message) → (xs ++ ys) ++ m ∷ [] ≡ xs ++ (ys ++ m ∷ [])
+  joined_all xs ys m = append_assoc xs ys (m ∷ [])
+
+  -- by an end that advertises
+  pub piece_tells : (base : Work) (place : EndPlace) (label : ℕ) (content : Told) (work : Work) → IsEndOf plan me place → are_joined_by plan service me.0 place.peer.0 ≡ true → (end_at work.edge place).local ≡ Advertised label content
+      → Speaks plan service network me peer base work → WillTell plan service network me.0 place.peer.0 place.pw_id (says taken_all place.peer (mac_withdrawal place.pw_id [] content) work).work
+  piece_tells base place label content work end joined at speaks =
+      let can = advertised_up (point_limit plan me.0 place.wire.0) (is_up_with (work.edge.peering place.peer.0)) (end_at work.edge place) label content (speaks.sound.ends place.wire.0 place.peer.0) at in
+      let there : stands network me.0 place.peer.0 ≡ true = stood base work speaks place.peer.0 joined can.0 in
+      let mildly = speaks.speaks place.peer.0 joined there in
+      let way = ways place.peer.0 joined there in
+      let own : Peers = ends_at plan me.0 place.peer.0 in
+      let message : ℕ → Message = mac_withdrawal place.pw_id [] content in
+      let m : Message = message mildly.kept.next_id in
+      let spoken = says_spoken place.peer mildly.kept message work mildly.at in
+      let of_wires : IsOfWires message = clearance_is place.pw_id label [] content (end_small plan me place checked end) none_are_piece can.1 in
+      let said = spoken.said ∙ said_more plan service network me peer own [] (said_to place.peer.0 work.effects) mildly.kept message mildly.messages mildly.peers mildly.is in
+      record {
+        joined = joined;
+        there = there;
+        cleared = record {
+          messages = way.messages ++ (mildly.messages ++ m ∷ []);
+          is = said_with own.me (flight network me.0 place.peer.0) _ way.messages (mildly.messages ++ m ∷ []) way.is said;
+          said = said-append own way.messages (mildly.messages ++ m ∷ []) way.said (said-append own mildly.messages (m ∷ []) mildly.said (of_wires.said own mildly.kept.next_id mildly.numbered, tt));
+          among = subst (λ (ms : List Message). some_message (clears place.pw_id) ms ≡ true) (joined_all way.messages mildly.messages m)
+              (last_among (clears place.pw_id) (way.messages ++ mildly.messages) m (cleared_by place.pw_id content mildly.kept.next_id));
+        };
+      }
+
+  module _ (short : has_short_paths plan service ≡ true) where
+    speaks_rows : (base : Work) → KeptByRows plan me (Speaks plan service network me peer base)
+    speaks_rows base = rows_speak plan service me checked types short network peer base
+
+    -- what was told before all other ends is told after them
+    grown : (before : ℕ → Option WireId) (n place : ℕ) (places : List EndPlace) → AllByRecursion (IsEndOf plan me) places → (m : Spoken) → At m.work → WillTell plan service network me.0 place n m.work
+        → WillTell plan service network me.0 place n (each_end (mends_choice plan taken_all before) places m).work
+    grown before n place places all m speaks tells =
+        let after : Work = (each_end (mends_choice plan taken_all before) places m).work in
+        let more : Speaks plan service network me peer m.work after =
+        each_keeps plan me (Speaks plan service network me peer m.work) (speaks_rows m.work) (mends_choice plan taken_all before) (choice_keeps plan me (Speaks plan service network me peer m.work) (speaks_rows m.work) before) places all m speaks in
+        tells_on plan service network me.0 place n m.work after (more.more place tells.joined tells.there) tells
+
+    module _ (before : ℕ → Option WireId) (place : EndPlace) (end : IsEndOf plan me place) (joined : are_joined_by plan service me.0 place.peer.0 ≡ true) where
+      here_tells : (work : Work) → At work → is_advertising (end_at work.edge place).local ≡ true → is_new_choice before work.edge.chosen place.wire (wire_row plan place.wire) ≡ true
+          → WillTell plan service network me.0 place.peer.0 place.pw_id (mends_choice plan taken_all before place work).work
+      here_tells work speaks told new = subst (λ (b : Bool). WillTell plan service network me.0 place.peer.0 place.pw_id (cond b (tells_piece taken_all place [] work) (stays work)).work) (sym new) (by_local (end_at work.edge place).local refl told) where
+        by_local : (local : LocalPart) → (end_at work.edge place).local ≡ local → is_advertising local ≡ true → WillTell plan service network me.0 place.peer.0 place.pw_id (tells_piece_by taken_all place [] local work).work
+        by_local (Idle declined) at told = clash told
+        by_local (Advertised label content) at told = piece_tells work place label content work end joined at speaks
+        by_local (Withdrawing label) at told = clash told
+
+      each_tells : (places : List EndPlace) → AllByRecursion (IsEndOf plan me) places → (k : ℕ) → slice_get places k ≡ Some place → (m : Spoken) → At m.work → is_advertising (end_at m.work.edge place).local ≡ true
+          → is_new_choice before m.work.edge.chosen place.wire (wire_row plan place.wire) ≡ true → WillTell plan service network me.0 place.peer.0 place.pw_id (each_end (mends_choice plan taken_all before) places m).work
+      each_tells [] all k is m speaks told new = absurd (cc (is))
+      each_tells (x ∷ xs) all zero is m speaks told new =
+          let same : x ≡ place = cc (is) in
+          let next : Work = (mends_choice plan taken_all before x m.work).work in
+          let first : WillTell plan service network me.0 place.peer.0 place.pw_id next = subst (λ (p : EndPlace). WillTell plan service network me.0 place.peer.0 place.pw_id (mends_choice plan taken_all before p m.work).work) (sym same) (here_tells m.work speaks told new) in
+          grown before place.pw_id place.peer.0 xs all.1 (and_says m (mends_choice plan taken_all before x))
+          (again m.work next (choice_keeps plan me (Speaks plan service network me peer m.work) (speaks_rows m.work) before x all.0 m.work speaks)) first
+      each_tells (x ∷ xs) all (suc k) is m speaks told new =
+          let next : Work = (mends_choice plan taken_all before x m.work).work in
+          let keeps : KeepsChoice m.work next = mends_choice_keeps plan before x m.work in
+          each_tells xs all.1 k is (and_says m (mends_choice plan taken_all before x))
+          (again m.work next (choice_keeps plan me (Speaks plan service network me peer m.work) (speaks_rows m.work) before x all.0 m.work speaks))
+          (keeps.told place.wire.0 place.peer.0 told)
+          (ap (λ (now : ℕ → Option WireId). is_new_choice before now place.wire (wire_row plan place.wire)) keeps.chosen ∙ new)
+
+    -- ---- all steps
+
+    module _ (work : Work) (begun : Stays plan service network me peer work) where
+      abbrev places : List EndPlace
+      places = end_places plan work.edge.me
+
+      all : AllByRecursion (IsEndOf plan me) places
+      all = subst (λ (k : EdgeId). AllByRecursion (IsEndOf plan me) (end_places plan k)) (sym begun.place) (places_are plan me)
+
+      abbrev advertised : Spoken
+      advertised = each_end (mends_end plan taken_all) places (stays work)
+
+      abbrev chosen_now : Spoken
+      chosen_now = then_changes (choosing plan) advertised
+
+      abbrev statuses : Spoken
+      statuses = each_end (mends_status plan taken_all) places chosen_now
+
+      abbrev moved : Spoken
+      moved = each_end (mends_choice plan taken_all work.edge.chosen) places statuses
+
+      abbrev last : Work
+      last = tells_downs plan places (forgets_downs plan places moved.work)
+
+      speaks_advertised : Speaks plan service network me peer work advertised.work
+      speaks_advertised = each_keeps plan me (Speaks plan service network me peer work) (speaks_rows work) (mends_end plan taken_all) (end_keeps plan me (Speaks plan service network me peer work) (speaks_rows work)) places all (stays work)
+          (speaks_first plan service network me peer work begun)
+
+      speaks_statuses : Speaks plan service network me peer work statuses.work
+      speaks_statuses = each_keeps plan me (Speaks plan service network me peer work) (speaks_rows work) (mends_status plan taken_all) (status_keeps plan me (Speaks plan service network me peer work) (speaks_rows work)) places all chosen_now
+          (chooses_keep plan me (Speaks plan service network me peer work) (speaks_rows work) advertised.work speaks_advertised)
+
+      speaks_moved : At moved.work
+      speaks_moved = again work moved.work (each_keeps plan me (Speaks plan service network me peer work) (speaks_rows work) (mends_choice plan taken_all work.edge.chosen)
+          (choice_keeps plan me (Speaks plan service network me peer work) (speaks_rows work) work.edge.chosen) places all statuses speaks_statuses)
+
+      speaks_last : Speaks plan service network me peer moved.work last
+      speaks_last = downs_keep plan me (Speaks plan service network me peer moved.work) (speaks_rows moved.work) places all (forgets_downs plan places moved.work)
+          (forgets_keep plan me (Speaks plan service network me peer moved.work) (speaks_rows moved.work) places moved.work speaks_moved)
+
+      told_statuses : KeepsChoice chosen_now.work statuses.work
+      told_statuses = each_choice (mends_status plan taken_all) (status_choice plan) places chosen_now
+
+      chosen_last : last.edge.chosen ≡ chosen_now.work.edge.chosen
+      chosen_last =
+          (choice_then moved.work (forgets_downs plan places moved.work) last (forgets_choice plan places moved.work) (downs_choice plan places (forgets_downs plan places moved.work))).chosen
+          ∙ ((each_choice (mends_choice plan taken_all work.edge.chosen) (mends_choice_keeps plan work.edge.chosen) places statuses).chosen ∙ told_statuses.chosen)
+
+      chosen_is : last.edge.chosen service.0 ≡ choice plan advertised.work.edge service
+      chosen_is = ap (λ (f : ℕ → Option WireId). f service.0) chosen_last ∙ choosing_chosen plan advertised.work service
+
+      one_row : (one other : WirePlan) → Some one ≡ Some other → one ≡ other
+      one_row one other is = cc
+
+      is_wire_some : (wire : WireId) (o : Option WireId) → Rattle.edge_model.specs.Role.is_chosen_wire wire o ≡ true → o ≡ Some wire
+      is_wire_some wire None is = clash is
+      is_wire_some wire (Some other) is = ap (λ (n : ℕ). Some (record { 0 = n })) (eqb-true other.0 wire.0 is)
+
+      or_new : (now was : Bool) → now ≡ true → was ≡ false → now && not was ≡ true
+      or_new now was one other = rw (one, other) refl
+
+      tell : (wire : WireId) (home : ℕ) (spoke : IsSpokeTo plan service me.0 wire home) → last.edge.chosen service.0 ≡ Some wire
+          → (work.edge.chosen service.0 ≡ Some wire) ⊎ WillTell plan service network me.0 home spoke.row.pw_id last
+      tell wire home spoke chosen = elim (cases_Bool (is_chosen work.edge.chosen wire spoke.row)) [
+        | inl was ↦ inl (is_wire_some wire (work.edge.chosen service.0) (subst (λ (s : ServiceId). Rattle.edge_model.specs.Role.is_chosen_wire wire (work.edge.chosen s.0) ≡ true) link.of_service was))
+        | inr new ↦ inr (tells new)
+      ]
+        where
+          link : IsSpokeLink plan service me.0 home spoke.row
+          link = spoke_link plan service me.0 wire home checked short spoke
+
+          choose : IsChoice plan service advertised.work.edge wire
+          choose = choice_is plan service advertised.work.edge wire (sym chosen_is ∙ chosen)
+
+          place : EndPlace
+          place = choose.place
+
+          at : slice_get places choose.k ≡ Some place
+          at = ap (λ (k : EdgeId). slice_get (end_places plan k) choose.k) (begun.place ∙ sym speaks_advertised.place) ∙ choose.at
+
+          end : IsEndOf plan me place
+          end = all_get (IsEndOf plan me) places choose.k place all at
+
+          row_is : end.row ≡ spoke.row
+          row_is = one_row end.row spoke.row (sym end.is ∙ (ap (wire_row plan) choose.wire_is ∙ spoke.is))
+
+          home_is : place.peer.0 ≡ home
+          home_is = ap (λ (k : EdgeId). k.0)
+              (two_peers me.0 home place.peer (subst (λ (p : List EdgeId). joins me.0 place.peer.0 p ≡ true) link.path (ap (λ (r : WirePlan). joins me.0 place.peer.0 r.path) (sym row_is) ∙ end.joined)))
+            where
+              here : (a h p : ℕ) → ((a == a && p == h) || (p == a && a == h)) || false ≡ true → p ≡ h
+              here a h p is = grind (arith, nat_tests)
+
+              two_peers : (a h : ℕ) (p : EdgeId) → ((a == a && p.0 == h) || (p.0 == a && a == h)) || false ≡ true → p ≡ record { 0 = h }
+              two_peers a h p is = ap (λ (n : ℕ). record { 0 = n }) (here a h p.0 is)
+
+          joined : are_joined_by plan service me.0 place.peer.0 ≡ true
+          joined = subst (λ (n : ℕ). are_joined_by plan service me.0 n ≡ true) (sym home_is) link.by_service
+
+          told : is_advertising (end_at statuses.work.edge place).local ≡ true
+          told =
+              let agree = forwards_where_both_agree role.Chosen (advertised.work.edge.bits place.wire.0) (end_at advertised.work.edge place) choose.usable in
+              told_statuses.told place.wire.0 place.peer.0 (choosing_told plan advertised.work place.wire.0 place.peer.0 (advertises_it agree.label agree.own _ agree.advertises))
+
+          now : statuses.work.edge.chosen spoke.row.service.0 ≡ Some wire
+          now = ap (λ (s : ServiceId). statuses.work.edge.chosen s.0) link.of_service ∙ (ap (λ (f : ℕ → Option WireId). f service.0) (told_statuses.chosen ∙ sym chosen_last) ∙ chosen)
+
+          tells : is_chosen work.edge.chosen wire spoke.row ≡ false → WillTell plan service network me.0 home spoke.row.pw_id last
+          tells new =
+              let fresh : is_new_choice work.edge.chosen statuses.work.edge.chosen place.wire (wire_row plan place.wire) ≡ true =
+              ap (λ (w : WireId). is_new_choice work.edge.chosen statuses.work.edge.chosen w (wire_row plan w)) choose.wire_is
+              ∙ (ap (is_new_choice work.edge.chosen statuses.work.edge.chosen wire) spoke.is
+              ∙ or_new (is_chosen statuses.work.edge.chosen wire spoke.row) (is_chosen work.edge.chosen wire spoke.row) (rw now (same_place wire.0)) new) in
+              let first : WillTell plan service network me.0 place.peer.0 place.pw_id moved.work =
+              each_tells work.edge.chosen place end joined places all choose.k at statuses (again work statuses.work speaks_statuses) told fresh in
+              let more : WillTell plan service network me.0 place.peer.0 place.pw_id last = tells_on plan service network me.0 place.peer.0 place.pw_id moved.work last (speaks_last.more place.peer.0 first.joined first.there) first in
+              subst (λ (n : ℕ). WillTell plan service network me.0 n spoke.row.pw_id last) home_is
+              (subst (λ (n : ℕ). WillTell plan service network me.0 place.peer.0 n last) (end.pw_id ∙ ap (λ (r : WirePlan). r.pw_id) row_is) more)
+
+      pub mends_tell_here : TellsChoice plan service network me work (mends plan taken_all work)
+      mends_tell_here = subst (TellsChoice plan service network me work) (sym (mends_takes plan taken_all (λ k. refl) work)) (record { told = tell })
+
+pub mends_tell : (plan : Plan) (service : ServiceId) (network : NetworkState) (me : EdgeId) (peer : ℕ) (work : Work) → IsChecked plan → HasTypes plan → has_short_paths plan service ≡ true → HasWays plan service network me
+    → Stays plan service network me peer work → TellsChoice plan service network me work (mends plan taken_all work)
+mends_tell plan service network me peer work checked types short ways begun = mends_tell_here plan service network me peer checked types ways short work begun

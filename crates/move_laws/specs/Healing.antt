@@ -1,0 +1,204 @@
+-- What holds of a network between a move to another spoke and the next calm state: each learned address points the right way, or what
+-- clears it is on its way.
+use Rattle.std.specs.Prelude.{◌≡◌, ◌++◌, ◌==◌, ◌&&◌, ◌<◌, ◌^◌, ◌⊎◌, ℕ, Bool, true, false, List, Option, Some, None, filter, slice_get}
+use Rattle.std.specs.List.{AllByRecursion}
+use Rattle.net_base.specs.declared.plan.Plan.{Plan}
+use Rattle.net_base.specs.declared.plan.places.EdgeId.{EdgeId}
+use Rattle.net_base.specs.declared.plan.places.ServiceId.{ServiceId}
+use Rattle.net_base.specs.declared.plan.places.WireId.{WireId}
+use Rattle.net_base.specs.declared.plan.wire_plan.WirePlan.{WirePlan}
+use Rattle.net_base.specs.plan.Paths.{is_last, joins}
+use Rattle.net_base.specs.plan.Places.{wire_row}
+use Rattle.net_base.specs.plan.Roles.{are_joined_by, is_core_edge, is_mesh_of, is_spoke_from}
+use Rattle.ldp_grammar.specs.declared.message.Message.{Message}
+use Rattle.hvpls_spokes.specs.declared.port.Port.{Port}
+use Rattle.hvpls_spokes.specs.declared.port.Port.TheVariants as port
+use Rattle.hvpls_spokes.specs.Port.{ports_of}
+use Rattle.mac_table.specs.declared.mac_entry.MacEntry.{MacEntry}
+use Rattle.pw_signalling.specs.End.{LocalPart, Idle, Advertised, Withdrawing}
+use Rattle.session_core.specs.Phase as phase
+use Rattle.edge_model.specs.Ends.{end_forwards}
+use Rattle.edge_model.specs.Mend.{is_up_with}
+use Rattle.edge_model.specs.State.{EdgeState, Peering, put_at}
+use Rattle.edge_model.specs.Work.{Work}
+use Rattle.network_model.specs.Reach.{at_edge_of}
+use Rattle.network_model.specs.State.{NetworkState, held, stands}
+use Rattle.flight_laws.specs.Bound.{some_message}
+use Rattle.flight_laws.specs.Ends.{ends_at}
+use Rattle.flight_laws.specs.Facts.{flight}
+use Rattle.flight_laws.specs.Meeting.{closes, said_to}
+use Rattle.flight_laws.specs.Messages.{AreSaid, octets_of_all}
+use Rattle.flight_laws.specs.Rules.{AllMessages}
+use Rattle.flight_laws.specs.Sound.{TellsSoundly, point_limit}
+use Rattle.address_laws.specs.Points.{PointsToSite}
+use Rattle.address_laws.specs.Sites.{Sites}
+use Rattle.move_laws.specs.Clearing.{IsCleared, IsMild, IsMildWay, clears}
+
+-- ---- the right way
+
+-- a wire between two edges
+pub record IsWireBetween (plan : Plan) (a b : ℕ) (wire : WireId) : Type 0 where
+  pub row : WirePlan
+  pub is : wire_row plan wire ≡ Some row
+  pub joined : joins a b row.path ≡ true
+
+-- the port of a core edge is right for what is behind this spoke to its home: it is the spoke, at home, or a mesh wire to the home.
+-- Of a circuit nothing is said
+abbrev pub LeadsHome : Plan → (core home : ℕ) → WireId → Option Port → Type 0
+LeadsHome plan core home wire None = ⊥
+LeadsHome plan core home wire (Some (port.Circuit at)) = Unit {0}
+LeadsHome plan core home wire (Some (port.Mesh mesh)) = IsWireBetween plan core home mesh
+LeadsHome plan core home wire (Some (port.Spoke spoke)) = (core ≡ home) × (spoke ≡ wire)
+
+-- a spoke of the service from its spoke edge to this core edge
+pub record IsSpokeTo (plan : Plan) (service : ServiceId) (edge : ℕ) (wire : WireId) (home : ℕ) : Type 0 where
+  pub row : WirePlan
+  pub is : wire_row plan wire ≡ Some row
+  pub from : is_spoke_from service edge row ≡ true
+  pub to : is_last home row.path ≡ true
+
+-- ---- right, or to be cleared
+
+-- which withdrawals are on their way: from an edge to another one, on the wire with a PW ID
+abbrev pub Ways : Type 1
+Ways = (from to pw_id : ℕ) → Type 0
+
+-- the port of a core edge is right for what is behind this spoke, or the withdrawal is on its way on the spoke, or on the mesh wire
+-- from the home
+pub data WillBeRight (plan : Plan) (service : ServiceId) (ways : Ways) (edge : ℕ) (wire : WireId) (pw_id home core : ℕ) (p : ℕ) : Type 0 where
+  IsRight : LeadsHome plan core home wire (slice_get (ports_of plan service (record { 0 = core })) p) → WillBeRight plan service ways edge wire pw_id home core p
+  BySpoke : ways edge home pw_id → WillBeRight plan service ways edge wire pw_id home core p
+  ByMesh : (mesh : WireId) (row : WirePlan) → wire_row plan mesh ≡ Some row → is_mesh_of service row ≡ true → joins home core row.path ≡ true → ways home core row.pw_id
+      → WillBeRight plan service ways edge wire pw_id home core p
+
+-- so it is with an entry of a core edge, whichever spoke the edge of its site has chosen
+abbrev pub EntryHeals : Plan → ServiceId → Sites → (ℕ → Option WireId) → Ways → ℕ → MacEntry → Type 0
+EntryHeals plan service site choices ways core entry = (edge : ℕ) (wire : WireId) (home : ℕ) (spoke : IsSpokeTo plan service edge wire home) → choices edge ≡ Some wire
+    → at_edge_of plan service edge (site entry.address.0) ≡ true → WillBeRight plan service ways edge wire spoke.row.pw_id home core entry.port
+
+-- and with each one
+abbrev pub EntriesHeal : Plan → ServiceId → Sites → (ℕ → Option WireId) → Ways → (ℕ → List MacEntry) → Type 0
+EntriesHeal plan service site choices ways tables = (core : ℕ) → is_core_edge plan service core ≡ true → AllByRecursion (EntryHeals plan service site choices ways core) (tables core)
+
+-- ---- the network
+
+-- a withdrawal is on its way between two edges that the service joins
+pub record IsWithdrawalPending (plan : Plan) (service : ServiceId) (network : NetworkState) (a b pw_id : ℕ) : Type 0 where
+  pub joined : are_joined_by plan service a b ≡ true
+  pub there : stands network a b ≡ true
+  pub cleared : IsCleared plan a b pw_id (flight network a b)
+
+-- an edge's session with another one is up, and messages on their way to it leave all as it is
+pub record IsSteady (plan : Plan) (service : ServiceId) (network : NetworkState) (a b : ℕ) : Type 0 where
+  pub up : is_up_with ((network.edges a).peering b) ≡ true
+  pub way : IsMildWay plan service a b (flight network a b)
+
+abbrev pub is_advertising : LocalPart → Bool
+is_advertising (Idle declined) = false
+is_advertising (Advertised label told) = true
+is_advertising (Withdrawing label) = false
+
+-- the edge's ends of the service's mesh wires advertise their labels, are on, and have no failure bits
+pub record KeepsMesh (plan : Plan) (service : ServiceId) (me : ℕ) (edge : EdgeState) : Type 0 where
+  pub told : (wire : WireId) (row : WirePlan) (peer : ℕ) → wire_row plan wire ≡ Some row → is_mesh_of service row ≡ true → joins me peer row.path ≡ true → is_advertising (edge.ends wire.0 peer).local ≡ true
+  pub on : (wire : WireId) (row : WirePlan) (peer : ℕ) → wire_row plan wire ≡ Some row → is_mesh_of service row ≡ true → joins me peer row.path ≡ true → edge.wire_on wire.0 ≡ true
+  pub whole : (wire : WireId) (row : WirePlan) (peer : ℕ) → wire_row plan wire ≡ Some row → is_mesh_of service row ≡ true → joins me peer row.path ≡ true → edge.bits wire.0 ≡ 0
+
+-- an entry at a spoke is at one that forwards here
+abbrev pub IsAtLive : Plan → ServiceId → ℕ → EdgeState → MacEntry → Type 0
+IsAtLive plan service me edge entry = (wire : WireId) → slice_get (ports_of plan service (record { 0 = me })) entry.port ≡ Some (port.Spoke wire) → end_forwards plan edge wire ≡ true
+
+abbrev pub chosen_in : ServiceId → NetworkState → ℕ → Option WireId
+chosen_in service network edge = (network.edges edge).chosen service.0
+
+abbrev pub learned_in : ServiceId → NetworkState → ℕ → List MacEntry
+learned_in service network edge = (network.edges edge).learned service.0
+
+-- all of it: `calm` is the state from which addresses point to their sites
+pub record Heals (plan : Plan) (service : ServiceId) (site : Sites) (calm network : NetworkState) : Type 0 where
+  pub steady : (a b : ℕ) → are_joined_by plan service a b ≡ true → stands network a b ≡ true → IsSteady plan service network a b × IsSteady plan service network b a
+  pub mesh : (a : ℕ) → KeepsMesh plan service a (network.edges a)
+  pub right : EntriesHeal plan service site (chosen_in service network) (IsWithdrawalPending plan service network) (learned_in service network)
+  pub table : (a : ℕ) → AllByRecursion (PointsToSite plan calm service site a) (learned_in service network a)
+  pub live : (a : ℕ) → AllByRecursion (IsAtLive plan service a (network.edges a)) (learned_in service network a)
+
+-- some entries are left
+pub record IsFiltered (old new : List MacEntry) : Type 0 where
+  pub test : MacEntry → Bool
+  pub is : new ≡ filter test old
+
+-- ---- an edge at work in such a network, which still has to hear these messages of a peer
+
+-- its session with another edge is up, and what it has said there leaves all as it is
+pub record SpeaksMildly (plan : Plan) (service : ServiceId) (network : NetworkState) (me peer place : ℕ) (work : Work) : Type 0 where
+  pub kept : Peering
+  pub at : work.edge.peering place ≡ Some kept
+  pub up : kept.session.phase ≡ phase.Operational
+  pub peers : kept.session.peers ≡ ends_at plan me place
+  pub numbered : kept.next_id < 2 ^ 32
+  pub held_still : (place == peer) ≡ false → kept.held ≡ held network me place
+  pub unclosed : closes place work.effects ≡ false
+  pub messages : List Message
+  pub is : said_to place work.effects ≡ octets_of_all (ends_at plan me place).me messages
+  pub said : AreSaid (ends_at plan me place) messages
+  pub mild : AllMessages (IsMild plan service me place) messages
+
+pub record Stays (plan : Plan) (service : ServiceId) (network : NetworkState) (me : EdgeId) (peer : ℕ) (work : Work) : Type 0 where
+  pub place : work.edge.me ≡ me
+  pub sound : TellsSoundly (point_limit plan me.0) work.edge
+  pub speaks : (place : ℕ) → are_joined_by plan service me.0 place ≡ true → stands network me.0 place ≡ true → SpeaksMildly plan service network me.0 peer place work
+  -- where none stood, none stands
+  pub apart : (place : ℕ) → are_joined_by plan service me.0 place ≡ true → stands network me.0 place ≡ false → work.edge.peering place ≡ None
+  pub mesh : KeepsMesh plan service me.0 work.edge
+  pub table : IsFiltered (learned_in service network me.0) (work.edge.learned service.0)
+
+-- which withdrawals are on their way meanwhile
+pub data WorkWays (plan : Plan) (service : ServiceId) (network : NetworkState) (me peer : ℕ) (messages : List Message) (work : Work) (a b pw_id : ℕ) : Type 0 where
+  WasSaid : a ≡ me → are_joined_by plan service me b ≡ true → stands network me b ≡ true → IsCleared plan me b pw_id (flight network me b ++ said_to b work.effects)
+      → WorkWays plan service network me peer messages work a b pw_id
+  ToHear : a ≡ peer → b ≡ me → are_joined_by plan service peer me ≡ true → stands network peer me ≡ true → some_message (clears pw_id) messages ≡ true
+      → WorkWays plan service network me peer messages work a b pw_id
+  Waits : (a == me) ≡ false → (a == peer && b == me) ≡ false → IsWithdrawalPending plan service network a b pw_id → WorkWays plan service network me peer messages work a b pw_id
+
+pub record IsHealing (plan : Plan) (service : ServiceId) (site : Sites) (network : NetworkState) (me : EdgeId) (peer : ℕ) (messages : List Message) (work : Work) : Type 0 where
+  pub stays : Stays plan service network me peer work
+  pub right : EntriesHeal plan service site (put_at (chosen_in service network) me.0 (work.edge.chosen service.0)) (WorkWays plan service network me.0 peer messages work)
+      (put_at (learned_in service network) me.0 (work.edge.learned service.0))
+
+-- the messages that the edge has still to hear leave all as it is, where the service joins it to the peer
+pub record ToHearMildly (plan : Plan) (service : ServiceId) (network : NetworkState) (me peer : ℕ) (messages : List Message) : Type 0 where
+  pub mild : are_joined_by plan service peer me ≡ true → stands network peer me ≡ true → AllMessages (IsMild plan service peer me) messages
+
+-- octets are those of these messages
+pub record LeavesToHear (plan : Plan) (service : ServiceId) (network : NetworkState) (me peer : ℕ) (messages : List Message) (octets : List ℕ) : Type 0 where
+  pub is : octets ≡ octets_of_all (ends_at plan peer me).me messages
+  pub said : AreSaid (ends_at plan peer me) messages
+  pub mild : ToHearMildly plan service network me peer messages
+
+-- ---- a part of the work of an edge
+
+-- more messages were said to a place
+pub record SaysMore (plan : Plan) (me place : ℕ) (old new : Work) : Type 0 where
+  pub more : List Message
+  pub is : said_to place new.effects ≡ said_to place old.effects ++ octets_of_all (ends_at plan me place).me more
+  pub said : AreSaid (ends_at plan me place) more
+
+pub record StaysOn (plan : Plan) (service : ServiceId) (network : NetworkState) (me : EdgeId) (peer : ℕ) (old new : Work) : Type 0 where
+  pub stays : Stays plan service network me peer new
+  pub says : (place : ℕ) → are_joined_by plan service me.0 place ≡ true → stands network me.0 place ≡ true → SaysMore plan me.0 place old new
+  pub forgot : IsFiltered (old.edge.learned service.0) (new.edge.learned service.0)
+
+-- a withdrawal was said to a place, or is on its way there already
+pub record WillTell (plan : Plan) (service : ServiceId) (network : NetworkState) (me place pw_id : ℕ) (work : Work) : Type 0 where
+  pub joined : are_joined_by plan service me place ≡ true
+  pub there : stands network me place ≡ true
+  pub cleared : IsCleared plan me place pw_id (flight network me place ++ said_to place work.effects)
+
+-- the spoke that the edge has chosen was chosen before, or the withdrawal was said
+pub record TellsChoice (plan : Plan) (service : ServiceId) (network : NetworkState) (me : EdgeId) (old new : Work) : Type 0 where
+  pub told : (wire : WireId) (home : ℕ) (spoke : IsSpokeTo plan service me.0 wire home) → new.edge.chosen service.0 ≡ Some wire
+      → (old.edge.chosen service.0 ≡ Some wire) ⊎ WillTell plan service network me.0 home spoke.row.pw_id new
+
+-- what is on its way from the edge to places that the service joins to it
+abbrev pub HasWays : Plan → ServiceId → NetworkState → EdgeId → Type 0
+HasWays plan service network me = (place : ℕ) → are_joined_by plan service me.0 place ≡ true → stands network me.0 place ≡ true → IsMildWay plan service me.0 place (flight network me.0 place)

@@ -1,0 +1,27 @@
+-- What holds of a move to another spoke in every run of a checked plan.
+use Rattle.std.specs.Prelude.{◌≡◌, ◌++◌, true, List, ◌∷◌}
+use Rattle.std.specs.List.{list_all}
+use Rattle.net_base.specs.declared.plan.Plan.{Plan}
+use Rattle.net_base.specs.declared.plan.places.ServiceId.{ServiceId}
+use Rattle.net_base.specs.declared.trace.event.Event.{Event}
+use Rattle.flight_laws.specs.Laws.{IsRun, network_after}
+use Rattle.network_model.specs.Calm.{is_calm}
+use Rattle.address_laws.specs.Points.{Points}
+use Rattle.address_laws.specs.Sites.{Sites}
+use Rattle.address_laws.specs.Stretch.{StartsRight}
+use Rattle.move_laws.specs.Moves.{has_short_paths, is_delivery, is_move}
+
+-- Where each wire of a service has a path of two edges: after one setting at a spoke edge for one of its spokes, and then deliveries
+-- alone, each calm state has each learned address point to its site again.
+abbrev pub MovesHeal : Plan → List Event → Type 0
+MovesHeal plan events = (before : List Event) (move : Event) (deliveries after : List Event) (service : ServiceId) (site : Sites)
+    → events ≡ before ++ move ∷ (deliveries ++ after)
+    → has_short_paths plan service ≡ true
+    → StartsRight plan (network_after plan before) service site
+    → is_move plan service move ≡ true
+    → list_all is_delivery deliveries ≡ true
+    → is_calm plan (network_after plan (before ++ move ∷ deliveries)) service ≡ true
+    → Points plan (network_after plan (before ++ move ∷ deliveries)) service site
+
+abbrev pub RunsHealMoves : Type 0
+RunsHealMoves = (plan : Plan) (events : List Event) → IsRun plan events → MovesHeal plan events
