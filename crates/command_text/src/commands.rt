@@ -118,17 +118,18 @@ fn part_of_word(
     }
 }
 
-// The command of a frame, by what follows its first word.
+// The command of a frame, by what follows its first word. Its octets are in a list of this capacity or what they need.
 fn framed(
     alloc: Global,
     names: &PlanNames<'_>,
     event: u32,
+    capacity: usize,
     rest: &[u8],
 ) -> Result<Command, ScenarioFault>
     ensures exact { Gives result (one (frame_behind names.now event rest.now)) }
     ensures named { IfOk result (IsInPlanNames names.now) }
 {
-    Ok(Command::One(frame(alloc, names, event, rest)?))
+    Ok(Command::One(frame(alloc, names, event, capacity, rest)?))
 }
 
 // The command of a first word that speaks of a frame or a packet, of a part of the plan, or of many events.
@@ -145,7 +146,7 @@ fn packet_of_word(
 {
     match word {
         "frame" => match after(text) {
-            Some(rest) => framed(alloc, names, place.event, rest.as_bytes()),
+            Some(rest) => framed(alloc, names, place.event, text.len(), rest.as_bytes()),
             None => Err(bad_word(place.event, 2)),
         },
         "arrive" => Ok(Command::One(Event::Arrive {
@@ -194,7 +195,9 @@ fn behind_frame(text: &[u8]) -> Option<&[u8]>
     }
 }
 
-// The command that a text is. Frames come first, since a long document has little else.
+// The command that a text is. Frames come first, since a long document has little else. The octets of a frame get as much room as its
+// text took: a text is dropped once its command is read, so the allocator has a piece of this size at hand from the text before, and
+// a document is read in the memory that its texts had.
 #[tactic(auto, using(crate::proofs::FrameLemmas::frame_command))]
 fn command(
     alloc: Global,
@@ -206,7 +209,7 @@ fn command(
     ensures named { IfOk result (IsInPlanNames names.now) }
 {
     match behind_frame(text.as_bytes()) {
-        Some(rest) => framed(alloc, names, place.event, rest),
+        Some(rest) => framed(alloc, names, place.event, text.len(), rest),
         None => command_of_word(alloc, names, place, first(text), text),
     }
 }

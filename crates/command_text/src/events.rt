@@ -71,12 +71,14 @@ pub fn restart(names: &PlanNames<'_>, event: u32, text: &str) -> Result<Event, S
     Ok(Event::Restart { edge: EdgeId(edge) })
 }
 
-/// `frame C HEX`, with 1 to 9216 octets, by what follows the first word. These are long, so the digits are walked once.
+/// `frame C HEX`, with 1 to 9216 octets, by what follows the first word. These are long, so the digits are walked once. The octets are
+/// in a list of this capacity or what they need.
 #[tactic(auto, unfolding(crate::specs::Events::frame_behind))]
 pub fn frame(
     alloc: Global,
     names: &PlanNames<'_>,
     event: u32,
+    capacity: usize,
     rest: &[u8],
 ) -> Result<Event, ScenarioFault>
     ensures exact { Gives result (frame_behind names.now event rest.now) }
@@ -84,7 +86,7 @@ pub fn frame(
 {
     let (name, rest) = cut_octets(rest);
     let circuit = place_of(&names.circuits, event, 2, name)?;
-    let bytes = frame_octets(alloc, event, 3, rest)?;
+    let bytes = frame_octets(alloc, capacity, event, 3, rest)?;
     no_more(event, 4, goes_on(rest, &bytes))?;
     Ok(Event::Frame {
         circuit: CircuitId(circuit),

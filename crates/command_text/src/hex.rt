@@ -142,12 +142,12 @@ fn fill(digits: &[u8], room: &mut [u8]) -> bool
     fill_eights(front, first) && fill_pairs(back, last)
 }
 
-/// The octets of pairs of digits; `None` exactly where these are no pairs of hexadecimal digits. They are read a piece at a time, each
-/// aside, so that the list grows once.
-pub fn decode(alloc: Global, digits: &[u8]) -> Result<Option<Octets>, NoMemory>
+/// The octets of pairs of digits, in a list of this capacity or what they need; `None` exactly where these are no pairs of hexadecimal
+/// digits. They are read a piece at a time, each aside, so that the list grows once.
+pub fn decode(alloc: Global, capacity: usize, digits: &[u8]) -> Result<Option<Octets>, NoMemory>
     ensures { IfOk result (λ octets. octets ≡ unhex digits.now) }
 {
-    let mut octets = List::with_capacity(alloc, digits.len() / 2)?;
+    let mut octets = List::with_capacity(alloc, capacity)?;
     let mut at = 0;
     'decoding: while digits.len() - at >= 2 {
         let (_, rest) = digits.split_at(at);

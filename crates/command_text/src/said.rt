@@ -107,11 +107,11 @@ pub fn switch_word(event: u32, number: u32, text: &str) -> Result<bool, Scenario
 }
 
 // The octets of a frame, where they are 1 to 9216.
-fn frame(alloc: Global, digits: &[u8]) -> Result<Option<Octets>, NoMemory>
+fn frame(alloc: Global, capacity: usize, digits: &[u8]) -> Result<Option<Octets>, NoMemory>
     ensures value { IfOk result (λ octets. octets ≡ frame_of digits.now) }
     ensures sized { IfOk result (λ octets. IfSome octets IsFrame) }
 {
-    let Some(octets) = decode(alloc, digits)? else {
+    let Some(octets) = decode(alloc, capacity, digits)? else {
         return Ok(None);
     };
     if octets.is_empty() || octets.len() > 9216 {
@@ -123,22 +123,23 @@ fn frame(alloc: Global, digits: &[u8]) -> Result<Option<Octets>, NoMemory>
 // The octets of a frame that the first word writes. Digits have no space among them, so all octets are tried first as they are, and
 // walked once.
 #[tactic(auto, using(crate::proofs::FrameLemmas::frame_of_first))]
-fn first_frame(alloc: Global, octets: &[u8]) -> Result<Option<Octets>, NoMemory>
+fn first_frame(alloc: Global, capacity: usize, octets: &[u8]) -> Result<Option<Octets>, NoMemory>
     ensures value { IfOk result (λ bytes. bytes ≡ frame_of (first_word octets.now)) }
     ensures sized { IfOk result (λ bytes. IfSome bytes IsFrame) }
 {
-    match frame(alloc, octets)? {
+    match frame(alloc, capacity, octets)? {
         Some(bytes) => Ok(Some(bytes)),
         None => {
             let (word, _) = cut_octets(octets);
-            frame(alloc, word)
+            frame(alloc, capacity, word)
         }
     }
 }
 
-/// The octets of a frame that the first word of a rest writes, where there is this rest.
+/// The octets of a frame that the first word of a rest writes, where there is this rest, in a list of this capacity or what they need.
 pub fn frame_octets(
     alloc: Global,
+    capacity: usize,
     event: u32,
     number: u32,
     rest: Option<&[u8]>,
@@ -148,7 +149,7 @@ pub fn frame_octets(
     ensures read { IfOk result (λ octets. option_and_then frame_of (option_and_then (word_after 0) (option_map (λ r. r.now) rest.entry)) ≡ Some octets) }
 {
     match rest {
-        Some(rest) => match first_frame(alloc, rest)? {
+        Some(rest) => match first_frame(alloc, capacity, rest)? {
             Some(octets) => Ok(octets),
             None => Err(bad_word(event, number)),
         },
