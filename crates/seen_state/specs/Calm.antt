@@ -1,4 +1,4 @@
--- What a service that is seen calm is made of, edge by edge and pair by pair.
+-- What a service that is seen calm is made of (RFC 4762 section 4.4), edge by edge and pair by pair.
 use Rattle.std.specs.Prelude.{◌==◌, ◌&&◌, ◌||◌, not, ℕ, Bool}
 use Rattle.net_base.specs.declared.plan.Plan.{Plan}
 use Rattle.net_base.specs.declared.plan.places.ServiceId.{ServiceId}

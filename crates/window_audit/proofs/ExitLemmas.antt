@@ -1,0 +1,202 @@
+-- Where frames left, one entry after the other.
+use Rattle.std.proofs.Common.{◌≡◌, ◌==◌, ◌<◌, ◌≤◌, ◌+◌, ◌&&◌, ◌||◌, ◌++◌, ◌∷◌, ◌∙◌, [], ℕ, Bool, true, false, List, Some, nat_lt, cond, refl, ap, sym, arith}
+use Rattle.std.proofs.lemmas.Bool.{eqb-true}
+use Rattle.std.proofs.lemmas.Bool.Decides.{nat_tests}
+use Rattle.std.specs.BTreeMap.{is_at}
+use Rattle.std.specs.List.{list_any}
+use Rattle.std.specs.Map.{lookup}
+use Rattle.std.specs.Ordering.{nat_cmp}
+use Rattle.hvpls_spokes.specs.PortSet.{has}
+use Rattle.net_base.specs.declared.plan.Plan.{Plan}
+use Rattle.net_base.specs.declared.plan.places.CircuitId.{CircuitId}
+use Rattle.net_base.specs.declared.trace.entry.Entry.{Entry}
+use Rattle.net_base.specs.declared.trace.entry.Entry.TheVariants as entry
+use Rattle.net_base.specs.plan.Accepted.{IsWithinLimits}
+use Rattle.seen_network.specs.Once.{times_seen}
+use Rattle.seen_state.specs.Placed.{IsPlaced}
+use Rattle.window_audit.specs.Exits.{HasExits, HasLeft, IsAtPort, LeftTwice, has_left, is_again, is_far, leavings_of, left_far}
+use Rattle.window_audit.specs.declared.leavings.Leavings.{Leavings}
+use Rattle.window_audit.proofs.SourceLemmas.{any_more}
+
+pub none_left : HasExits [] []
+none_left = record { at = λ o c. refl; beyond = λ o c h. refl; once = λ o h c. omega arith; again = λ o h. absurd (grind (arith, h)); far = λ o. refl }
+
+-- an entry of a plan within the limits
+pub at_port : (plan : Plan) (e : Entry) → IsWithinLimits plan → IsPlaced plan e → IsAtPort e
+at_port plan (entry.Left at from hops octets) limits placed = omega (arith, limits.circuits, placed)
+at_port plan (entry.Did event) limits placed = tt
+at_port plan entry.Idle limits placed = tt
+at_port plan (entry.Said from to octets) limits placed = tt
+at_port plan (entry.In at number octets) limits placed = tt
+at_port plan (entry.Sent from to wire came packet from2 hops octets) limits placed = tt
+at_port plan (entry.Copied packet of) limits placed = tt
+at_port plan (entry.Aged packet) limits placed = tt
+at_port plan (entry.Dropped edge from cause) limits placed = tt
+at_port plan (entry.Session edge peer name) limits placed = tt
+at_port plan (entry.Wire edge wire down) limits placed = tt
+at_port plan (entry.Pong edge wire sequence) limits placed = tt
+
+-- ---- one frame more
+
+same_number : (a x : ℕ) → is_at (nat_cmp a) x ≡ (x == a)
+same_number a x = grind (arith, nat_tests)
+
+turned : (x y : ℕ) → (x == y) ≡ (y == x)
+turned x y = grind (arith, nat_tests)
+
+no_less : (a : Bool) → a ≡ a || false
+no_less true = refl
+no_less false = refl
+
+pub left_once : (at : CircuitId) (from hops : ℕ) (old new : List (ℕ × Leavings)) (first last : Leavings)
+    → ((c : ℕ) → has first.at c ≡ has_left (leavings_of old from) c) → first.again ≡ is_again (leavings_of old from) → first.far ≡ is_far (leavings_of old from)
+    → has last.at at.0 ≡ true → ((c : ℕ) → (c ≡ at.0 → ⊥) → has last.at c ≡ has first.at c) → last.again ≡ first.again || has first.at at.0 → last.far ≡ first.far || nat_lt 12 hops
+    → ((q : ℕ) → lookup (is_at (nat_cmp q)) new ≡ cond (is_at (nat_cmp from) q) (Some last) (lookup (is_at (nat_cmp q)) old))
+    → HasLeft at from hops old new
+left_once at from hops old new first last first_at first_again first_far here others again far put = record {
+  at_is = λ o c. ap (λ l. has_left l c) (now o) ∙ at_by o c (o == from) refl (c == at.0) refl;
+  again_is = λ o. ap is_again (now o) ∙ again_by o (o == from) refl;
+  far_is = λ o. ap is_far (now o) ∙ far_by o (o == from) refl;
+} where
+  now : (o : ℕ) → leavings_of new o ≡ cond (o == from) (Some last) (leavings_of old o)
+  now o = put o ∙ ap (λ b. cond b (Some last) (leavings_of old o)) (same_number from o)
+
+  apart : (c : ℕ) → (c == at.0) ≡ false → c ≡ at.0 → ⊥
+  apart c away same = grind (arith, nat_tests, away, same)
+
+  at_by : (o c : ℕ) (a : Bool) → (o == from) ≡ a → (b : Bool) → (c == at.0) ≡ b → has_left (cond a (Some last) (leavings_of old o)) c ≡ cond (a && b) true (has_left (leavings_of old o) c)
+  at_by o c false is b g = refl
+  at_by o c true is true g = ap (has last.at) (eqb-true c at.0 g) ∙ here
+  at_by o c true is false g = others c (apart c g) ∙ (first_at c ∙ ap (λ k. has_left (leavings_of old k) c) (sym (eqb-true o from is)))
+
+  again_by : (o : ℕ) (a : Bool) → (o == from) ≡ a → is_again (cond a (Some last) (leavings_of old o)) ≡ is_again (leavings_of old o) || (a && has_left (leavings_of old o) at.0)
+  again_by o false is = no_less (is_again (leavings_of old o))
+  again_by o true is = again ∙ (ap (λ b. b || has first.at at.0) first_again
+      ∙ (ap (λ b. is_again (leavings_of old from) || b) (first_at at.0) ∙ ap (λ k. is_again (leavings_of old k) || has_left (leavings_of old k) at.0) (sym (eqb-true o from is))))
+
+  far_by : (o : ℕ) (a : Bool) → (o == from) ≡ a → is_far (cond a (Some last) (leavings_of old o)) ≡ is_far (leavings_of old o) || (a && nat_lt 12 hops)
+  far_by o false is = no_less (is_far (leavings_of old o))
+  far_by o true is = far ∙ (ap (λ b. b || nat_lt 12 hops) first_far ∙ ap (λ k. is_far (leavings_of old k) || nat_lt 12 hops) (sym (eqb-true o from is)))
+
+-- ---- the trace
+
+times_more : (origin : ℕ) (circuit : CircuitId) (es : List Entry) (e : Entry) → times_seen origin circuit (es ++ e ∷ []) ≡ times_seen origin circuit es + times_seen origin circuit (e ∷ [])
+times_more origin circuit [] e = omega arith
+times_more origin circuit (entry.Left at from hops octets ∷ es) e = omega (arith, times_more origin circuit es e)
+times_more origin circuit (entry.Idle ∷ es) e = times_more origin circuit es e
+times_more origin circuit (entry.Said from to octets ∷ es) e = times_more origin circuit es e
+times_more origin circuit (entry.In at number octets ∷ es) e = times_more origin circuit es e
+times_more origin circuit (entry.Sent from to wire came packet from2 hops octets ∷ es) e = times_more origin circuit es e
+times_more origin circuit (entry.Copied packet of ∷ es) e = times_more origin circuit es e
+times_more origin circuit (entry.Aged packet ∷ es) e = times_more origin circuit es e
+times_more origin circuit (entry.Dropped edge from cause ∷ es) e = times_more origin circuit es e
+times_more origin circuit (entry.Session edge peer name ∷ es) e = times_more origin circuit es e
+times_more origin circuit (entry.Wire edge wire down ∷ es) e = times_more origin circuit es e
+times_more origin circuit (entry.Pong edge wire sequence ∷ es) e = times_more origin circuit es e
+times_more origin circuit (entry.Did event ∷ es) e = times_more origin circuit es e
+
+-- once more where the frame left
+times_left : (at : CircuitId) (from hops : ℕ) (octets : List ℕ) (trace : List Entry) (o : ℕ) (c : CircuitId)
+    → times_seen o c (trace ++ entry.Left at from hops octets ∷ []) ≡ times_seen o c trace + cond (o == from && c.0 == at.0) 1 0
+times_left at from hops octets trace o c = times_more o c trace (entry.Left at from hops octets)
+    ∙ (ap (λ b. times_seen o c trace + (cond b 1 0 + 0)) same ∙ no_more (cond (o == from && c.0 == at.0) 1 0)) where
+      same : (from == o && at.0 == c.0) ≡ (o == from && c.0 == at.0)
+      same = ap (λ b. b && at.0 == c.0) (turned from o) ∙ ap (λ b. o == from && b) (turned at.0 c.0)
+
+      no_more : (k : ℕ) → times_seen o c trace + (k + 0) ≡ times_seen o c trace + k
+      no_more k = omega arith
+
+abbrev one_if : Bool → ℕ
+one_if b = cond b 1 0
+
+some_more : (n : ℕ) (b : Bool) → cond b true (nat_lt 0 n) ≡ nat_lt 0 (n + cond b 1 0)
+some_more n true = sym (let h : nat_lt 0 (n + 1) ≡ true = grind (arith, nat_tests) in h)
+some_more n false = ap (nat_lt 0) (let h : n ≡ n + 0 = omega arith in h)
+
+is_none : (n : ℕ) → nat_lt 0 n ≡ false → n ≡ 0
+is_none n h = grind (arith, nat_tests, h)
+
+is_some : (n : ℕ) → nat_lt 0 n ≡ true → 1 ≤ n
+is_some n h = grind (arith, nat_tests, h)
+
+or_left : (a b : Bool) → a || b ≡ false → a ≡ false
+or_left false b h = refl
+or_left true b h = absurd (grind (arith, h))
+
+-- so much more where it is so and where it is not
+more_where : (a b : Bool) → a ≡ true → b ≡ true → one_if (a && b) ≡ 1
+more_where a b h g = ap (λ x. one_if (x && b)) h ∙ ap one_if g
+
+none_where_first : (a b : Bool) → a ≡ false → one_if (a && b) ≡ 0
+none_where_first a b h = ap (λ x. one_if (x && b)) h
+
+none_where_second : (a b : Bool) → a ≡ true → b ≡ false → one_if (a && b) ≡ 0
+none_where_second a b h g = ap (λ x. one_if (x && b)) h ∙ ap one_if g
+
+pub told_left : (at : CircuitId) (from hops : ℕ) (octets : List ℕ) (old new : List (ℕ × Leavings)) (trace : List Entry) → at.0 < 512
+    → HasLeft at from hops old new → HasExits old trace → HasExits new (trace ++ entry.Left at from hops octets ∷ [])
+told_left at from hops octets old new trace port left known = record {
+  at = λ o c. left.at_is o c.0 ∙ (ap (λ b. cond (o == from && c.0 == at.0) true b) (known.at o c)
+      ∙ (some_more (times_seen o c trace) (o == from && c.0 == at.0) ∙ ap (nat_lt 0) (sym (times_left at from hops octets trace o c))));
+  beyond = λ o c out. times_left at from hops octets trace o c ∙ far_off o c out (c.0 == at.0) refl (o == from);
+  once = λ o none c. once_by o none c (o == from) refl (c.0 == at.0) refl;
+  again = λ o twice. again_by o twice (is_again (leavings_of old o)) refl (o == from) refl (has_left (leavings_of old o) at.0) refl;
+  far = λ o.
+      left.far_is o
+      ∙ (ap (λ (b : Bool). b || (o == from && nat_lt 12 hops)) (known.far o)
+      ∙ (ap (λ (b : Bool). list_any (left_far o) trace || (b && nat_lt 12 hops)) (turned o from) ∙ sym (any_more (left_far o) trace (entry.Left at from hops octets))));
+} where
+  more : (o : ℕ) (c : CircuitId) → times_seen o c (trace ++ entry.Left at from hops octets ∷ []) ≡ times_seen o c trace + cond (o == from && c.0 == at.0) 1 0
+  more o c = times_left at from hops octets trace o c
+
+  far_off : (o : ℕ) (c : CircuitId) → 512 ≤ c.0 → (b : Bool) → (c.0 == at.0) ≡ b → (a : Bool) → times_seen o c trace + cond (a && b) 1 0 ≡ 0
+  far_off o c out true same a = absurd (grind (arith, nat_tests, same, out, port))
+  far_off o c out false same true = omega (arith, known.beyond o c out)
+  far_off o c out false same false = omega (arith, known.beyond o c out)
+
+  kept : (o : ℕ) → is_again (leavings_of new o) ≡ false → is_again (leavings_of old o) ≡ false
+  kept o none = or_left (is_again (leavings_of old o)) (o == from && has_left (leavings_of old o) at.0) (sym (left.again_is o) ∙ none)
+
+  once_by : (o : ℕ) → is_again (leavings_of new o) ≡ false → (c : CircuitId) → (a : Bool) → (o == from) ≡ a → (b : Bool) → (c.0 == at.0) ≡ b
+      → times_seen o c (trace ++ entry.Left at from hops octets ∷ []) ≤ 1
+  once_by o none c true is true here = omega (arith, more o c, more_where (o == from) (c.0 == at.0) is here, is_none (times_seen o c trace) (sym (known.at o c) ∙ first)) where
+    first : has_left (leavings_of old o) c.0 ≡ false
+    first = ap (has_left (leavings_of old o)) (eqb-true c.0 at.0 here)
+        ∙ (sym (ap (λ x. is_again (leavings_of old o) || (x && has_left (leavings_of old o) at.0)) is ∙ ap (λ x. x || has_left (leavings_of old o) at.0) (kept o none))
+        ∙ (sym (left.again_is o) ∙ none))
+  once_by o none c true is false here = omega (arith, more o c, none_where_second (o == from) (c.0 == at.0) is here, known.once o (kept o none) c)
+  once_by o none c false is b here = omega (arith, more o c, none_where_first (o == from) (c.0 == at.0) is, known.once o (kept o none) c)
+
+  same_at : (o : ℕ) → (at.0 == at.0) ≡ true
+  same_at o = grind (arith, nat_tests)
+
+  -- it was not told before, so it was told by this one
+  by_this : (o : ℕ) → is_again (leavings_of new o) ≡ true → is_again (leavings_of old o) ≡ false → (o == from && has_left (leavings_of old o) at.0) ≡ true
+  by_this o twice before = sym (ap (λ x. x || (o == from && has_left (leavings_of old o) at.0)) before) ∙ (sym (left.again_is o) ∙ twice)
+
+  again_by : (o : ℕ) → is_again (leavings_of new o) ≡ true → (x : Bool) → is_again (leavings_of old o) ≡ x → (a : Bool) → (o == from) ≡ a
+      → (y : Bool) → has_left (leavings_of old o) at.0 ≡ y
+      → LeftTwice o (trace ++ entry.Left at from hops octets ∷ [])
+  again_by o twice true before a is y here = record { circuit = (known.again o before).circuit; twice = omega (arith, more o (known.again o before).circuit, (known.again o before).twice) }
+  again_by o twice false before true is true here = record {
+    circuit = at;
+    twice = omega (arith, more o at, more_where (o == from) (at.0 == at.0) is (same_at o), is_some (times_seen o at trace) (sym (known.at o at) ∙ here));
+  }
+  again_by o twice false before true is false here = absurd (grind (arith, sym (by_this o twice before) ∙ (ap (λ x. x && has_left (leavings_of old o) at.0) is ∙ here)))
+  again_by o twice false before false is y here = absurd (grind (arith, sym (by_this o twice before) ∙ ap (λ x. x && has_left (leavings_of old o) at.0) is))
+
+pub told_other : (e : Entry) (exits : List (ℕ × Leavings)) (trace : List Entry) → ((o : ℕ) (c : CircuitId) → times_seen o c (e ∷ []) ≡ 0) → ((o : ℕ) → left_far o e ≡ false)
+    → HasExits exits trace → HasExits exits (trace ++ e ∷ [])
+told_other e exits trace none near known = record {
+  at = λ o c. known.at o c ∙ ap (nat_lt 0) (sym (same o c));
+  beyond = λ o c out. same o c ∙ known.beyond o c out;
+  once = λ o h c. omega (arith, same o c, known.once o h c);
+  again = λ o h. record { circuit = (known.again o h).circuit; twice = omega (arith, same o (known.again o h).circuit, (known.again o h).twice) };
+  far = λ o. known.far o ∙ (or_no (list_any (left_far o) trace) (left_far o e) (near o) ∙ sym (any_more (left_far o) trace e));
+} where
+  same : (o : ℕ) (c : CircuitId) → times_seen o c (trace ++ e ∷ []) ≡ times_seen o c trace
+  same o c = omega (arith, times_more o c trace e, none o c)
+
+  or_no : (a b : Bool) → b ≡ false → a ≡ a || b
+  or_no true b is = refl
+  or_no false b is = sym is

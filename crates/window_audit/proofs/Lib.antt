@@ -1,0 +1,13 @@
+pub mod CalmLemmas
+pub mod ClosingLemmas
+pub mod EntryLemmas
+pub mod ExitLemmas
+pub mod LastingLemmas
+pub mod LossLemmas
+pub mod OpenedLemmas
+pub mod OpeningLemmas
+pub mod PastLemmas
+pub mod SourceLemmas
+pub mod SpareLemmas
+pub mod VerdictLemmas
+pub mod WindowLemmas

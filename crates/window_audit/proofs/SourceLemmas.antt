@@ -1,0 +1,88 @@
+-- Sources of frames, one frame after the other.
+use Rattle.std.proofs.Common.{◌≡◌, ◌==◌, ◌<◌, ◌&&◌, ◌||◌, ◌++◌, ◌∷◌, ◌∙◌, [], ℕ, Bool, true, false, List, Option, Some, None, cond, refl, ap, sym, arith, length, drop}
+use Rattle.std.proofs.lemmas.List.{length-drop, length-take}
+use Rattle.std.proofs.lemmas.Slice.Eq.{bytes_eq-Decides}
+use Rattle.std.specs.List.{list_any}
+use Rattle.std.specs.Str.{bytes_eq}
+use Rattle.net_base.specs.declared.plan.Plan.{Plan}
+use Rattle.net_base.specs.declared.plan.circuit_plan.CircuitPlan.{CircuitPlan}
+use Rattle.net_base.specs.declared.plan.places.CircuitId.{CircuitId}
+use Rattle.net_base.specs.declared.plan.places.ServiceId.{ServiceId}
+use Rattle.net_base.specs.declared.trace.entry.Entry.{Entry}
+use Rattle.net_base.specs.declared.trace.entry.Entry.TheVariants.{In}
+use Rattle.net_base.specs.plan.Places.{circuit_row}
+use Rattle.net_base.specs.trace.Frame.{source_of}
+use Rattle.net_values.specs.declared.mac.Mac.{Mac}
+use Rattle.seen_network.specs.Once.{is_row_of, is_sourced_by}
+use Rattle.window_audit.specs.Sources.{HasEntered, HasSources, comes_from, has_source}
+use Rattle.window_audit.specs.declared.source.Source.{Source}
+
+pub any_more : (test : Entry → Bool) (es : List Entry) (e : Entry) → list_any test (es ++ e ∷ []) ≡ list_any test es || test e
+any_more test [] e = or_none (test e) where
+  or_none : (b : Bool) → b || false ≡ b
+  or_none true = refl
+  or_none false = refl
+any_more test (x ∷ xs) e = by (test x) (any_more test xs e) where
+  by : (b : Bool) → list_any test (xs ++ e ∷ []) ≡ list_any test xs || test e → b || list_any test (xs ++ e ∷ []) ≡ (b || list_any test xs) || test e
+  by true is = refl
+  by false is = is
+
+-- a frame of fewer than twelve octets has no whole source address
+short_source : (octets address : List ℕ) → length octets < 12 → length address ≡ 6 → bytes_eq (source_of octets) address ≡ false
+short_source octets address few six = by (bytes_eq (source_of octets) address) refl where
+  by : (b : Bool) → bytes_eq (source_of octets) address ≡ b → b ≡ false
+  by false is = refl
+  by true is = absurd (omega (arith, few, six, ap length ((bytes_eq-Decides (source_of octets) address).0 is), length-take 6 (drop 6 octets), length-drop 6 octets))
+
+or_false : (b c : Bool) → c ≡ false → b ≡ b || c
+or_false true c is = refl
+or_false false c is = sym is
+
+and_false : (b c : Bool) → c ≡ false → b && c ≡ false
+and_false true c is = is
+and_false false c is = refl
+
+pub put_one : (old new : List Source) (s : Source)
+    → ((q : Source) → list_any (λ (k : Source). q.service == k.service && bytes_eq q.address.0 k.address.0) new
+    ≡ cond (s.service == q.service && bytes_eq s.address.0 q.address.0) true (list_any (λ (k : Source). q.service == k.service && bytes_eq q.address.0 k.address.0) old))
+    → (other : ServiceId) (address : Mac) → has_source new other.0 address.0 ≡ cond (s.service == other.0 && bytes_eq s.address.0 address.0) true (has_source old other.0 address.0)
+put_one old new s put other address = put (record { service = other.0; address = address })
+
+pub entered_short : (plan : Plan) (circuit : CircuitId) (octets : List ℕ) (sources : List Source) → length octets < 12 → HasEntered plan circuit octets sources sources
+entered_short plan circuit octets sources few = λ service address six.
+    or_false (has_source sources service.0 address.0) (comes_from plan circuit octets service address.0)
+    (and_false (is_row_of service (circuit_row plan circuit)) (bytes_eq (source_of octets) address.0) (short_source octets address.0 few six))
+
+pub entered_nowhere : (plan : Plan) (circuit : CircuitId) (octets : List ℕ) (sources : List Source) → circuit_row plan circuit ≡ None → HasEntered plan circuit octets sources sources
+entered_nowhere plan circuit octets sources none = λ service address six.
+    or_false (has_source sources service.0 address.0) (comes_from plan circuit octets service address.0)
+    (ap (λ (row : Option CircuitPlan). is_row_of service row && bytes_eq (source_of octets) address.0) none)
+
+pub entered_one : (plan : Plan) (circuit : CircuitId) (octets : List ℕ) (row : CircuitPlan) (from : Mac) (old new : List Source) → circuit_row plan circuit ≡ Some row → from.0 ≡ source_of octets
+    → ((other : ServiceId) (address : Mac) → has_source new other.0 address.0 ≡ cond (row.service.0 == other.0 && bytes_eq from.0 address.0) true (has_source old other.0 address.0))
+    → HasEntered plan circuit octets old new
+entered_one plan circuit octets row from old new is same put = λ service address six.
+    put service address
+    ∙ (ap (λ (octets : List ℕ). cond (row.service.0 == service.0 && bytes_eq octets address.0) true (has_source old service.0 address.0)) same
+    ∙ (turn (row.service.0 == service.0 && bytes_eq (source_of octets) address.0) (has_source old service.0 address.0)
+    ∙ ap (λ (r : Option CircuitPlan). has_source old service.0 address.0 || (is_row_of service r && bytes_eq (source_of octets) address.0)) (sym is))) where
+      turn : (a b : Bool) → cond a true b ≡ b || a
+      turn true true = refl
+      turn true false = refl
+      turn false true = refl
+      turn false false = refl
+
+pub told_in : (plan : Plan) (circuit : CircuitId) (number : ℕ) (octets : List ℕ) (old new : List Source) (trace : List Entry) → HasEntered plan circuit octets old new → HasSources plan old trace
+    → HasSources plan new (trace ++ In circuit number octets ∷ [])
+told_in plan circuit number octets old new trace entered has = λ service address six.
+    entered service address six
+    ∙ (ap (λ (b : Bool). b || comes_from plan circuit octets service address.0) (has service address six)
+    ∙ sym (any_more (is_sourced_by plan service address.0) trace (In circuit number octets)))
+
+pub told_other : (plan : Plan) (e : Entry) (sources : List Source) (trace : List Entry) → ((service : ServiceId) (address : List ℕ) → is_sourced_by plan service address e ≡ false)
+    → HasSources plan sources trace
+    → HasSources plan sources (trace ++ e ∷ [])
+told_other plan e sources trace none has = λ service address six.
+    has service address six
+    ∙ (or_false (list_any (is_sourced_by plan service address.0) trace) (is_sourced_by plan service address.0 e) (none service address.0)
+    ∙ sym (any_more (is_sourced_by plan service address.0) trace e))

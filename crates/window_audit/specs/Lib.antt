@@ -1,0 +1,10 @@
+pub mod CalmMemory
+pub mod EventEntries
+pub mod Exits
+pub mod Lasting
+pub mod Losses
+pub mod Opening
+pub mod Past
+pub mod Sources
+pub mod Verdict
+pub mod Windows

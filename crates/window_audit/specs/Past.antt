@@ -1,0 +1,68 @@
+-- What is known behind the events that are over.
+use Rattle.std.specs.Prelude.{◌≡◌, ◌≤◌, ℕ, List, [], ◌∷◌, Option, Some, None, length}
+use Rattle.net_base.specs.declared.plan.Plan.{Plan}
+use Rattle.net_base.specs.declared.plan.places.CircuitId.{CircuitId}
+use Rattle.net_base.specs.declared.plan.places.ServiceId.{ServiceId}
+use Rattle.net_base.specs.declared.trace.entry.Entry.{Entry}
+use Rattle.net_base.specs.declared.trace.entry.Entry.TheVariants.{Did}
+use Rattle.seen_network.specs.Seen.{seen_in}
+use Rattle.seen_state.specs.SeenState.{Knows}
+use Rattle.seen_state.specs.Sight.{sizes_of}
+use Rattle.seen_windows.specs.EventEntries.{HasNoEvent}
+use Rattle.seen_windows.specs.Past.{AreOwed, Describes, HasOpened}
+use Rattle.seen_windows.specs.declared.window.Window.{Window}
+use Rattle.window_audit.specs.CalmMemory.{Remembers}
+use Rattle.window_audit.specs.Exits.{HasExits, IsAtPort}
+use Rattle.window_audit.specs.Lasting.{AreLasting, windows_at}
+use Rattle.window_audit.specs.Losses.{AreWithin}
+use Rattle.window_audit.specs.Sources.{HasSources}
+use Rattle.window_audit.specs.declared.past.Past.{Past}
+
+-- what is known of windows behind entries
+pub record HasWindows (plan : Plan) (trace : List Entry) (past : Past) : Type 0 where
+  pub state : Knows past.state (seen_in trace)
+  pub calm : Remembers plan (seen_in trace) past.calm
+  pub lasting : AreLasting plan trace (windows_at past.lasting)
+  pub owed : AreOwed plan trace past.owed.items
+
+-- it is of a plan, and no more packets came than entries were told
+pub record IsPastOf (plan : Plan) (past : Past) : Type 0 where
+  pub sizes : past.state.sight.sizes ≡ sizes_of plan
+  pub few : past.state.copies.comings ≤ past.place
+
+-- what is known behind entries
+pub record HasSeen (plan : Plan) (trace : List Entry) (past : Past) : Type 0 where
+  pub place : past.place ≡ length trace
+  pub state : Knows past.state (seen_in trace)
+  pub calm : Remembers plan (seen_in trace) past.calm
+  pub sources : HasSources plan past.sources trace
+  pub exits : HasExits past.exits trace
+  pub lasting : AreLasting plan trace (windows_at past.lasting)
+  pub owed : AreOwed plan trace past.owed.items
+
+-- each of these entries speaks of what is there in a plan
+abbrev pub ArePlaced : Plan → List Entry → Type 0
+ArePlaced plan entries = AreWithin (sizes_of plan) entries
+
+-- each of these entries that tells where a frame left tells of one of 512 circuits
+abbrev pub AreAtPorts : List Entry → Type 0
+AreAtPorts [] = Unit {0}
+AreAtPorts (e ∷ es) = IsAtPort e × AreAtPorts es
+
+-- these are the entries of one event, its own first; or they stand before the first event
+abbrev pub AreOfOne : List Entry → List Entry → Type 0
+AreOfOne before [] = before ≡ []
+AreOfOne before (Did event ∷ es) = HasNoEvent es
+AreOfOne before (e ∷ es) = (before ≡ []) × HasNoEvent es
+
+-- the window of a frame that entered by an event
+pub record OpensOf (plan : Plan) (before : List Entry) (circuit : CircuitId) (octets : List ℕ) (during : List Entry) (window : Window) : Type 0 where
+  pub service : ServiceId
+  pub origin : ℕ
+  pub opened : HasOpened plan before circuit octets during service origin
+  pub describes : Describes plan before circuit octets during service origin window
+
+-- it is this one, where the frame has one
+abbrev pub FrameOpens : Plan → List Entry → CircuitId → List ℕ → List Entry → Option Window → Type 0
+FrameOpens plan before circuit octets during None = (service : ServiceId) (origin : ℕ) → HasOpened plan before circuit octets during service origin → ⊥
+FrameOpens plan before circuit octets during (Some window) = OpensOf plan before circuit octets during window

@@ -1,0 +1,90 @@
+//! The windows that are over.
+ghost use Rattle.std.specs.Prelude.{◌≡◌, ◌++◌, ◌∷◌, [], List as Items, filter, not, OnOk, if◌then◌else◌};
+ghost use Rattle.std.specs.List.{list_any};
+ghost use Rattle.net_base.specs.declared.plan.Plan.{Plan};
+ghost use Rattle.net_base.specs.declared.trace.entry.Entry.{Entry};
+ghost use Rattle.seen_network.specs.Once.{is_sourced_by};
+ghost use Rattle.seen_network.specs.Seen.{Seen};
+ghost use Rattle.seen_state.specs.SeenState.{Knows};
+ghost use Rattle.window_audit.specs.Lasting.{HasClosed, is_over, was_flooded, windows_at};
+ghost use Rattle.window_audit.specs.Sources.{HasSources};
+
+use crate::lasting::Lasting;
+use crate::sources::Sources;
+use net_base::{NoMemory, ServiceId};
+use net_values::Mac;
+use seen_state::SeenState;
+use seen_windows::Window;
+
+/// The windows of these frames are over where no copy of the frame is under way any more; those that were flooded are owed then.
+pub(crate) fn close(
+    lasting: &mut Lasting,
+    owed: &mut Vec<Window>,
+    state: &SeenState,
+    sources: &Sources,
+    losses: &[u64],
+) -> Result<(), NoMemory>
+    ensures { OnOk result ((plan : Plan) (trace : Items Entry) (seen : Seen) → Knows state.now seen → HasSources plan sources.now trace → HasClosed (is_over seen losses.now) (was_flooded plan trace) (windows_at lasting.old) (windows_at lasting.new) owed.old.items owed.new.items) }
+{
+    for origin in losses {
+        close_one(lasting, owed, state, sources, *origin)?;
+    }
+    Ok(())
+}
+
+// The windows of one frame.
+fn close_one(
+    lasting: &mut Lasting,
+    owed: &mut Vec<Window>,
+    state: &SeenState,
+    sources: &Sources,
+    origin: u64,
+) -> Result<(), NoMemory>
+    ensures { OnOk result ((plan : Plan) (trace : Items Entry) (seen : Seen) → Knows state.now seen → HasSources plan sources.now trace → HasClosed (is_over seen (origin ∷ [])) (was_flooded plan trace) (windows_at lasting.old) (windows_at lasting.new) owed.old.items owed.new.items) }
+{
+    if state.has(origin) {
+        return Ok(());
+    }
+    let windows = lasting.take(origin);
+    owe(owed, sources, windows.as_slice())
+}
+
+// Of these windows those are owed that were flooded.
+fn owe(owed: &mut Vec<Window>, sources: &Sources, windows: &[Window]) -> Result<(), NoMemory>
+    ensures { OnOk result ((plan : Plan) (trace : Items Entry) → HasSources plan sources.now trace → owed.new.items ≡ owed.old.items ++ filter (was_flooded plan trace) windows.now) }
+{
+    for window in windows {
+        owe_one(owed, sources, window)?;
+    }
+    Ok(())
+}
+
+// One window more is owed, where it was flooded.
+fn owe_one(owed: &mut Vec<Window>, sources: &Sources, window: &Window) -> Result<(), NoMemory>
+    ensures { OnOk result ((plan : Plan) (trace : Items Entry) → HasSources plan sources.now trace → owed.new.items ≡ owed.old.items ++ (if was_flooded plan trace window.now then window.now ∷ [] else [])) }
+{
+    if !was_flooded(sources, window) {
+        return Ok(());
+    }
+    match owed.push(*window) {
+        Ok(()) => Ok(()),
+        Err(_) => Err(NoMemory),
+    }
+}
+
+// The frame goes to a group, or to an address from which no frame entered its service.
+fn was_flooded(sources: &Sources, window: &Window) -> bool
+    ensures { (plan : Plan) (trace : Items Entry) → HasSources plan sources.now trace → result ≡ was_flooded plan trace window.now }
+{
+    match window.destination {
+        Some(address) => is_new(sources, window.service, address),
+        None => true,
+    }
+}
+
+// No frame entered the service from the address.
+fn is_new(sources: &Sources, service: ServiceId, address: Mac) -> bool
+    ensures { (plan : Plan) (trace : Items Entry) → HasSources plan sources.now trace → result ≡ not (list_any (is_sourced_by plan service address.0) trace) }
+{
+    !sources.has(service, address)
+}

@@ -1,0 +1,24 @@
+//! Whether each flooded frame that entered a calm service was seen exactly once, as a report alone shows it (RFC 4762 section 4).
+//!
+//! It is told entry by entry. The entries of an event are kept until the next event, since only then it is known whether the event
+//! applied. Its definitions are those of `seen_network` and `seen_windows`; nothing is run here.
+#![tactic(auto)]
+
+mod address;
+mod calm_memory;
+mod closed;
+mod event_entries;
+mod exits;
+mod lasting;
+mod leavings;
+mod losses;
+mod opened;
+mod opening;
+mod past;
+mod source;
+mod sources;
+mod spared;
+mod verdict;
+mod windows;
+
+pub use windows::Windows;

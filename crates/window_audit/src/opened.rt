@@ -1,0 +1,85 @@
+//! The window of a frame that enters.
+ghost use Rattle.std.specs.Prelude.{◌≡◌, ◌<◌, ◌+◌, ◌^◌, List as Items, length};
+ghost use Rattle.net_base.specs.declared.trace.entry.Entry.{Entry as Told};
+ghost use Rattle.net_base.specs.plan.Accepted.{IsWithinLimits};
+ghost use Rattle.seen_network.specs.Seen.{Seen, seen_in};
+ghost use Rattle.seen_state.specs.SeenState.{Knows};
+ghost use Rattle.seen_windows.specs.EventEntries.{HasNoEvent};
+ghost use Rattle.seen_windows.specs.Past.{IsOpened};
+ghost use Rattle.window_audit.specs.CalmMemory.{Remembers};
+ghost use Rattle.window_audit.specs.Past.{FrameOpens};
+
+use crate::calm_memory::CalmMemory;
+use crate::event_entries::entered;
+use crate::opening::open_at;
+use net_base::{CircuitId, Entry, Event, Plan};
+use seen_state::SeenState;
+use seen_windows::Window;
+
+/// The window of the frame that entered by an event, before which so many entries stand and behind which these.
+pub(crate) fn opened(
+    state: &SeenState,
+    calm: &mut CalmMemory,
+    plan: &Plan,
+    place: u64,
+    event: &Event,
+    rest: &[Entry],
+) -> Option<Window>
+    requires limits { IsWithinLimits plan.now }
+    requires bare { HasNoEvent rest.now }
+    requires few { place + length rest.now + 1 < 2 ^ 63 }
+    ensures opens { (before : Items Told) → place ≡ length before → Knows state.now (seen_in before) → Remembers plan.now (seen_in before) calm.old → IsOpened plan.now before event.now rest.now result }
+    ensures remembers { (seen : Seen) → Knows state.now seen → Remembers plan.now seen calm.old → Remembers plan.now seen calm.new }
+{
+    match *event {
+        Event::Frame { circuit, ref bytes } => {
+            frame_opened(state, calm, plan, place, circuit, bytes.as_slice(), rest)
+        }
+        Event::Connect { .. } => None,
+        Event::Deliver { .. } => None,
+        Event::Lose { .. } => None,
+        Event::Restart { .. } => None,
+        Event::Circuit { .. } => None,
+        Event::Tick => None,
+        Event::Arrive { .. } => None,
+        Event::Discard { .. } => None,
+        Event::Again { .. } => None,
+        Event::Wire { .. } => None,
+        Event::Status { .. } => None,
+        Event::Priority { .. } => None,
+        Event::Ping { .. } => None,
+    }
+}
+
+// The window of a frame that was put at a circuit.
+#[tactic(auto, using(crate::proofs::OpenedLemmas::place_within))]
+fn frame_opened(
+    state: &SeenState,
+    calm: &mut CalmMemory,
+    plan: &Plan,
+    place: u64,
+    circuit: CircuitId,
+    octets: &[u8],
+    rest: &[Entry],
+) -> Option<Window>
+    requires limits { IsWithinLimits plan.now }
+    requires bare { HasNoEvent rest.now }
+    requires few { place + length rest.now + 1 < 2 ^ 63 }
+    ensures opens { (before : Items Told) → place ≡ length before → Knows state.now (seen_in before) → Remembers plan.now (seen_in before) calm.old → FrameOpens plan.now before circuit octets.now rest.now result }
+    ensures remembers { (seen : Seen) → Knows state.now seen → Remembers plan.now seen calm.old → Remembers plan.now seen calm.new }
+{
+    let Some((origin, ahead)) = entered(rest, circuit) else {
+        return None;
+    };
+    let Some(opening) = open_at(state, calm, plan, circuit, octets) else {
+        return None;
+    };
+    Some(Window {
+        place: place + (1 + ahead),
+        sender: circuit,
+        service: opening.service,
+        origin,
+        destination: opening.destination,
+        sites: opening.sites,
+    })
+}

@@ -1,0 +1,61 @@
+//! Whether frames were seen exactly once.
+ghost use Rattle.std.specs.Prelude.{◌≡◌, List};
+ghost use Rattle.net_base.specs.declared.trace.entry.Entry.{Entry as Told};
+ghost use Rattle.net_base.specs.plan.Accepted.{IsWithinLimits};
+ghost use Rattle.seen_windows.specs.Verdict.{IsFirstOwed};
+ghost use Rattle.window_audit.specs.Exits.{HasExits};
+ghost use Rattle.window_audit.specs.Verdict.{AgreeOrDiffer, Judges, earlier};
+
+use crate::exits::Exits;
+use hvpls_spokes::PortSet;
+use net_base::Plan;
+use seen_windows::Window;
+
+/// The first place at which a frame entered whose window is one of these, and that did not leave once at each site and nowhere else.
+pub(crate) fn first_unserved(exits: &Exits, plan: &Plan, owed: &[Window]) -> Option<u64>
+    requires { IsWithinLimits plan.now }
+    ensures { (trace : List Told) → HasExits exits.now trace → IsFirstOwed plan.now trace owed.now result }
+{
+    let mut first = None;
+    for window in owed {
+        if !is_served(exits, plan, window) {
+            first = Some(earlier(first, window.place));
+        }
+    }
+    first
+}
+
+// A place, or one before it.
+fn earlier(first: Option<u64>, place: u64) -> u64
+    ensures { result ≡ earlier first place }
+{
+    match first {
+        Some(first) => first.min(place),
+        None => place,
+    }
+}
+
+/// Whether the frame of a window left once at each site and nowhere else, each copy within twelve segments.
+pub(crate) fn is_served(exits: &Exits, plan: &Plan, window: &Window) -> bool
+    requires { IsWithinLimits plan.now }
+    ensures { (trace : List Told) → HasExits exits.now trace → Judges plan.now trace window.now result }
+{
+    let leavings = exits.leavings(window.origin);
+    if leavings.again || leavings.far {
+        return false;
+    }
+    is_at_sites(plan, &window.sites, &leavings.at)
+}
+
+// Whether a frame left at those sites that are circuits of the plan, and at no other circuit.
+fn is_at_sites(plan: &Plan, sites: &PortSet, at: &PortSet) -> bool
+    ensures { AgreeOrDiffer plan.now sites.now at.now result }
+{
+    for circuit in 0..512 {
+        let due = (circuit as usize) < plan.circuits.len() && sites.contains(circuit);
+        if at.contains(circuit) != due {
+            return false;
+        }
+    }
+    true
+}
