@@ -2,6 +2,10 @@
 #![tactic(auto)]
 
 #[cfg(test)]
-mod paths;
+mod once_rows;
+#[cfg(test)]
+mod reports;
 #[cfg(test)]
 mod rows;
+#[cfg(test)]
+mod worked_rows;

@@ -1,8 +1,7 @@
 -- A report whose first line names the format is begun.
 use denote.Ref.{Bor}
-use Rattle.std.proofs.Common.{◌≡◌, ◌≤◌, ◌∙◌, ℕ, codes, Bool, true, false, cond, List, [], ◌∷◌, length, nat_eq, Option, Some, None, option_map, refl, sym, ap, arith}
+use Rattle.std.proofs.Common.{◌≡◌, ◌≤◌, ◌∙◌, ℕ, codes, Bool, true, false, cond, List, [], ◌∷◌, length, nat_eq, Option, Some, option_map, sym, ap, arith}
 use Rattle.std.specs.Str.{bytes_eq}
-use Rattle.net_base.specs.declared.plan.Plan.{Plan}
 use Rattle.report_entries.specs.declared.tally.Tally.{Tally}
 use Rattle.report_entries.specs.Answers.{HasBegun}
 use Rattle.report_entries.specs.Counted.{first_counts}

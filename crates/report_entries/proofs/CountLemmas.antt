@@ -1,5 +1,5 @@
 -- Each entry is counted at most once.
-use Rattle.std.proofs.Common.{◌≡◌, ◌≤◌, ◌+◌, ℕ, subst, sym, arith}
+use Rattle.std.proofs.Common.{◌≡◌, subst, sym, arith}
 use Rattle.net_base.specs.declared.trace.entry.Entry.{Entry}
 use Rattle.net_base.specs.declared.trace.entry.Entry.TheVariants as entry
 use Rattle.report_entries.specs.declared.tally.Tally.{Tally}

@@ -1,10 +1,9 @@
 -- The words of a line are found again.
-use Rattle.std.proofs.Common.{◌≡◌, ◌≤◌, ◌+◌, ◌++◌, ◌&&◌, ◌∙◌, ℕ, zero, suc, codes, Bool, true, false, List, [], ◌∷◌, Option, Some, None, length, nat_eq, not, option_map, unwrap_or, refl, sym, ap, arith, append_assoc}
+use Rattle.std.proofs.Common.{◌≡◌, ◌≤◌, ◌+◌, ◌++◌, ◌&&◌, ◌∙◌, ℕ, zero, suc, codes, Bool, true, false, List, [], ◌∷◌, Some, None, length, nat_eq, not, refl, sym, ap, arith, append_assoc}
 use Rattle.std.proofs.lemmas.Bool.{eq-eqb}
-use Rattle.std.specs.List.{AllByRecursion}
-use Rattle.text_lines.specs.Lines.{line_end, line_of}
-use Rattle.read_lines.specs.Plain.{HasWords, IsPlain, IsPlainLine, is_plain}
-use Rattle.report_entries.specs.Cut.{before_mark, behind_mark, blank, words_within}
+use Rattle.text_lines.specs.Lines.{line_of}
+use Rattle.read_lines.specs.Plain.{IsPlain, IsPlainLine, is_plain}
+use Rattle.report_entries.specs.Cut.{before_mark, behind_mark, words_within}
 use Rattle.report_entries.specs.Laws.{IsFreeOf}
 
 no_blank : (c : ℕ) → is_plain c ≡ true → nat_eq c 32 ≡ false

@@ -36,14 +36,14 @@ use Rattle.text_lines.specs.Lines.{line_of}
 use Rattle.read_lines.specs.Plain.{HasWords}
 use Rattle.report_text.specs.Report.{entry_line, entry_words}
 use Rattle.report_text.specs.Words.{arrival_name, cause_name, circuit_name, edge_name, event_words, name_or_empty, state_name, switch_name, wire_end_name, wire_name}
-use Rattle.event_words.specs.Law.{HasNames}
-use Rattle.event_words.proofs.ValueLemmas.{number_said, row_said}
+use Rattle.event_laws.specs.Law.{HasNames}
+use Rattle.event_laws.proofs.ValueLemmas.{number_said, row_said}
 use Rattle.report_reading.specs.Named.{AreOctets, HasNamesApart, IsArrival, IsCircuit, IsEdge, IsNamed, IsNamedEvent, IsNumber, IsWire, IsWithin}
 use Rattle.report_reading.proofs.ApartLemmas.{names_apart}
 use Rattle.report_reading.proofs.PlainLemmas.{entry_plain}
 use Rattle.report_entries.specs.Cut.{line_words, words_within}
-use Rattle.report_entries.specs.Entries.{aged_in, carried_in, copied_in, did_in, dropped_in, entered_in, entry_of, idle_in, left_in, line_entry, loose_entry, packet_told_in, passed_in, pong_in, said_in, sent_in, session_in, told_in, wire_told_in, words_entry}
-use Rattle.report_entries.specs.Events.{circuit_switch_in, connect_in, connection_event_in, deliver_in, event_in, event_of, frame_in, lose_in, of_record_size, packet_in, part_event_in, ping_in, priority_in, restart_in, status_in, tick_in, wire_switch_in}
+use Rattle.report_entries.specs.Entries.{aged_in, carried_in, copied_in, dropped_in, entered_in, entry_of, idle_in, left_in, line_entry, loose_entry, packet_told_in, passed_in, pong_in, said_in, sent_in, session_in, told_in, wire_told_in, words_entry}
+use Rattle.report_entries.specs.Events.{circuit_switch_in, connect_in, connection_event_in, deliver_in, event_in, event_of, frame_in, lose_in, packet_in, part_event_in, ping_in, priority_in, restart_in, status_in, tick_in, wire_switch_in}
 use Rattle.report_entries.proofs.CutLemmas.{joined_free, line_is, words_found}
 use Rattle.report_entries.specs.Laws.{IsFreeOf}
 use Rattle.report_entries.specs.Reading.{arrival_in, cause_in, cause_rest_in, circuit_in, edge_in, ended_in, number_in, octets_in, ok_of, sequence_in, state_in, switch_in, wire_end_in, wire_in}

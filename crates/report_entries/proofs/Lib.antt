@@ -2,6 +2,7 @@ pub mod BeginLemmas
 pub mod CountLemmas
 pub mod CutLemmas
 pub mod FoundLemmas
+pub mod MarkLemmas
 pub mod NamedLemmas
 pub mod ReportFoundLemmas
 pub mod ReportLemmas

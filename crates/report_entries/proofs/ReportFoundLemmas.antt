@@ -1,21 +1,19 @@
 -- The report of a trace is read.
-use Rattle.std.proofs.Common.{◌≡◌, ◌<◌, ◌≤◌, ◌+◌, ◌++◌, ◌∙◌, ℕ, zero, suc, codes, Bool, true, false, List, [], ◌∷◌, Some, None, Ok, cond, length, refl, sym, ap, arith, append_assoc, length-append}
+use Rattle.std.proofs.Common.{◌≡◌, ◌<◌, ◌≤◌, ◌+◌, ◌++◌, ◌∙◌, ℕ, zero, suc, codes, true, false, List, [], ◌∷◌, Ok, length, refl, ap, arith, append_assoc, length-append}
 use Rattle.std.specs.List.{AllByRecursion}
-use Rattle.std.specs.Str.{bytes_eq}
 use Rattle.net_base.specs.declared.plan.Plan.{Plan}
 use Rattle.net_base.specs.declared.trace.entry.Entry.{Entry}
 use Rattle.net_base.specs.declared.trace.entry.Entry.TheVariants as entry
 use Rattle.net_base.specs.plan.Accepted.{IsChecked}
-use Rattle.text_lines.specs.Lines.{line_end, line_of}
+use Rattle.text_lines.specs.Lines.{line_of}
 use Rattle.report_text.specs.Report.{entry_line, entry_lines, entry_words}
-use Rattle.event_words.specs.Law.{HasNames}
+use Rattle.event_laws.specs.Law.{HasNames}
 use Rattle.report_reading.specs.Named.{HasNamesApart, IsNamed}
 use Rattle.report_reading.proofs.ApartLemmas.{names_apart}
 use Rattle.report_reading.proofs.PlainLemmas.{entry_plain}
 use Rattle.read_lines.specs.Plain.{HasWords}
 use Rattle.report_entries.specs.declared.tally.Tally.{Tally}
-use Rattle.report_entries.specs.Cut.{before_mark, behind_mark, line_words}
-use Rattle.report_entries.specs.Entries.{line_entry}
+use Rattle.report_entries.specs.Cut.{line_words}
 use Rattle.report_entries.specs.Counted.{counted, first_counts}
 use Rattle.report_entries.specs.Laws.{IsFreeOf, counted_all}
 use Rattle.report_entries.specs.Report.{goes_on, is_last, is_last_of, told_of, with_entry}

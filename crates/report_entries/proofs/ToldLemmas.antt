@@ -1,29 +1,27 @@
 -- The report of a trace tells this trace.
-use Rattle.std.proofs.Common.{◌≡◌, ◌<◌, ◌≤◌, ◌+◌, ◌^◌, ◌++◌, ◌&&◌, ◌∙◌, ℕ, codes, Bool, true, false, List, [], ◌∷◌, length, Option, Some, None, Result, Ok, cond, count_by, nat_le, refl, sym, ap, arith}
+use Rattle.std.proofs.Common.{◌≡◌, ◌<◌, ◌≤◌, ◌+◌, ◌^◌, ◌++◌, ◌&&◌, ◌∙◌, ℕ, codes, Bool, true, false, List, [], ◌∷◌, length, Some, None, Ok, cond, count_by, nat_le, refl, sym, ap, arith}
 use Rattle.std.proofs.lemmas.List.Sums.{sum_by-cons}
 use Rattle.std.proofs.lemmas.Slice.Eq.{bytes_eq-Decides}
 use Rattle.std.specs.Fmt.{decimal}
-use Rattle.std.specs.Str.{bytes_eq}
 use Rattle.net_base.specs.declared.plan.Plan.{Plan}
 use Rattle.net_base.specs.declared.trace.entry.Entry.{Entry}
 use Rattle.net_base.specs.declared.trace.entry.Entry.TheVariants as entry
 use Rattle.net_base.specs.plan.Accepted.{IsChecked}
-use Rattle.command_text.specs.Words.{decimal_from, is_decimal, value_from}
+use Rattle.command_text.specs.Words.{is_decimal, value_from}
 use Rattle.text_lines.specs.Lines.{line_of}
 use Rattle.report_text.specs.declared.ending.Ending.{Ending}
 use Rattle.report_text.specs.declared.ending.Ending.TheVariants.{End, Crowded, TooMuch}
-use Rattle.report_text.specs.declared.last_line.Counted.{Counted}
 use Rattle.report_text.specs.declared.last_line.Counted.TheVariants as kind
 use Rattle.report_text.specs.Report.{counts_words, entry_lines, is_counted, last_line, last_words, report, told_words}
-use Rattle.event_words.specs.Law.{HasNames}
-use Rattle.event_words.proofs.ValueLemmas.{number_said}
+use Rattle.event_laws.specs.Law.{HasNames}
+use Rattle.event_laws.proofs.ValueLemmas.{number_said}
 use Rattle.read_lines.specs.Plain.{HasWords}
 use Rattle.report_reading.specs.Named.{IsNumber}
 use Rattle.report_reading.specs.Read.{IsEnding, ReadReport}
 use Rattle.report_reading.proofs.PlainLemmas.{last_plain}
 use Rattle.report_entries.specs.declared.tally.Tally.{Tally}
 use Rattle.report_entries.specs.Counted.{counted, first_counts}
-use Rattle.report_entries.specs.Cut.{line_words, words_within}
+use Rattle.report_entries.specs.Cut.{line_words}
 use Rattle.report_entries.specs.Laws.{IsFreeOf, counted_all}
 use Rattle.report_entries.specs.Report.{is_last, is_last_of, tally_line, told_of}
 use Rattle.report_entries.proofs.CutLemmas.{joined, joined_free, line_joined, words_found}

@@ -1,6 +1,5 @@
 -- A line that is put and flushed was taken whole.
-use Rattle.std.proofs.Common.{◌≡◌, ◌≤◌, ◌∙◌, ◌++◌, ℕ, List, [], ◌∷◌, Option, Some, sym, ap, append-nil}
-use Rattle.net_base.specs.outside.Outside.{Appends}
+use Rattle.std.proofs.Common.{◌≡◌, ◌∙◌, ◌++◌, ℕ, List, [], ◌∷◌, Some, sym, ap, append-nil}
 use Rattle.text_lines.specs.Written.{GoesOn, Writes, written}
 
 pub whole_line : (line page : List ℕ) (taken : List ℕ) (last : List ℕ) (faults now : ℕ) → GoesOn (written (Some []) faults []) (written (Some taken) now page) line → Writes (Some taken) (Some last) page → last ≡ line

@@ -2,6 +2,7 @@
 ghost use Rattle.std.specs.Prelude.{◌≡◌, ◌≤◌, ◌+◌, nat_lt, Some, None, drop, length, map, option_map, take, if◌then◌else◌, IfOk};
 ghost use Rattle.report_entries.specs.Cut.{before_mark, behind_mark, line_words, words_within};
 
+use memchr::memchr;
 use net_base::NoMemory;
 use std::alloc::Global;
 
@@ -11,14 +12,10 @@ fn front_len(mark: u8, text: &[u8]) -> usize
     ensures behind { behind_mark mark text.now ≡ (if nat_lt result (length text.now) then Some (drop (result + 1) text.now) else None) }
     ensures within { result ≤ length text.now }
 {
-    let mut at = 0;
-    'looking: while at < text.len() {
-        if text[at] == mark {
-            return at;
-        }
-        at += 1;
+    match memchr(mark, text) {
+        Some(at) => at,
+        None => text.len(),
     }
-    at
 }
 
 /// What stands before the first such octet, and what follows it; `None` where there is none.

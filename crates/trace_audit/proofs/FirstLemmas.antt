@@ -4,11 +4,10 @@ use Rattle.net_base.specs.declared.plan.Plan.{Plan}
 use Rattle.net_base.specs.declared.trace.entry.Entry.{Entry}
 use Rattle.net_base.specs.trace.Isolated.{IsolatedAfter, IsolatedEntry}
 use Rattle.net_base.specs.trace.Split.{Split, SplitEntry}
-use Rattle.trace_audit.specs.declared.came.Came.{Came}
 use Rattle.trace_audit.specs.declared.judge.Judge.{Judge}
 use Rattle.trace_audit.specs.Audited.{FirstCrossing, FirstStray}
 use Rattle.trace_audit.specs.Judged.{begun, is_crossing, is_stray, judges, judges_all}
-use Rattle.trace_audit.proofs.PathLemmas.{Knows, begun_knows, clash, crossed_stays, entry_isolated, entry_split, isolated_entry, knows_more, none_some, split_entry, stray_stays}
+use Rattle.trace_audit.proofs.PathLemmas.{Knows, begun_knows, clash, crossed_stays, entry_isolated, entry_split, isolated_entry, knows_more, none_some, split_entry, stray_same, stray_stays}
 
 some_same : {a b : ℕ} → Some a ≡ Some b → a ≡ b
 some_same e = cc e
@@ -36,7 +35,7 @@ stray_behind plan earlier (e ∷ es) judge line knows none at last = by (is_stra
         after = es;
         is = refl;
         isolated = tt;
-        strays = λ isolated. clash (sym (isolated_entry plan earlier e (subst (λ (l : List Entry). IsolatedEntry plan l e) (append-nil earlier) isolated)) ∙ (sym (ap (λ (l : List Came). is_stray plan l e) knows.came) ∙ strays));
+        strays = λ isolated. clash (sym (isolated_entry plan earlier e (subst (λ (l : List Entry). IsolatedEntry plan l e) (append-nil earlier) isolated)) ∙ (sym (stray_same plan earlier judge e knows) ∙ strays));
         line_is = omega (arith, at, some_same here);
       }
   by false stays rest =
@@ -46,7 +45,7 @@ stray_behind plan earlier (e ∷ es) judge line knows none at last = by (is_stra
         entry = found.entry;
         after = found.after;
         is = ap (λ (l : List Entry). e ∷ l) found.is;
-        isolated = (entry_isolated plan earlier e (ap (λ (l : List Came). is_stray plan l e) (sym knows.came) ∙ stays), found.isolated);
+        isolated = (entry_isolated plan earlier e (sym (stray_same plan earlier judge e knows) ∙ stays), found.isolated);
         strays = λ isolated. found.strays (subst (λ (l : List Entry). IsolatedEntry plan l found.entry) (sym (append_assoc earlier (e ∷ []) found.before)) isolated);
         line_is = omega (arith, found.line_is, length-append earlier (e ∷ []));
       }

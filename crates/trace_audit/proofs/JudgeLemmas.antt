@@ -1,16 +1,7 @@
--- What holds of one item holds of some.
-use Rattle.std.proofs.Common.{◌≡◌, ◌<◌, ◌≤◌, ◌+◌, ◌||◌, ◌∙◌, ℕ, zero, suc, Bool, true, false, List, [], ◌∷◌, length, drop, get_or, refl, sym, arith}
+-- An edge stands inside a path where it stands before its last one, behind its first one.
+use Rattle.std.proofs.Common.{◌≡◌, ◌<◌, ◌≤◌, ◌+◌, ◌∙◌, ℕ, zero, suc, false, List, [], ◌∷◌, length, drop, refl, sym, arith}
 use Rattle.net_base.specs.declared.plan.places.EdgeId.{EdgeId}
 use Rattle.net_base.specs.trace.Split.{is_before_last, is_inside}
-use Rattle.std.specs.List.{list_any}
-
-pub any_at : {A : Type 0} (test : A → Bool) (xs : List A) (i : ℕ) (d : A) → i < length xs → test (get_or xs i d) ≡ true → list_any test xs ≡ true
-any_at test [] i d within holds = absurd (omega arith)
-any_at test (x ∷ xs) zero d within holds = rw holds refl
-any_at test (x ∷ xs) (suc i) d within holds = by (test x) (any_at test xs i d (omega (arith, within)) holds) where
-  by : (b : Bool) → list_any test xs ≡ true → (b || list_any test xs) ≡ true
-  by true rest = refl
-  by false rest = rest
 
 -- an edge of which so many others stand in front is not before the last one, where no two are left
 few_left : (edge : EdgeId) (path : List EdgeId) → length path ≤ 1 → is_before_last edge path ≡ false

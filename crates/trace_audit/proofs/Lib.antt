@@ -1,4 +1,8 @@
+pub mod ArrivalLemmas
+pub mod EarLemmas
 pub mod FirstLemmas
 pub mod HeardLemmas
 pub mod JudgeLemmas
 pub mod PathLemmas
+pub mod PlacedLemmas
+pub mod YesLemmas

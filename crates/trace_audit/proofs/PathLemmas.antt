@@ -1,5 +1,5 @@
 -- What is known of the frames that entered and left, and of the packets that were sent, is what the rules say of the trace.
-use Rattle.std.proofs.Common.{◌≡◌, ◌+◌, ◌++◌, ◌&&◌, ◌||◌, ◌∙◌, ◌↔◌, not, ℕ, Bool, true, false, List, [], ◌∷◌, Option, Some, None, Result, Ok, Err, nat_eq, refl, sym, ap, append_assoc, append-nil, inl, inr}
+use Rattle.std.proofs.Common.{◌≡◌, ◌+◌, ◌++◌, ◌&&◌, ◌||◌, ◌∙◌, ◌↔◌, not, ℕ, Bool, true, false, List, [], ◌∷◌, Option, Some, None, Result, Ok, Err, cond, nat_eq, refl, sym, ap, subst, append_assoc, append-nil, inl, inr}
 use Rattle.std.proofs.lemmas.Bool.{eq-eqb, eqb-true}
 use Rattle.std.proofs.lemmas.Slice.Eq.{bytes_eq-Decides}
 use Rattle.std.specs.List.{list_any}
@@ -18,9 +18,9 @@ use Rattle.net_base.specs.plan.Places.{is_mesh_wire, service_of}
 use Rattle.net_base.specs.trace.Isolated.{Among, CameIn, Isolated, IsolatedAfter, IsolatedEntry, inner_at}
 use Rattle.net_base.specs.trace.Split.{Split, SplitEntry, SplitSent, is_switching_point}
 use Rattle.report_entries.specs.Reading.{ok_of}
-use Rattle.trace_audit.specs.declared.came.Came.{Came}
 use Rattle.trace_audit.specs.declared.judge.Judge.{Judge}
-use Rattle.trace_audit.specs.Judged.{begun, came_after, crosses, first_line, has_come, inner_found, is_came, is_crossing, is_stray, judges, judges_all, with_came}
+use Rattle.trace_audit.specs.Arrivals.{Entered, has_come, is_entered, with_came}
+use Rattle.trace_audit.specs.Judged.{begun, came_after, crosses, entered_at, entered_by, first_line, has_one, inner_found, is_crossing, is_stray, judges, judges_all, with_one}
 
 pub clash : {P : Type 0} → false ≡ true → P
 clash e = absurd (cc)
@@ -31,36 +31,17 @@ parts false b e = cc e
 
 -- ---- the frames that entered
 
-abbrev entry_came : Plan → Entry → List Came
+abbrev entry_came : Plan → Entry → List Entered
 entry_came plan e = came_after plan e []
 
-pub came_list : Plan → List Entry → List Came
+pub came_list : Plan → List Entry → List Entered
 came_list plan [] = []
 came_list plan (e ∷ es) = entry_came plan e ++ came_list plan es
-
-with_came_is : (number : ℕ) (service : Option ServiceId) (frame : Option (List ℕ)) (came : List Came) → with_came number service frame came ≡ came ++ with_came number service frame []
-with_came_is number None frame came = sym (append-nil came)
-with_came_is number (Some service) None came = sym (append-nil came)
-with_came_is number (Some service) (Some frame) came = refl
-
-came_after_is : (plan : Plan) (e : Entry) (came : List Came) → came_after plan e came ≡ came ++ entry_came plan e
-came_after_is plan (entry.Did event) came = sym (append-nil came)
-came_after_is plan entry.Idle came = sym (append-nil came)
-came_after_is plan (entry.Said from to octets) came = sym (append-nil came)
-came_after_is plan (entry.In circuit number octets) came = with_came_is number (service_of plan circuit) (inner_found plan circuit octets) came
-came_after_is plan (entry.Sent from to wire came' packet origin hops octets) came = sym (append-nil came)
-came_after_is plan (entry.Copied packet of) came = sym (append-nil came)
-came_after_is plan (entry.Aged packet) came = sym (append-nil came)
-came_after_is plan (entry.Left circuit origin hops octets) came = sym (append-nil came)
-came_after_is plan (entry.Dropped edge origin cause) came = sym (append-nil came)
-came_after_is plan (entry.Session edge peer name) came = sym (append-nil came)
-came_after_is plan (entry.Wire edge wire down) came = sym (append-nil came)
-came_after_is plan (entry.Pong edge wire sequence) came = sym (append-nil came)
 
 list-append : (plan : Plan) (xs : List Entry) (e : Entry) → came_list plan (xs ++ e ∷ []) ≡ came_list plan xs ++ entry_came plan e
 unfolding came_list
 list-append plan [] e = append-nil (entry_came plan e)
-list-append plan (x ∷ xs) e = ap (λ (l : List Came). entry_came plan x ++ l) (list-append plan xs e) ∙ sym (append_assoc (entry_came plan x) (came_list plan xs) (entry_came plan e))
+list-append plan (x ∷ xs) e = ap (λ (l : List Entered). entry_came plan x ++ l) (list-append plan xs e) ∙ sym (append_assoc (entry_came plan x) (came_list plan xs) (entry_came plan e))
 
 any-append : {A : Type 0} (test : A → Bool) (xs ys : List A) → list_any test (xs ++ ys) ≡ (list_any test xs || list_any test ys)
 any-append test [] ys = refl
@@ -68,6 +49,52 @@ any-append test (x ∷ xs) ys = by (test x) (any-append test xs ys) where
   by : (b : Bool) → list_any test (xs ++ ys) ≡ (list_any test xs || list_any test ys) → (b || list_any test (xs ++ ys)) ≡ ((b || list_any test xs) || list_any test ys)
   by true rest = refl
   by false rest = rest
+
+or_none : (b : Bool) → b ≡ (b || false)
+or_none true = refl
+or_none false = refl
+
+same_octets : (a : List ℕ) → bytes_eq a a ≡ true
+same_octets a = (bytes_eq-Decides a a).1 refl
+
+-- two frames that are known to be the same are
+entered_same : (a b : Entered) → is_entered a b ≡ true → a ≡ b
+entered_same a b is =
+    let first = parts (nat_eq a.number b.number) (nat_eq a.service b.service && bytes_eq a.frame b.frame) is in
+    let second = parts (nat_eq a.service b.service) (bytes_eq a.frame b.frame) first.1 in
+    λ i. record { number = eqb-true a.number b.number first.0 i; service = eqb-true a.service b.service second.0 i; frame = (bytes_eq-Decides a.frame b.frame).0 second.1 i }
+
+entered_itself : (a : Entered) → is_entered a a ≡ true
+entered_itself a = rw (eq-eqb a.number a.number refl, eq-eqb a.service a.service refl, same_octets a.frame) refl
+
+-- a frame more is found, and none that was not there before
+kept_found : (came : List Entered) (one other : Entered) → has_come (with_came came one) other ≡ (has_come came other || (is_entered other one || false))
+kept_found came one other = by (has_come came one) refl where
+  here : (b : Bool) → is_entered other one ≡ b → has_come came one ≡ true → has_come came other ≡ (has_come came other || (b || false))
+  here true same there = let found : has_come came other ≡ true = subst (λ (x : Entered). has_come came x ≡ true) (sym (entered_same other one same)) there in rw found refl
+  here false same there = or_none (has_come came other)
+
+  by : (b : Bool) → has_come came one ≡ b → has_come (cond b came (came ++ one ∷ [])) other ≡ (has_come came other || (is_entered other one || false))
+  by true there = here (is_entered other one) refl there
+  by false there = any-append (is_entered other) came (one ∷ [])
+
+one_found : (came : List Entered) (kept : Option Entered) (other : Entered) → has_come (with_one came kept) other ≡ (has_come came other || has_come (with_one [] kept) other)
+one_found came None other = or_none (has_come came other)
+one_found came (Some one) other = kept_found came one other
+
+after_found : (plan : Plan) (e : Entry) (came : List Entered) (other : Entered) → has_come (came_after plan e came) other ≡ (has_come came other || has_come (entry_came plan e) other)
+after_found plan (entry.Did event) came other = or_none (has_come came other)
+after_found plan entry.Idle came other = or_none (has_come came other)
+after_found plan (entry.Said from to octets) came other = or_none (has_come came other)
+after_found plan (entry.In circuit number octets) came other = one_found came (entered_at plan circuit number octets) other
+after_found plan (entry.Sent from to wire came' packet origin hops octets) came other = or_none (has_come came other)
+after_found plan (entry.Copied packet of) came other = or_none (has_come came other)
+after_found plan (entry.Aged packet) came other = or_none (has_come came other)
+after_found plan (entry.Left circuit origin hops octets) came other = or_none (has_come came other)
+after_found plan (entry.Dropped edge origin cause) came other = or_none (has_come came other)
+after_found plan (entry.Session edge peer name) came other = or_none (has_come came other)
+after_found plan (entry.Wire edge wire down) came other = or_none (has_come came other)
+after_found plan (entry.Pong edge wire sequence) came other = or_none (has_come came other)
 
 -- a frame with this number entered the service, and is this one
 record HasCome (plan : Plan) (earlier : List Entry) (origin : ℕ) (service : ServiceId) (frame : List ℕ) : Type 0 where
@@ -77,43 +104,40 @@ record HasCome (plan : Plan) (earlier : List Entry) (origin : ℕ) (service : Se
   of_service : service_of plan sender ≡ Some service
   as_entered : inner_at plan sender entered ≡ Ok frame
 
+abbrev named : ℕ → ServiceId → List ℕ → Entered
+named number service frame = record { number = number; service = service.0; frame = frame }
+
 here_came : (plan : Plan) (circuit : CircuitId) (number : ℕ) (octets : List ℕ) (es : List Entry) (origin : ℕ) (service : ServiceId) (frame : List ℕ) (of : Option ServiceId) (inner : Result (List ℕ) DropCause)
-    → service_of plan circuit ≡ of → inner_at plan circuit octets ≡ inner → list_any (is_came origin service frame) (with_came number of (ok_of inner) []) ≡ true → HasCome plan (entry.In circuit number octets ∷ es) origin service frame
+    → service_of plan circuit ≡ of → inner_at plan circuit octets ≡ inner → has_come (with_one [] (entered_by number of (ok_of inner))) (named origin service frame) ≡ true → HasCome plan (entry.In circuit number octets ∷ es) origin service frame
 here_came plan circuit number octets es origin service frame None inner is_of is_inner any = clash any
 here_came plan circuit number octets es origin service frame (Some own) (Err why) is_of is_inner any = clash any
 here_came plan circuit number octets es origin service frame (Some own) (Ok mine) is_of is_inner any = record {
   sender = circuit;
   entered = octets;
-  before = inl (ap (λ (n : ℕ). entry.In circuit n octets) (sym (eqb-true number origin first.0)));
-  of_service = is_of ∙ ap Some same_service;
-  as_entered = is_inner ∙ ap Ok ((bytes_eq-Decides mine frame).0 second.1);
+  before = inl (ap (λ (e : Entered). entry.In circuit e.number octets) same);
+  of_service = is_of ∙ ap (λ (e : Entered). Some (record { 0 = e.service })) (sym same);
+  as_entered = is_inner ∙ ap (λ (e : Entered). Ok e.frame) (sym same);
 }
   where
     left : (b : Bool) → (b || false) ≡ true → b ≡ true
     left true e = refl
     left false e = e
 
-    first : (nat_eq number origin ≡ true) × ((nat_eq own.0 service.0 && bytes_eq mine frame) ≡ true)
-    first = parts (nat_eq number origin) (nat_eq own.0 service.0 && bytes_eq mine frame) (left _ any)
-
-    second : (nat_eq own.0 service.0 ≡ true) × (bytes_eq mine frame ≡ true)
-    second = parts (nat_eq own.0 service.0) (bytes_eq mine frame) first.1
-
-    same_service : own ≡ service
-    same_service = ap (λ (n : ℕ). record { 0 = n }) (eqb-true own.0 service.0 second.0)
+    same : named origin service frame ≡ named number own mine
+    same = entered_same (named origin service frame) (named number own mine) (left (is_entered (named origin service frame) (named number own mine)) any)
 
 later_came : (plan : Plan) (e : Entry) (es : List Entry) (origin : ℕ) (service : ServiceId) (frame : List ℕ) → HasCome plan es origin service frame → HasCome plan (e ∷ es) origin service frame
 later_came plan e es origin service frame come = record { sender = come.sender; entered = come.entered; before = inr come.before; of_service = come.of_service; as_entered = come.as_entered }
 
-come_found : (plan : Plan) (es : List Entry) (origin : ℕ) (service : ServiceId) (frame : List ℕ) → list_any (is_came origin service frame) (came_list plan es) ≡ true → HasCome plan es origin service frame
+come_found : (plan : Plan) (es : List Entry) (origin : ℕ) (service : ServiceId) (frame : List ℕ) → has_come (came_list plan es) (named origin service frame) ≡ true → HasCome plan es origin service frame
 unfolding came_list
 come_found plan [] origin service frame any = clash any
-come_found plan (entry.In circuit number octets ∷ es) origin service frame any = by (list_any (is_came origin service frame) (with_came number (service_of plan circuit) (inner_found plan circuit octets) [])) refl (come_found plan es origin service frame) where
-  by : (b : Bool) → list_any (is_came origin service frame) (with_came number (service_of plan circuit) (inner_found plan circuit octets) []) ≡ b
-      → (list_any (is_came origin service frame) (came_list plan es) ≡ true → HasCome plan es origin service frame) → HasCome plan (entry.In circuit number octets ∷ es) origin service frame
+come_found plan (entry.In circuit number octets ∷ es) origin service frame any = by (has_come (with_one [] (entered_at plan circuit number octets)) (named origin service frame)) refl (come_found plan es origin service frame) where
+  by : (b : Bool) → has_come (with_one [] (entered_at plan circuit number octets)) (named origin service frame) ≡ b
+      → (has_come (came_list plan es) (named origin service frame) ≡ true → HasCome plan es origin service frame) → HasCome plan (entry.In circuit number octets ∷ es) origin service frame
   by true here rest = here_came plan circuit number octets es origin service frame (service_of plan circuit) (inner_at plan circuit octets) refl refl here
-  by false not_here rest = later_came plan (entry.In circuit number octets) es origin service frame (rest (sym (ap (λ (b : Bool). b || list_any (is_came origin service frame) (came_list plan es)) not_here)
-      ∙ (sym (any-append (is_came origin service frame) (with_came number (service_of plan circuit) (inner_found plan circuit octets) []) (came_list plan es)) ∙ any)))
+  by false not_here rest = later_came plan (entry.In circuit number octets) es origin service frame (rest (sym (ap (λ (b : Bool). b || has_come (came_list plan es) (named origin service frame)) not_here)
+      ∙ (sym (any-append (is_entered (named origin service frame)) (with_one [] (entered_at plan circuit number octets)) (came_list plan es)) ∙ any)))
 come_found plan (entry.Did event ∷ es) origin service frame any = later_came plan _ es origin service frame (come_found plan es origin service frame any)
 come_found plan (entry.Idle ∷ es) origin service frame any = later_came plan _ es origin service frame (come_found plan es origin service frame any)
 come_found plan (entry.Said from to octets ∷ es) origin service frame any = later_came plan _ es origin service frame (come_found plan es origin service frame any)
@@ -134,31 +158,28 @@ some_later : (a b : Bool) → b ≡ true → (a || b) ≡ true
 some_later true b is = refl
 some_later false b is = is
 
-same_octets : (a : List ℕ) → bytes_eq a a ≡ true
-same_octets a = (bytes_eq-Decides a a).1 refl
-
 one_came : (plan : Plan) (sender : CircuitId) (origin : ℕ) (entered : List ℕ) (service : ServiceId) (frame : List ℕ) → service_of plan sender ≡ Some service → inner_at plan sender entered ≡ Ok frame
-    → list_any (is_came origin service frame) (entry_came plan (entry.In sender origin entered)) ≡ true
+    → has_come (entry_came plan (entry.In sender origin entered)) (named origin service frame) ≡ true
 one_came plan sender origin entered service frame of_service as_entered =
-    ap (λ (of : Option ServiceId). list_any (is_came origin service frame) (with_came origin of (inner_found plan sender entered) [])) of_service
-    ∙ (ap (λ (inner : Result (List ℕ) DropCause). list_any (is_came origin service frame) (with_came origin (Some service) (ok_of inner) [])) as_entered ∙ rw (eq-eqb origin origin refl, eq-eqb service.0 service.0 refl, same_octets frame) refl)
+    ap (λ (of : Option ServiceId). has_come (with_one [] (entered_by origin of (inner_found plan sender entered))) (named origin service frame)) of_service
+    ∙ (ap (λ (inner : Result (List ℕ) DropCause). has_come (with_one [] (entered_by origin (Some service) (ok_of inner))) (named origin service frame)) as_entered ∙ rw (entered_itself (named origin service frame)) refl)
 
 come_listed : (plan : Plan) (es : List Entry) (sender : CircuitId) (origin : ℕ) (entered : List ℕ) (service : ServiceId) (frame : List ℕ) → Among (entry.In sender origin entered) es → service_of plan sender ≡ Some service → inner_at plan sender entered ≡ Ok frame
-    → list_any (is_came origin service frame) (came_list plan es) ≡ true
+    → has_come (came_list plan es) (named origin service frame) ≡ true
 unfolding came_list
 come_listed plan [] sender origin entered service frame among of_service as_entered = absurd among
-come_listed plan (e ∷ es) sender origin entered service frame (inl here) of_service as_entered = any-append (is_came origin service frame) (entry_came plan e) (came_list plan es)
-    ∙ some_here (list_any (is_came origin service frame) (entry_came plan e)) (list_any (is_came origin service frame) (came_list plan es))
-    (ap (λ (x : Entry). list_any (is_came origin service frame) (entry_came plan x)) (sym here) ∙ one_came plan sender origin entered service frame of_service as_entered)
-come_listed plan (e ∷ es) sender origin entered service frame (inr later) of_service as_entered = any-append (is_came origin service frame) (entry_came plan e) (came_list plan es)
-    ∙ some_later (list_any (is_came origin service frame) (entry_came plan e)) (list_any (is_came origin service frame) (came_list plan es)) (come_listed plan es sender origin entered service frame later of_service as_entered)
+come_listed plan (e ∷ es) sender origin entered service frame (inl here) of_service as_entered = any-append (is_entered (named origin service frame)) (entry_came plan e) (came_list plan es)
+    ∙ some_here (has_come (entry_came plan e) (named origin service frame)) (has_come (came_list plan es) (named origin service frame))
+    (ap (λ (x : Entry). has_come (entry_came plan x) (named origin service frame)) (sym here) ∙ one_came plan sender origin entered service frame of_service as_entered)
+come_listed plan (e ∷ es) sender origin entered service frame (inr later) of_service as_entered = any-append (is_entered (named origin service frame)) (entry_came plan e) (came_list plan es)
+    ∙ some_later (has_come (entry_came plan e) (named origin service frame)) (has_come (came_list plan es) (named origin service frame)) (come_listed plan es sender origin entered service frame later of_service as_entered)
 
 not_false : (b : Bool) → not b ≡ false → b ≡ true
 not_false true e = refl
 not_false false e = clash (sym e)
 
 come_in : (plan : Plan) (earlier : List Entry) (circuit : CircuitId) (origin : ℕ) (octets : List ℕ) (of : Option ServiceId) (inner : Result (List ℕ) DropCause) → service_of plan circuit ≡ of → inner_at plan circuit octets ≡ inner
-    → has_come (came_list plan earlier) origin of (ok_of inner) ≡ true → CameIn plan earlier circuit origin octets
+    → has_one (came_list plan earlier) (entered_by origin of (ok_of inner)) ≡ true → CameIn plan earlier circuit origin octets
 come_in plan earlier circuit origin octets None inner is_of is_inner come = clash come
 come_in plan earlier circuit origin octets (Some service) (Err why) is_of is_inner come = clash come
 come_in plan earlier circuit origin octets (Some service) (Ok frame) is_of is_inner come =
@@ -182,8 +203,8 @@ entry_isolated plan earlier (entry.Pong edge wire sequence) is = tt
 
 pub isolated_entry : (plan : Plan) (earlier : List Entry) (e : Entry) → IsolatedEntry plan earlier e → is_stray plan (came_list plan earlier) e ≡ false
 isolated_entry plan earlier (entry.Left circuit origin hops octets) is =
-    ap (λ (of : Option ServiceId). not (has_come (came_list plan earlier) origin of (inner_found plan circuit octets))) is.receiver_service
-    ∙ (ap (λ (inner : Result (List ℕ) DropCause). not (has_come (came_list plan earlier) origin (Some is.service) (ok_of inner))) is.as_left
+    ap (λ (of : Option ServiceId). not (has_one (came_list plan earlier) (entered_by origin of (inner_found plan circuit octets)))) is.receiver_service
+    ∙ (ap (λ (inner : Result (List ℕ) DropCause). not (has_one (came_list plan earlier) (entered_by origin (Some is.service) (ok_of inner)))) is.as_left
     ∙ ap not (come_listed plan earlier is.sender origin is.entered is.service is.frame is.before is.sender_service is.as_entered))
 isolated_entry plan earlier (entry.Did event) is = refl
 isolated_entry plan earlier entry.Idle is = refl
@@ -201,11 +222,35 @@ isolated_entry plan earlier (entry.Pong edge wire sequence) is = refl
 
 -- what was known of the entries before is of them
 pub record Knows (plan : Plan) (earlier : List Entry) (judge : Judge) : Type 0 where
-  pub came : judge.came ≡ came_list plan earlier
+  pub came : (one : Entered) → has_come judge.came one ≡ has_come (came_list plan earlier) one
 
 pub knows_more : (plan : Plan) (earlier : List Entry) (judge : Judge) (e : Entry) → Knows plan earlier judge → Knows plan (earlier ++ e ∷ []) (judges plan e judge)
 unfolding judges
-knows_more plan earlier judge e knows = record { came = came_after_is plan e judge.came ∙ (ap (λ (l : List Came). l ++ entry_came plan e) knows.came ∙ sym (list-append plan earlier e)) }
+knows_more plan earlier judge e knows = record {
+  came = λ one.
+      after_found plan e judge.came one
+      ∙ (ap (λ (b : Bool). b || has_come (entry_came plan e) one) (knows.came one)
+      ∙ (sym (any-append (is_entered one) (came_list plan earlier) (entry_came plan e)) ∙ ap (λ (l : List Entered). has_come l one) (sym (list-append plan earlier e))));
+}
+
+one_same : (a b : List Entered) (one : Option Entered) → ((one : Entered) → has_come a one ≡ has_come b one) → has_one a one ≡ has_one b one
+one_same a b None same = refl
+one_same a b (Some one) same = same one
+
+-- so the same entries are strays
+pub stray_same : (plan : Plan) (earlier : List Entry) (judge : Judge) (e : Entry) → Knows plan earlier judge → is_stray plan judge.came e ≡ is_stray plan (came_list plan earlier) e
+stray_same plan earlier judge (entry.Left circuit origin hops octets) knows = ap not (one_same judge.came (came_list plan earlier) (entered_at plan circuit origin octets) knows.came)
+stray_same plan earlier judge (entry.Did event) knows = refl
+stray_same plan earlier judge entry.Idle knows = refl
+stray_same plan earlier judge (entry.Said from to octets) knows = refl
+stray_same plan earlier judge (entry.In circuit number octets) knows = refl
+stray_same plan earlier judge (entry.Sent from to wire came packet origin hops octets) knows = refl
+stray_same plan earlier judge (entry.Copied packet of) knows = refl
+stray_same plan earlier judge (entry.Aged packet) knows = refl
+stray_same plan earlier judge (entry.Dropped edge origin cause) knows = refl
+stray_same plan earlier judge (entry.Session edge peer name) knows = refl
+stray_same plan earlier judge (entry.Wire edge wire down) knows = refl
+stray_same plan earlier judge (entry.Pong edge wire sequence) knows = refl
 
 -- a first line stays the first one
 pub stray_stays : (plan : Plan) (es : List Entry) (judge : Judge) (line : ℕ) → judge.stray ≡ Some line → (judges_all plan judge es).stray ≡ Some line
@@ -227,14 +272,14 @@ isolated_by plan earlier [] judge knows none last = tt
 isolated_by plan earlier (e ∷ es) judge knows none last = by (is_stray plan judge.came e) refl (λ next. isolated_by plan (earlier ++ e ∷ []) es (judges plan e judge) (knows_more plan earlier judge e knows) next last) where
   by : (b : Bool) → is_stray plan judge.came e ≡ b → ((judges plan e judge).stray ≡ None → IsolatedAfter plan (earlier ++ e ∷ []) es) → IsolatedEntry plan earlier e × IsolatedAfter plan (earlier ++ e ∷ []) es
   by true strays rest = none_some (judge.line + 1) (sym last ∙ stray_stays plan es (judges plan e judge) (judge.line + 1) (rw (none, strays) refl))
-  by false stays rest = (entry_isolated plan earlier e (ap (λ (l : List Came). is_stray plan l e) (sym knows.came) ∙ stays), rest (rw (none, stays) refl))
+  by false stays rest = (entry_isolated plan earlier e (sym (stray_same plan earlier judge e knows) ∙ stays), rest (rw (none, stays) refl))
 
 pub by_isolated : (plan : Plan) (earlier es : List Entry) (judge : Judge) → Knows plan earlier judge → judge.stray ≡ None → IsolatedAfter plan earlier es → (judges_all plan judge es).stray ≡ None
 unfolding judges
 by_isolated plan earlier [] judge knows none is = none
 by_isolated plan earlier (e ∷ es) judge knows none is = by_isolated plan (earlier ++ e ∷ []) es (judges plan e judge) (knows_more plan earlier judge e knows) (rw (none, stays) refl) is.1 where
   stays : is_stray plan judge.came e ≡ false
-  stays = ap (λ (l : List Came). is_stray plan l e) knows.came ∙ isolated_entry plan earlier e is.0
+  stays = stray_same plan earlier judge e knows ∙ isolated_entry plan earlier e is.0
 
 -- ---- split horizon
 
@@ -304,11 +349,10 @@ by_split plan (e ∷ es) judge none is = by_split plan es (judges plan e judge) 
 
 pub begun_knows : (plan : Plan) → Knows plan [] begun
 unfolding came_list
-begun_knows plan = record { came = refl }
+begun_knows plan = record { came = λ one. refl }
 
 pub strays_told : (plan : Plan) (trace : List Entry) → ((judges_all plan begun trace).stray ≡ None) ↔ Isolated plan trace
-unfolding came_list
-strays_told plan trace = (isolated_by plan [] trace begun (record { came = refl }) refl, by_isolated plan [] trace begun (record { came = refl }) refl)
+strays_told plan trace = (isolated_by plan [] trace begun (begun_knows plan) refl, by_isolated plan [] trace begun (begun_knows plan) refl)
 
 pub crossings_told : (plan : Plan) (trace : List Entry) → ((judges_all plan begun trace).crossed ≡ None) ↔ Split plan trace
 crossings_told plan trace = (split_by plan trace begun refl, by_split plan trace begun refl)

@@ -5,6 +5,8 @@ use Rattle.net_base.specs.declared.trace.entry.Entry.{Entry}
 use Rattle.net_base.specs.trace.Isolated.{Isolated, IsolatedEntry}
 use Rattle.net_base.specs.trace.Split.{Split, SplitEntry}
 use Rattle.report_entries.specs.Report.{told_of}
+use Rattle.seen_network.specs.Once.{OnceSeen}
+use Rattle.seen_windows.specs.Verdict.{FirstUnserved}
 use Rattle.trace_audit.specs.declared.audit_stop.AuditStop.{AuditStop}
 use Rattle.trace_audit.specs.declared.audit_stop.AuditStop.TheVariants as stop
 
@@ -28,27 +30,40 @@ pub record FirstCrossing (plan : Plan) (trace : List Entry) (line : ℕ) : Type 
   pub crosses : SplitEntry plan entry → ⊥
   pub line_is : line ≡ length before + 2
 
-pub record IsStray (plan : Plan) (text : List ℕ) (line : ℕ) : Type 0 where
-  pub trace : List Entry
-  pub told : told_of plan text ≡ Ok trace
-  pub stray : FirstStray plan trace line
-
-pub record IsCrossing (plan : Plan) (text : List ℕ) (line : ℕ) : Type 0 where
-  pub trace : List Entry
-  pub told : told_of plan text ≡ Ok trace
+-- of a trace that is isolated
+pub record FirstOfSplit (plan : Plan) (trace : List Entry) (line : ℕ) : Type 0 where
   pub isolated : Isolated plan trace
   pub crossing : FirstCrossing plan trace line
 
--- the report tells a trace of which the rules of paths hold
-pub record HasGoodPaths (plan : Plan) (text : List ℕ) : Type 0 where
-  pub trace : List Entry
-  pub told : told_of plan text ≡ Ok trace
+-- the first `in` line of a frame that was not seen exactly once, of a trace in which the other rules hold
+pub record FirstOfOnce (plan : Plan) (trace : List Entry) (line : ℕ) : Type 0 where
   pub isolated : Isolated plan trace
   pub split : Split plan trace
+  pub place : ℕ
+  pub unserved : FirstUnserved plan trace place
+  pub line_is : line ≡ place + 2
 
-abbrev pub ArePathsAudited : Plan → List ℕ → Result (Unit {0}) AuditStop → Type 0
-ArePathsAudited plan text (Ok done) = HasGoodPaths plan text
-ArePathsAudited plan text (Err (stop.Form line)) = told_of plan text ≡ Err line
-ArePathsAudited plan text (Err (stop.Isolated line)) = IsStray plan text line
-ArePathsAudited plan text (Err (stop.Split line)) = IsCrossing plan text line
-ArePathsAudited plan text (Err stop.NoMemory) = Unit {0}
+-- the trace meets the three rules
+pub record IsGoodTrace (plan : Plan) (trace : List Entry) : Type 0 where
+  pub isolated : Isolated plan trace
+  pub split : Split plan trace
+  pub once : OnceSeen 12 plan trace
+
+-- the report tells a trace of which this holds
+pub record Tells (plan : Plan) (text : List ℕ) (holds : List Entry → Type 0) : Type 0 where
+  pub trace : List Entry
+  pub told : told_of plan text ≡ Ok trace
+  pub is : holds trace
+
+-- the report is good
+abbrev pub IsGood : Plan → List ℕ → Type 0
+IsGood plan text = Tells plan text (IsGoodTrace plan)
+
+-- a report is good, its form is broken first at a line, or the first rule that fails of its trace is told at the first line where it does
+abbrev pub IsAudited : Plan → List ℕ → Result (Unit {0}) AuditStop → Type 0
+IsAudited plan text (Ok done) = IsGood plan text
+IsAudited plan text (Err (stop.Form line)) = told_of plan text ≡ Err line
+IsAudited plan text (Err (stop.Isolated line)) = Tells plan text (λ trace. FirstStray plan trace line)
+IsAudited plan text (Err (stop.Split line)) = Tells plan text (λ trace. FirstOfSplit plan trace line)
+IsAudited plan text (Err (stop.Once line)) = Tells plan text (λ trace. FirstOfOnce plan trace line)
+IsAudited plan text (Err stop.NoMemory) = Unit {0}

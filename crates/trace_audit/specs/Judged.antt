@@ -1,7 +1,5 @@
 -- What is known of a report behind the lines that were read.
-use Rattle.std.specs.Prelude.{◌==◌, ◌&&◌, ◌+◌, ◌++◌, not, ℕ, Bool, false, List, [], ◌∷◌, Option, Some, None, if◌then◌else◌}
-use Rattle.std.specs.List.{list_any}
-use Rattle.std.specs.Str.{bytes_eq}
+use Rattle.std.specs.Prelude.{◌==◌, ◌&&◌, ◌+◌, not, ℕ, Bool, false, List, [], ◌∷◌, Option, Some, None, if◌then◌else◌}
 use Rattle.net_base.specs.declared.plan.Plan.{Plan}
 use Rattle.net_base.specs.declared.plan.places.CircuitId.{CircuitId}
 use Rattle.net_base.specs.declared.plan.places.EdgeId.{EdgeId}
@@ -15,8 +13,8 @@ use Rattle.net_base.specs.plan.Places.{is_mesh_wire, service_of}
 use Rattle.net_base.specs.trace.Isolated.{inner_at}
 use Rattle.net_base.specs.trace.Split.{is_switching_point}
 use Rattle.report_entries.specs.Reading.{ok_of}
-use Rattle.trace_audit.specs.declared.came.Came.{Came}
 use Rattle.trace_audit.specs.declared.judge.Judge.{Judge}
+use Rattle.trace_audit.specs.Arrivals.{Entered, has_come, with_came}
 
 -- before the first entry, behind the line that names the format
 abbrev pub begun : Judge
@@ -24,31 +22,34 @@ begun = record { line = 1; came = []; stray = None; crossed = None }
 
 -- ---- frames that leave
 
-abbrev pub is_came : ℕ → ServiceId → List ℕ → Came → Bool
-is_came origin service frame c = c.number == origin && (c.service.0 == service.0 && bytes_eq c.frame frame)
-
--- a frame with this number entered the service, and is this one
-abbrev pub has_come : List Came → ℕ → Option ServiceId → Option (List ℕ) → Bool
-has_come came origin None frame = false
-has_come came origin (Some service) None = false
-has_come came origin (Some service) (Some frame) = list_any (is_came origin service frame) came
-
 -- the frame without the tag of the circuit, where it has no fault
 abbrev pub inner_found : Plan → CircuitId → List ℕ → Option (List ℕ)
 inner_found plan circuit octets = ok_of (inner_at plan circuit octets)
 
-abbrev pub with_came : ℕ → Option ServiceId → Option (List ℕ) → List Came → List Came
-with_came number None frame came = came
-with_came number (Some service) None came = came
-with_came number (Some service) (Some frame) came = came ++ record { number = number; service = service; frame = frame } ∷ []
+-- a frame of a circuit as it is known in its service
+abbrev pub entered_by : ℕ → Option ServiceId → Option (List ℕ) → Option Entered
+entered_by number None frame = None
+entered_by number (Some service) None = None
+entered_by number (Some service) (Some frame) = Some (record { number = number; service = service.0; frame = frame })
 
-abbrev pub came_after : Plan → Entry → List Came → List Came
-came_after plan (In circuit number octets) came = with_came number (service_of plan circuit) (inner_found plan circuit octets) came
+abbrev pub entered_at : Plan → CircuitId → ℕ → List ℕ → Option Entered
+entered_at plan circuit number octets = entered_by number (service_of plan circuit) (inner_found plan circuit octets)
+
+abbrev pub has_one : List Entered → Option Entered → Bool
+has_one came None = false
+has_one came (Some one) = has_come came one
+
+abbrev pub with_one : List Entered → Option Entered → List Entered
+with_one came None = came
+with_one came (Some one) = with_came came one
+
+abbrev pub came_after : Plan → Entry → List Entered → List Entered
+came_after plan (In circuit number octets) came = with_one came (entered_at plan circuit number octets)
 came_after plan entry came = came
 
 -- what left entered before, at a circuit of the same service, as the same frame
-abbrev pub is_stray : Plan → List Came → Entry → Bool
-is_stray plan came (Left circuit origin hops octets) = not (has_come came origin (service_of plan circuit) (inner_found plan circuit octets))
+abbrev pub is_stray : Plan → List Entered → Entry → Bool
+is_stray plan came (Left circuit origin hops octets) = not (has_one came (entered_at plan circuit origin octets))
 is_stray plan came entry = false
 
 -- ---- packets that are sent

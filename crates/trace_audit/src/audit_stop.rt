@@ -12,6 +12,8 @@ pub enum AuditStop {
     Isolated { line: u64 },
     /// The line of a packet that was sent from one mesh wire to another one (RFC 4762 section 4.4).
     Split { line: u64 },
+    /// The `in` line of a flooded frame that entered a calm service and was not seen exactly once.
+    Once { line: u64 },
     /// Memory was refused.
     NoMemory,
 }

@@ -1,11 +1,9 @@
 //! Frames that entered.
 
-use net_base::{Octets, ServiceId};
-
-/// A frame that entered: its number, the service of its circuit, and the frame without the circuit's tag.
-#[derive(Debug, Drop)]
+/// A frame that entered or left: its number, the service of the circuit, and the frame without the circuit's tag.
+#[derive(PartialEq, Eq, Hash, Drop)]
 pub struct Came {
     pub number: u64,
-    pub service: ServiceId,
-    pub frame: Octets,
+    pub service: u16,
+    pub frame: Vec<u8>,
 }

@@ -1,24 +1,23 @@
 //! What is known of a report behind the lines that were read.
-ghost use Rattle.std.specs.Prelude.{◌≡◌, ◌<◌, ◌+◌, ◌++◌, ◌^◌, IfOk, OnOk};
-ghost use Rattle.std.specs.List.{list_any};
+ghost use Rattle.std.specs.Prelude.{◌≡◌, ◌<◌, ◌+◌, ◌++◌, ◌^◌, IfOk, OnOk, option_map};
 ghost use Rattle.net_base.specs.plan.Places.{is_mesh_wire, service_of};
 ghost use Rattle.net_base.specs.trace.Split.{is_inside, is_switching_point};
-ghost use Rattle.trace_audit.specs.Judged.{begun, came_after, crosses, first_line, has_come, inner_found, is_came, is_crossing, is_stray, judges, with_came};
+ghost use Rattle.trace_audit.specs.Judged.{begun, came_after, crosses, entered_at, first_line, has_one, inner_found, is_crossing, is_stray, judges, with_one};
+ghost use Rattle.trace_audit.specs.Arrivals.{entered_of};
 
+use crate::arrivals::Arrivals;
 use crate::came::Came;
 use eth_encap::inner_parts;
-use net_base::{
-    Arrival, CircuitId, Class, EdgeId, Entry, List, NoMemory, Octets, Plan, ServiceId, WireId,
-};
+use net_base::{Arrival, CircuitId, Class, EdgeId, Entry, NoMemory, Plan, ServiceId, WireId};
 use std::alloc::Global;
 
 /// What is known of a report behind the lines that were read.
-#[derive(Debug, Drop)]
+#[derive(Drop)]
 pub struct Judge {
     /// How many lines were read.
     pub line: u64,
     /// The frames that entered.
-    pub came: List<Came>,
+    pub came: Arrivals,
     /// The first line of a frame that left as none that had entered.
     pub stray: Option<u64>,
     /// The first line of a packet that went from one mesh wire to another one.
@@ -31,8 +30,8 @@ fn inner_octets(
     plan: &Plan,
     circuit: CircuitId,
     octets: &[u8],
-) -> Result<Option<Octets>, NoMemory>
-    ensures { IfOk result (λ frame. frame ≡ inner_found plan.now circuit octets.now) }
+) -> Result<Option<Vec<u8>>, NoMemory>
+    ensures { IfOk result (λ frame. option_map (λ octets. octets.items) frame ≡ inner_found plan.now circuit octets.now) }
 {
     let Some(row) = plan.circuits.get(circuit.0 as usize) else {
         return Ok(None);
@@ -50,10 +49,11 @@ fn inner_octets(
 }
 
 // Two parts in one piece.
-fn joined(alloc: Global, front: &[u8], back: &[u8]) -> Result<Octets, NoMemory>
-    ensures { IfOk result (λ octets. octets ≡ front.now ++ back.now) }
+fn joined(alloc: Global, front: &[u8], back: &[u8]) -> Result<Vec<u8>, NoMemory>
+    ensures { IfOk result (λ octets. octets.items ≡ front.now ++ back.now) }
 {
-    let mut octets = List::from_bytes(alloc, front)?;
+    let mut octets = Vec::with_capacity(alloc, front.len() + back.len())?;
+    octets.extend_from_slice(front)?;
     octets.extend_from_slice(back)?;
     Ok(octets)
 }
@@ -68,43 +68,43 @@ fn service_at(plan: &Plan, circuit: CircuitId) -> Option<ServiceId>
     }
 }
 
-// Whether a frame is this one.
-fn is_this(came: &Came, origin: u64, service: ServiceId, frame: &[u8]) -> bool
-    ensures { result ≡ is_came origin service frame.now came.now }
+// A frame of a circuit as it is known in its service; `None` as in `inner_octets`.
+fn came_at(
+    alloc: Global,
+    plan: &Plan,
+    circuit: CircuitId,
+    number: u64,
+    octets: &[u8],
+) -> Result<Option<Came>, NoMemory>
+    ensures { IfOk result (λ came. option_map entered_of came ≡ entered_at plan.now circuit number octets.now) }
 {
-    came.number == origin && came.service.0 == service.0 && came.frame.as_slice() == frame
-}
-
-// Whether a frame came under this number. Frames of a run are numbered from 1, so the one at that place is looked at first.
-#[tactic(auto, using(crate::proofs::JudgeLemmas::any_at))]
-fn is_among(came: &[Came], origin: u64, service: ServiceId, frame: &[u8]) -> bool
-    ensures { result ≡ list_any (is_came origin service frame.now) came.now }
-{
-    if origin >= 1 && origin <= came.len() as u64 {
-        let likely = (origin - 1) as usize;
-        if is_this(&came[likely], origin, service, frame) {
-            return true;
-        }
+    let Some(service) = service_at(plan, circuit) else {
+        return Ok(None);
+    };
+    match inner_octets(alloc, plan, circuit, octets) {
+        Ok(Some(frame)) => Ok(Some(Came {
+            number,
+            service: service.0,
+            frame,
+        })),
+        Ok(None) => Ok(None),
+        Err(NoMemory) => Err(NoMemory),
     }
-    came.iter().any(|c| is_this(c, origin, service, frame))
 }
 
 // Whether a frame that leaves at a circuit entered before, at a circuit of the same service.
 fn has_come_in(
     alloc: Global,
     plan: &Plan,
-    came: &List<Came>,
+    came: &Arrivals,
     circuit: CircuitId,
     origin: u64,
     octets: &[u8],
 ) -> Result<bool, NoMemory>
-    ensures { IfOk result (λ come. come ≡ has_come came.now origin (service_of plan.now circuit) (inner_found plan.now circuit octets.now)) }
+    ensures { IfOk result (λ come. come ≡ has_one came.now (entered_at plan.now circuit origin octets.now)) }
 {
-    let Some(service) = service_at(plan, circuit) else {
-        return Ok(false);
-    };
-    match inner_octets(alloc, plan, circuit, octets) {
-        Ok(Some(frame)) => Ok(is_among(came.as_slice(), origin, service, frame.as_slice())),
+    match came_at(alloc, plan, circuit, origin, octets) {
+        Ok(Some(left)) => Ok(came.has(&left)),
         Ok(None) => Ok(false),
         Err(NoMemory) => Err(NoMemory),
     }
@@ -114,7 +114,7 @@ fn has_come_in(
 fn is_stray_entry(
     alloc: Global,
     plan: &Plan,
-    came: &List<Came>,
+    came: &Arrivals,
     entry: &Entry,
 ) -> Result<bool, NoMemory>
     ensures { IfOk result (λ strays. strays ≡ is_stray plan.now came.now entry.now) }
@@ -137,22 +137,15 @@ fn is_stray_entry(
 fn keep(
     alloc: Global,
     plan: &Plan,
-    came: &mut List<Came>,
+    came: &mut Arrivals,
     circuit: CircuitId,
     number: u64,
     octets: &[u8],
 ) -> Result<(), NoMemory>
-    ensures { OnOk result (came.new ≡ with_came number (service_of plan.now circuit) (inner_found plan.now circuit octets.now) came.old) }
+    ensures { OnOk result (came.new ≡ with_one came.old (entered_at plan.now circuit number octets.now)) }
 {
-    let Some(service) = service_at(plan, circuit) else {
-        return Ok(());
-    };
-    match inner_octets(alloc, plan, circuit, octets) {
-        Ok(Some(frame)) => came.push(Came {
-            number,
-            service,
-            frame,
-        }),
+    match came_at(alloc, plan, circuit, number, octets) {
+        Ok(Some(one)) => came.add(one),
         Ok(None) => Ok(()),
         Err(NoMemory) => Err(NoMemory),
     }
@@ -162,7 +155,7 @@ fn keep(
 fn keep_entry(
     alloc: Global,
     plan: &Plan,
-    came: &mut List<Came>,
+    came: &mut Arrivals,
     entry: &Entry,
 ) -> Result<(), NoMemory>
     ensures { OnOk result (came.new ≡ came_after plan.now entry.now came.old) }
@@ -249,7 +242,7 @@ fn is_crossing_entry(plan: &Plan, entry: &Entry) -> bool
 fn stray_line(
     alloc: Global,
     plan: &Plan,
-    came: &List<Came>,
+    came: &Arrivals,
     line: Option<u64>,
     entry: &Entry,
     here: u64,
@@ -289,7 +282,7 @@ impl Judge {
     {
         Judge {
             line: 1,
-            came: List::new(alloc),
+            came: Arrivals::new(alloc),
             stray: None,
             crossed: None,
         }

@@ -1,12 +1,14 @@
 //! An auditor of reports: it reads the report of a run, of this program or of another one, and judges it by its entries alone.
 #![tactic(auto)]
 
+mod arrivals;
 mod audit_stop;
 mod came;
+mod ears;
 mod judge;
 mod laws;
-mod paths;
+mod report_audit;
 
 pub use audit_stop::AuditStop;
-pub use laws::{crossings_are_told, strays_are_told};
-pub use paths::audit_paths;
+pub use laws::{crossings_are_told, good_reports_get_yes, strays_are_told};
+pub use report_audit::audit;

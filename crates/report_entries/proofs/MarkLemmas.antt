@@ -1,0 +1,53 @@
+-- The first octet that is a mark cuts a text.
+use Rattle.std.proofs.Common.{◌≡◌, ◌<◌, ◌+◌, ◌==◌, ℕ, zero, suc, Bool, true, false, List, [], ◌∷◌, Some, None, length, nat_lt, take, drop, refl, ap, add-one, arith, if◌then◌else◌}
+use Rattle.std.proofs.lemmas.Bool.Decides.{nat_tests}
+use Rattle.memchr.specs.Find.{Nowhere, Passes, is_byte}
+use Rattle.report_entries.specs.Cut.{before_mark, behind_mark}
+
+-- what is so at no place of a text is so at no place of what follows its first octet
+behind_first : (mark c : ℕ) (cs : List ℕ) (k : ℕ) → Nowhere (Passes (is_byte mark) (c ∷ cs)) 0 (suc k) → Nowhere (Passes (is_byte mark) cs) 0 k
+behind_first mark c cs k none j low high passes = none (suc j) (omega arith) (omega (arith, high)) passes
+
+-- the first octet is none
+first_other : (mark c : ℕ) (cs : List ℕ) (k : ℕ) → Nowhere (Passes (is_byte mark) (c ∷ cs)) 0 (suc k) → (c == mark) ≡ false
+first_other mark c cs k none = by (c == mark) refl where
+  by : (b : Bool) → (c == mark) ≡ b → (c == mark) ≡ false
+  by true is = absurd (none 0 (omega arith) (omega arith) is)
+  by false is = is
+
+-- a text without a mark is all before it
+pub none_before : (mark : ℕ) (text : List ℕ) → Nowhere (Passes (is_byte mark) text) 0 (length text) → before_mark mark text ≡ text
+none_before mark [] none = refl
+none_before mark (c ∷ cs) none = rw (first_other mark c cs (length cs) none) (ap (λ (l : List ℕ). c ∷ l) (none_before mark cs (behind_first mark c cs (length cs) none)))
+
+none_behind : (mark : ℕ) (text : List ℕ) → Nowhere (Passes (is_byte mark) text) 0 (length text) → behind_mark mark text ≡ None
+none_behind mark [] none = refl
+none_behind mark (c ∷ cs) none = rw (first_other mark c cs (length cs) none) (none_behind mark cs (behind_first mark c cs (length cs) none))
+
+-- a text is cut at its first mark
+pub front_at : (mark : ℕ) (text : List ℕ) (at : ℕ) → at < length text → Nowhere (Passes (is_byte mark) text) 0 at → Passes (is_byte mark) text at → before_mark mark text ≡ take at text
+front_at mark [] at within none is = absurd (omega (arith, within))
+front_at mark (c ∷ cs) zero within none is = rw (is) refl
+front_at mark (c ∷ cs) (suc k) within none is =
+    rw (first_other mark c cs k none) (ap (λ (l : List ℕ). c ∷ l) (front_at mark cs k (omega (arith, within)) (behind_first mark c cs k none) is))
+
+behind_at : (mark : ℕ) (text : List ℕ) (at : ℕ) → at < length text → Nowhere (Passes (is_byte mark) text) 0 at → Passes (is_byte mark) text at
+    → behind_mark mark text ≡ Some (drop (suc at) text)
+behind_at mark [] at within none is = absurd (omega (arith, within))
+behind_at mark (c ∷ cs) zero within none is = rw (is) refl
+behind_at mark (c ∷ cs) (suc k) within none is =
+    rw (first_other mark c cs k none) (behind_at mark cs k (omega (arith, within)) (behind_first mark c cs k none) is)
+
+is_less : (a b : ℕ) → a < b → nat_lt a b ≡ true
+is_less a b less = grind (arith, nat_tests, less)
+
+is_itself : (a : ℕ) → nat_lt a a ≡ false
+is_itself a = grind (arith, nat_tests)
+
+pub back_at : (mark : ℕ) (text : List ℕ) (at : ℕ) → at < length text → Nowhere (Passes (is_byte mark) text) 0 at → Passes (is_byte mark) text at
+    → behind_mark mark text ≡ (if nat_lt at (length text) then Some (drop (at + 1) text) else None)
+back_at mark text at within none is = rw (is_less at (length text) within, add-one at) (behind_at mark text at within none is)
+
+pub back_none : (mark : ℕ) (text : List ℕ) → Nowhere (Passes (is_byte mark) text) 0 (length text)
+    → behind_mark mark text ≡ (if nat_lt (length text) (length text) then Some (drop (length text + 1) text) else None)
+back_none mark text none = rw (is_itself (length text)) (none_behind mark text none)

@@ -1,0 +1,20 @@
+-- A frame is found by what it is.
+use Rattle.std.proofs.Common.{◌≡◌, ◌==◌, ◌&&◌, ◌||◌, ◌++◌, ◌∙◌, Bool, true, false, List, [], ◌∷◌, map, cond, refl, ap}
+use Rattle.std.proofs.lemmas.List.{map-append}
+use Rattle.std.specs.List.{list_any}
+use Rattle.std.specs.Str.{bytes_eq}
+use Rattle.trace_audit.specs.Arrivals.{entered_of, has_come, with_came}
+use Rattle.trace_audit.specs.declared.came.Came.{Came}
+
+abbrev pub is_key : Came → Came → Bool
+is_key a b = a.number == b.number && (a.service == b.service && bytes_eq a.frame.items b.frame.items)
+
+pub any_key : (keys : List Came) (one : Came) → list_any (is_key one) keys ≡ has_come (map entered_of keys) (entered_of one)
+any_key [] one = refl
+any_key (k ∷ keys) one = ap (λ (b : Bool). is_key one k || b) (any_key keys one)
+
+pub key_put : (keys : List Came) (one : Came) → map entered_of (cond (list_any (is_key one) keys) keys (keys ++ one ∷ [])) ≡ with_came (map entered_of keys) (entered_of one)
+key_put keys one = by (list_any (is_key one) keys) (any_key keys one) where
+  by : (b : Bool) → b ≡ has_come (map entered_of keys) (entered_of one) → map entered_of (cond b keys (keys ++ one ∷ [])) ≡ with_came (map entered_of keys) (entered_of one)
+  by true is = ap (λ (b : Bool). cond b (map entered_of keys) (map entered_of keys ++ entered_of one ∷ [])) is
+  by false is = map-append entered_of keys (one ∷ []) ∙ ap (λ (b : Bool). cond b (map entered_of keys) (map entered_of keys ++ entered_of one ∷ [])) is

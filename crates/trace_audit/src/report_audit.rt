@@ -1,0 +1,129 @@
+//! The report of a run, judged line by line.
+ghost use Rattle.std.specs.Prelude.{◌≡◌, ◌<◌, ◌≤◌, ◌+◌, ◌^◌, [], OnOk};
+ghost use Rattle.net_base.specs.plan.Accepted.{IsChecked};
+ghost use Rattle.command_text.specs.Planned.{names_of};
+ghost use Rattle.report_entries.specs.Answers.{HasBegun};
+ghost use Rattle.trace_audit.specs.Audited.{IsAudited};
+ghost use Rattle.trace_audit.specs.Heard.{AreEarsOf, Hears, HearsOn};
+
+use crate::AuditStop;
+use crate::ears::Ears;
+use command_text::PlanNames;
+use net_base::{NoMemory, Plan};
+use report_entries::{NameLists, ReportReader};
+use std::alloc::Global;
+
+// Reads a line more, and hears its entry; false where it was the last one.
+#[tactic(auto, using(crate::proofs::PlacedLemmas::placed, crate::proofs::HeardLemmas::hears_entry, crate::proofs::HeardLemmas::hears_last, crate::proofs::HeardLemmas::hears_break))]
+fn hear_next(
+    alloc: Global,
+    plan: &Plan,
+    names: &PlanNames<'_>,
+    reader: &mut ReportReader<'_>,
+    ears: &mut Ears,
+) -> Result<bool, AuditStop>
+    requires checked { IsChecked plan.now }
+    requires names { names.now ≡ names_of plan.now }
+    requires ready { reader.old.waits ≡ [] }
+    requires few { reader.old.tally.lines < 2 ^ 63 }
+    requires begun { AreEarsOf plan.now ears.old }
+    requires short { ears.old.judge.line < 2 ^ 63 }
+    ensures ready { OnOk result (reader.new.waits ≡ []) }
+    ensures begun { OnOk result (AreEarsOf plan.now ears.new) }
+    ensures lines { OnOk result (reader.new.tally.lines ≤ reader.old.tally.lines + 1) }
+    ensures line { OnOk result (ears.new.judge.line ≤ ears.old.judge.line + 1) }
+    ensures hears { HearsOn plan.now reader.old ears.old reader.new ears.new result }
+{
+    match reader.next(alloc, plan, names) {
+        Ok(Some(entry)) => match ears.hear(alloc, plan, entry) {
+            Ok(()) => Ok(true),
+            Err(NoMemory) => Err(AuditStop::NoMemory),
+        },
+        Ok(None) => Ok(false),
+        Err(fault) => Err(AuditStop::from(fault)),
+    }
+}
+
+// Hears the entries of all lines behind the first one.
+#[tactic(auto, using(crate::proofs::HeardLemmas::begins_heard, crate::proofs::HeardLemmas::one_less, crate::proofs::HeardLemmas::no_line))]
+fn hear_lines(
+    alloc: Global,
+    plan: &Plan,
+    names: &PlanNames<'_>,
+    text: &[u8],
+    reader: ReportReader<'_>,
+) -> Result<Ears, AuditStop>
+    requires checked { IsChecked plan.now }
+    requires names { names.now ≡ names_of plan.now }
+    requires begun { HasBegun text.now reader }
+    ensures { Hears plan.now text.now result }
+{
+    let mut reader = reader;
+    let mut ears = Ears::new(alloc, plan)?;
+    let mut left = reader.octets_left();
+    'reading: while left > 0 {
+        left -= 1;
+        match hear_next(alloc, plan, names, &mut reader, &mut ears) {
+            Ok(true) => {}
+            Ok(false) => return Ok(ears),
+            Err(stop) => return Err(stop),
+        }
+    }
+    Err(AuditStop::Form {
+        line: reader.lines() + 1,
+    })
+}
+
+// Hears a whole report.
+fn hear_report(
+    alloc: Global,
+    plan: &Plan,
+    names: &PlanNames<'_>,
+    text: &[u8],
+) -> Result<Ears, AuditStop>
+    requires checked { IsChecked plan.now }
+    requires names { names.now ≡ names_of plan.now }
+    ensures { Hears plan.now text.now result }
+{
+    match ReportReader::begin(alloc, text) {
+        Ok(reader) => hear_lines(alloc, plan, names, text, reader),
+        Err(fault) => Err(AuditStop::from(fault)),
+    }
+}
+
+// Audits a report by the names of the plan.
+#[tactic(auto, using(crate::proofs::HeardLemmas::audited, crate::proofs::HeardLemmas::was_told))]
+fn audit_by(alloc: Global, plan: &Plan, names: &PlanNames<'_>, text: &[u8]) -> Result<(), AuditStop>
+    requires checked { IsChecked plan.now }
+    requires names { names.now ≡ names_of plan.now }
+    ensures { IsAudited plan.now text.now result }
+{
+    match hear_report(alloc, plan, names, text) {
+        Ok(ears) => ears.answer(plan),
+        Err(stop) => Err(stop),
+    }
+}
+
+/// Audits a report of runs of a checked plan by what it tells alone. Nothing is run.
+///
+/// A report has a line that names the format, `vplsnet 1`, one line for each entry and a last line: the right counts, or the bound at
+/// which the run stopped. `Form` is the first line that breaks this. `Isolated` is the first line of a frame that left and that had
+/// not entered before at a circuit of the same service, as the same inner frame. `Split` is the first line of a packet that was sent
+/// from one mesh wire to another one, or back by the same wire where the edge is no switching point of it (RFC 4762 section 4.4).
+/// `Once` is the first `in` line of a frame that entered a calm service, was flooded, of which no copy was lost or repeated, and that
+/// did not leave exactly once at each other circuit of the service that is on, within twelve segments. Of these the first that
+/// fails is told, in this order. `NoMemory` is told where memory was refused.
+pub fn audit(alloc: Global, plan: &Plan, bytes: &[u8]) -> Result<(), AuditStop>
+    requires { IsChecked plan.now }
+    ensures { IsAudited plan.now bytes.now result }
+{
+    let lists = NameLists::of(alloc, plan)?;
+    match lists.indexed(alloc) {
+        Ok(names) => {
+            let answer = audit_by(alloc, plan, &names, bytes);
+            drop(names);
+            answer
+        }
+        Err(NoMemory) => Err(AuditStop::NoMemory),
+    }
+}
