@@ -1,51 +1,11 @@
--- A report that meets the rules is refused by none.
-use Rattle.std.proofs.Common.{◌≡◌, ◌++◌, ◌∙◌, ℕ, List, [], ◌∷◌, Result, Ok, Err, sym, subst, append_assoc, append-nil}
-use Rattle.net_base.specs.declared.plan.Plan.{Plan}
-use Rattle.net_base.specs.declared.trace.entry.Entry.{Entry}
-use Rattle.net_base.specs.trace.Isolated.{Isolated, IsolatedAfter, IsolatedEntry}
-use Rattle.net_base.specs.trace.Split.{Split, SplitEntry}
+-- A run of a checked plan meets the rules, and its report gets a yes.
 use Rattle.network_model.specs.Run.{run}
 use Rattle.network_model.proofs.SplitLemmas.{run_split}
-use Rattle.packet_model.proofs.RunLemmas.{runs_are_isolated}
+use Rattle.packet_laws.proofs.RunLemmas.{runs_are_isolated}
 use Rattle.seen_laws.proofs.SourceLemmas.{runs_seen_once}
-use Rattle.report_entries.specs.Report.{told_of}
 use Rattle.report_entries.proofs.ToldLemmas.{report_told}
-use Rattle.trace_audit.specs.declared.audit_stop.AuditStop.TheVariants as stop
-use Rattle.trace_audit.specs.Audited.{FirstCrossing, FirstStray}
-use Rattle.audit_laws.specs.Laws.{GoodPathsGetYes, ReportsOfRunsGetYes, ReportsOfRunsTellThem, RunsMeetRules}
-
--- what holds of all entries holds of one
-isolated_at : (plan : Plan) (earlier before after : List Entry) (entry : Entry) → IsolatedAfter plan earlier (before ++ entry ∷ after) → IsolatedEntry plan (earlier ++ before) entry
-isolated_at plan earlier [] after entry is = subst (λ (l : List Entry). IsolatedEntry plan l entry) (sym (append-nil earlier)) is.0
-isolated_at plan earlier (e ∷ before) after entry is = subst (λ (l : List Entry). IsolatedEntry plan l entry) (append_assoc earlier (e ∷ []) before) (isolated_at plan (earlier ++ e ∷ []) before after entry is.1)
-
-split_at : (plan : Plan) (before after : List Entry) (entry : Entry) → Split plan (before ++ entry ∷ after) → SplitEntry plan entry
-split_at plan [] after entry is = is.0
-split_at plan (e ∷ before) after entry is = split_at plan before after entry is.1
-
-no_stray : (plan : Plan) (trace : List Entry) (line : ℕ) → Isolated plan trace → FirstStray plan trace line → ⊥
-no_stray plan trace line isolated first = first.strays (isolated_at plan [] first.before first.after first.entry (subst (Isolated plan) first.is isolated))
-
-no_crossing : (plan : Plan) (trace : List Entry) (line : ℕ) → Split plan trace → FirstCrossing plan trace line → ⊥
-no_crossing plan trace line split first = first.crosses (split_at plan first.before first.after first.entry (subst (Split plan) first.is split))
-
-abbrev tells : List Entry → Result (List Entry) ℕ
-tells trace = Ok trace
-
-told_once : (told : Result (List Entry) ℕ) (a b : List Entry) → told ≡ Ok a → told ≡ Ok b → a ≡ b
-told_once told a b first next = same (sym first ∙ next) where
-  same : tells a ≡ tells b → a ≡ b
-  same e = cc e
-
-no_fault : {P : Type 0} (told : Result (List Entry) ℕ) (a : List Entry) (line : ℕ) → told ≡ Ok a → told ≡ Err line → P
-no_fault told a line first next = absurd (cc (sym first ∙ next))
-
-pub good_yes : GoodPathsGetYes
-good_yes plan text (Ok done) good is = tt
-good_yes plan text (Err (stop.Form line)) good is = no_fault (told_of plan text) good.trace line good.told is
-good_yes plan text (Err (stop.Isolated line)) good is = no_stray plan is.trace line (subst (Isolated plan) (told_once (told_of plan text) good.trace is.trace good.told is.told) good.isolated) is.stray
-good_yes plan text (Err (stop.Split line)) good is = no_crossing plan is.trace line (subst (Split plan) (told_once (told_of plan text) good.trace is.trace good.told is.told) good.split) is.crossing
-good_yes plan text (Err stop.NoMemory) good is = tt
+use Rattle.trace_audit.proofs.YesLemmas.{good_yes}
+use Rattle.audit_laws.specs.Laws.{ReportsOfRunsGetYes, ReportsOfRunsTellThem, RunsMeetRules}
 
 pub runs_told : ReportsOfRunsTellThem
 runs_told plan events text is names report = report_told plan text (run plan events).entries is.checked names report
@@ -54,6 +14,4 @@ pub runs_meet : RunsMeetRules
 runs_meet plan events is = record { isolated = runs_are_isolated plan events is; split = run_split plan events is.checked; once = runs_seen_once plan events is }
 
 pub runs_yes : ReportsOfRunsGetYes
-runs_yes plan events text answer is names report audited =
-    let meets = runs_meet plan events is in
-    good_yes plan text answer (record { trace = (run plan events).entries; told = runs_told plan events text is names report; isolated = meets.isolated; split = meets.split }) audited
+runs_yes plan events text answer is names report audited = good_yes plan text answer (record { trace = (run plan events).entries; told = runs_told plan events text is names report; is = runs_meet plan events is }) audited
