@@ -6,6 +6,8 @@
 #[cfg(test)]
 mod around;
 #[cfg(test)]
+mod audits;
+#[cfg(test)]
 mod bridges;
 #[cfg(test)]
 mod captures;

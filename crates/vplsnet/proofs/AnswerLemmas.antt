@@ -15,16 +15,21 @@ use Rattle.ldp_stream.proofs.ParsedLemmas.{one_parsing}
 use Rattle.scenario_text.specs.declared.scenario.Scenario.{Scenario}
 use Rattle.scenario_text.specs.Document.{document}
 use Rattle.text_lines.specs.Written.{Written, written}
+use Rattle.trace_audit.specs.Yes.{IsYes}
+use Rattle.trace_audit.proofs.YesLemmas.{good_yes}
+use Rattle.vplsnet.specs.declared.audit_rule.AuditRule.{AuditRule}
+use Rattle.vplsnet.specs.declared.audit_rule.AuditRule.TheVariants as rule
 use Rattle.vplsnet.specs.declared.outcome.Outcome.{Outcome}
-use Rattle.vplsnet.specs.declared.outcome.Outcome.TheVariants.{Done, Usage, ReadFault, WriteFault, TooLong, ScenarioRefused, NoCircuit, CaptureRefused, ScriptRefused, Stopped, DecodeRefused, Unfinished, NoMemory}
-use Rattle.vplsnet.specs.Answers.{CallsFor, Completes, Finishes, IsCutShort, IsEndOf, IsMade, IsRefused, IsSound, IsSoundOutcome, IsTooLong, IsWhole, Makes, MakesRun, SaysOutcome, run_text}
+use Rattle.vplsnet.specs.declared.outcome.Outcome.TheVariants.{Done, Usage, ReadFault, WriteFault, TooLong, ScenarioRefused, NoCircuit, CaptureRefused, ScriptRefused, AuditRefused, Stopped, DecodeRefused, Unfinished, NoMemory}
+use Rattle.vplsnet.specs.Answers.{CallsFor, Completes, Finishes, IsCutShort, IsEndOf, IsJudged, IsMade, IsRefused, IsSound, IsSoundOutcome, IsTooLong, IsWhole, Makes, MakesRun, SaysOutcome, run_text}
 use Rattle.vplsnet.specs.Around.{Files, Around, HasWriteFault, IsUntouched, Has, TellsFile}
-use Rattle.vplsnet.specs.Asked.{Asked, Replay, Tables, Capture, Decode, Rehearse, Migrate, Discover, Switchover}
+use Rattle.vplsnet.specs.Asked.{Asked, Replay, Tables, Capture, Decode, Rehearse, Migrate, Discover, Switchover, Audit}
+use Rattle.vplsnet.specs.Audit.{stop_of}
 use Rattle.vplsnet.specs.Capture.{lacks_circuit}
 use Rattle.vplsnet.specs.Decode.{IsDecoding, IsDecodedAs}
 use Rattle.vplsnet.specs.Discover.{IsDiscovery}
 use Rattle.vplsnet.specs.Files.{IsLonger, IsNotHad}
-use Rattle.vplsnet.specs.Inputs.{AreReadNext, ComesTo, IsNext, IsNextAfter, IsNextBehind, IsNextDiscovery, IsNextExchange, IsNextOf, IsNextPlayed, IsNextRead, IsReadNext, Discovery, Exchange, Migration, Next, Reads, Refuses, Run, Stream, Wanted, Work, Works, played, scenario_limit, script_file, stream_limit}
+use Rattle.vplsnet.specs.Inputs.{AreReadNext, ComesTo, IsNext, IsNextAfter, IsNextBehind, IsNextDiscovery, IsNextExchange, IsNextReport, IsNextOf, IsNextPlayed, IsNextRead, IsReadNext, Discovery, Exchange, Report, Migration, Next, Reads, Refuses, Run, Stream, Wanted, Work, Works, played, report_file, scenario_limit, script_file, stream_limit}
 use Rattle.vplsnet.specs.ScenarioFile.{HasNoScenario, IsOfFile}
 use Rattle.vplsnet.specs.RunOver.{outcome_by, run_of}
 use Rattle.vplsnet.specs.ScenarioRun.{IsScenarioRun, whole_run}
@@ -43,6 +48,7 @@ says_want around (Rehearse seed) network untouched = untouched
 says_want around (Migrate file) network untouched = untouched
 says_want around (Discover file script) network untouched = untouched
 says_want around (Switchover file script) network untouched = untouched
+says_want around (Audit file report) network untouched = untouched
 says_want around (Decode file) network untouched = inl untouched
 
 -- what is refused before any run
@@ -54,6 +60,7 @@ refused_answers around asked network (ScenarioRefused fault) refused untouched =
 refused_answers around asked network (NoCircuit circuit) refused untouched = (refused, untouched)
 refused_answers around asked network (CaptureRefused file fault) refused untouched = (refused, untouched)
 refused_answers around asked network (ScriptRefused line word) refused untouched = (refused, untouched)
+refused_answers around asked network (AuditRefused line which) refused untouched = (refused, untouched)
 refused_answers around asked network NoMemory refused untouched = says_want around asked network untouched
 refused_answers around asked network Done refused untouched = absurd refused
 refused_answers around asked network Usage refused untouched = absurd refused
@@ -72,6 +79,7 @@ is_own (ScenarioRefused fault) = false
 is_own (NoCircuit circuit) = false
 is_own (CaptureRefused file fault) = false
 is_own (ScriptRefused line word) = false
+is_own (AuditRefused line which) = false
 is_own NoMemory = false
 is_own outcome = true
 
@@ -98,6 +106,7 @@ whole_answers around asked network (ScenarioRefused fault) own whole = absurd (c
 whole_answers around asked network (NoCircuit circuit) own whole = absurd (cc own)
 whole_answers around asked network (CaptureRefused file fault) own whole = absurd (cc own)
 whole_answers around asked network (ScriptRefused line word) own whole = absurd (cc own)
+whole_answers around asked network (AuditRefused line which) own whole = absurd (cc own)
 whole_answers around asked network NoMemory own whole = absurd (cc own)
 
 -- what the sink took by a call, and how its count of faults stands
@@ -161,6 +170,7 @@ stream_not_had around file network outcome why untouched = refused_answers aroun
   by (NoCircuit circuit) why = absurd why
   by (CaptureRefused name fault) why = absurd why
   by (ScriptRefused line word) why = absurd why
+  by (AuditRefused line which) why = absurd why
   by (Stopped stop) why = absurd why
   by (DecodeRefused fault) why = absurd why
   by (Unfinished at) why = absurd why
@@ -279,6 +289,10 @@ one_next (Switchover file script) [] next other a b = a ∙ sym b
 one_next (Switchover file script) (octets ∷ read) next other a b =
     one_after (λ scenario it. IsNextBehind (script_file script) (IsNextExchange scenario) read it)
     (λ scenario. one_behind (script_file script) (IsNextExchange scenario) (λ text one two is also. is ∙ sym also) read) (document octets) next other a b
+one_next (Audit file report) [] next other a b = a ∙ sym b
+one_next (Audit file report) (octets ∷ read) next other a b =
+    one_after (λ scenario it. IsNextBehind (report_file report) (IsNextReport scenario) read it)
+    (λ scenario. one_behind (report_file report) (IsNextReport scenario) (λ text one two is also. is ∙ sym also) read) (document octets) next other a b
 
 -- ---- the files that are read are one list
 
@@ -405,6 +419,7 @@ run_end asked scenario captures text network (ScenarioRefused fault) called make
 run_end asked scenario captures text network (NoCircuit circuit) called makes is = absurd makes
 run_end asked scenario captures text network (CaptureRefused file fault) called makes is = absurd makes
 run_end asked scenario captures text network (ScriptRefused line word) called makes is = absurd makes
+run_end asked scenario captures text network (AuditRefused line which) called makes is = absurd makes
 run_end asked scenario captures text network (DecodeRefused fault) called makes is = absurd makes
 run_end asked scenario captures text network (Unfinished at) called makes is = absurd makes
 run_end asked scenario captures text network NoMemory called makes is = absurd makes
@@ -426,6 +441,7 @@ discovery_end plan lines text network (ScenarioRefused fault) called makes is = 
 discovery_end plan lines text network (NoCircuit circuit) called makes is = absurd makes
 discovery_end plan lines text network (CaptureRefused file fault) called makes is = absurd makes
 discovery_end plan lines text network (ScriptRefused line word) called makes is = absurd makes
+discovery_end plan lines text network (AuditRefused line which) called makes is = absurd makes
 discovery_end plan lines text network (DecodeRefused fault) called makes is = absurd makes
 discovery_end plan lines text network (Unfinished at) called makes is = absurd makes
 discovery_end plan lines text network NoMemory called makes is = absurd makes
@@ -436,6 +452,7 @@ makes_end asked (Stream octets) text network outcome called makes end = decode_e
 makes_end asked (Migration scenario) text network outcome called makes end = makes.ends ∙ sym end
 makes_end asked (Discovery plan lines) text network outcome called makes end = discovery_end plan lines text network outcome called makes end
 makes_end asked (Exchange plan lines) text network outcome called makes end = makes.ends ∙ sym end
+makes_end asked (Report plan octets) text network outcome called makes end = makes.ends ∙ sym end.0
 
 -- what was made is what is called for, and no call of the sink failed
 made_called : (around : Around) (asked : Asked) (text : List ℕ) (network : Option NetLists) (outcome called : Outcome) → IsMade around asked text network outcome → IsSoundOutcome around asked called
@@ -443,6 +460,24 @@ made_called : (around : Around) (asked : Asked) (text : List ℕ) (network : Opt
 made_called around asked text network outcome called made sound = elim (met around asked (Works made.work) called made.come sound) [
   | inl same ↦ (let calls = calls_same around (Works made.work) sound.next called same sound.calls in
       (makes_end asked made.work text network outcome called made.makes calls.0, calls.1))
+  | inr more ↦ elim more [
+    | inl on ↦ absurd (cc (on.is))
+    | inr on ↦ absurd (called_ends around sound.next called sound.calls on)
+  ]
+]
+
+-- a rule that fails is no yes
+rule_never : (which : AuditRule) (line : ℕ) → IsYes (Err (stop_of which line)) → ⊥
+rule_never rule.Form line says = says
+rule_never rule.Isolated line says = says
+rule_never rule.Split line says = says
+rule_never rule.Once line says = says
+
+-- a report that breaks a rule calls for nothing
+judged_never : (around : Around) (asked : Asked) (line : ℕ) (which : AuditRule) (called : Outcome) → IsJudged around.files asked line which → IsSoundOutcome around asked called → ⊥
+judged_never around asked line which called judged sound = elim (met around asked (Works (Report judged.plan judged.octets)) called judged.come sound) [
+  | inl same ↦ (let calls = calls_same around (Works (Report judged.plan judged.octets)) sound.next called same sound.calls in
+      rule_never which line (good_yes judged.plan judged.octets (Err (stop_of which line)) calls.0.1 judged.judged))
   | inr more ↦ elim more [
     | inl on ↦ absurd (cc (on.is))
     | inr on ↦ absurd (called_ends around sound.next called sound.calls on)
@@ -462,6 +497,7 @@ completes around asked network (ScenarioRefused fault) answers called sound = in
 completes around asked network (NoCircuit circuit) answers called sound = inl (refused_called around asked (NoCircuit circuit) called answers.0 sound)
 completes around asked network (CaptureRefused file fault) answers called sound = inl (refused_called around asked (CaptureRefused file fault) called answers.0.0 sound)
 completes around asked network (ScriptRefused line word) answers called sound = inl (refused_called around asked (ScriptRefused line word) called answers.0 sound)
+completes around asked network (AuditRefused line which) answers called sound = absurd (judged_never around asked line which called answers.0 sound)
 completes around asked network (Stopped stop) answers called sound = inl (whole_called around asked network (Stopped stop) called answers sound)
 completes around asked network (DecodeRefused fault) answers called sound = inl (whole_called around asked network (DecodeRefused fault) called answers sound)
 completes around asked network (Unfinished at) answers called sound = inl (whole_called around asked network (Unfinished at) called answers sound)

@@ -14,7 +14,7 @@ use Rattle.pcap_file.specs.Answers.{TellsCaptureFault}
 use Rattle.pcap_file.specs.FirstFault.{IsFirstFault}
 use Rattle.pcap_file.specs.Records.{IsCapture, IsPacketRecord, PacketRecord, record_frame}
 use Rattle.vplsnet.specs.declared.outcome.Outcome.{Outcome}
-use Rattle.vplsnet.specs.declared.outcome.Outcome.TheVariants.{Done, Usage, ReadFault, WriteFault, TooLong, ScenarioRefused, NoCircuit, CaptureRefused, ScriptRefused, Stopped, DecodeRefused, Unfinished, NoMemory}
+use Rattle.vplsnet.specs.declared.outcome.Outcome.TheVariants.{Done, Usage, ReadFault, WriteFault, TooLong, ScenarioRefused, NoCircuit, CaptureRefused, ScriptRefused, AuditRefused, Stopped, DecodeRefused, Unfinished, NoMemory}
 use Rattle.vplsnet.specs.Around.{Files, Has}
 use Rattle.vplsnet.specs.Captures.{AreCaptures, FailsToPlay, GainsPlayed, HasFrames, HasPlayed, IsNoCapture, IsToldAs}
 use Rattle.vplsnet.specs.Files.{IsNotHad}
@@ -42,6 +42,7 @@ told_as Holds name fault (TooLong named limit) holds told = absurd told
 told_as Holds name fault (ScenarioRefused other) holds told = absurd told
 told_as Holds name fault (NoCircuit circuit) holds told = absurd told
 told_as Holds name fault (ScriptRefused line word) holds told = absurd told
+told_as Holds name fault (AuditRefused line rule) holds told = absurd told
 told_as Holds name fault (Stopped stop) holds told = absurd told
 told_as Holds name fault (DecodeRefused other) holds told = absurd told
 told_as Holds name fault (Unfinished at) holds told = absurd told
@@ -71,6 +72,7 @@ not_had files before after name (ScenarioRefused fault) why = absurd why
 not_had files before after name (NoCircuit circuit) why = absurd why
 not_had files before after name (CaptureRefused file fault) why = absurd why
 not_had files before after name (ScriptRefused line word) why = absurd why
+not_had files before after name (AuditRefused line rule) why = absurd why
 not_had files before after name (Stopped stop) why = absurd why
 not_had files before after name (DecodeRefused fault) why = absurd why
 not_had files before after name (Unfinished at) why = absurd why
@@ -91,6 +93,7 @@ no_capture files before after name octets (TooLong named limit) has fits told = 
 no_capture files before after name octets (ScenarioRefused fault) has fits told = absurd told
 no_capture files before after name octets (NoCircuit circuit) has fits told = absurd told
 no_capture files before after name octets (ScriptRefused line word) has fits told = absurd told
+no_capture files before after name octets (AuditRefused line rule) has fits told = absurd told
 no_capture files before after name octets (Stopped stop) has fits told = absurd told
 no_capture files before after name octets (DecodeRefused fault) has fits told = absurd told
 no_capture files before after name octets (Unfinished at) has fits told = absurd told
@@ -151,6 +154,7 @@ no_capture_later files before between after name WriteFault later why = absurd w
 no_capture_later files before between after name (ScenarioRefused fault) later why = absurd why
 no_capture_later files before between after name (NoCircuit circuit) later why = absurd why
 no_capture_later files before between after name (ScriptRefused line word) later why = absurd why
+no_capture_later files before between after name (AuditRefused line rule) later why = absurd why
 no_capture_later files before between after name (Stopped stop) later why = absurd why
 no_capture_later files before between after name (DecodeRefused fault) later why = absurd why
 no_capture_later files before between after name (Unfinished at) later why = absurd why

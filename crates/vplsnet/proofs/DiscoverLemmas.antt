@@ -1,5 +1,5 @@
 -- What `discover` answers by what its stages say.
-use Rattle.std.proofs.Common.{◌≡◌, ◌≤◌, ◌<◌, ◌+◌, ◌++◌, ◌∷◌, ◌∙◌, ℕ, zero, suc, Bool, true, false, List, [], Option, Some, None, Result, Ok, Err, length, inl, inr, arith, refl, ap, sym, subst, if◌then◌else◌}
+use Rattle.std.proofs.Common.{◌≡◌, ◌≤◌, ◌<◌, ◌+◌, ◌++◌, ◌∷◌, ◌∙◌, ℕ, zero, suc, Bool, true, false, List, [], Option, Some, None, Ok, Err, length, inl, inr, arith, refl, ap, sym, subst, if◌then◌else◌}
 use Rattle.std.specs.List.{All}
 use Rattle.std.proofs.lemmas.List.{append-nil}
 use Rattle.std.proofs.lemmas.List.Elements.{All-append, All-cons, All-head, All-nil, All-tail}
@@ -13,9 +13,8 @@ use Rattle.net_base.specs.plan.Paths.{are_joined}
 use Rattle.net_base.specs.plan.Planned.{IsEventOf, IsFrame}
 use Rattle.command_run.specs.Made.{made_by}
 use Rattle.command_run.proofs.PlannedLemmas.{made_planned}
-use Rattle.command_text.specs.declared.command.Command.{Command}
 use Rattle.command_text.specs.Planned.{IsPlanned, names_of}
-use Rattle.discovery_net.specs.Acts.{Act, Does, Tells, all_done, course_of, events_in}
+use Rattle.discovery_net.specs.Acts.{Act, Does, Tells, all_done, events_in}
 use Rattle.discovery_net.specs.Deeds.{Discovery as DiscoveryState, Hello, adjacency_lives, hello_of, octets_of, opened}
 use Rattle.discovery_net.specs.Lines.{Lapse, acts_of, after_line, bring_acts, downs, lapses_from, lapses_with, may_open, next_hello}
 use Rattle.discovery_net.specs.Lists.{DiscoveryLists, ended_at}
@@ -27,8 +26,8 @@ use Rattle.discovery_script.specs.declared.placed_note.PlacedNote.{PlacedNote}
 use Rattle.discovery_script.specs.declared.script_line.ScriptLine.{ScriptLine}
 use Rattle.discovery_script.specs.declared.script_line.ScriptLine.TheVariants as line
 use Rattle.discovery_script.specs.Lines.{lines_in}
-use Rattle.discovery_script.specs.Planned.{AreOfPlan, IsLineOf}
-use Rattle.flight_model.specs.Ends.{HasTypes}
+use Rattle.discovery_script.specs.Planned.{IsLineOf}
+use Rattle.flight_laws.specs.Ends.{HasTypes}
 use Rattle.network_model.specs.State.{NetworkState, empty_network, stands}
 use Rattle.network_model.specs.Step.{step}
 use Rattle.psn_net.specs.declared.net_stop.NetStop.{NetStop}
@@ -50,7 +49,7 @@ use Rattle.vplsnet.specs.PlanFile.{HasBoth, IsReadOfTwo, LacksOne, ReadsSecond}
 use Rattle.vplsnet.specs.Reads.{GainsReads, IsReadOfNext}
 use Rattle.vplsnet.specs.RunOver.{outcome_by}
 use Rattle.vplsnet.specs.ScriptFile.{EndsScript, outcome_of_script}
-use Rattle.vplsnet.specs.Writing.{EndsDiscovery, EndsText, WritesNone}
+use Rattle.vplsnet.specs.Writing.{EndsDiscovery, EndsText}
 use Rattle.vplsnet.proofs.AnswerLemmas.{none_answers, now_of, old_of, refused_answers, run_own, text_answers}
 use Rattle.vplsnet.proofs.PlanFileLemmas.{next_after, two_read, two_refused}
 use Rattle.vplsnet.proofs.RunLemmas.{is_run_over}

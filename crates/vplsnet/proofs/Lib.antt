@@ -1,5 +1,6 @@
 pub mod SeenLemmas
 pub mod AnswerLemmas
+pub mod AuditLemmas
 pub mod CaptureLemmas
 pub mod FaultLemmas
 pub mod DiscoverLemmas

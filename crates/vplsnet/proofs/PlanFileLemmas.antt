@@ -1,18 +1,18 @@
 -- What a scenario's file and a second file behind it come to.
-use Rattle.std.proofs.Common.{◌≡◌, ◌≤◌, ◌⊎◌, ◌∙◌, [], ◌∷◌, ℕ, List, Some, None, Ok, Err, Result, IfSome, length, inl, inr, refl, ap, sym, subst}
-use Rattle.net_base.specs.outside.Outside.{NeverFall, ReadCall, Rose}
+use Rattle.std.proofs.Common.{◌≡◌, ◌≤◌, ◌∙◌, [], ◌∷◌, ℕ, List, Some, None, Ok, Result, IfSome, length, inl, inr, ap, sym, subst}
+use Rattle.net_base.specs.outside.Outside.{NeverFall, ReadCall}
 use Rattle.command_text.specs.declared.scenario_fault.ScenarioFault.{ScenarioFault}
 use Rattle.scenario_text.specs.declared.scenario.Scenario.{Scenario}
 use Rattle.scenario_text.specs.Document.{document}
 use Rattle.text_lines.proofs.WrittenLemmas.{rose_later}
 use Rattle.vplsnet.specs.declared.outcome.Outcome.{Outcome}
-use Rattle.vplsnet.specs.declared.outcome.Outcome.TheVariants.{Done, Usage, ReadFault, WriteFault, TooLong, ScenarioRefused, NoCircuit, CaptureRefused, ScriptRefused, Stopped, DecodeRefused, Unfinished, NoMemory}
+use Rattle.vplsnet.specs.declared.outcome.Outcome.TheVariants.{Done, Usage, ReadFault, WriteFault, TooLong, ScenarioRefused, NoCircuit, CaptureRefused, ScriptRefused, AuditRefused, Stopped, DecodeRefused, Unfinished, NoMemory}
 use Rattle.vplsnet.specs.Answers.{IsRefused}
 use Rattle.vplsnet.specs.Around.{Files, Has}
 use Rattle.vplsnet.specs.Asked.{Asked}
 use Rattle.vplsnet.specs.Files.{IsLonger, IsNotHad}
-use Rattle.vplsnet.specs.Inputs.{AreReadNext, ComesTo, IsNext, IsNextAfter, IsNextBehind, Next, Reads, Wanted, scenario_limit}
-use Rattle.vplsnet.specs.PlanFile.{HasBoth, IsReadOfTwo, IsSecondRead, LacksOne, LacksSecond, ReadsSecond}
+use Rattle.vplsnet.specs.Inputs.{AreReadNext, ComesTo, IsNext, IsNextAfter, Next, Reads, Wanted, scenario_limit}
+use Rattle.vplsnet.specs.PlanFile.{HasBoth, IsReadOfTwo, LacksOne, ReadsSecond}
 use Rattle.vplsnet.specs.Reads.{GainsReads, IsReadOf, IsReadOfNext}
 use Rattle.vplsnet.specs.ScenarioFile.{HasNoScenario, IsOfFile}
 use Rattle.vplsnet.proofs.ReadLemmas.{reads_as, reads_then}
@@ -39,6 +39,7 @@ not_had_later files before between after name limit (ScenarioRefused fault) late
 not_had_later files before between after name limit (NoCircuit circuit) later why = absurd why
 not_had_later files before between after name limit (CaptureRefused file fault) later why = absurd why
 not_had_later files before between after name limit (ScriptRefused line word) later why = absurd why
+not_had_later files before between after name limit (AuditRefused line rule) later why = absurd why
 not_had_later files before between after name limit (Stopped stop) later why = absurd why
 not_had_later files before between after name limit (DecodeRefused fault) later why = absurd why
 not_had_later files before between after name limit (Unfinished at) later why = absurd why
@@ -100,6 +101,7 @@ second_refused files before after asked second (ScenarioRefused fault) come why 
 second_refused files before after asked second (NoCircuit circuit) come why = absurd why
 second_refused files before after asked second (CaptureRefused file fault) come why = absurd why
 second_refused files before after asked second (ScriptRefused line word) come why = absurd why
+second_refused files before after asked second (AuditRefused line rule) come why = absurd why
 second_refused files before after asked second (Stopped stop) come why = absurd why
 second_refused files before after asked second (DecodeRefused fault) come why = absurd why
 second_refused files before after asked second (Unfinished at) come why = absurd why

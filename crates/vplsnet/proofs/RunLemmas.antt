@@ -7,23 +7,23 @@ use Rattle.net_base.specs.declared.trace.event.Event.{Event}
 use Rattle.net_base.specs.plan.Accepted.{IsChecked}
 use Rattle.net_base.specs.plan.Planned.{IsEventOf, IsFrame}
 use Rattle.network_model.specs.State.{empty_network}
-use Rattle.flight_model.specs.Laws.{IsRun}
-use Rattle.flight_model.proofs.AcrossLemmas.{runs_take_mappings, runs_tell_across}
-use Rattle.flight_model.proofs.BoundRunLemmas.{runs_agree_after_flight, runs_settle}
-use Rattle.flight_model.proofs.ReleaseLemmas.{runs_await_releases, runs_release_unadvertised}
-use Rattle.flight_model.proofs.RuledRunLemmas.{runs_keep_label_rule, runs_keep_told_rule}
-use Rattle.flight_model.proofs.RunLemmas.{runs_come_up, runs_end_well, runs_follow_table}
+use Rattle.flight_laws.specs.Laws.{IsRun}
+use Rattle.flight_laws.proofs.AcrossLemmas.{runs_take_mappings, runs_tell_across}
+use Rattle.flight_laws.proofs.BoundRunLemmas.{runs_agree_after_flight, runs_settle}
+use Rattle.flight_laws.proofs.ReleaseLemmas.{runs_await_releases, runs_release_unadvertised}
+use Rattle.flight_laws.proofs.RuledRunLemmas.{runs_keep_label_rule, runs_keep_told_rule}
+use Rattle.flight_laws.proofs.RunLemmas.{runs_come_up, runs_end_well, runs_follow_table}
 use Rattle.network_model.proofs.SplitLemmas.{run_split}
 use Rattle.network_model.proofs.KnownLemmas.{run_serves_known_once}
-use Rattle.packet_model.proofs.SharedLemmas.{runs_share_channels}
-use Rattle.packet_model.proofs.RunLemmas.{runs_are_isolated, runs_keep_echoes_apart, runs_keep_packet_rule}
-use Rattle.flood_model.proofs.ChainLemmas.{runs_tell_in_chains}
-use Rattle.flood_model.proofs.RunLemmas.{runs_serve_once}
-use Rattle.flood_model.proofs.ShareLemmas.{runs_share_sites}
-use Rattle.flood_model.proofs.WholeLemmas.{runs_keep_wires_whole}
-use Rattle.address_model.proofs.KnownLemmas.{runs_reach_known}
-use Rattle.address_model.proofs.PointsLemmas.{runs_keep_points}
-use Rattle.move_model.proofs.HealLemmas.{runs_heal_moves}
+use Rattle.packet_laws.proofs.SharedLemmas.{runs_share_channels}
+use Rattle.packet_laws.proofs.RunLemmas.{runs_are_isolated, runs_keep_echoes_apart, runs_keep_packet_rule}
+use Rattle.flood_laws.proofs.ChainLemmas.{runs_tell_in_chains}
+use Rattle.flood_laws.proofs.RunLemmas.{runs_serve_once}
+use Rattle.flood_laws.proofs.ShareLemmas.{runs_share_sites}
+use Rattle.flood_laws.proofs.WholeLemmas.{runs_keep_wires_whole}
+use Rattle.address_laws.proofs.KnownLemmas.{runs_reach_known}
+use Rattle.address_laws.proofs.PointsLemmas.{runs_keep_points}
+use Rattle.move_laws.proofs.HealLemmas.{runs_heal_moves}
 use Rattle.psn_net.specs.declared.net_stop.NetStop.{NetStop}
 use Rattle.psn_net.specs.Lists.{NetLists, seen}
 use Rattle.psn_net.specs.Runs.{AreDone, IsRunOf}

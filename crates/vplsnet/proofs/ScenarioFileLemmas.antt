@@ -15,7 +15,7 @@ use Rattle.rehearsal.specs.Scenario.{rehearsal}
 use Rattle.scenario_text.specs.declared.scenario.Scenario.{Scenario}
 use Rattle.scenario_text.specs.Document.{document}
 use Rattle.vplsnet.specs.declared.outcome.Outcome.{Outcome}
-use Rattle.vplsnet.specs.declared.outcome.Outcome.TheVariants.{Done, Usage, ReadFault, WriteFault, TooLong, ScenarioRefused, NoCircuit, CaptureRefused, ScriptRefused, Stopped, DecodeRefused, Unfinished, NoMemory}
+use Rattle.vplsnet.specs.declared.outcome.Outcome.TheVariants.{Done, Usage, ReadFault, WriteFault, TooLong, ScenarioRefused, NoCircuit, CaptureRefused, ScriptRefused, AuditRefused, Stopped, DecodeRefused, Unfinished, NoMemory}
 use Rattle.vplsnet.specs.Answers.{IsRefused}
 use Rattle.vplsnet.specs.Around.{Files, Has}
 use Rattle.vplsnet.specs.Asked.{Asked, Replay, Tables, Capture, Rehearse}
@@ -176,6 +176,7 @@ refused_first files before after asked file WriteFault first refuses why = absur
 refused_first files before after asked file (NoCircuit circuit) first refuses why = absurd why
 refused_first files before after asked file (CaptureRefused name fault) first refuses why = absurd why
 refused_first files before after asked file (ScriptRefused line word) first refuses why = absurd why
+refused_first files before after asked file (AuditRefused line rule) first refuses why = absurd why
 refused_first files before after asked file (Stopped stop) first refuses why = absurd why
 refused_first files before after asked file (DecodeRefused fault) first refuses why = absurd why
 refused_first files before after asked file (Unfinished at) first refuses why = absurd why
@@ -251,6 +252,7 @@ lacks_some files here before between after asked file scenario outcome same late
     by WriteFault lacks = absurd lacks
     by (ScenarioRefused fault) lacks = absurd lacks
     by (ScriptRefused line word) lacks = absurd lacks
+    by (AuditRefused line rule) lacks = absurd lacks
     by (Stopped stop) lacks = absurd lacks
     by (DecodeRefused fault) lacks = absurd lacks
     by (Unfinished at) lacks = absurd lacks
@@ -268,6 +270,7 @@ lacks_named files before after asked scenario circuit (TooLong named limit) lack
 lacks_named files before after asked scenario circuit (ScenarioRefused fault) lacks told = absurd told
 lacks_named files before after asked scenario circuit (CaptureRefused file fault) lacks told = absurd told
 lacks_named files before after asked scenario circuit (ScriptRefused line word) lacks told = absurd told
+lacks_named files before after asked scenario circuit (AuditRefused line rule) lacks told = absurd told
 lacks_named files before after asked scenario circuit (Stopped stop) lacks told = absurd told
 lacks_named files before after asked scenario circuit (DecodeRefused fault) lacks told = absurd told
 lacks_named files before after asked scenario circuit (Unfinished at) lacks told = absurd told
@@ -285,6 +288,7 @@ lacks_file files before after asked scenario WriteFault has fails = absurd fails
 lacks_file files before after asked scenario (ScenarioRefused fault) has fails = absurd fails.why
 lacks_file files before after asked scenario (NoCircuit circuit) has fails = absurd fails.why
 lacks_file files before after asked scenario (ScriptRefused line word) has fails = absurd fails.why
+lacks_file files before after asked scenario (AuditRefused line rule) has fails = absurd fails.why
 lacks_file files before after asked scenario (Stopped stop) has fails = absurd fails.why
 lacks_file files before after asked scenario (DecodeRefused fault) has fails = absurd fails.why
 lacks_file files before after asked scenario (Unfinished at) has fails = absurd fails.why
@@ -315,6 +319,7 @@ no_file files before after file (ScenarioRefused fault) why = absurd why
 no_file files before after file (NoCircuit circuit) why = absurd why
 no_file files before after file (CaptureRefused name fault) why = absurd why
 no_file files before after file (ScriptRefused line word) why = absurd why
+no_file files before after file (AuditRefused line rule) why = absurd why
 no_file files before after file (Stopped stop) why = absurd why
 no_file files before after file (DecodeRefused fault) why = absurd why
 no_file files before after file (Unfinished at) why = absurd why
@@ -330,6 +335,7 @@ no_document files before after file octets (TooLong named limit) has fits told =
 no_document files before after file octets (NoCircuit circuit) has fits told = absurd told
 no_document files before after file octets (CaptureRefused name fault) has fits told = absurd told
 no_document files before after file octets (ScriptRefused line word) has fits told = absurd told
+no_document files before after file octets (AuditRefused line rule) has fits told = absurd told
 no_document files before after file octets (Stopped stop) has fits told = absurd told
 no_document files before after file octets (DecodeRefused fault) has fits told = absurd told
 no_document files before after file octets (Unfinished at) has fits told = absurd told

@@ -1,5 +1,5 @@
 -- What a script comes to that is read behind a scenario.
-use Rattle.std.proofs.Common.{◌≡◌, [], ◌∷◌, ℕ, List, Option, Some, None, Result, Ok, Err, inl, inr, ap, sym, subst}
+use Rattle.std.proofs.Common.{◌≡◌, [], ◌∷◌, ℕ, List, Option, Result, Ok, Err, inl, inr, sym, subst}
 use Rattle.psn_net.specs.Lists.{NetLists}
 use Rattle.scenario_text.specs.declared.scenario.Scenario.{Scenario}
 use Rattle.scenario_text.specs.Document.{document}
@@ -7,13 +7,13 @@ use Rattle.script_text.specs.declared.script_fault.ScriptFault.{ScriptFault}
 use Rattle.script_text.specs.declared.script_fault.ScriptFault.TheVariants as script_fault
 use Rattle.script_text.specs.Reading.{Fails}
 use Rattle.vplsnet.specs.declared.outcome.Outcome.{Outcome}
-use Rattle.vplsnet.specs.declared.outcome.Outcome.TheVariants.{Done, Usage, ReadFault, WriteFault, TooLong, ScenarioRefused, NoCircuit, CaptureRefused, ScriptRefused, Stopped, DecodeRefused, Unfinished, NoMemory}
+use Rattle.vplsnet.specs.declared.outcome.Outcome.TheVariants.{Done, Usage, ReadFault, WriteFault, TooLong, ScenarioRefused, NoCircuit, CaptureRefused, ScriptRefused, AuditRefused, Stopped, DecodeRefused, Unfinished, NoMemory}
 use Rattle.vplsnet.specs.Answers.{IsRefused, SaysOutcome}
 use Rattle.vplsnet.specs.Around.{Around, Has}
 use Rattle.vplsnet.specs.Asked.{Asked}
-use Rattle.vplsnet.specs.Inputs.{ComesTo, IsNext, Next, Wanted, Work, Works, next_script}
+use Rattle.vplsnet.specs.Inputs.{ComesTo, IsNext, Wanted, Work, Works, next_script}
 use Rattle.vplsnet.specs.PlanFile.{HasBoth, ReadsSecond}
-use Rattle.vplsnet.specs.ScriptFile.{EndsBefore, EndsLines, EndsScript, IsNoScript, outcome_of_script}
+use Rattle.vplsnet.specs.ScriptFile.{EndsScript, IsNoScript, outcome_of_script}
 use Rattle.vplsnet.proofs.AnswerLemmas.{now_of, old_of, refused_answers}
 use Rattle.vplsnet.proofs.PlanFileLemmas.{comes_behind_both}
 
@@ -46,6 +46,7 @@ script_ended {Lines} around asked file octets second scenario read work Ends net
   refused (ScenarioRefused fault) why = absurd why
   refused (NoCircuit circuit) why = absurd why
   refused (CaptureRefused name fault) why = absurd why
+  refused (AuditRefused line rule) why = absurd why
   refused (Stopped stop) why = absurd why
   refused (DecodeRefused fault) why = absurd why
   refused (Unfinished at) why = absurd why

@@ -7,7 +7,7 @@ use Rattle.std.specs.List.{All}
 use Rattle.net_base.specs.declared.plan.edge_plan.EdgePlan.{EdgePlan}
 use Rattle.net_base.specs.declared.plan.wire_plan.WirePlan.{WirePlan}
 use Rattle.session_core.specs.Laws.{IsAddress}
-use Rattle.flight_model.specs.Ends.{AreFieldOffers}
+use Rattle.flight_laws.specs.Ends.{AreFieldOffers}
 
 -- so many of the items are seen to be so
 pub record AreSeen {X : Type 0} (P : X → Type 0) (items : List X) (count : ℕ) : Type 0 where

@@ -1,13 +1,11 @@
 -- What `switchover` answers by what its stages say.
-use Rattle.std.proofs.Common.{◌≡◌, ◌<◌, ◌++◌, ◌∙◌, ℕ, Bool, true, List, [], ◌∷◌, Option, Some, None, Result, Ok, Err, slice_get, inl, inr, refl, ap, sym, subst}
+use Rattle.std.proofs.Common.{◌≡◌, ◌<◌, ℕ, List, [], ◌∷◌, Option, None, Ok, Err, inl, inr, refl, sym, subst}
 use Rattle.std.specs.List.{All, AllByRecursion}
 use Rattle.std.proofs.lemmas.List.Elements.{All-cons, All-head, All-nil, All-tail}
 use Rattle.net_base.specs.declared.plan.Plan.{Plan}
-use Rattle.net_base.specs.declared.plan.edge_plan.EdgePlan.{EdgePlan}
-use Rattle.net_base.specs.declared.plan.wire_plan.WirePlan.{WirePlan}
 use Rattle.net_base.specs.outside.Outside.{ReadCall, Rose}
 use Rattle.net_base.specs.plan.Accepted.{IsChecked}
-use Rattle.flight_model.specs.Ends.{AreFieldOffers, HasTypes as HasFieldTypes}
+use Rattle.flight_laws.specs.Ends.{AreFieldOffers, HasTypes as HasFieldTypes}
 use Rattle.ldp_grammar.proofs.OctetLemmas.{octet_front}
 use Rattle.ldp_grammar.proofs.WrittenOctets.{no_octets}
 use Rattle.net_values.specs.Octets.{AreOctets}

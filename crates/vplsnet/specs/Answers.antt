@@ -1,5 +1,6 @@
 -- How a call of the program ends: what is common to all commands.
-use Rattle.std.specs.Prelude.{◌≡◌, ◌≢◌, ◌⊎◌, ◌≤◌, ◌<◌, ℕ, List, [], length, Option, Some, None, IfSome}
+use Rattle.std.specs.Prelude.{Err, ◌≡◌, ◌≢◌, ◌⊎◌, ◌<◌, ℕ, List, [], length, Option, Some, None, IfSome}
+use Rattle.net_base.specs.declared.plan.Plan.{Plan}
 use Rattle.net_base.specs.outside.Outside.{Rose}
 use Rattle.command_text.specs.declared.scenario_fault.ScenarioFault.TheVariants as scenario_fault
 use Rattle.pcap_file.specs.declared.capture_fault.CaptureFault.TheVariants as capture_fault
@@ -7,16 +8,19 @@ use Rattle.psn_net.specs.declared.net_stop.NetStop.{NetStop}
 use Rattle.psn_net.specs.Lists.{NetLists}
 use Rattle.scenario_text.specs.declared.scenario.Scenario.{Scenario}
 use Rattle.text_lines.specs.Written.{AppendsFront, Writes}
+use Rattle.trace_audit.specs.Audited.{IsAudited, IsGood}
+use Rattle.vplsnet.specs.declared.audit_rule.AuditRule.{AuditRule}
 use Rattle.vplsnet.specs.declared.outcome.Outcome.{Outcome}
-use Rattle.vplsnet.specs.declared.outcome.Outcome.TheVariants.{Done, Usage, ReadFault, WriteFault, TooLong, ScenarioRefused, NoCircuit, CaptureRefused, ScriptRefused, Stopped, DecodeRefused, Unfinished, NoMemory}
+use Rattle.vplsnet.specs.declared.outcome.Outcome.TheVariants.{Done, Usage, ReadFault, WriteFault, TooLong, ScenarioRefused, NoCircuit, CaptureRefused, ScriptRefused, AuditRefused, Stopped, NoMemory}
 use Rattle.vplsnet.specs.Around.{Files, Around, HasReadFault, HasWriteFault, IsUntouched, Has, TellsFile}
-use Rattle.vplsnet.specs.Asked.{Asked, Replay, Tables, Capture, Decode, Rehearse, Migrate, Discover, Switchover}
+use Rattle.vplsnet.specs.Asked.{Asked, Replay, Tables, Capture, Decode, Rehearse, Migrate, Discover, Switchover, Audit}
+use Rattle.vplsnet.specs.Audit.{IsPassed, stop_of}
 use Rattle.vplsnet.specs.Capture.{captured}
 use Rattle.vplsnet.specs.Decode.{AppendsPart, IsDecoding, IsDecodedAs}
 use Rattle.discovery_net.specs.Script.{events_made}
 use Rattle.vplsnet.specs.Discover.{IsDiscovery}
 use Rattle.vplsnet.specs.Files.{IsLonger}
-use Rattle.vplsnet.specs.Inputs.{Wanted, Next, Reads, Refuses, Works, Work, Run, Stream, Migration, Discovery, Exchange, ComesTo}
+use Rattle.vplsnet.specs.Inputs.{Wanted, Next, Reads, Refuses, Works, Work, Run, Stream, Migration, Discovery, Exchange, Report, ComesTo}
 use Rattle.vplsnet.specs.Migrate.{IsMigration}
 use Rattle.vplsnet.specs.Rehearse.{rehearse_text}
 use Rattle.vplsnet.specs.Replay.{replay_text}
@@ -26,7 +30,8 @@ use Rattle.vplsnet.specs.ScenarioRun.{IsScenarioRun, whole_run}
 use Rattle.vplsnet.specs.Tables.{tables_text}
 
 -- The text of a command, a row for each: what it writes of the network that a run left, and of the limit that stopped it, if one did.
--- That of `decode` is told of octets, that of `migrate` of the scenario alone, and those of `discover` and `switchover` of a script.
+-- That of `decode` is told of octets, that of `migrate` of the scenario alone, those of `discover` and `switchover` of a
+-- script, and that of `audit` of a report.
 abbrev pub run_text : Asked → NetLists → Option NetStop → List ℕ
 run_text (Replay file) left reason = replay_text left reason
 run_text (Tables file) left reason = tables_text left reason
@@ -36,6 +41,7 @@ run_text (Decode file) left reason = []
 run_text (Migrate file) left reason = []
 run_text (Discover file script) left reason = []
 run_text (Switchover file script) left reason = []
+run_text (Audit file report) left reason = []
 
 -- the text and the network of a run
 pub record TellsRun (asked : Asked) (scenario : Scenario) (captures : List (List (List ℕ))) (text : List ℕ) (network : Option NetLists) (reason : Option NetStop) : Type 0 where
@@ -56,6 +62,7 @@ Makes asked (Stream octets) text network outcome = IsDecoding octets text networ
 Makes asked (Migration scenario) text network outcome = IsMigration scenario text network outcome
 Makes asked (Discovery plan lines) text network outcome = IsDiscovery plan lines text network outcome
 Makes asked (Exchange plan lines) text network outcome = IsExchange plan lines text network outcome
+Makes asked (Report plan octets) text network outcome = IsPassed plan octets text network outcome
 
 -- the outcome of this work alone
 abbrev pub IsEndOf : Work → Outcome → Type 0
@@ -64,6 +71,7 @@ IsEndOf (Stream octets) outcome = IsDecodedAs octets outcome
 IsEndOf (Migration scenario) outcome = outcome ≡ Done
 IsEndOf (Discovery plan lines) outcome = outcome ≡ outcome_by (run_of plan (events_made plan lines)).stop
 IsEndOf (Exchange plan lines) outcome = outcome ≡ Done
+IsEndOf (Report plan octets) outcome = (outcome ≡ Done) × IsGood plan octets
 
 -- the files were read, and the command had its work, and makes this text, the network of this run and this outcome of it
 pub record IsMade (around : Around) (asked : Asked) (text : List ℕ) (network : Option NetLists) (outcome : Outcome) : Type 0 where
@@ -96,6 +104,13 @@ pub record IsTooLong (files : Files) (asked : Asked) (named : List ℕ) (limit :
   pub come : ComesTo (Has files) asked (Reads (record { name = named; limit = limit }))
   pub longer : IfSome files (λ held. IsLonger limit (held named))
 
+-- a report that was read breaks this rule, first in this line, and none of the rules before it
+pub record IsJudged (files : Files) (asked : Asked) (line : ℕ) (rule : AuditRule) : Type 0 where
+  pub plan : Plan
+  pub octets : List ℕ
+  pub come : ComesTo (Has files) asked (Works (Report plan octets))
+  pub judged : IsAudited plan octets (Err (stop_of rule line))
+
 -- What is refused before any run, by the files and by the shelf's counts of faults before and after: a file that comes next was not had,
 -- or the outcome is what comes next. Want of memory says nothing.
 abbrev pub IsRefused : Files → (List ℕ → ℕ) → (List ℕ → ℕ) → Asked → Outcome → Type 0
@@ -105,6 +120,7 @@ IsRefused files before after asked (ScenarioRefused fault) = ComesTo (Has files)
 IsRefused files before after asked (NoCircuit circuit) = ComesTo (Has files) asked (Refuses (NoCircuit circuit))
 IsRefused files before after asked (CaptureRefused file fault) = ComesTo (Has files) asked (Refuses (CaptureRefused file fault)) × (fault ≢ capture_fault.NoMemory)
 IsRefused files before after asked (ScriptRefused line word) = ComesTo (Has files) asked (Refuses (ScriptRefused line word))
+IsRefused files before after asked (AuditRefused line rule) = IsJudged files asked line rule
 IsRefused files before after asked NoMemory = Unit {0}
 IsRefused files before after asked outcome = ⊥
 
@@ -128,6 +144,7 @@ SaysWant around (Rehearse seed) network = IsUntouched around network
 SaysWant around (Migrate file) network = IsUntouched around network
 SaysWant around (Discover file script) network = IsUntouched around network
 SaysWant around (Switchover file script) network = IsUntouched around network
+SaysWant around (Audit file report) network = IsUntouched around network
 SaysWant around (Decode file) network = IsUntouched around network ⊎ IsGivenUp around (Decode file) network
 
 -- What an outcome says, its cause among it.
@@ -139,6 +156,7 @@ SaysOutcome around asked network (ScenarioRefused fault) = SaysRefusal around as
 SaysOutcome around asked network (NoCircuit circuit) = SaysRefusal around asked network (NoCircuit circuit)
 SaysOutcome around asked network (CaptureRefused file fault) = SaysRefusal around asked network (CaptureRefused file fault)
 SaysOutcome around asked network (ScriptRefused line word) = SaysRefusal around asked network (ScriptRefused line word)
+SaysOutcome around asked network (AuditRefused line rule) = SaysRefusal around asked network (AuditRefused line rule)
 SaysOutcome around asked network WriteFault = IsCutShort around asked network
 SaysOutcome around asked network NoMemory = SaysWant around asked network
 SaysOutcome around asked network outcome = IsWhole around asked network outcome
@@ -161,7 +179,7 @@ pub record CallsTooLong (around : Around) (wanted : Wanted) (outcome : Outcome) 
   pub is : outcome ≡ TooLong wanted.name wanted.limit
 
 -- The outcome that is called for by what comes next: a file that is too long, what is refused before any run, or what the command makes
--- of its work, where no call of the sink failed.
+-- of its work, where no call of the sink failed. A report calls for one where it meets all rules.
 abbrev pub CallsFor : Around → Next → Outcome → Type 0
 CallsFor around (Reads wanted) outcome = CallsTooLong around wanted outcome
 CallsFor around (Refuses refused) outcome = outcome ≡ refused

@@ -15,6 +15,7 @@ pub data Asked : Type 0 where
   Migrate : (file : List ℕ) → Asked
   Discover : (file script : List ℕ) → Asked
   Switchover : (file script : List ℕ) → Asked
+  Audit : (file report : List ℕ) → Asked
 
 -- a request as it was asked for
 abbrev pub asked_by : Request → Asked
@@ -26,6 +27,7 @@ asked_by (request.Rehearse seed) = Rehearse seed
 asked_by (request.Migrate file) = Migrate file.now
 asked_by (request.Discover file script) = Discover file.now script.now
 asked_by (request.Switchover file script) = Switchover file.now script.now
+asked_by (request.Audit file report) = Audit file.now report.now
 
 -- neither empty nor an option: it does not begin with `-`
 abbrev pub is_plain : List ℕ → Bool
@@ -49,10 +51,11 @@ abbrev pub two_word_command : List ℕ → List ℕ → List ℕ → Option Aske
 two_word_command command file word =
     if bytes_eq command (codes "capture") then Some (Capture file word) else
     if bytes_eq command (codes "discover") then Some (Discover file word) else
-    if bytes_eq command (codes "switchover") then Some (Switchover file word) else None
+    if bytes_eq command (codes "switchover") then Some (Switchover file word) else
+    if bytes_eq command (codes "audit") then Some (Audit file word) else None
 
--- `replay FILE`, `tables FILE`, `capture FILE CIRCUIT`, `decode FILE`, `rehearse SEED`, `migrate FILE`, `discover FILE SCRIPT` or
--- `switchover FILE SCRIPT`, whose words behind the first are plain; any other words ask for nothing
+-- `replay FILE`, `tables FILE`, `capture FILE CIRCUIT`, `decode FILE`, `rehearse SEED`, `migrate FILE`, `discover FILE SCRIPT`,
+-- `switchover FILE SCRIPT` or `audit FILE REPORT`, whose words behind the first are plain; any other words ask for nothing
 abbrev pub asked : List (List ℕ) → Option Asked
 asked [] = None
 asked (command ∷ []) = None

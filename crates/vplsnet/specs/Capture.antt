@@ -2,11 +2,10 @@
 use Rattle.std.specs.Prelude.{ℕ, List, [], position, Option, Some, None}
 use Rattle.std.specs.Str.{bytes_eq}
 use Rattle.net_base.specs.declared.plan.Plan.{Plan}
-use Rattle.net_base.specs.declared.plan.places.CircuitId.{CircuitId}
 use Rattle.psn_net.specs.declared.net_stop.NetStop.{NetStop}
 use Rattle.psn_net.specs.Lists.{NetLists}
 use Rattle.capture_text.specs.Capture.{capture_text}
-use Rattle.vplsnet.specs.Asked.{Asked, Replay, Tables, Capture, Decode, Rehearse, Migrate, Discover, Switchover}
+use Rattle.vplsnet.specs.Asked.{Asked, Replay, Tables, Capture, Decode, Rehearse, Migrate, Discover, Switchover, Audit}
 
 -- the place of the circuit of this name
 abbrev pub circuit_of : Plan → List ℕ → Option ℕ
@@ -27,6 +26,7 @@ lacks_circuit (Rehearse seed) plan = None
 lacks_circuit (Migrate file) plan = None
 lacks_circuit (Discover file script) plan = None
 lacks_circuit (Switchover file script) plan = None
+lacks_circuit (Audit file report) plan = None
 
 -- the frames that left the circuit at this place, as a capture; nothing where there is none
 abbrev pub left_at : NetLists → Option ℕ → List ℕ

@@ -1,5 +1,5 @@
 -- Whole files and whole texts.
-use Rattle.std.specs.Prelude.{◌≡◌, ◌⊎◌, ◌<◌, ◌+◌, ℕ, List, [], ◌∷◌, length, take, Option, Some, Result, Ok, Err, IfSome}
+use Rattle.std.specs.Prelude.{◌≡◌, ◌⊎◌, ◌<◌, ◌+◌, ℕ, List, length, take, Option, Some, Result, Ok, Err, IfSome}
 use Rattle.net_base.specs.outside.Outside.{ReadCall, Rose, raised}
 use Rattle.vplsnet.specs.declared.files.ReadStop.{ReadStop}
 use Rattle.vplsnet.specs.declared.files.ReadStop.TheVariants as stop

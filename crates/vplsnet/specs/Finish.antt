@@ -7,8 +7,10 @@ use Rattle.pcap_file.specs.declared.capture_fault.CaptureFault.{CaptureFault}
 use Rattle.text_pieces.specs.Pieces.{spaced}
 use Rattle.vplsnet.specs.StopText.{stop_words}
 use Rattle.vplsnet.specs.StreamFaultText.{stream_fault_words}
+use Rattle.vplsnet.specs.declared.audit_rule.AuditRule.{AuditRule}
+use Rattle.vplsnet.specs.declared.audit_rule.AuditRule.TheVariants as rule
 use Rattle.vplsnet.specs.declared.outcome.Outcome.{Outcome}
-use Rattle.vplsnet.specs.declared.outcome.Outcome.TheVariants.{Done, Usage, ReadFault, WriteFault, TooLong, ScenarioRefused, NoCircuit, CaptureRefused, ScriptRefused, Stopped, DecodeRefused, Unfinished, NoMemory}
+use Rattle.vplsnet.specs.declared.outcome.Outcome.TheVariants.{Done, Usage, ReadFault, WriteFault, TooLong, ScenarioRefused, NoCircuit, CaptureRefused, ScriptRefused, AuditRefused, Stopped, DecodeRefused, Unfinished, NoMemory}
 
 abbrev pub status_of : Outcome → ℕ
 status_of Done = 0
@@ -22,8 +24,16 @@ status_of (ScriptRefused line word) = 5
 status_of (CaptureRefused file fault) = 6
 status_of (DecodeRefused fault) = 6
 status_of (Unfinished at) = 6
+status_of (AuditRefused line rule) = 6
 status_of (Stopped stop) = 7
 status_of NoMemory = 8
+
+-- a rule of the auditor by its name
+abbrev pub rule_name : AuditRule → List ℕ
+rule_name rule.Form = codes "Form"
+rule_name rule.Isolated = codes "Isolated"
+rule_name rule.Split = codes "Split"
+rule_name rule.Once = codes "Once"
 
 abbrev pub long_line : List ℕ → ℕ → List ℕ
 long_line name limit = ((codes "vplsnet: " ++ name) ++ codes " is longer than ") ++ decimal limit
@@ -42,6 +52,7 @@ finish_text (ScenarioRefused fault) = codes "vplsnet: scenario:" ++ spaced (faul
 finish_text (NoCircuit circuit) = codes "vplsnet: no circuit " ++ circuit
 finish_text (CaptureRefused file fault) = capture_line file fault
 finish_text (ScriptRefused line word) = codes "vplsnet: script:" ++ spaced (decimal line ∷ decimal word ∷ [])
+finish_text (AuditRefused line rule) = codes "vplsnet: audit:" ++ spaced (decimal line ∷ rule_name rule ∷ [])
 finish_text (Stopped stop) = codes "vplsnet: stopped:" ++ spaced (stop_words stop)
 finish_text (DecodeRefused fault) = codes "vplsnet: stream:" ++ spaced (stream_fault_words fault)
 finish_text (Unfinished at) = codes "vplsnet: stream ends at " ++ decimal at

@@ -19,10 +19,10 @@ use Rattle.switchover_model.specs.declared.switch_line.SwitchLine.{SwitchLine}
 use Rattle.switchover_script.specs.Lines.{switch_lines_in}
 use Rattle.vplsnet.specs.declared.outcome.Outcome.{Outcome}
 use Rattle.vplsnet.specs.declared.outcome.Outcome.TheVariants.{ScenarioRefused, NoCircuit, CaptureRefused, ScriptRefused, NoMemory}
-use Rattle.vplsnet.specs.Asked.{Asked, Replay, Tables, Capture, Decode, Rehearse, Migrate, Discover, Switchover}
+use Rattle.vplsnet.specs.Asked.{Asked, Replay, Tables, Capture, Decode, Rehearse, Migrate, Discover, Switchover, Audit}
 use Rattle.vplsnet.specs.Capture.{lacks_circuit}
 
--- the most octets of a scenario, of a capture, of a stream and of a script
+-- the most octets of a scenario, of a capture, of a stream, of a script and of a report
 abbrev pub scenario_limit : ℕ
 scenario_limit = 8388608
 
@@ -35,20 +35,24 @@ stream_limit = 67108864
 abbrev pub script_limit : ℕ
 script_limit = 8388608
 
+abbrev pub report_limit : ℕ
+report_limit = 67108864
+
 -- a file that is read: its name, and the most octets that it may have
 pub record Wanted : Type 0 where
   pub name : List ℕ
   pub limit : ℕ
 
 -- what a command works on once its files are read: a scenario with the frames of the captures that it plays, in the order of its
--- commands, the octets of a stream, a scenario that is written as a text of version 2, or the lines of a script of discovery or of
--- switchover with the plan of its scenario
+-- commands, the octets of a stream, a scenario that is written as a text of version 2, the lines of a script of discovery or of
+-- switchover with the plan of its scenario, or the octets of a report with the plan that it is of
 pub data Work : Type 0 where
   Run : (scenario : Scenario) (captures : List (List (List ℕ))) → Work
   Stream : (octets : List ℕ) → Work
   Migration : (scenario : Scenario) → Work
   Discovery : (plan : Plan) (lines : List ScriptLine) → Work
   Exchange : (plan : Plan) (lines : List SwitchLine) → Work
+  Report : (plan : Plan) (octets : List ℕ) → Work
 
 -- what comes next where some files were read: a further file is, or an outcome before any run ends the call, or the command has its work
 pub data Next : Type 0 where
@@ -67,6 +71,9 @@ stream_file name = Reads (record { name = name; limit = stream_limit })
 
 abbrev pub script_file : List ℕ → Next
 script_file name = Reads (record { name = name; limit = script_limit })
+
+abbrev pub report_file : List ℕ → Next
+report_file name = Reads (record { name = name; limit = report_limit })
 
 -- the files that commands play, in their order; one that is played twice stands twice
 abbrev pub played_by : Command → List (List ℕ)
@@ -121,6 +128,9 @@ IsNextDiscovery scenario octets next = next ≡ next_script (Discovery scenario.
 abbrev pub IsNextExchange : Scenario → List ℕ → Next → Type 0
 IsNextExchange scenario octets next = next ≡ next_script (Exchange scenario.plan) (switch_lines_in scenario.plan octets)
 
+abbrev pub IsNextReport : Scenario → List ℕ → Next → Type 0
+IsNextReport scenario octets next = next ≡ Works (Report scenario.plan octets)
+
 -- behind the octets of the files that were read, in their order
 abbrev pub IsNext : Asked → List (List ℕ) → Next → Type 0
 IsNext (Replay file) [] next = next ≡ scenario_file file
@@ -138,6 +148,8 @@ IsNext (Discover file script) [] next = next ≡ scenario_file file
 IsNext (Discover file script) (octets ∷ read) next = IsNextAfter (λ scenario it. IsNextBehind (script_file script) (IsNextDiscovery scenario) read it) (document octets) next
 IsNext (Switchover file script) [] next = next ≡ scenario_file file
 IsNext (Switchover file script) (octets ∷ read) next = IsNextAfter (λ scenario it. IsNextBehind (script_file script) (IsNextExchange scenario) read it) (document octets) next
+IsNext (Audit file report) [] next = next ≡ scenario_file file
+IsNext (Audit file report) (octets ∷ read) next = IsNextAfter (λ scenario it. IsNextBehind (report_file report) (IsNextReport scenario) read it) (document octets) next
 
 -- a file that comes next has these octets, and they are within its limit
 pub record IsReadNext (Holds : List ℕ → List ℕ → Type 0) (asked : Asked) (before : List (List ℕ)) (octets : List ℕ) : Type 0 where

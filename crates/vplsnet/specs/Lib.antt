@@ -1,6 +1,7 @@
 pub mod Answers
 pub mod Around
 pub mod Asked
+pub mod Audit
 pub mod Capture
 pub mod CaptureFaultText
 pub mod Captures

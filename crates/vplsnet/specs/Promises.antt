@@ -18,17 +18,17 @@ use Rattle.network_model.specs.OnceEach.{OnceEach}
 use Rattle.network_model.specs.Packet.{packet_at}
 use Rattle.network_model.specs.Run.{run}
 use Rattle.network_model.specs.State.{NetworkState}
-use Rattle.flight_model.specs.Across.{TakesAll, TellsAcross}
-use Rattle.flight_model.specs.Endings.{TellGoodEnds}
-use Rattle.flight_model.specs.Releases.{AllAwaitReleases, AllReleaseUnadvertised}
-use Rattle.packet_model.specs.Apart.{IsNoFrame}
-use Rattle.packet_model.specs.Carried.{KeepsPacketRule}
-use Rattle.packet_model.specs.Channel.{SharesChannel}
-use Rattle.flood_model.specs.Laws.{IsWholeWhereCalm, TellsWhereQuiet}
-use Rattle.flood_model.specs.Shares.{SharesEach}
-use Rattle.address_model.specs.Laws.{KnownAreReached, PointsLast}
-use Rattle.move_model.specs.Laws.{MovesHeal}
-use Rattle.flight_model.specs.Laws.{AgreesAfterFlight, AreSettled, BothStand, FollowsTable, IsStillBetween, IsUp, KeepsLabelRule, KeepsToldRule, network_after}
+use Rattle.flight_laws.specs.Across.{TakesAll, TellsAcross}
+use Rattle.flight_laws.specs.Endings.{TellGoodEnds}
+use Rattle.flight_laws.specs.Releases.{AllAwaitReleases, AllReleaseUnadvertised}
+use Rattle.packet_laws.specs.Apart.{IsNoFrame}
+use Rattle.packet_laws.specs.Carried.{KeepsPacketRule}
+use Rattle.packet_laws.specs.Channel.{SharesChannel}
+use Rattle.flood_laws.specs.Laws.{IsWholeWhereCalm, TellsWhereQuiet}
+use Rattle.flood_laws.specs.Shares.{SharesEach}
+use Rattle.address_laws.specs.Laws.{KnownAreReached, PointsLast}
+use Rattle.move_laws.specs.Laws.{MovesHeal}
+use Rattle.flight_laws.specs.Laws.{AgreesAfterFlight, AreSettled, BothStand, FollowsTable, IsStillBetween, IsUp, KeepsLabelRule, KeepsToldRule, network_after}
 
 -- something holds of each state on the way of a run: before each event, and after the last one
 abbrev pub Throughout : (NetworkState → Type 0) → Plan → List Event → Type 0

@@ -2,7 +2,7 @@
 use Rattle.std.specs.Prelude.{◌≡◌, false, length, List, [], Option, Some, None}
 use Rattle.net_base.specs.declared.plan.Plan.{Plan}
 use Rattle.net_base.specs.declared.trace.event.Event.{Event}
-use Rattle.flight_model.specs.Ends.{HasTypes}
+use Rattle.flight_laws.specs.Ends.{HasTypes}
 use Rattle.network_model.specs.Run.{run, state_after}
 use Rattle.network_model.specs.State.{empty_network}
 use Rattle.psn_net.specs.declared.net_stop.NetStop.{NetStop}

@@ -1,5 +1,5 @@
 -- How a call ends that writes a text.
-use Rattle.std.specs.Prelude.{◌≡◌, ◌⊎◌, ℕ, List, Option, Some, None}
+use Rattle.std.specs.Prelude.{◌≡◌, ◌⊎◌, ℕ, List, Option, Some, None, Err}
 use Rattle.net_base.specs.declared.plan.Plan.{Plan}
 use Rattle.net_base.specs.outside.Outside.{Rose}
 use Rattle.discovery_script.specs.declared.placed_note.PlacedNote.{PlacedNote}
@@ -11,10 +11,13 @@ use Rattle.scenario_text.specs.declared.scenario.Scenario.{Scenario}
 use Rattle.switchover_model.specs.declared.switch_line.SwitchLine.{SwitchLine}
 use Rattle.switchover_text.specs.Text.{switchover_report}
 use Rattle.text_lines.specs.Written.{Written, AppendsFront, Writes}
+use Rattle.trace_audit.specs.Audited.{IsAudited, IsGood}
+use Rattle.vplsnet.specs.declared.audit_rule.AuditRule.{AuditRule}
 use Rattle.vplsnet.specs.declared.outcome.Outcome.{Outcome}
-use Rattle.vplsnet.specs.declared.outcome.Outcome.TheVariants.{Done, WriteFault, NoMemory}
+use Rattle.vplsnet.specs.declared.outcome.Outcome.TheVariants.{Done, WriteFault, AuditRefused, NoMemory}
 use Rattle.vplsnet.specs.Answers.{run_text}
-use Rattle.vplsnet.specs.Asked.{Asked, Replay, Tables, Capture, Decode, Rehearse, Migrate, Discover, Switchover}
+use Rattle.vplsnet.specs.Asked.{Asked, Replay, Tables, Capture, Decode, Rehearse, Migrate, Discover, Switchover, Audit}
+use Rattle.vplsnet.specs.Audit.{stop_of, yes}
 use Rattle.vplsnet.specs.Decode.{AppendsPart, IsDecoding}
 use Rattle.vplsnet.specs.Discover.{IsDiscoveryRun, discovery_text}
 use Rattle.vplsnet.specs.RunOver.{outcome_by}
@@ -99,6 +102,23 @@ pub record TellsExchange (plan : Plan) (lines : List SwitchLine) (old now : Writ
 abbrev pub EndsExchange : Plan → List SwitchLine → Written → Written → Option NetLists → Outcome → Type 0
 EndsExchange plan lines old now network outcome = TellsExchange plan lines old now network outcome ⊎ WritesNone old now network outcome
 
+-- a report that meets all rules, of which that is written
+pub record TellsYes (plan : Plan) (octets : List ℕ) (old now : Written) (network : Option NetLists) (outcome : Outcome) : Type 0 where
+  pub good : IsGood plan octets
+  pub ends : EndsText yes None Done old now network outcome
+
+-- one that breaks a rule, of which nothing is written
+pub record TellsRule (plan : Plan) (octets : List ℕ) (old now : Written) (network : Option NetLists) (outcome : Outcome) : Type 0 where
+  pub line : ℕ
+  pub rule : AuditRule
+  pub judged : IsAudited plan octets (Err (stop_of rule line))
+  pub outcome_is : outcome ≡ AuditRefused line rule
+  pub taken : now.taken ≡ old.taken
+  pub no_run : network ≡ None
+
+abbrev pub EndsAudit : Plan → List ℕ → Written → Written → Option NetLists → Outcome → Type 0
+EndsAudit plan octets old now network outcome = TellsYes plan octets old now network outcome ⊎ TellsRule plan octets old now network outcome ⊎ WritesNone old now network outcome
+
 -- the command runs a scenario
 abbrev pub RunsScenario : Asked → Type 0
 RunsScenario (Replay file) = Unit {0}
@@ -109,3 +129,4 @@ RunsScenario (Decode file) = ⊥
 RunsScenario (Migrate file) = ⊥
 RunsScenario (Discover file script) = ⊥
 RunsScenario (Switchover file script) = ⊥
+RunsScenario (Audit file report) = ⊥

@@ -24,7 +24,8 @@ pub fn missing_circuit<'a>(request: Request<'a>, plan: &Plan) -> Option<&'a str>
         | Request::Rehearse { .. }
         | Request::Migrate { .. }
         | Request::Discover { .. }
-        | Request::Switchover { .. } => None,
+        | Request::Switchover { .. }
+        | Request::Audit { .. } => None,
     }
 }
 

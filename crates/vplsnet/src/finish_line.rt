@@ -2,6 +2,7 @@
 ghost use Rattle.std.specs.Prelude.{◌≡◌, ◌≢◌, codes, IfOk, OnOk};
 ghost use Rattle.vplsnet.specs.Finish.{finish_text};
 
+use crate::audit_rule_text::put_rule;
 use crate::capture_fault_text::put_capture_fault;
 use crate::fault_text::put_fault;
 use crate::outcome::Outcome;
@@ -56,6 +57,10 @@ fn put_outcome(line: &mut Vec<u8>, outcome: &Outcome) -> Result<(), NoMemory>
         Outcome::ScriptRefused { line: at, word } => {
             put_text(line, b"script:")?;
             put_script_place(line, *at, *word)
+        }
+        Outcome::AuditRefused { line: at, rule } => {
+            put_text(line, b"audit:")?;
+            put_rule(line, *at, *rule)
         }
         Outcome::Stopped(stop) => {
             put_text(line, b"stopped:")?;

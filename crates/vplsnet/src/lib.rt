@@ -1,6 +1,9 @@
 //! `vplsnet`: a network of VPLS provider edges, run from a file.
 #![tactic(auto)]
 
+mod audit;
+mod audit_rule;
+mod audit_rule_text;
 mod capture;
 mod capture_fault_text;
 mod captures;
@@ -35,6 +38,7 @@ mod switchover;
 mod types;
 mod work;
 
+pub use audit_rule::AuditRule;
 pub use file_shelf::FileShelf;
 pub use files::{ReadStop, read_file};
 pub use finish::Finish;

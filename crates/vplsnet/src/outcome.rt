@@ -2,6 +2,7 @@
 ghost use Rattle.std.specs.Prelude.{◌≡◌};
 ghost use Rattle.vplsnet.specs.Finish.{status_of};
 
+use crate::audit_rule::AuditRule;
 use ldp_stream::StreamFault;
 use net_base::Word;
 use pcap_file::CaptureFault;
@@ -30,6 +31,9 @@ pub enum Outcome {
     CaptureRefused(Word, CaptureFault),
     /// The scenario is accepted, and the script has its first fault at this word of this line, both counted from 1. Nothing was taken.
     ScriptRefused { line: u32, word: u32 },
+    /// The scenario is accepted, and the report breaks this rule, first in this line, counted from 1. It breaks no rule before this one.
+    /// Nothing was taken.
+    AuditRefused { line: u64, rule: AuditRule },
     /// A limit of the run stopped it, which is not want of memory. The report of what was done before was taken, of a script too, and of
     /// another command nothing.
     Stopped(NetStop),
@@ -56,8 +60,10 @@ impl Outcome {
             | Outcome::ScenarioRefused(_)
             | Outcome::NoCircuit(_)
             | Outcome::ScriptRefused { .. } => 5,
-            Outcome::CaptureRefused(..) | Outcome::DecodeRefused(_) | Outcome::Unfinished { .. } =>
-                6,
+            Outcome::CaptureRefused(..)
+            | Outcome::AuditRefused { .. }
+            | Outcome::DecodeRefused(_)
+            | Outcome::Unfinished { .. } => 6,
             Outcome::Stopped(_) => 7,
             Outcome::NoMemory => 8,
         }

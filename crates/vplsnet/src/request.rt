@@ -22,6 +22,8 @@ pub enum Request<'a> {
     Discover { file: &'a str, script: &'a str },
     /// `switchover FILE SCRIPT`: what the script in SCRIPT makes of the edges of FILE's scenario in independent mode.
     Switchover { file: &'a str, script: &'a str },
+    /// `audit FILE REPORT`: whether the report in REPORT meets the rules for the plan of FILE's scenario.
+    Audit { file: &'a str, report: &'a str },
     /// `rehearse SEED`: two lines on the run of the scenario that the seed makes.
     Rehearse { seed: u64 },
 }
@@ -78,6 +80,8 @@ fn two_word_request<'a>(command: &str, file: &'a str, word: &'a str) -> Option<R
         Some(Request::Discover { file, script: word })
     } else if is_same(command, "switchover") {
         Some(Request::Switchover { file, script: word })
+    } else if is_same(command, "audit") {
+        Some(Request::Audit { file, report: word })
     } else {
         None
     }

@@ -12,6 +12,7 @@ ghost use Rattle.vplsnet.specs.Inputs.{ComesTo, Run, Works};
 ghost use Rattle.vplsnet.specs.Reads.{GainsReads, IsReadOfNext, MayRead};
 ghost use Rattle.vplsnet.specs.Writing.{EndsRun, RunsScenario};
 
+use crate::audit::audit_files;
 use crate::decode::decode_file;
 use crate::discover::discover_files;
 use crate::finish::Finish;
@@ -53,6 +54,10 @@ use text_lines::Page;
 /// `switchover FILE SCRIPT` reads both in the same order, and has the edges of the scenario, in independent mode (RFC 6870 section 4),
 /// exchange statuses as the lines of the script say. No run of the network begins.
 ///
+/// `audit FILE REPORT` reads a scenario and then a report, of at most 67,108,864 octets, and writes `audit yes` where the report meets the
+/// rules for the plan of the scenario, and else nothing: behind `ReadFault` and `TooLong` of the report comes `AuditRefused`, the first rule
+/// that fails at the first line where it does. No run begins.
+///
 /// Only files that come next in this order are read, each for at most one octet more than its limit.
 ///
 /// `ReadFault` comes only where the shelf's count for the name rose, and `WriteFault` only where the sink's count rose; a front of the
@@ -93,6 +98,9 @@ pub fn run<F: Shelf, K: Sink>(
     if let Request::Switchover { file, script } = request {
         return switchover_files(alloc, file, script, shelf, sink);
     }
+    if let Request::Audit { file, report } = request {
+        return audit_files(alloc, file, report, shelf, sink);
+    }
     match work_of(alloc, request, shelf) {
         Ok(work) => finish_work(alloc, request, work, sink),
         Err(outcome) => Finish::without_run(outcome),
@@ -125,7 +133,8 @@ fn work_of<F: Shelf>(alloc: Global, request: Request<'_>, shelf: &mut F) -> Resu
         Request::Decode { .. }
         | Request::Migrate { .. }
         | Request::Discover { .. }
-        | Request::Switchover { .. } => unreachable!(),
+        | Request::Switchover { .. }
+        | Request::Audit { .. } => unreachable!(),
     }
 }
 

@@ -14,7 +14,7 @@ use tables_text::{Sorting, put_tables};
 use text_lines::Page;
 
 /// Puts the text of a request, with the room in which addresses are sorted. Of a run that a limit stopped there is a report alone, and
-/// what `decode`, `migrate`, `discover` and `switchover` write is no text of a scenario's run.
+/// what the other commands write is no text of a scenario's run.
 #[tactic(auto, using(text_lines::proofs::WrittenLemmas::goes_none))]
 pub fn put_run<K: Sink>(
     page: &mut Page,
@@ -37,6 +37,7 @@ pub fn put_run<K: Sink>(
         Request::Decode { .. }
         | Request::Migrate { .. }
         | Request::Discover { .. }
-        | Request::Switchover { .. } => Ok(()),
+        | Request::Switchover { .. }
+        | Request::Audit { .. } => Ok(()),
     }
 }

@@ -3,7 +3,7 @@ ghost use Rattle.std.specs.Prelude.{◌≤◌, ◌<◌, ◌^◌, IfSome, length}
 ghost use Rattle.std.specs.List.{All, AllByRecursion};
 ghost use Rattle.net_values.specs.Octets.{AreOctets};
 ghost use Rattle.session_core.specs.Laws.{IsAddress};
-ghost use Rattle.flight_model.specs.Ends.{AreFieldOffers, HasTypes, IsFieldOffer};
+ghost use Rattle.flight_laws.specs.Ends.{AreFieldOffers, HasTypes, IsFieldOffer};
 
 use net_base::{EdgePlan, Offer, Plan, Text, WirePlan};
 

@@ -3,7 +3,7 @@ use Rattle.std.proofs.Common.{◌∙◌, map, string_bytes, rules, refl, ap, sub
 use Rattle.vplsnet.specs.declared.outcome.Outcome.{Outcome}
 use Rattle.vplsnet.specs.Answers.{SaysOutcome}
 use Rattle.vplsnet.specs.Around.{Around, around}
-use Rattle.vplsnet.specs.Asked.{Decode, Discover, Migrate, Switchover, asked, asked_by}
+use Rattle.vplsnet.specs.Asked.{Audit, Decode, Discover, Migrate, Switchover, asked, asked_by}
 use Rattle.vplsnet.specs.Finish.{status_of}
 use Rattle.vplsnet.proofs.AnswerLemmas.{completes_by, finishes_by, refused_answers, run_answers, usage_by}
 use Rattle.vplsnet.proofs.ReadLemmas.{asked_reads}
@@ -34,6 +34,16 @@ returns-in-Switchover-clause-complete g c =
 pub returns-in-Switchover-clause-reads : goal.returns-in-Switchover-clause-reads
 returns-in-Switchover-clause-reads g c =
     asked_reads (g.F.Shelf.files c.args.shelf.now) (Switchover c.in-Switchover.file.now c.in-Switchover.script.now) (asked (map string_bytes c.args.words.now)) (g.F.Shelf.reads c.args.shelf.now) (g.F.Shelf.reads c.switchover_files.new.shelf) (search rules) c.switchover_files.ensures.reads
+
+pub returns-in-Audit-clause-complete : goal.returns-in-Audit-clause-complete
+returns-in-Audit-clause-complete g c =
+    let here : Around = around g.F.Shelf.files g.F.Shelf.faults g.K.Sink.taken g.K.Sink.faults c.args.shelf.now c.args.sink.now c.audit_files.new.shelf c.audit_files.new.sink in
+    completes_by here (Audit c.in-Audit.file.now c.in-Audit.report.now) (asked (map string_bytes c.args.words.now)) c.audit_files.result.network c.audit_files.result.outcome (search rules)
+    c.audit_files.ensures.answers
+
+pub returns-in-Audit-clause-reads : goal.returns-in-Audit-clause-reads
+returns-in-Audit-clause-reads g c =
+    asked_reads (g.F.Shelf.files c.args.shelf.now) (Audit c.in-Audit.file.now c.in-Audit.report.now) (asked (map string_bytes c.args.words.now)) (g.F.Shelf.reads c.args.shelf.now) (g.F.Shelf.reads c.audit_files.new.shelf) (search rules) c.audit_files.ensures.reads
 
 pub returns-in-Ok : goal.returns-in-Ok
 returns-in-Ok g c =

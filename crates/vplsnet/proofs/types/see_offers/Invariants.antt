@@ -1,4 +1,4 @@
-use Rattle.flight_model.specs.Ends.{AreFieldOffers}
+use Rattle.flight_laws.specs.Ends.{AreFieldOffers}
 use Rattle.vplsnet.proofs.SeenLemmas.{AreSeen}
 use Rattle.vplsnet.proofs.types.see_offers.Given as goal
 
