@@ -2,13 +2,9 @@
 
 import itertools
 import os
-import pathlib
-import subprocess
-import sys
 import tempfile
-import time
 
-from program import PROGRAM
+from program import PROGRAM, run
 
 LARGEST = 8_388_608
 EVENTS = 100_000
@@ -65,37 +61,6 @@ def scenario(version, last=NONE, said=None):
     return text_of(version, (LARGEST - 1 - len(text_of(version, 0, last, said))) // 2, last, said)
 
 
-def time_of(command, path, status, line):
-    """The time of the processor in seconds of one call, which has to end with this status and this line."""
-    with subprocess.Popen([PROGRAM, command, path], stdout=subprocess.DEVNULL, stderr=subprocess.PIPE) as call:
-        said = call.stderr.read().decode(errors="replace").strip()
-        _, ended, usage = os.wait4(call.pid, 0)
-        call.returncode = os.waitstatus_to_exitcode(ended)
-    if (call.returncode, said) != (status, line):
-        sys.exit(f"{pathlib.Path(sys.argv[0]).name}: ended with status {call.returncode}: {said}")
-    return usage.ru_utime + usage.ru_stime
-
-
-def held_by(process):
-    """The most memory in octets that a process has held; 0 where it has ended. (What the system tells of one that has ended has in it
-    what its parent held.)"""
-    try:
-        with open(f"/proc/{process}/status", encoding="ascii") as told:
-            return max((int(line.split()[1]) * 1024 for line in told if line.startswith("VmHWM:")), default=0)
-    except OSError:
-        return 0
-
-
-def memory_of(command, path):
-    """The most memory in octets of one call, as far as a look at it each millisecond tells."""
-    most = 0
-    with subprocess.Popen([PROGRAM, command, path], stdout=subprocess.DEVNULL, stderr=subprocess.DEVNULL) as call:
-        while call.poll() is None:
-            most = max(most, held_by(call.pid))
-            time.sleep(0.001)
-    return most
-
-
 def best(command, cases):
     """The best time of each case, and the most memory of a further call. The cases are tried in turn: each is the octets of a scenario,
     and the status and the line that the call has to end with."""
@@ -105,6 +70,6 @@ def best(command, cases):
             path = os.path.join(folder, f"{number}.toml")
             with open(path, "wb") as out:
                 out.write(octets)
-            calls.append((path, status, line))
-        rounds = [[time_of(command, *call) for call in calls] for _ in range(TRIES)]
-        return [(min(times), memory_of(command, path)) for times, (path, _, _) in zip(zip(*rounds), calls)]
+            calls.append(([PROGRAM, command, path], os.devnull, status, line))
+        rounds = [[run(*call).used() for call in calls] for _ in range(TRIES)]
+        return [(min(times), run(*call, watched=True).held) for times, call in zip(zip(*rounds), calls)]
