@@ -3,12 +3,22 @@
 No part of it is proved. The program under `crates/` is; these scripts only read what it wrote.
 """
 
-import signal
+from __future__ import annotations
+
 import sys
+
+TYPE_CHECKING = False
+if TYPE_CHECKING:
+    from types import TracebackType
 
 if sys.version_info < (3, 11):
     sys.exit("the tools need Python 3.11 or later")
 
-# Until `command.end` begins an interrupt ends a tool without a word.
-if signal.getsignal(signal.SIGINT) is signal.default_int_handler:
-    signal.signal(signal.SIGINT, signal.SIG_DFL)
+
+def quiet(kind: type[BaseException], fault: BaseException, trace: TracebackType | None) -> None:
+    """Until `command.end` begins an interrupt ends a tool without a word."""
+    if kind is not KeyboardInterrupt:
+        sys.__excepthook__(kind, fault, trace)
+
+
+sys.excepthook = quiet

@@ -9,12 +9,18 @@ python3-selenium and chromium-driver. Of a page of what-if: how many cases and c
 first such cell opens a ladder with rows.
 """
 
+from __future__ import annotations
+
 import sys
 import time
 
 from selenium import webdriver
 from selenium.webdriver.chrome.options import Options
 from selenium.webdriver.chrome.service import Service
+
+TYPE_CHECKING = False
+if TYPE_CHECKING:
+    from typing import Any
 
 # The texts of each row in sight that overlap, by the boxes in which the browser draws them.
 OVERLAPS = """
@@ -41,7 +47,7 @@ FRAMES = "return [...new Set(shown.map(row => data.rows[row].f).filter(frame => 
 CLICK = "arguments[0].dispatchEvent(new MouseEvent('click', {bubbles: true}));"
 
 
-def opened(page):
+def opened(page: Any) -> Any:
     """A browser of 1,280 pixels with the page in it."""
     options = Options()
     options.binary_location = "/usr/bin/chromium"
@@ -52,7 +58,7 @@ def opened(page):
     return browser
 
 
-def click(browser, found):
+def click(browser: Any, found: Any) -> bool:
     """Clicks the first element that a selector finds."""
     elements = browser.find_elements("css selector", found)
     if elements:
@@ -60,7 +66,7 @@ def click(browser, found):
     return bool(elements)
 
 
-def try_cases(browser):
+def try_cases(browser: Any) -> None:
     """What a page of what-if shows."""
     print("cases", len(browser.find_elements("css selector", "tbody tr")))
     print("cells", len(browser.find_elements("css selector", "td[data-site]")))
@@ -82,7 +88,7 @@ def try_cases(browser):
         browser.save_screenshot(sys.argv[2])
 
 
-def main():
+def main() -> None:
     """Opens the page, tries it, and prints what it saw."""
     browser = opened(sys.argv[1])
     try:

@@ -1,9 +1,18 @@
 """A run as a capture: what each edge hears of LDP, as TCP, the Hellos that it says, as UDP, and the packets that it sends and receives."""
 
+from __future__ import annotations
+
 import ipaddress
 
 from . import headers, pcapng
 from .labels import label_of
+
+TYPE_CHECKING = False
+if TYPE_CHECKING:
+    from typing import Any
+
+    from .plan import Plan
+    from .report import Entry, Event, Report
 
 LDP = 646
 FIRST_PORT = 49152
@@ -14,12 +23,12 @@ SECOND = 1_000_000
 class Connection:
     """A TCP connection between two edges: the port of its active end, and how many octets each end has put and heard."""
 
-    def __init__(self, active, port):
+    def __init__(self, active: Any, port: Any) -> None:
         self.active, self.port = active, port
         self.put = {}
         self.waiting = {}
 
-    def ports(self, sender):
+    def ports(self, sender: Any) -> tuple[Any, ...]:
         """The source and the destination port of what an edge sends."""
         return (self.port, LDP) if sender == self.active else (LDP, self.port)
 
@@ -27,7 +36,7 @@ class Connection:
 class Capture:
     """The packets of a run, an interface an edge, each event a second."""
 
-    def __init__(self, plan, report):
+    def __init__(self, plan: Plan, report: Report) -> None:
         self.plan, self.report = plan, report
         self.number = {edge: place for place, edge in enumerate(plan.edges)}
         self.address = {edge: row["address"] for edge, row in plan.edges.items()}
@@ -37,7 +46,7 @@ class Capture:
         self.segments, self.frames, self.hellos = 0, 0, 0
         self.kinds = {}
 
-    def make(self):
+    def make(self) -> bytes:
         """The octets of the whole file."""
         for entry in self.report.front:
             self.take(entry)
@@ -52,13 +61,13 @@ class Capture:
                 self.take(entry)
         return b"".join(self.blocks)
 
-    def write(self, edge, octets, direction):
+    def write(self, edge: str, octets: bytes, direction: Any) -> None:
         """A packet at an edge's interface, at the next microsecond of the event."""
         comment = f"event {self.event.number}: {self.event.text[:80]}" if self.event else "before the first event"
         self.blocks.append(pcapng.packet(self.number[edge], self.time, octets, direction, comment))
         self.time += 1
 
-    def begin(self, event):
+    def begin(self, event: Event) -> None:
         """What an event does by itself: a handshake, a delivery, an end that is lost, a packet that arrives."""
         words = event.words
         if event.kind == "connect":
@@ -77,7 +86,7 @@ class Capture:
         elif event.kind == "drop":
             self.packets.pop(words[0], None)
 
-    def settle(self, count, entries):
+    def settle(self, count: int, entries: Any) -> None:
         """The deliveries of a line of `switchover`: of all that waits between the first two edges, in the plan's order, so many times or
         until nothing waits. Behind each stands what its receiver says of it."""
         ways = [way for a, b in self.plan.pairs() for way in ((a, b), (b, a))]
@@ -92,17 +101,17 @@ class Capture:
         for entry in entries:
             self.take(entry)
 
-    def is_of(self, entry, sender, receiver):
+    def is_of(self, entry: Entry, sender: Any, receiver: Any) -> bool:
         """Whether the receiver tells it of what it hears from the sender: it answers that edge alone, and of a wire with it."""
         edge, other = entry.words[:2] if entry.words else (None, None)
         return edge == receiver and sender in (self.plan.wires[other].path if entry.kind == "uses" else (other,))
 
-    def waits(self, sender, receiver):
+    def waits(self, sender: Any, receiver: Any) -> bool:
         """Whether something waits to be delivered."""
         connection = self.connections.get(frozenset((sender, receiver)))
         return connection is not None and bool(connection.waiting.get(receiver))
 
-    def take(self, entry):
+    def take(self, entry: Entry) -> None:
         """What an entry tells of a connection or a packet."""
         words = entry.words
         if entry.kind == "said":
@@ -120,24 +129,24 @@ class Capture:
             ends = self.address[words[1]], self.address[words[2]]
             self.hellos += 1
             self.write(words[1], headers.udp(*ends, (LDP, LDP), bytes.fromhex(words[3])), pcapng.OUTBOUND)
-        elif entry.kind == "copied":
+        elif entry.kind == "copied" and words[1] in self.packets:
             self.packets[words[0]] = self.packets[words[1]]
         elif entry.kind == "aged":
             self.packets.pop(words[0], None)
 
-    def kind_of(self, wire, origin):
+    def kind_of(self, wire: Any, origin: int) -> str:
         """What Wireshark is told of a packet's label: whether a control word follows, or nothing of a ping that has none, which its
         own guess finds."""
         if self.plan.wires[wire].near["control_word"]:
             return "pwethcw"
         return "pwethnocw" if origin else ""
 
-    def mpls(self, start, end, octets, where, direction):
+    def mpls(self, start: str, end: str, octets: bytes, where: Any, direction: Any) -> None:
         """A packet of a pseudowire between two neighbours (RFC 4448, RFC 3032)."""
         self.frames += 1
         self.write(where, headers.ethernet(self.address[start], self.address[end], headers.MPLS, octets), direction)
 
-    def decode_as(self):
+    def decode_as(self) -> list[Any]:
         """What tells Wireshark of each label whether a control word follows it, which no packet says; labels in ranges. A label
         that stands for both at two edges, or for a ping without a control word, is left to Wireshark."""
         ranges = []
@@ -152,7 +161,7 @@ class Capture:
         spans = [(str(first) if first == last else f"{first}-{last}", kind) for first, last, kind in ranges]
         return [word for span, kind in spans for word in ("-d", f"mpls.label=={span},{kind}")]
 
-    def segment(self, sender, receiver, flags, octets=b""):
+    def segment(self, sender: Any, receiver: Any, flags: int, octets: bytes = b"") -> None:
         """A segment as its receiver hears it; each end acknowledges what it heard of the other one."""
         connection = self.connections[frozenset((sender, receiver))]
         counts = (connection.put[sender], connection.put[receiver] if flags & headers.ACK else 0)
@@ -160,7 +169,7 @@ class Capture:
         self.write(receiver, frame, pcapng.INBOUND)
         connection.put[sender] += len(octets) + bool(flags & (headers.SYN | headers.FIN))
 
-    def connect(self, a, b):
+    def connect(self, a: str, b: str) -> None:
         """The handshake, which the edge with the larger address begins (RFC 5036 section 2.5.2)."""
         active, passive = sorted((a, b), key=lambda edge: ipaddress.IPv4Address(self.address[edge]), reverse=True)
         connection = Connection(active, FIRST_PORT + self.made % 16384)
@@ -171,7 +180,7 @@ class Capture:
         self.segment(passive, active, headers.SYN | headers.ACK)
         self.segment(active, passive, headers.ACK)
 
-    def deliver(self, sender, receiver, count):
+    def deliver(self, sender: Any, receiver: Any, count: int) -> None:
         """Octets that are delivered, in segments."""
         connection = self.connections.get(frozenset((sender, receiver)))
         if connection is None:
@@ -182,7 +191,7 @@ class Capture:
             self.segments += 1
             self.segment(sender, receiver, headers.PSH | headers.ACK, octets[:count][at : at + MOST])
 
-    def close(self, edge, peer):
+    def close(self, edge: str, peer: str) -> None:
         """An edge's end is lost: what is on its way to it is so too. The connection goes once both ends are gone."""
         connection = self.connections.get(frozenset((edge, peer)))
         if connection is None or edge not in connection.waiting:

@@ -1,10 +1,19 @@
 """What became of a case: its report read in one pass, from where it differs from those of other cases."""
 
+from __future__ import annotations
+
 from collections import Counter
 
 from .probing import PHASES
-from .report import Entry, Event
 from .summing import parted
+
+TYPE_CHECKING = False
+if TYPE_CHECKING:
+    from collections.abc import Iterator
+    from typing import Any
+
+    from .cases import Base
+    from .failures import Case
 
 NOTHING = {}
 
@@ -12,7 +21,7 @@ NOTHING = {}
 class Reading:
     """A report behind the set-up or the first phase: each frame of a phase, and when edges lost and found each other."""
 
-    def __init__(self, base, case, rounds, phase):
+    def __init__(self, base: Base, case: Case, rounds: int, phase: Any) -> None:
         self.base, self.case, self.rounds = base, case, rounds
         self.network, self.joined = base.network.copy(), dict(base.joined)
         # The phase, and how many of its frames have come.
@@ -29,7 +38,7 @@ class Reading:
         self.ways = {"failed": {}, "mended": {}}
         self.spans, self.open = [], {}
 
-    def read(self, lines):
+    def read(self, lines: list[str]) -> Reading:
         """Reads the lines of the report. Of packets nothing is looked at but where their frames leave."""
         event, entries = None, []
         for line in lines:
@@ -57,7 +66,7 @@ class Reading:
         self.end_frame()
         return self
 
-    def next_frame(self):
+    def next_frame(self) -> None:
         """The next frame of a phase comes, or the first one of the next phase."""
         frames = self.base.probes.frames[PHASES[self.phase]]
         if self.place == len(frames):
@@ -66,7 +75,7 @@ class Reading:
         self.frame = frames[self.place]
         self.place, self.frames = self.place + 1, self.frames + 1
 
-    def enter(self):
+    def enter(self) -> None:
         """It enters: its circuit is on."""
         on = self.network.on
         if self.frame.to is None:
@@ -75,7 +84,7 @@ class Reading:
         else:
             self.due = {self.frame.to: 1} if on[self.frame.to] else NOTHING
 
-    def end_frame(self):
+    def end_frame(self) -> None:
         """What became of the frame before."""
         if self.left != self.due:
             never = [site for site in self.due if site not in self.left]
@@ -86,24 +95,23 @@ class Reading:
                 self.faulty.append((self.frames, self.phase, never, twice))
         self.frame, self.due, self.left = None, NOTHING, {}
 
-    def control(self, text, lines):
+    def control(self, text: str, lines: list[str]) -> None:
         """An event of LDP or of a switch, with its entries."""
         words = text.split(" ")
         self.count(words[0])
         if lines == ["idle"]:
             return
         if words[0] == "deliver":
-            words[3] = int(words[3])
             self.last[self.stage()] = self.round
             self.ways[self.stage()][words[1], words[2]] = None
-        self.network.begin(Event(0, 0, words[0], tuple(words[1:]), text))
+        self.network.apply(words[0], words[1:])
         for line in lines:
             kind, *more = line.split(" ")
-            self.network.take(Entry(0, kind, tuple(more)))
+            self.network.tell(kind, more)
         if self.network.told:
             self.look()
 
-    def count(self, kind):
+    def count(self, kind: str) -> None:
         """In which round an event stands: 0 is that of the failure, or of its mending."""
         if kind == "deliver":
             size = len(self.base.probes.round)
@@ -115,11 +123,11 @@ class Reading:
         if self.switches == len(self.case.failure) + 1:
             self.is_mended, self.delivered, self.round = True, 0, 0
 
-    def stage(self):
+    def stage(self) -> str:
         """Whether the failure stands, or was mended."""
         return "mended" if self.is_mended else "failed"
 
-    def look(self):
+    def look(self) -> None:
         """Which edges lost or found each other."""
         for service in self.network.look():
             joined, before = self.network.joined(service), self.joined[service]
@@ -131,7 +139,7 @@ class Reading:
                     self.spans.append((service, pair, start, (self.stage(), self.round)))
             self.joined[service] = joined
 
-    def lost(self):
+    def lost(self) -> Iterator[Any]:
         """Which sites lost each other, when, and for how many rounds."""
         together = {}
         for service, pair, start, end in self.spans + [(*key, start, None) for key, start in self.open.items()]:
@@ -141,7 +149,7 @@ class Reading:
             if sites:
                 yield {"service": service, "sites": sites, "from": moment(start), "to": moment(end), "rounds": rounds_of(start, end)}
 
-    def row(self):
+    def row(self) -> dict[Any, Any]:
         """All that is told of the case."""
         calm = [name for name in self.base.plan.services if self.network.is_calm(name)]
         return {
@@ -159,12 +167,12 @@ class Reading:
         }
 
 
-def moment(stage_and_round):
+def moment(stage_and_round: Any) -> dict[Any, Any] | None:
     """A moment of a case; None where it did not come."""
     return None if stage_and_round is None else dict(zip(("stage", "round"), stage_and_round))
 
 
-def rounds_of(start, end):
+def rounds_of(start: Any, end: Any) -> int | None:
     """For how many rounds two edges lost each other: behind the mending, where that brought them together; None where nothing did."""
     if end is None:
         return None

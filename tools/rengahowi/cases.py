@@ -1,5 +1,7 @@
 """Runs the cases of a plan: what all of them begin with once, and each case by one call of the program."""
 
+from __future__ import annotations
+
 import pathlib
 import subprocess
 import tempfile
@@ -13,6 +15,10 @@ from .program import PROGRAM
 from .report import read_report
 from .splicing import Spliced
 
+TYPE_CHECKING = False
+if TYPE_CHECKING:
+    from .plan import Plan
+
 # Rounds that are tried first, and behind a failure that takes more.
 FIRST_ROUNDS, MORE = 8, 4
 
@@ -20,7 +26,7 @@ FIRST_ROUNDS, MORE = 8, 4
 class Base:
     """What all cases begin with: the plan, the network behind its set-up, and the report up to the failure."""
 
-    def __init__(self, plan, text, events):
+    def __init__(self, plan: Plan, text: str, events: list[str]) -> None:
         self.plan, self.probes, self.events = plan, Probes(plan), list(events)
         self.spliced = Spliced(text)
         self.sites = {name: plan.circuits_of(row["service"]) for name, row in plan.circuits.items()}
@@ -42,20 +48,20 @@ class Base:
         self.packets_before = packets_in(before) - self.packets
         self.most_rounds = self.probes.most_rounds(len(self.events))
 
-    def replay(self, path, events):
+    def replay(self, path: pathlib.Path, events: list[str]) -> bytes:
         """The report of the set-up with these events in the place of its own."""
         path.write_text(self.spliced.with_events(events), encoding="utf-8")
         return replayed(path)
 
-    def events_of(self, case, rounds):
+    def events_of(self, case: Case, rounds: int) -> list[str]:
         """All events of a case."""
         return [*self.probes.before(self.events), *self.probes.after(case, rounds)]
 
-    def scenario_of(self, case, rounds):
+    def scenario_of(self, case: Case, rounds: int) -> str:
         """The text of a case's scenario."""
         return self.spliced.with_events(self.events_of(case, rounds))
 
-    def try_case(self, case, folder, rounds=FIRST_ROUNDS):
+    def try_case(self, case: Case, folder: pathlib.Path, rounds: int = FIRST_ROUNDS) -> tuple[Reading, list[str]]:
         """What became of a case; with more rounds, where these left something to deliver. And the report's lines behind those that
         all cases begin with."""
         rounds = min(rounds, self.most_rounds)
@@ -69,17 +75,17 @@ class Base:
         return reading, lines
 
 
-def packets_in(octets):
+def packets_in(octets: bytes) -> int:
     """How many packets a report has numbered."""
     return octets.count(b"\nsent ") + octets.count(b"\ncopied ")
 
 
-def without_end(octets):
+def without_end(octets: bytes) -> bytes:
     """A report without its last line."""
     return octets[: octets.rfind(b"\n", 0, -1) + 1]
 
 
-def replayed(path):
+def replayed(path: str | pathlib.Path) -> bytes:
     """The report of a scenario, which has to end well."""
     try:
         done = subprocess.run([PROGRAM, "replay", path], stdin=subprocess.DEVNULL, capture_output=True, check=False)

@@ -1,9 +1,20 @@
 """The faults of a scenario, in the order in which the program looks for them (docs/FORMATS.md), with what would be right."""
 
+from __future__ import annotations
+
 import re
 from typing import NamedTuple
 
 from .keys import ENDS, MOST_PORTS, MOST_ROWS, NEWEST, OFFER, TABLES, allowed, arrays
+from .plan import is_address
+
+TYPE_CHECKING = False
+if TYPE_CHECKING:
+    from collections.abc import Iterable, Iterator
+    from typing import Any
+
+    from .keys import Key
+    from .plan import Wire
 
 NAME = re.compile(r"[a-z0-9_]{1,32}")
 
@@ -18,18 +29,18 @@ class Finding(NamedTuple):
     text: str
 
 
-def place(table, row, key):
+def place(table: str, row: Any, key: str) -> str:
     """A place as the program writes it: rows count from 1, and a key is cut at 32 octets."""
     octets = str(key).encode()[:32]
     return f"{table} {row} {''.join(chr(octet) if 0x21 <= octet <= 0x7E else '?' for octet in octets)}"
 
 
-def is_number(value):
+def is_number(value: Any) -> bool:
     """Whether a value is an integer."""
     return isinstance(value, int) and not isinstance(value, bool)
 
 
-def has_kind(key, value):
+def has_kind(key: Key, value: Any) -> bool:
     """Whether a value is of a key's kind, whatever its range."""
     if key.kind == "number":
         return is_number(value)
@@ -42,13 +53,7 @@ def has_kind(key, value):
     return isinstance(value, str)
 
 
-def is_address(text):
-    """Whether a text is a dotted quad without leading zeros, other than 0.0.0.0."""
-    parts = text.split(".")
-    return len(parts) == 4 and all(re.fullmatch(r"0|[1-9][0-9]{0,2}", part) and int(part) < 256 for part in parts) and text != "0.0.0.0"
-
-
-def is_in_range(key, value):
+def is_in_range(key: Key, value: Any) -> bool:
     """Whether a value of the right kind is one that the key takes."""
     tests = {
         "name": lambda: NAME.fullmatch(value),
@@ -64,7 +69,7 @@ def is_in_range(key, value):
     return bool(tests[key.kind]())
 
 
-def wide_numbers(value, path=()):
+def wide_numbers(value: Any, path: tuple[Any, ...] = ()) -> Iterator[Any]:
     """Numbers that need more than 64 bits, which the program's reader of TOML refuses and Python's takes."""
     if is_number(value) and not -(2**63) <= value < 2**63:
         yield Finding("NotToml", path, 0, "a number of TOML has at most 64 bits")
@@ -72,7 +77,7 @@ def wide_numbers(value, path=()):
         yield from wide_numbers(one, (*path, key))
 
 
-def top_faults(document):
+def top_faults(document: Any) -> Iterator[Any]:
     """The faults of the top of the document."""
     if "version" not in document:
         yield Finding("Missing top 0 version", (), 0, f"the first line is version = {NEWEST}")
@@ -101,12 +106,12 @@ def top_faults(document):
             yield Finding(f"TooMany {table} {most}", (table,), 0, f"at most {most} rows of {table}, and not {len(document[table])}")
 
 
-def unknown(row, known):
+def unknown(row: Any, known: Any) -> list[Any]:
     """The keys of a row that no table has, the least in byte order first."""
     return sorted((key for key in row if key not in known), key=str.encode)
 
 
-def row_faults(document):
+def row_faults(document: Any) -> Iterator[Any]:
     """The faults of rows by themselves."""
     for table, keys in TABLES[document["version"]].items():
         for number, row in enumerate(document.get(table, [])):
@@ -116,7 +121,7 @@ def row_faults(document):
                     yield from faults_of_row(document["version"], end, number, row[end], OFFER, (table, number, end))
 
 
-def faults_of_row(version, table, number, row, keys, path):
+def faults_of_row(version: int, table: str, number: int, row: Any, keys: Any, path: tuple[Any, ...]) -> Iterator[Any]:
     """The faults of one row, or of one end of a wire, key by key. `path` is where it stands."""
     for key in keys:
         at = place(table, number + 1, key.name)
@@ -133,7 +138,7 @@ def faults_of_row(version, table, number, row, keys, path):
         yield Finding(f"UnknownKey {place(table, number + 1, key)}", (*path, key), None, unknown_text(version, table, key, names))
 
 
-def unknown_text(version, table, key, names):
+def unknown_text(version: int, table: str, key: str, names: Any) -> str:
     """What an unknown key was meant to be."""
     plain = key.removeprefix("far_")
     if table == "wire" and version == NEWEST and plain in [one.name for one in OFFER]:
@@ -146,7 +151,7 @@ def unknown_text(version, table, key, names):
     return f"{key!r} is no key of {table}; these are: {', '.join(names)}"
 
 
-def references(document):
+def references(document: Any) -> Iterator[Any]:
     """Names that no row has."""
     names = {table: {row["name"] for row in document.get(table, [])} for table in ("edge", "service", "group")}
     for number, row in enumerate(document.get("circuit", [])):
@@ -160,7 +165,7 @@ def references(document):
                 yield from missing(names["group"], "group", [row[end]["group"]], end, number, ("wire", number, end, "group"))
 
 
-def missing(known, kind, used, table, number, path):
+def missing(known: Any, kind: str, used: Any, table: str, number: int, path: tuple[Any, ...]) -> Iterator[Any]:
     """The first of the names that a key uses which no row of this kind has."""
     for name in used:
         if name not in known:
@@ -169,7 +174,7 @@ def missing(known, kind, used, table, number, path):
             return
 
 
-def name_faults(document):
+def name_faults(document: Any) -> Iterator[Any]:
     """Names and addresses that stood before, and paths by themselves. Groups have names of their own."""
     yield from repeated(document, ["group"], "among the groups")
     yield from repeated(document, ["edge", "service", "circuit", "wire"], "in all tables together")
@@ -177,7 +182,7 @@ def name_faults(document):
     yield from path_faults(enumerate(document.get("wire", [])))
 
 
-def plan_faults(document):
+def plan_faults(document: Any) -> Iterator[Any]:
     """The faults of the plan as a whole, whose paths have two edges at least."""
     wires = list(enumerate(document.get("wire", [])))
     yield from pair_faults(wires)
@@ -185,12 +190,12 @@ def plan_faults(document):
     yield from port_faults(document)
 
 
-def plan_fault(kind, table, number, key, text):
+def plan_fault(kind: str, table: str, number: int, key: str, text: Any) -> Any:
     """A fault of the plan at a row."""
     return Finding(f"Plan {kind} {place(table, number + 1, key)}", (table, number, key), 0, text)
 
 
-def repeated(document, tables, among):
+def repeated(document: Any, tables: Any, among: Any) -> Iterator[Any]:
     """Names that stood before in these tables."""
     seen = {}
     for table in tables:
@@ -202,7 +207,7 @@ def repeated(document, tables, among):
             seen.setdefault(row["name"], (table, number))
 
 
-def repeated_addresses(document):
+def repeated_addresses(document: Any) -> Iterator[Any]:
     """Addresses that stood before."""
     addresses = {}
     for number, row in enumerate(document.get("edge", [])):
@@ -212,7 +217,7 @@ def repeated_addresses(document):
         addresses.setdefault(row["address"], row["name"])
 
 
-def path_faults(wires):
+def path_faults(wires: Iterable[tuple[int, dict[str, Any]]]) -> Iterator[Any]:
     """Paths that are too short or too long, or name an edge twice."""
     for number, row in wires:
         if not 2 <= len(row["path"]) <= 5:
@@ -221,7 +226,7 @@ def path_faults(wires):
             yield plan_fault("PathRepeats", "wire", number, "path", "a path names each of its edges once")
 
 
-def pair_faults(wires):
+def pair_faults(wires: Iterable[tuple[int, dict[str, Any]]]) -> Iterator[Any]:
     """Two wires over one segment with one PW ID, and two mesh wires of a service between the same edges."""
     numbers, meshes = {}, {}
     for number, row in wires:
@@ -240,7 +245,7 @@ def pair_faults(wires):
             meshes[key] = row["name"]
 
 
-def clashes(wires):
+def clashes(wires: Iterable[tuple[int, dict[str, Any]]]) -> Iterator[Any]:
     """Spokes that start at an edge which ends a spoke or a mesh wire of the service."""
     starts, ends = {}, {}
     for number, row in wires:
@@ -261,7 +266,7 @@ def clashes(wires):
         ends.update({(service, edge): row["name"] for edge in own_ends})
 
 
-def port_faults(document):
+def port_faults(document: Any) -> Iterator[Any]:
     """Services with too many ports at one edge."""
     counts = {}
     for row in document.get("circuit", []):

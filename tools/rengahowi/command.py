@@ -1,55 +1,88 @@
 """How a tool is called and ends: its words, its one line on standard error, its status."""
 
-import argparse
+from __future__ import annotations
+
 import os
-import pathlib
-import shutil
-import signal
 import sys
-import traceback
+
+TYPE_CHECKING = False
+if TYPE_CHECKING:
+    from collections.abc import Callable
+    from typing import Any, NoReturn
 
 
 class Fault(Exception):
     """What a caller is told in one line. The tool then ends with status 1."""
 
 
-class Parser(argparse.ArgumentParser):
-    """A reader of words whose help is written as all else is: where that is refused, the tool says so."""
+class Words:
+    """The words of a call, each under its name."""
 
-    def print_help(self, file=None):
-        """Writes the help."""
-        (file or sys.stdout).write(self.format_help())
+    def __init__(self, words: dict[str, Any]) -> None:
+        self.__dict__.update(words)
+
+    if TYPE_CHECKING:
+
+        def __getattr__(self, name: str) -> Any: ...
 
 
-def words_of(about, *words):
+def words_of(about: str, *words: tuple[list[str], dict[str, Any]]) -> Words:
     """Reads the words of a call. `about` is the tool's own docstring; each word is a pair of names and what argparse is told
     of it."""
-    parser = Parser(
-        description=about.strip(), epilog="This tool is no part of what is proved.", formatter_class=argparse.RawDescriptionHelpFormatter
-    )
-    for names, more in words:
-        parser.add_argument(*names, **more)
     if sys.stdout is None:
         raise Fault("standard output is closed")
-    return parser.parse_args()
+    found = plain_words(sys.argv[1:], words)
+    if found is None:
+        from .help import words_by_argparse  # whose start takes longer than most calls
+
+        found = words_by_argparse(about, words)
+    return Words(found)
 
 
-def name():
+def plain_words(given: list[str], words: tuple[tuple[list[str], dict[str, Any]], ...]) -> dict[str, Any] | None:
+    """The words of a call that has each word without an option, and of options those alone that take nothing or any text; None where it
+    has others, and where somebody has to be told something."""
+    places, options, found = [], {}, {}
+    for names, more in words:
+        if names[0][0] != "-":
+            places.append((names[0], more))
+            continue
+        key = more.get("dest", names[0].lstrip("-").replace("-", "_"))
+        options[names[0]] = key, more
+        found[key] = more.get("default", False if more.get("action") == "store_true" else None)
+    rest = iter(given)
+    for word in rest:
+        if word[:1] == "-":
+            key, more = options.get(word, ("", {"type": None}))
+            if more.get("action") == "store_true":
+                found[key] = True
+                continue
+            value = next(rest, "-")
+            if value[:1] == "-" or not {"dest", "metavar", "help", "default"}.issuperset(more):
+                return None
+            found[key] = value
+        elif places and {"metavar", "help"}.issuperset(places[0][1]):
+            found[places.pop(0)[0]] = word
+        else:
+            return None
+    return None if places else found
+
+
+def name() -> str:
     """The name of the tool that runs."""
-    return pathlib.Path(sys.argv[0]).name
+    return os.path.basename(sys.argv[0])
 
 
-def say(text):
+def say(text: object) -> None:
     """Tells a line on standard error."""
     if sys.stderr is not None:
         print(f"{name()}: {text}", file=sys.stderr)
 
 
-def end(work):
+def end(work: Callable[[], int]) -> None:
     """Does the work of a tool and ends with the status that it answers; a fault, a file that cannot be read or written, an
     interrupt, a standard output that is full or closed, and texts that are nested too deep end it without a traceback."""
-    if signal.getsignal(signal.SIGINT) is signal.SIG_DFL:
-        signal.signal(signal.SIGINT, signal.default_int_handler)
+    status: Any = 1
     try:
         if sys.stdout is None:
             raise Fault("standard output is closed")
@@ -57,33 +90,31 @@ def end(work):
         sys.stdout.flush()
     except Fault as fault:
         say(fault)
-        status = 1
     except BrokenPipeError:
-        status = 1
+        pass
     except OSError as fault:
-        say(f"{fault.filename or 'standard output'}: {fault.strerror or fault}")
-        status = 1
+        file = "standard output" if fault.filename is None else fault.filename or "a file without a name"
+        say(f"{file}: {fault.strerror or fault}")
     except UnicodeEncodeError as fault:
         say(f"standard output cannot take {fault.object[fault.start]!r} in {fault.encoding}: set PYTHONUTF8=1")
-        status = 1
     except RecursionError:
         say("a file is nested too deep")
-        status = 1
     except MemoryError:
         say("out of memory")
-        status = 1
     except KeyboardInterrupt:
         status = 130
     except SystemExit as ended:
         status = ended.code
     except Exception as fault:  # pylint: disable=broad-exception-caught
-        place = traceback.extract_tb(fault.__traceback__)[-1]
-        say(f"this is a fault of the tool: {type(fault).__name__} at line {place.lineno} of {pathlib.Path(place.filename).name}: {fault}")
-        status = 1
+        place = fault.__traceback__
+        while place is not None and place.tb_next is not None:
+            place = place.tb_next
+        where = f"line {place.tb_lineno} of {os.path.basename(place.tb_frame.f_code.co_filename)}" if place else "no line"
+        say(f"this is a fault of the tool: {type(fault).__name__} at {where}: {fault}")
     leave(status)
 
 
-def leave(status):
+def leave(status: Any) -> NoReturn:
     """Ends the tool with a status. What standard output does not take is given up, so that nothing more is told of it."""
     try:
         if sys.stdout is not None:
@@ -96,16 +127,19 @@ def leave(status):
     sys.exit(status)
 
 
-def text_of(path):
+def text_of(path: str | os.PathLike[str]) -> str:
     """The text of a file, which has to be UTF-8."""
     try:
-        return pathlib.Path(path).read_text(encoding="utf-8-sig")
+        with open(path, encoding="utf-8-sig") as file:
+            return file.read()
     except UnicodeDecodeError as fault:
         raise Fault(f"{path} is no UTF-8, at octet {fault.start}") from None
 
 
-def external(program, package):
+def external(program: str, package: str) -> str:
     """The path of an external program; where it is missing, the fault names its Debian package."""
+    import shutil  # which most tools do not need
+
     found = shutil.which(program)
     if found is None:
         raise Fault(f"the program {program} is missing (Debian has it in the package {package})")

@@ -1,14 +1,21 @@
 """The words of events, as the program reads them, and what may stand at each place."""
 
+from __future__ import annotations
+
 import re
 
 from .checking import Finding
 from .keys import MOST_PLAYS
 
+TYPE_CHECKING = False
+if TYPE_CHECKING:
+    from collections.abc import Iterator
+    from typing import Any
+
 NUMBER = re.compile(r"0|[1-9][0-9]*")
 LARGEST = 2**64 - 1
 # Each event's words behind its first one: a kind of name, a range of numbers, octets, a switch or a file.
-SHAPES = {
+SHAPES: dict[str, list[Any]] = {
     "connect": ["edge", "edge"],
     "deliver": ["edge", "edge", (1, 65535)],
     "lose": ["edge", "edge"],
@@ -32,11 +39,11 @@ SHAPES = {
 class EventWords:
     """Reads events over the names of a document."""
 
-    def __init__(self, document):
+    def __init__(self, document: dict[str, Any]) -> None:
         self.names = {table: [row["name"] for row in document.get(table, [])] for table in ("edge", "circuit", "wire")}
         self.known = {table: set(names) for table, names in self.names.items()}
 
-    def faults(self, events):
+    def faults(self, events: list[str]) -> Iterator[Any]:
         """The faults of all events, the first bad word of each."""
         plays = 0
         for number, text in enumerate(events):
@@ -48,7 +55,7 @@ class EventWords:
                 said = f"{text[:60]!r}, word {bad[0]}: {bad[1]}"
                 yield Finding(f"BadWord {number + 1} {bad[0]}", ("events", number), 1 + min(at, len(text)), said)
 
-    def bad_word(self, words):
+    def bad_word(self, words: list[str]) -> tuple[Any, ...] | None:
         """The first bad word of an event, and what is right; None where all are right."""
         if words[0] not in SHAPES:
             return 1, f"an event begins with one of {', '.join(SHAPES)}; words are parted by one blank"
@@ -62,7 +69,7 @@ class EventWords:
             return len(shape) + 2, f"{words[0]} has {len(shape)} words behind it, and no more"
         return None
 
-    def is_right(self, kind, word):
+    def is_right(self, kind: str, word: Any) -> bool:
         """Whether a word may stand where one of this kind is wanted."""
         if isinstance(kind, tuple):
             return bool(NUMBER.fullmatch(word)) and kind[0] <= int(word) <= kind[1]
@@ -72,7 +79,7 @@ class EventWords:
             return word in ("on", "off")
         return word in self.known[kind] if kind in self.known else bool(word)
 
-    def right(self, kind):
+    def right(self, kind: str) -> Any:
         """What has to stand there, in words."""
         if isinstance(kind, tuple):
             return f"a number from {kind[0]} to {kind[1]}, without leading zeros"

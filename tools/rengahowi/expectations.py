@@ -1,5 +1,7 @@
 """What is expected of every case, from a TOML file, and the cases that do otherwise."""
 
+from __future__ import annotations
+
 import fnmatch
 import tomllib
 
@@ -7,10 +9,16 @@ from .command import Fault, text_of
 from .summary_text import counted
 from .what_if_text import lost, stays_split
 
+TYPE_CHECKING = False
+if TYPE_CHECKING:
+    import pathlib
+    from collections.abc import Iterator
+    from typing import Any
+
 KINDS = {"split": bool, "rounds": int, "twice": bool, "never": bool, "calm": bool, "except": list}
 
 
-def read_expectations(path):
+def read_expectations(path: str | pathlib.Path) -> dict[str, Any]:
     """The expectations of a file."""
     try:
         found = tomllib.loads(text_of(path))
@@ -25,7 +33,7 @@ def read_expectations(path):
     return found
 
 
-def not_met(expected, rows):
+def not_met(expected: Any, rows: list[dict[str, Any]]) -> Iterator[Any]:
     """The cases that do otherwise, each with what it does."""
     for row in rows:
         if not any(fnmatch.fnmatchcase(row["case"], pattern) for pattern in expected.get("except", [])):
@@ -34,7 +42,7 @@ def not_met(expected, rows):
                 yield row["case"], text
 
 
-def faults_of(expected, row):
+def faults_of(expected: Any, row: dict[str, Any]) -> Iterator[Any]:
     """What a case does that is not expected."""
     orders = row.get("orders", {})
     if expected.get("split") is False and stays_split(row):

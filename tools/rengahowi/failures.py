@@ -1,9 +1,19 @@
 """The failures of a plan, one after another or two at once: what brings each about, and what mends it."""
 
+from __future__ import annotations
+
 from itertools import combinations
 from typing import NamedTuple
 
 from .network import Network
+
+TYPE_CHECKING = False
+if TYPE_CHECKING:
+    from collections.abc import Iterable, Iterator
+    from typing import Any
+
+    from .plan import Plan
+    from .report import Event
 
 # What fails, in the order of the table.
 KINDS = ["session", "wire", "restart", "circuit", "priority", "status"]
@@ -23,7 +33,7 @@ class Case(NamedTuple):
 class Settings:
     """What the set-up leaves switched: wires, circuits, priorities and statuses, each as its last event set it."""
 
-    def __init__(self, plan, events):
+    def __init__(self, plan: Plan, events: Iterable[Event]) -> None:
         self.plan, self.last = plan, {}
         for event in events:
             if event.kind in ("wire", "status", "priority") and not event.is_idle():
@@ -31,32 +41,32 @@ class Settings:
             elif event.kind == "circuit" and not event.is_idle():
                 self.last[event.kind, event.words[0]] = event.words[1]
 
-    def of(self, *key):
+    def of(self, *key: Any) -> Any:
         """How something is set: a wire or a circuit on or off, a number of a priority or a status."""
         usual = {"wire": "on", "circuit": "on", "status": 0}
         return self.last.get(key, self.plan.wires[key[2]].priority if key[0] == "priority" else usual[key[0]])
 
 
-def cases_of(plan, network: Network, events, kinds):
+def cases_of(plan: Plan, network: Network, events: Iterable[Event], kinds: Iterable[str]) -> list[Any]:
     """The cases of these kinds: those that change something in the network that the events of the set-up left."""
     settings = Settings(plan, events)
     makers = {"session": sessions, "wire": wires, "restart": restarts, "circuit": circuits, "priority": priorities, "status": statuses}
     return [case for kind in KINDS if kind in kinds for case in makers[kind](plan, network, settings)]
 
 
-def case(kind, failure, *mending):
+def case(kind: str, failure: Any, *mending: Any) -> Case:
     """A case of one failure, which has its name."""
     return Case(failure, kind, (failure,), mending)
 
 
-def sessions(plan, network, _settings):
+def sessions(plan: Plan, network: Network, _settings: Any) -> Iterator[Any]:
     """Each session that stands is lost, at the end that comes first in the plan."""
     for a, b in plan.pairs():
         if network.is_up(a, b):
             yield case("session", f"lose {a} {b}", f"connect {a} {b}")
 
 
-def wires(plan, _network, settings):
+def wires(plan: Plan, _network: Any, settings: Any) -> Iterator[Any]:
     """Each wire goes off at either end."""
     for wire in plan.wires.values():
         for edge in wire.ends():
@@ -64,7 +74,7 @@ def wires(plan, _network, settings):
                 yield case("wire", f"wire {edge} {wire.name} off", f"wire {edge} {wire.name} on")
 
 
-def restarts(plan, network, _settings):
+def restarts(plan: Plan, network: Network, _settings: Any) -> Iterator[Any]:
     """Each edge with a session restarts; all its connections come back."""
     for edge in plan.edges:
         pairs = [pair for pair in plan.pairs() if edge in pair and network.is_up(*pair)]
@@ -72,14 +82,14 @@ def restarts(plan, network, _settings):
             yield case("restart", f"restart {edge}", *(f"connect {a} {b}" for a, b in pairs))
 
 
-def circuits(plan, network, _settings):
+def circuits(plan: Plan, network: Network, _settings: Any) -> Iterator[Any]:
     """Each circuit goes off."""
     for name in plan.circuits:
         if network.on[name]:
             yield case("circuit", f"circuit {name} off", f"circuit {name} on")
 
 
-def priorities(plan, _network, settings):
+def priorities(plan: Plan, _network: Any, settings: Any) -> Iterator[Any]:
     """Each of several spokes of a spoke edge is the last one where it was the first, and the first one where it was not."""
     for wire, others in rivals(plan):
         number = settings.of("priority", wire.path[0], wire.name)
@@ -89,7 +99,7 @@ def priorities(plan, _network, settings):
             yield case("priority", f"priority {wire.path[0]} {wire.name} {new}", f"priority {wire.path[0]} {wire.name} {number}")
 
 
-def rivals(plan):
+def rivals(plan: Plan) -> Iterator[Any]:
     """Each spoke that is one of several of its edge and service, with the others."""
     spokes = [wire for wire in plan.wires.values() if wire.kind == "spoke"]
     found = {}
@@ -101,7 +111,7 @@ def rivals(plan):
             yield wire, others
 
 
-def statuses(plan, _network, settings):
+def statuses(plan: Plan, _network: Any, settings: Any) -> Iterator[Any]:
     """Each spoke fails at its spoke edge, which tells it by a status."""
     for wire in plan.wires.values():
         if wire.kind == "spoke":
@@ -111,7 +121,7 @@ def statuses(plan, _network, settings):
                 yield case("status", f"status {edge} {wire.name} {bits | FAILED}", f"status {edge} {wire.name} {bits}")
 
 
-def pairs_of(cases):
+def pairs_of(cases: Iterable[Case]) -> Iterator[Any]:
     """Each two cases at once."""
     for a, b in combinations(cases, 2):
         yield Case(f"{a.name} + {b.name}", "pair", a.failure + b.failure, a.mending + b.mending)

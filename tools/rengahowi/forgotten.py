@@ -1,9 +1,18 @@
 """What a planner forgets in a scenario that the program accepts."""
 
+from __future__ import annotations
+
 from .checking import Finding
 
+TYPE_CHECKING = False
+if TYPE_CHECKING:
+    from collections.abc import Iterator
+    from typing import Any
 
-def warnings(plan):
+    from .plan import Plan
+
+
+def warnings(plan: Plan) -> Iterator[Any]:
     """All warnings on a plan and its events."""
     for service in plan.services:
         yield from mesh_gaps(plan, service)
@@ -11,7 +20,7 @@ def warnings(plan):
     yield from expiring(plan)
 
 
-def mesh_gaps(plan, service):
+def mesh_gaps(plan: Plan, service: str) -> Iterator[Any]:
     """Two core edges of a service without a mesh wire: it is never calm, and sites of the one never hear those of the other."""
     meshed = {frozenset(wire.ends()) for wire in plan.wires_of(service) if wire.kind == "mesh"}
     cores = plan.core_edges(service)
@@ -25,7 +34,7 @@ def mesh_gaps(plan, service):
     yield from turned_spokes(plan, service, {edge for pair in gaps for edge in pair})
 
 
-def turned_spokes(plan, service, lonely):
+def turned_spokes(plan: Plan, service: str, lonely: Any) -> Iterator[Any]:
     """A spoke whose path begins at what looks like the core edge: where it ends there is no mesh wire to the rest."""
     mesh_ends = {edge for wire in plan.wires_of(service) if wire.kind == "mesh" for edge in wire.ends()}
     for number, wire in enumerate(plan.wires.values()):
@@ -36,7 +45,7 @@ def turned_spokes(plan, service, lonely):
             yield Finding("", ("wire", number, "path"), 0, text)
 
 
-def never_connected(plan):
+def never_connected(plan: Plan) -> Iterator[Any]:
     """Neighbours that no event connects: their session never comes up, and no wire between them carries frames."""
     words = [text.split(" ") for text in plan.events]
     connected = {frozenset(row[1:3]) for row in words if row[0] == "connect"}
@@ -47,7 +56,7 @@ def never_connected(plan):
             yield Finding("", ("wire", number, "path"), 0, text)
 
 
-def expiring(plan):
+def expiring(plan: Plan) -> Iterator[Any]:
     """Ticks in a row, with nothing delivered between them, that are as many as a hold time: its session expires."""
     holds = {pair: min(plan.edges[edge]["keepalive"] for edge in pair) for pair in plan.pairs()}
     ticks, told = 0, False

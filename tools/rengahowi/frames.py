@@ -1,49 +1,79 @@
 """What became of each frame of a run, and when sites lost each other."""
 
-from collections import Counter
+from __future__ import annotations
 
-from .network import OF_NETWORK, Network
+from .network import Network
 from .pings import Pings
+from .report import ALWAYS
+
+TYPE_CHECKING = False
+if TYPE_CHECKING:
+    from .plan import Plan
+    from .report import Report
 
 WINDOW = ("frame", "arrive", "drop", "again")
-# Which word of an entry is the number of the frame that it is of; None where it is the frame of the packet that the last word names.
-OF_FRAMES = {"in": 1, "sent": 5, "left": 1, "dropped": 1, "copied": None, "aged": None}
+# What a script's lines tell of Hellos.
+NOTED = ("hello", "barred", "adjacency")
+# What is read behind the last line, so that each line has one behind it.
+END = [""]
+
+
+class Moment:
+    """An event that something is told of: its number, its line in the report, its words, and whether it did not apply."""
+
+    __slots__ = ("number", "line", "text", "is_idle")
+
+    def __init__(self, number: int, line: int, text: str, is_idle: bool) -> None:
+        self.number, self.line, self.text, self.is_idle = number, line, text, is_idle
 
 
 class Frame:
     """A frame that entered: where, to which station, into what state of its service, and what became of its copies."""
 
-    def __init__(self, network, event, entry):
-        circuit, self.origin, octets = entry.words
+    __slots__ = (
+        *("event", "circuit", "service", "edge", "origin", "to", "source", "is_group", "calm", "sites", "heard"),
+        *("left", "dropped", "lost", "aged", "repeated", "hops", "under_way", "disturbed"),
+    )
+
+    def __init__(self, network: Network, event: Moment, words: list[str]) -> None:
+        _, circuit, origin, octets = words
         row = network.plan.circuits[circuit]
         self.event, self.circuit, self.service, self.edge = event, circuit, row["service"], row["edge"]
-        self.to, self.source = octets[:12], octets[12:24]
+        self.origin, self.to, self.source = int(origin), octets[:12], octets[12:24]
         self.is_group = len(octets) > 1 and int(octets[:2], 16) % 2 == 1
         self.calm = network.is_calm(self.service)
-        self.sites = [site for site in network.plan.circuits_of(self.service) if network.on[site] and site != circuit]
+        self.sites = [site for site in network.sites(self.service) if site != circuit]
         self.heard = False
-        self.left, self.dropped, self.lost, self.aged, self.repeated = Counter(), [], [], [], []
-        self.hops = 0
-        self.under_way = set()
-        self.disturbed = None
+        self.left: dict[str, int] = {}
+        self.dropped: list[tuple[Moment, str, str]] = []
+        self.lost: list[int] = []
+        self.aged: list[int] = []
+        self.repeated: list[int] = []
+        self.hops = "0"
+        self.under_way: set[str] = set()
+        self.disturbed: Moment | None = None
 
-    def is_formed(self):
+    def is_formed(self) -> bool:
         """Whether it was not dropped where it entered."""
         return not (self.dropped and self.dropped[0][0] is self.event and self.dropped[0][1] == self.edge)
 
-    def is_flooded(self):
+    def is_flooded(self) -> bool:
         """Whether it goes to everybody: to a group, or to a station of which nothing was heard."""
         return self.is_formed() and (self.is_group or not self.heard)
 
-    def missed(self):
+    def missed(self) -> list[str]:
         """The sites that it did not reach."""
-        return [site for site in self.sites if not self.left[site]]
+        return [site for site in self.sites if site not in self.left]
 
-    def twice(self):
+    def twice(self) -> list[str]:
         """The circuits at which it left more than once, and its own where it left there."""
         return [site for site, count in self.left.items() if count > 1 or site == self.circuit]
 
-    def why_not_promised(self):
+    def elsewhere(self) -> list[str]:
+        """The circuits at which it left that are no site which it has to reach."""
+        return [circuit for circuit in self.left if circuit not in self.sites]
+
+    def why_not_promised(self) -> list[str]:
         """Why the promise that each other site gets it exactly once does not speak of it; empty where it does."""
         reasons = []
         if not self.is_flooded():
@@ -63,10 +93,11 @@ class Frame:
 class Span:
     """Two edges that lost each other in a service, from one event to another one, and the deliveries until then."""
 
-    def __init__(self, start, deliveries):
-        self.start, self.end, self.deliveries = start, None, -deliveries
+    def __init__(self, start: Moment, deliveries: int) -> None:
+        self.start, self.deliveries = start, -deliveries
+        self.end: Moment | None = None
 
-    def close(self, event, deliveries):
+    def close(self, event: Moment | None, deliveries: int) -> None:
         """The two found each other again."""
         self.end, self.deliveries = event, self.deliveries + deliveries
 
@@ -74,140 +105,269 @@ class Span:
 class Run:
     """A run as a report tells it, followed to its end."""
 
-    def __init__(self, plan, report):
+    def __init__(self, plan: Plan, report: Report) -> None:
         self.plan, self.report, self.network = plan, report, Network(plan)
-        self.frames, self.heard = {}, {service: set() for service in plan.services}
-        self.open_frames = {}
-        self.of_packet, self.entered, self.touched = {}, [], []
-        self.ever_up, self.ever_carried = set(), set()
-        self.joined = {service: set() for service in plan.services}
-        self.ever_joined = {service: set() for service in plan.services}
-        self.spans = {service: [] for service in plan.services}
-        self.open_spans = {}
-        self.pings, self.drops, self.deliveries = Pings(), [], 0
+        # The frames by their numbers as the report writes them, and those whose window is open; those that entered at the event that is
+        # followed, and those that have no packet under way any more, as it began.
+        self.frames: dict[str, Frame] = {}
+        self.open_frames: dict[str, Frame] = {}
+        self.of_packet: dict[str, Frame] = {}
+        self.entered: list[Frame] = []
+        self.ended: list[Frame] = []
+        self.heard: dict[str, set[str]] = {service: set() for service in plan.services}
+        self.ever_up: set[frozenset[str]] = set()
+        self.ever_carried: set[str] = set()
+        # Which edges reach each other in a service, as it was looked at last. Where wires only came up since, and no edges have lost
+        # each other, that is of the past.
+        self.joined: dict[str, set[frozenset[str]]] = {service: set() for service in plan.services}
+        self.ever_joined: dict[str, set[frozenset[str]]] = {service: set() for service in plan.services}
+        self.past: set[str] = set()
+        self.spans: dict[str, list[tuple[frozenset[str], Span]]] = {service: [] for service in plan.services}
+        self.open_spans: dict[str, dict[frozenset[str], Span]] = {service: {} for service in plan.services}
+        self.pings, self.deliveries = Pings(), 0
+        self.drops: list[tuple[int, str, str]] = []
+        self.idle: list[Moment] = []
+        # What a script's lines told of Hellos: the event that it stands behind, 0 before the first one, its line and its words.
+        self.notes: list[tuple[int, int, list[str]]] = []
+        # How many events there were, the line at which the last one stands, from 0, whether it did not apply, the sessions that it told
+        # something of, and what is told of it.
+        self.count, self.line, self.is_idle = 0, 0, False
+        self.sessions: list[tuple[str, str]] = []
+        self.told: Moment | None = None
 
-    def follow(self):
-        """Follows all events."""
-        network, pings = self.network, self.pings
-        for event in self.report.events:
-            kind = event.kind
-            if self.open_frames and kind not in WINDOW:
-                self.disturb(event)
-            network.begin(event)
-            if kind in ("arrive", "drop") and not event.is_idle():
-                self.lose_copies(event)
-            elif kind == "deliver":
-                self.deliveries += not event.is_idle()
-            if kind == "ping" or pings.all:
-                pings.follow(event)
-            for entry in event.entries:
-                told = entry.kind
-                if told in OF_FRAMES:
-                    self.enter(event, entry)
-                if told in OF_NETWORK:
-                    network.take(entry)
-            if self.touched:
-                self.hear()
-            if network.told:
-                self.look_at_sessions(event)
-                self.look_at_wires(event)
-        for span in self.open_spans.values():
-            span.close(None, self.deliveries)
+    def follow(self) -> Run:
+        """Follows all lines."""
+        take = {
+            **{"in": self.enter, "sent": self.send, "left": self.leave, "copied": self.copy, "aged": self.age},
+            **{"dropped": self.drop, "pong": self.pong, "said": self.tell, "wire": self.tell, "session": self.tell_session},
+        }
+        begin = {"arrive": self.arrive, "drop": self.lose, "again": self.repeat, "frame": self.come, "deliver": self.deliver, "ping": self.ping}
+        rows = [*self.report.rows, END]
+        for line, row in enumerate(rows):
+            kind = row[0]
+            if kind != ">":
+                if kind in take:
+                    take[kind](row)
+                elif kind in NOTED:
+                    self.notes.append((self.count, line + 2, row))
+                continue
+            if self.entered or self.ended or self.network.told:
+                self.end_event()
+            self.count, self.line, self.told, self.pings.now = self.count + 1, line, None, None
+            self.is_idle = rows[line + 1][0] == "idle" and row[1] not in ALWAYS
+            if self.open_frames and row[1] not in WINDOW:
+                self.disturb()
+            if self.is_idle:
+                self.idle.append(self.moment())
+            if not self.is_idle or row[1] == "ping":
+                begin.get(row[1], self.begin)(row)
+        self.end_event()
+        self.end()
         return self
 
-    def disturb(self, event):
-        """An event that no window has, while copies are under way."""
-        for frame in self.open_frames.values():
-            frame.disturbed = frame.disturbed or event
+    def moment(self) -> Moment:
+        """The event that is followed."""
+        if self.told is None:
+            self.told = Moment(self.count, self.line + 2, self.report.lines[self.line][2:], self.is_idle)
+        return self.told
 
-    def lose_copies(self, event):
-        """A packet arrives or is lost: it is under way no more."""
-        packet = event.words[0]
+    def disturb(self) -> None:
+        """An event that no window has comes while copies are under way."""
+        for frame in self.open_frames.values():
+            frame.disturbed = frame.disturbed or self.moment()
+
+    def begin(self, row: list[str]) -> None:
+        """An event that connects edges or switches something."""
+        self.network.apply(row[1], row[2:])
+
+    def deliver(self, row: list[str]) -> None:
+        """Something of LDP is delivered."""
+        self.deliveries += 1
+        self.network.apply("deliver", row[2:])
+
+    def come(self, row: list[str]) -> None:
+        """A frame comes: its first entry says what becomes of it."""
+
+    def ping(self, row: list[str]) -> None:
+        """A ping begins, which may be idle."""
+        self.pings.begin(self.moment(), row[2], row[3])
+
+    def arrive(self, row: list[str]) -> None:
+        """A packet arrives: it is under way no more."""
+        packet = row[2]
+        self.network.packets.pop(packet, None)
         frame = self.of_packet.pop(packet, None)
+        if frame is None:
+            self.pings.arrive(packet)
+            return
+        frame.under_way.discard(packet)
+        if not frame.under_way:
+            self.ended.append(frame)
+
+    def lose(self, row: list[str]) -> None:
+        """A packet is lost."""
+        packet = row[2]
+        if packet in self.of_packet:
+            self.of_packet[packet].lost.append(int(packet))
+            self.arrive(row)
+        else:
+            self.network.packets.pop(packet, None)
+            self.pings.lose(packet)
+
+    def repeat(self, row: list[str]) -> None:
+        """A packet is repeated: its entry says by which number."""
+        self.pings.repeat(row[2])
+
+    def frame_of(self, origin: str) -> Frame | None:
+        """The frame with a number; none of a ping, whose number is 0, and of a frame that a report of another make never let in."""
+        return self.frames.get(origin)
+
+    def frame_of_packet(self, packet: str) -> str:
+        """The number of the frame of a packet that is under way; 0 of a ping, and of a packet that a report of another make never sent."""
+        sent = self.network.packets.get(packet)
+        return "0" if sent is None else sent[4]
+
+    def enter(self, row: list[str]) -> None:
+        """A frame enters."""
+        frame = Frame(self.network, self.moment(), row)
+        self.frames[row[2]] = self.open_frames[row[2]] = frame
+        self.entered.append(frame)
+
+    def send(self, row: list[str]) -> None:
+        """A packet is sent, with a copy of a frame, or of a ping."""
+        packet, origin = row[1], row[6]
+        self.network.packets[packet] = row[2:7]
+        self.put_under_way(packet, origin)
+
+    def copy(self, row: list[str]) -> None:
+        """A packet comes once more under a number of its own."""
+        _, packet, copied = row
+        self.network.tell("copied", row[1:])
+        origin = self.frame_of_packet(copied)
+        self.put_under_way(packet, origin)
+        frame = self.frame_of(origin)
+        if frame is not None:
+            frame.repeated.append(int(copied))
+
+    def put_under_way(self, packet: str, origin: str) -> None:
+        """A packet is under way from here on."""
+        frame = self.frame_of(origin)
+        if frame is not None:
+            self.of_packet[packet] = frame
+            frame.under_way.add(packet)
+        if self.pings.now is not None:
+            self.pings.of_packet[packet] = self.pings.now
+
+    def age(self, row: list[str]) -> None:
+        """A packet was under way for 64 ticks, and is so no more."""
+        packet = row[1]
+        frame = self.frame_of(self.frame_of_packet(packet))
+        self.pings.age(packet)
+        self.network.packets.pop(packet, None)
         if frame is not None:
             frame.under_way.discard(packet)
-            self.touched.append(frame)
-            if event.kind == "drop":
-                frame.lost.append(packet)
+            frame.aged.append(int(packet))
+            self.ended.append(frame)
 
-    def enter(self, event, entry):
-        """What an entry tells of a frame, and what it counts of drops."""
-        kind, words, origin = entry.kind, entry.words, self.origin_of(entry)
-        if kind == "in":
-            frame = self.frames[origin] = self.open_frames[origin] = Frame(self.network, event, entry)
-            self.entered.append(frame)
-        elif kind == "dropped":
-            self.drops.append((event, words))
-        if origin != 0:
-            self.enter_copy(event, kind, words, self.frames[origin])
+    def leave(self, row: list[str]) -> None:
+        """A copy leaves at a circuit."""
+        _, circuit, origin, hops, _ = row
+        frame = self.frame_of(origin)
+        if frame is None:
+            return
+        frame.left[circuit] = frame.left.get(circuit, 0) + 1
+        if hops != frame.hops and int(hops) > int(frame.hops):
+            frame.hops = hops
 
-    def origin_of(self, entry):
-        """The number of the frame that an entry is of: 0 of a ping."""
-        place = OF_FRAMES[entry.kind]
-        return self.network.packets[entry.words[-1]][4] if place is None else entry.words[place]
+    def drop(self, row: list[str]) -> None:
+        """A frame, a copy of one or a packet of a ping is dropped."""
+        _, edge, origin, cause = row
+        self.drops.append((self.count, edge, cause))
+        frame = self.frame_of(origin)
+        if frame is not None:
+            frame.dropped.append((self.moment(), edge, cause))
+        if self.pings.now is not None:
+            self.pings.now.dropped.append((self.moment(), edge, cause))
 
-    def enter_copy(self, event, kind, words, frame):
-        """What an entry tells of a frame's copy."""
-        self.touched.append(frame)
-        if kind == "sent":
-            self.put_under_way(words[0], frame)
-        elif kind == "copied":
-            self.put_under_way(words[0], frame)
-            frame.repeated.append(words[1])
-        elif kind == "aged":
-            frame.under_way.discard(words[0])
-            frame.aged.append(words[0])
-        elif kind == "left":
-            frame.left[words[0]] += 1
-            frame.hops = max(frame.hops, words[2])
-        elif kind == "dropped":
-            frame.dropped.append((event, words[0], words[2]))
+    def pong(self, _row: list[str]) -> None:
+        """A ping is answered."""
+        if self.pings.now is not None:
+            self.pings.now.answers += 1
 
-    def put_under_way(self, packet, frame):
-        """A packet of a frame is under way from here on."""
-        frame.under_way.add(packet)
-        self.of_packet[packet] = frame
+    def tell(self, row: list[str]) -> None:
+        """What is told of the network."""
+        self.network.tell(row[0], row[1:])
 
-    def hear(self):
-        """Whose station is heard, and whose window is over, behind an event: of the frames that it told something of."""
+    def tell_session(self, row: list[str]) -> None:
+        """What is told of a session."""
+        self.network.tell("session", row[1:])
+        self.sessions.append((row[1], row[2]))
+
+    def end_event(self) -> None:
+        """What is so behind an event: whose station is heard, whose window is over, which sessions and wires came up or went."""
         for frame in self.entered:
-            heard = self.heard[frame.service]
-            if frame.is_formed() and frame.source not in heard:
-                heard.add(frame.source)
-                for other in self.open_frames.values():
-                    other.heard = other.heard or other.service == frame.service and other.to == frame.source
+            self.hear(frame)
         for frame in self.entered:
             frame.heard = frame.heard or frame.to in self.heard[frame.service]
-        for frame in self.touched:
+        for frame in (*self.entered, *self.ended):
             if not frame.under_way:
-                self.open_frames.pop(frame.origin, None)
+                self.open_frames.pop(str(frame.origin), None)
         self.entered.clear()
-        self.touched.clear()
+        self.ended.clear()
+        self.ever_up.update(frozenset(pair) for pair in self.sessions if self.network.is_up(*pair))
+        self.sessions.clear()
+        if self.network.told:
+            self.look()
 
-    def look_at_sessions(self, event):
-        """Which sessions came up."""
-        for entry in event.entries:
-            if entry.kind == "session" and self.network.is_up(*entry.words[:2]):
-                self.ever_up.add(frozenset(entry.words[:2]))
+    def hear(self, frame: Frame) -> None:
+        """The station of a frame that was not dropped where it entered is heard."""
+        heard = self.heard[frame.service]
+        if frame.is_formed() and frame.source not in heard:
+            heard.add(frame.source)
+            for other in self.open_frames.values():
+                other.heard = other.heard or other.service == frame.service and other.to == frame.source
 
-    def look_at_wires(self, event):
-        """Which wires came up, and which edges lost or found each other."""
-        changed = self.network.look()
-        if not changed:
-            return
-        self.ever_carried |= self.network.carrying
-        for service in changed:
-            joined = self.network.joined(service)
-            for pair in self.joined[service] - joined:
-                span = self.open_spans[service, pair] = Span(event, self.deliveries)
-                self.spans[service].append((pair, span))
-            for pair in joined - self.joined[service]:
-                self.ever_joined[service].add(pair)
-                if (service, pair) in self.open_spans:
-                    self.open_spans.pop((service, pair)).close(event, self.deliveries)
-            self.joined[service] = joined
+    def look(self) -> None:
+        """Which wires came up or went, and which edges lost or found each other by that."""
+        wires = self.network.changes()
+        went = {wire.service for wire in wires if wire.name in self.network.carrying}
+        for service in went & self.past:
+            self.look_anew(service)
+        self.network.change(wires)
+        self.ever_carried.update(wire.name for wire in wires if wire.name in self.network.carrying)
+        for service in {wire.service for wire in wires}:
+            if service in went or self.open_spans[service]:
+                self.compare(service)
+            else:
+                self.past.add(service)
+
+    def look_anew(self, service: str) -> None:
+        """Which edges of a service reach each other by now: where no others have lost each other since it was looked at last."""
+        self.joined[service] = self.network.joined(service)
+        self.ever_joined[service] |= self.joined[service]
+        self.past.discard(service)
+
+    def compare(self, service: str) -> None:
+        """Which edges of a service lost or found each other by an event."""
+        before, spans = self.joined[service], self.open_spans[service]
+        self.look_anew(service)
+        joined = self.joined[service]
+        for pair in before - joined:
+            spans[pair] = Span(self.moment(), self.deliveries)
+            self.spans[service].append((pair, spans[pair]))
+        for pair in joined - before:
+            if pair in spans:
+                spans.pop(pair).close(self.moment(), self.deliveries)
+
+    def end(self) -> None:
+        """The end of the run: those who have not found each other never do."""
+        for service in list(self.past):
+            self.look_anew(service)
+        for spans in self.open_spans.values():
+            for span in spans.values():
+                span.close(None, self.deliveries)
 
 
-def follow(plan, report):
+def follow(plan: Plan, report: Report) -> Run:
     """The run of a report over its plan."""
     return Run(plan, report).follow()

@@ -1,18 +1,24 @@
 """The rows of a scenario that several FRR configurations come to."""
 
+from __future__ import annotations
+
 import re
 
 from .command import Fault
 from .frr import DEFAULTS, LeftOut
 
+TYPE_CHECKING = False
+if TYPE_CHECKING:
+    from typing import Any
+
 
 class Names:
     """Names as a scenario has them: 32 characters of a to z, 0 to 9 and _, each once."""
 
-    def __init__(self):
+    def __init__(self) -> None:
         self.taken = set()
 
-    def give(self, *parts):
+    def give(self, *parts: Any) -> Any:
         """The next name that is free for these words."""
         plain = re.sub(r"[^a-z0-9_]", "_", "_".join(part.lower() for part in parts))[:32]
         number, name = 1, plain
@@ -26,7 +32,7 @@ class Names:
 class FrrPlan:
     """Joins routers: two pseudowires are the ends of one wire where each names the other's router, with one PW ID."""
 
-    def __init__(self, routers):
+    def __init__(self, routers: Any) -> None:
         self.routers, self.names = routers, Names()
         self.left_out = [row for router in routers for row in router.left_out]
         self.rows = {"edge": [], "service": [], "circuit": [], "wire": []}
@@ -38,7 +44,7 @@ class FrrPlan:
         # Sections that a pseudowire joins are one service, whatever their names.
         self.service_of = {section: section.name for router in routers for section in router.sections}
 
-    def make(self):
+    def make(self) -> Any:
         """All rows."""
         for router in self.routers:
             self.add_edge(router)
@@ -50,11 +56,11 @@ class FrrPlan:
             self.add_wire(*wire)
         return self.rows
 
-    def leave(self, router, line, text):
+    def leave(self, router: Any, line: int, text: str) -> None:
         """Something that is left out."""
         self.left_out.append(LeftOut(router.path, line, text))
 
-    def add_edge(self, router):
+    def add_edge(self, router: Any) -> None:
         """The row of a router."""
         row = {"name": self.names.give(router.name or router.path.rsplit("/", 1)[-1].removesuffix(".conf")), "address": router.address}
         if router.keepalive is not None:
@@ -62,7 +68,7 @@ class FrrPlan:
         self.edge[router] = row["name"]
         self.rows["edge"].append(row)
 
-    def joined(self):
+    def joined(self) -> Any:
         """The wires: pairs of ends, each a router, a section and a pseudowire."""
         ends = {}
         for router in self.routers:
@@ -80,7 +86,7 @@ class FrrPlan:
                 wires.append((near, far))
         return wires
 
-    def add_end(self, ends, router, section, wire):
+    def add_end(self, ends: Any, router: Any, section: Any, wire: Any) -> None:
         """An end that has what it needs, and whose number was not there."""
         if wire.neighbour is None or wire.pw_id is None:
             lacks = "neighbor lsr-id" if wire.neighbour is None else "pw-id"
@@ -91,7 +97,7 @@ class FrrPlan:
         if ends.setdefault((router.address, wire.neighbour, wire.pw_id), (router, section, wire))[2] is not wire:
             self.leave(router, wire.line, f"pseudowire {wire.name} is left out: PW ID {wire.pw_id} to {wire.neighbour} stood before")
 
-    def join(self, near, far):
+    def join(self, near: Any, far: Any) -> None:
         """Two sections are one service, which has the name of the first one."""
         old, new = self.service_of[far[1]], self.service_of[near[1]]
         if old != new:
@@ -100,7 +106,7 @@ class FrrPlan:
             if name == old:
                 self.service_of[section] = new
 
-    def add_services(self):
+    def add_services(self) -> None:
         """A row for each service, with the largest MTU of its sections."""
         self.service = {}
         for name in dict.fromkeys(self.service_of.values()):
@@ -110,7 +116,7 @@ class FrrPlan:
             self.service[name] = row
             self.rows["service"].append(row)
 
-    def add_circuits(self, router):
+    def add_circuits(self, router: Any) -> None:
         """A circuit for each interface that is a member."""
         for section in router.sections:
             for interface in section.interfaces:
@@ -118,7 +124,7 @@ class FrrPlan:
                 name = self.names.give(self.edge[router], interface)
                 self.rows["circuit"].append({"name": name, "edge": self.edge[router], "service": service})
 
-    def add_wire(self, near, far):
+    def add_wire(self, near: Any, far: Any) -> None:
         """A mesh wire, unless there is one between the two edges in this service. What both ends offer stands once."""
         a, b, service = self.edge[near[0]], self.edge[far[0]], self.service[self.service_of[near[1]]]
         if any({a, b} == set(row["path"]) and row["service"] == service["name"] for row in self.rows["wire"]):

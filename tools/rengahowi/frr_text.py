@@ -1,6 +1,14 @@
 """A plan as the configurations of FRR routers, and as a lab of containerlab."""
 
+from __future__ import annotations
+
 from .keys import OFFER
+
+TYPE_CHECKING = False
+if TYPE_CHECKING:
+    from typing import Any
+
+    from .plan import Plan
 
 IMAGE = "quay.io/frrouting/frr:9.1.0"
 DAEMONS = "zebra=yes\nospfd=yes\nldpd=yes\nvtysh_enable=yes\n"
@@ -13,7 +21,7 @@ USUAL = {key.name: key.default for key in OFFER}
 class FrrText:
     """The configurations of a plan, and what they leave out."""
 
-    def __init__(self, plan):
+    def __init__(self, plan: Plan) -> None:
         self.plan, self.left_out = plan, []
         self.neighbours = {edge: [] for edge in plan.edges}
         for a, b in plan.pairs():
@@ -21,13 +29,13 @@ class FrrText:
             self.neighbours[b].append(a)
         self.circuits = {edge: [name for name, row in plan.circuits.items() if row["edge"] == edge] for edge in plan.edges}
 
-    def files(self, name):
+    def files(self, name: str) -> dict[Any, Any]:
         """All files, by their names."""
         self.leave_out()
         files = {f"{edge}.conf": self.router(edge) for edge in self.plan.edges}
         return {**files, "daemons": DAEMONS, "lab.clab.yml": self.lab(name)}
 
-    def leave_out(self):
+    def leave_out(self) -> None:
         """Notes what FRR cannot do."""
         for edge, row in self.plan.edges.items():
             if row["keepalive"] < LEAST_HOLD:
@@ -49,17 +57,17 @@ class FrrText:
                     if offer[key] != USUAL[key] and not (key == "group" and offer[key] == 0):
                         self.left_out.append(f"wire {wire.name} at {edge}: {key} {offer[key]} is left out")
 
-    def port(self, edge, peer):
+    def port(self, edge: str, peer: str) -> str:
         """The interface of an edge towards a neighbour."""
         return f"eth{self.neighbours[edge].index(peer) + 1}"
 
-    def circuit_port(self, edge, circuit):
+    def circuit_port(self, edge: str, circuit: str) -> Any:
         """The interface of a circuit."""
         tag = self.plan.circuits[circuit]["tag"]
         name = f"eth{len(self.neighbours[edge]) + self.circuits[edge].index(circuit) + 1}"
         return f"{name}.{tag}" if tag else name
 
-    def router(self, edge):
+    def router(self, edge: str) -> str:
         """The configuration of an edge."""
         row = self.plan.edges[edge]
         address = row["address"]
@@ -75,7 +83,7 @@ class FrrText:
             lines += self.section(edge, service)
         return "\n".join(lines) + "\n"
 
-    def section(self, edge, service):
+    def section(self, edge: str, service: str) -> list[Any]:
         """The `l2vpn` section of a service at an edge: none where it has no circuit and no wire there."""
         wires = [wire for wire in self.plan.wires_of(service) if edge in wire.ends() and len(wire.path) == 2]
         circuits = [name for name in self.circuits[edge] if self.plan.circuits[name]["service"] == service]
@@ -96,7 +104,7 @@ class FrrText:
             lines += [" !"]
         return [*lines, "exit", "!"]
 
-    def lab(self, name):
+    def lab(self, name: str) -> str:
         """The file for containerlab."""
         lines = [f"name: {name}", "topology:", "  nodes:"]
         for edge in self.plan.edges:

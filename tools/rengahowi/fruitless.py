@@ -1,9 +1,18 @@
 """What comes to nothing in a scenario that the program accepts: ends that will not agree, events that never apply, frames that are
 dropped where they enter, captures that cannot be played."""
 
+from __future__ import annotations
+
 import pathlib
 
 from .checking import Finding
+
+TYPE_CHECKING = False
+if TYPE_CHECKING:
+    from collections.abc import Iterator
+    from typing import Any
+
+    from .plan import Plan
 
 # What the ends of a wire have to tell alike, and how one says of the other that it does not.
 ALIKE = {"mtu": "Mtu", "control_word": "CBit", "mode": "Kind"}
@@ -12,7 +21,7 @@ CLASSIC = {b"\xd4\xc3\xb2\xa1", b"\xa1\xb2\xc3\xd4", b"\x4d\x3c\xb2\xa1", b"\xa1
 PCAPNG = b"\x0a\x0d\x0d\x0a"
 
 
-def fruitless(plan):
+def fruitless(plan: Plan) -> Iterator[Any]:
     """All of it."""
     for number, wire in enumerate(plan.wires.values()):
         yield from ends_apart(plan, number, wire)
@@ -20,12 +29,12 @@ def fruitless(plan):
     yield from events_in_vain(plan)
 
 
-def offer_path(plan, number, key):
+def offer_path(plan: Plan, number: int, key: Any) -> tuple[Any, ...]:
     """Where the far end's offer of a key stands."""
     return ("wire", number, "far", key) if plan.version != 1 else ("wire", number, f"far_{key}")
 
 
-def ends_apart(plan, number, wire):
+def ends_apart(plan: Plan, number: int, wire: Any) -> Iterator[Any]:
     """Ends of a wire that will not agree."""
     (a, b), (near, far) = wire.ends(), (wire.near, wire.far)
     for key, cause in ALIKE.items():
@@ -43,7 +52,7 @@ def ends_apart(plan, number, wire):
         yield Finding("", offer_path(plan, number, "vlan"), 0, text)
 
 
-def equal_priorities(plan):
+def equal_priorities(plan: Plan) -> Iterator[Any]:
     """Spokes of one edge of which neither is preferred."""
     seen = {}
     for number, wire in enumerate(plan.wires.values()):
@@ -54,7 +63,7 @@ def equal_priorities(plan):
                 yield Finding("", ("wire", number, "priority"), 0, text)
 
 
-def events_in_vain(plan):
+def events_in_vain(plan: Plan) -> Iterator[Any]:
     """Events that never apply, and frames and captures of which nothing comes."""
     segments = {frozenset(pair) for pair in plan.pairs()}
     has_packets = False
@@ -76,7 +85,7 @@ def events_in_vain(plan):
             yield Finding("", ("events", number), 0, f"{text[:60]!r}: {why}")
 
 
-def why_not_there(wire, kind, edge):
+def why_not_there(wire: Any, kind: str, edge: str) -> str | None:
     """Why an event of a wire never applies at an edge; None where it may."""
     if kind == "wire":
         return None if edge in wire.path else f"wire {wire.name!r} does not pass {edge!r}"
@@ -86,7 +95,7 @@ def why_not_there(wire, kind, edge):
     return None if edge in wire.ends() else f"{edge!r} is no terminal edge of {wire.name!r}"
 
 
-def why_dropped(plan, circuit, octets):
+def why_dropped(plan: Plan, circuit: str, octets: str) -> Any:
     """Why a frame is dropped where it enters; None where it is not."""
     row, size = plan.circuits[circuit], len(octets) // 2
     if size < HEADER:
@@ -101,7 +110,7 @@ def why_dropped(plan, circuit, octets):
     return None if vlan == row["tag"] else f"its VLAN ID is {vlan}, and that of circuit {circuit!r} {row['tag']}: it is dropped (WrongTag)"
 
 
-def why_not_played(name):
+def why_not_played(name: str) -> Any:
     """Why a capture cannot be played, as far as its front tells; None where it can."""
     try:
         with pathlib.Path(name).open("rb") as file:

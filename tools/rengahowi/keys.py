@@ -1,18 +1,26 @@
 """The tables of a scenario, of both versions: their keys, the values that are allowed, and the defaults (docs/FORMATS.md)."""
 
-from typing import NamedTuple
+from __future__ import annotations
+
+TYPE_CHECKING = False
+if TYPE_CHECKING:
+    from typing import Any
 
 
-class Key(NamedTuple):
+class Key:
     """A key of a row: its kind, the least and the largest number or length, and the default, None where it is needed or
     where nothing is told."""
 
-    name: str
-    kind: str  # name, address, number, text, flag, path, class, mode or table
-    least: int = 0
-    most: int = 0
-    default: object = None
-    needed: bool = False
+    __slots__ = ("name", "kind", "least", "most", "default", "needed")
+
+    def __init__(self, name: str, kind: str, least: int = 0, most: int = 0, default: object = None, needed: bool = False) -> None:
+        self.name, self.default, self.needed = name, default, needed
+        self.kind = kind  # name, address, number, text, flag, path, class, mode or table
+        self.least, self.most = least, most
+
+    def as_far(self) -> Key:
+        """The key of version 1 by which the last edge of the path offers something else."""
+        return Key(f"far_{self.name}", self.kind, self.least, self.most)
 
 
 NAME = Key("name", "name", needed=True)
@@ -52,7 +60,7 @@ OFFER = [
 ]
 # The same as keys of a wire of version 1, where a group is a number. With the prefix far_ they hold for the last edge of the path.
 PLAIN_OFFER = [Key("group", "number", 0, 4294967295, default=0) if key.name == "group" else key for key in OFFER]
-FAR_OFFER = [key._replace(name=f"far_{key.name}", default=None) for key in PLAIN_OFFER]
+FAR_OFFER = [key.as_far() for key in PLAIN_OFFER]
 ENDS = ("near", "far")
 NEWEST = 2
 # The tables of each version, in the order in which their rows are looked at.
@@ -71,7 +79,7 @@ MOST_PORTS = 512
 MOST_PLAYS = 4
 
 
-def allowed(key):
+def allowed(key: Key) -> str:
     """The values that a key takes, in words."""
     return {
         "name": "1 to 32 characters of a to z, 0 to 9 and _, in quotes",
@@ -86,6 +94,6 @@ def allowed(key):
     }[key.kind]
 
 
-def arrays(version):
+def arrays(version: int) -> list[Any]:
     """The arrays of a version, in the order in which their kinds and numbers of rows are looked at."""
     return ["events", *TABLES[version]]

@@ -1,5 +1,7 @@
 """One end of an LDP session with a real speaker: Hellos, the connection, messages in their turn, KeepAlives."""
 
+from __future__ import annotations
+
 import ipaddress
 import select
 import socket
@@ -9,6 +11,13 @@ import time
 from .command import Fault
 from .program import decode
 
+TYPE_CHECKING = False
+if TYPE_CHECKING:
+    from collections.abc import Iterator
+    from typing import Any
+
+    from .report import Report
+
 PORT = 646
 HELLO_EVERY, HELLO_HOLD, TARGETED = 5, 45, 0xC000
 NOTIFICATION, HELLO, INITIALIZATION, KEEP_ALIVE, ADDRESS, MAPPING = 0x0001, 0x0100, 0x0200, 0x0201, 0x0300, 0x0400
@@ -16,22 +25,22 @@ FEC_TLV, PWID_FEC = 0x0100, 0x80
 FATAL = 0x80000000
 
 
-def message(kind, number, body):
+def message(kind: int, number: int, body: bytes) -> bytes:
     """The octets of a message."""
     return struct.pack(">HHI", kind, len(body) + 4, number) + body
 
 
-def tlv(kind, value):
+def tlv(kind: int, value: bytes) -> bytes:
     """The octets of a TLV."""
     return struct.pack(">HH", kind, len(value)) + value
 
 
-def pdu(address, octets):
+def pdu(address: bytes, octets: bytes) -> bytes:
     """The octets of a PDU with these messages (RFC 5036 section 3.1)."""
     return struct.pack(">HH", 1, len(octets) + 6) + address + b"\0\0" + octets
 
 
-def messages_of(octets):
+def messages_of(octets: bytes) -> Any:
     """The messages of a PDU: their types, and their octets."""
     place, found = 10, []
     while place + 8 <= len(octets):
@@ -41,7 +50,7 @@ def messages_of(octets):
     return found
 
 
-def key_of(kind, octets):
+def key_of(kind: str, octets: bytes) -> tuple[Any, ...]:
     """By what a message is known again: its type, and of one with a PWid FEC element the PW ID (RFC 8077 section 6.1)."""
     place = 8
     while place + 4 <= len(octets):
@@ -54,7 +63,7 @@ def key_of(kind, octets):
     return kind, b""
 
 
-def exchange_of(report, edge, peer):
+def exchange_of(report: Report, edge: str, peer: str) -> Any:
     """What two edges said to each other in the first connection of a report, in its order: who, and the octets of the PDU."""
     found = []
     for event in report.events:
@@ -69,7 +78,7 @@ def exchange_of(report, edge, peer):
 class Speaker:
     """This end of the session."""
 
-    def __init__(self, own, other, seconds):
+    def __init__(self, own: Any, other: Any, seconds: float) -> None:
         self.own, self.other, self.seconds = own["address"], other["address"], seconds
         self.address = ipaddress.IPv4Address(self.own).packed
         self.every = max(1, own["keepalive"] / 3)
@@ -79,7 +88,7 @@ class Speaker:
         self.buffer, self.waiting = b"", []
         self.difference, self.besides = None, 0
 
-    def meet(self):
+    def meet(self) -> None:
         """Sends Hellos until the session's connection stands."""
         self.hellos = socket.socket(socket.AF_INET, socket.SOCK_DGRAM)
         self.hellos.setsockopt(socket.SOL_SOCKET, socket.SO_REUSEADDR, 1)
@@ -101,7 +110,7 @@ class Speaker:
             elif self.hellos in heard and self.hellos.recvfrom(4096)[1][0] == self.other and is_active:
                 self.connect()
 
-    def connect(self):
+    def connect(self) -> None:
         """Opens the connection, where the other end takes it by now."""
         session = socket.socket(socket.AF_INET, socket.SOCK_STREAM)
         session.bind((self.own, 0))
@@ -113,24 +122,24 @@ class Speaker:
             session.close()
             time.sleep(1)
 
-    def hello(self):
+    def hello(self) -> None:
         """A targeted Hello, every few seconds (RFC 5036 section 3.5.2)."""
         if time.monotonic() >= self.next_hello:
             self.next_hello = time.monotonic() + HELLO_EVERY
             body = tlv(0x0400, struct.pack(">HH", HELLO_HOLD, TARGETED)) + tlv(0x0401, self.address)
             self.hellos.sendto(pdu(self.address, message(HELLO, self.next_number(), body)), (self.other, PORT))
 
-    def next_number(self):
+    def next_number(self) -> Any:
         """A Message ID that the report has not."""
         self.number += 1
         return self.number
 
-    def put(self, octets):
+    def put(self, octets: bytes) -> None:
         """Says a PDU."""
         self.session.sendall(octets)
         self.next_keep_alive = time.monotonic() + self.every
 
-    def turn(self, seconds):
+    def turn(self, seconds: float) -> None:
         """Waits for what comes, while Hellos and KeepAlives go out."""
         self.hello()
         if self.said_addresses and time.monotonic() >= self.next_keep_alive:
@@ -144,7 +153,7 @@ class Speaker:
                 raise Fault(f"{self.other} has closed the session")
             self.hear(octets)
 
-    def hear(self, octets):
+    def hear(self, octets: bytes) -> None:
         """Takes whole PDUs out of what came."""
         self.buffer += octets
         while len(self.buffer) >= 4 and len(self.buffer) >= 4 + struct.unpack_from(">H", self.buffer, 2)[0]:
@@ -152,7 +161,7 @@ class Speaker:
             whole, self.buffer = self.buffer[:size], self.buffer[size:]
             self.waiting += [(whole[:10], kind, one) for kind, one in messages_of(whole)]
 
-    def play(self, exchange, edge, peer):
+    def play(self, exchange: Any, edge: str, peer: str) -> Iterator[Any]:
         """Says each message of the edge in its turn, and tells what the peer says beside what the report has of it."""
         for who, octets in exchange:
             if who == edge:
@@ -171,7 +180,7 @@ class Speaker:
                 if kind == KEEP_ALIVE:
                     self.say_addresses()
 
-    def say_addresses(self):
+    def say_addresses(self) -> None:
         """The address of this end, and a label for it: the implicit null (RFC 5036 sections 3.5.5 and 3.4.1)."""
         self.said_addresses = True
         addresses = tlv(0x0101, b"\0\1" + self.address)
@@ -179,7 +188,7 @@ class Speaker:
         for kind, body in ((ADDRESS, addresses), (MAPPING, prefix)):
             self.put(pdu(self.address, message(kind, self.next_number(), body)))
 
-    def wait_for(self, key, peer):
+    def wait_for(self, key: Any, peer: str) -> Any:
         """The first message with this key, as a PDU of its own; what comes before it is counted."""
         end = time.monotonic() + self.seconds
         while True:
@@ -195,31 +204,31 @@ class Speaker:
                 raise Fault(f"{peer} says no message of type 0x{key[0]:04x} within {self.seconds:g} s, as it did in the report")
             self.turn(left)
 
-    def stay(self, seconds):
+    def stay(self, seconds: float) -> None:
         """Keeps the session for a while."""
         end = time.monotonic() + seconds
         while time.monotonic() < end:
             self.turn(end - time.monotonic())
         self.besides += sum(kind not in (KEEP_ALIVE, HELLO) for _, kind, _ in self.waiting)
 
-    def close(self):
+    def close(self) -> None:
         """Ends it."""
         for one in (self.session, self.listener, self.hellos):
             if one is not None:
                 one.close()
 
 
-def lines_of(octets):
+def lines_of(octets: bytes) -> list[Any]:
     """The messages of a PDU as `decode` tells them."""
     return [line.partition(" ")[2] for line in decode(octets)] or ["what decode refuses"]
 
 
-def without_number(line):
+def without_number(line: Any) -> list[Any]:
     """A message without its Message ID."""
     return [part for part in line.split(" ") if not part.startswith("id=")]
 
 
-def difference(here, there):
+def difference(here: Any, there: Any) -> str:
     """The first parts in which two messages differ."""
     came, told = without_number(here), without_number(there)
     for a, b in zip(came, told):

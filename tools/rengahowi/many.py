@@ -1,5 +1,7 @@
 """Does one piece of work after another on several processors, tells how far it is, and keeps what is done where it is interrupted."""
 
+from __future__ import annotations
+
 import multiprocessing
 import os
 import pathlib
@@ -10,6 +12,10 @@ import time
 
 from .command import say
 
+TYPE_CHECKING = False
+if TYPE_CHECKING:
+    from typing import Any
+
 # Seconds between two lines of progress: on a terminal, and else.
 ON_TERMINAL, ELSE = 0.5, 10
 
@@ -17,12 +23,12 @@ ON_TERMINAL, ELSE = 0.5, 10
 class Progress:
     """How far it is, on standard error."""
 
-    def __init__(self, whole, what):
+    def __init__(self, whole: Any, what: str) -> None:
         self.whole, self.what, self.done = whole, what, 0
         self.begun = self.told = time.monotonic()
         self.is_terminal = sys.stderr is not None and sys.stderr.isatty()
 
-    def step(self):
+    def step(self) -> None:
         """One piece more is done."""
         self.done += 1
         now = time.monotonic()
@@ -35,7 +41,7 @@ class Progress:
             else:
                 say(text)
 
-    def end(self):
+    def end(self) -> None:
         """Nothing more is told: on a terminal the line is cleared."""
         if self.is_terminal:
             print("\r\033[K", end="", file=sys.stderr, flush=True)
@@ -47,19 +53,19 @@ class Worker:
     work, folder = None, None
 
     @classmethod
-    def begin(cls):
+    def begin(cls) -> None:
         """An interrupt ends the process that waits for the others, and not these."""
         signal.signal(signal.SIGINT, signal.SIG_IGN)
 
     @classmethod
-    def do(cls, piece):
+    def do(cls, piece: Any) -> Any:
         """One piece of work."""
         folder = pathlib.Path(cls.folder, str(os.getpid()))
         folder.mkdir(exist_ok=True)
         return cls.work(piece, folder)
 
 
-def all_done(pieces, work, jobs, what):
+def all_done(pieces: Any, work: Any, jobs: int, what: str) -> tuple[Any, ...]:
     """What `work` makes of each piece, in their order, and whether nothing interrupted it. It is called with a piece and a folder."""
     found, progress = [], Progress(len(pieces), what)
     with tempfile.TemporaryDirectory(prefix="what-if-") as folder:

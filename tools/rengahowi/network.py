@@ -1,119 +1,145 @@
 """The network as a report tells it: sessions, octets on their way, wires, circuits and packets, from event to event."""
 
-from collections import deque
+from __future__ import annotations
+
+TYPE_CHECKING = False
+if TYPE_CHECKING:
+    from collections.abc import Iterable, Sequence
+    from typing import Any
+
+    from .plan import Plan, Wire
+    from .report import Entry, Event
+
+    Ways = dict[str, list[tuple[str, Wire]]]
 
 UP = "up"
 NEVER = "NonExistent"
-# The entries that tell something of the network.
-OF_NETWORK = {"said", "session", "wire", "sent", "copied", "aged"}
 
 
 class Pipe:
-    """What was put from one edge to another and is on its way or held in part there: the lengths of its PDUs, and how many
-    octets of the first one were delivered."""
+    """What was put from one edge to another and is on its way or held in part there: the lengths of its PDUs, of which so many were
+    delivered whole, and how many octets of the next one were."""
 
-    def __init__(self):
-        self.pdus, self.heard = deque(), 0
+    def __init__(self) -> None:
+        self.pdus: list[int] = []
+        self.whole, self.heard = 0, 0
 
-    def deliver(self, count):
+    def deliver(self, count: int) -> int:
         """Takes octets from the front, as many as there are at most, and answers how many PDUs are whole by that."""
-        self.heard, before = self.heard + count, len(self.pdus)
-        while self.pdus and self.heard >= self.pdus[0]:
-            self.heard -= self.pdus.popleft()
-        if not self.pdus:
-            self.heard = 0
-        return before - len(self.pdus)
-
-    def copy(self):
-        """A pipe with the same in it."""
-        made = Pipe()
-        made.pdus, made.heard = self.pdus.copy(), self.heard
+        self.heard, before = self.heard + count, self.whole
+        while self.whole < len(self.pdus) and self.heard >= self.pdus[self.whole]:
+            self.heard -= self.pdus[self.whole]
+            self.whole += 1
+        made = self.whole - before
+        if self.is_drained():
+            self.pdus.clear()
+            self.whole, self.heard = 0, 0
         return made
 
-    def octets(self):
-        """How many octets are on their way."""
-        return sum(self.pdus) - self.heard
+    def copy(self) -> Pipe:
+        """A pipe with the same in it."""
+        made = Pipe()
+        made.pdus, made.whole, made.heard = self.pdus.copy(), self.whole, self.heard
+        return made
 
-    def is_drained(self):
+    def octets(self) -> int:
+        """How many octets are on their way."""
+        return sum(self.pdus[self.whole :]) - self.heard
+
+    def is_drained(self) -> bool:
         """Whether nothing is on its way, and no part of a PDU is held."""
-        return not self.pdus
+        return self.whole == len(self.pdus)
 
 
 class Network:
     """The state that the events and entries of a report come to."""
 
-    def __init__(self, plan):
+    def __init__(self, plan: Plan) -> None:
         self.plan, self.shape = plan, Shape(plan)
-        self.stands = set()
+        self.stands: set[tuple[str, str]] = set()
         self.pipes = {way: Pipe() for a, b in self.shape.pairs for way in ((a, b), (b, a))}
         self.sessions = {way: NEVER for way in self.pipes}
         self.ends = {(edge, wire.name): "NoLocal" for wire in plan.wires.values() for edge in wire.ends()}
         self.on = {circuit: True for circuit in plan.circuits}
-        self.packets = {}
+        self.sites_on: dict[str, list[str]] = {}  # of each service, where it was asked for since the last circuit went on or off
+        self.packets: dict[Any, Any] = {}
         self.heard = 0  # PDUs that were delivered whole
-        self.calm = {}
+        self.calm: dict[str, bool] = {}
         # The wires that carried frames when they were looked at last, and those whose ends or sessions told something since.
-        self.carrying, self.told = set(), set()
+        self.carrying: set[str] = set()
+        self.told: set[str] = set()
 
-    def copy(self):
+    def copy(self) -> Network:
         """The same network, to which other things may happen."""
         made = Network.__new__(Network)
         made.plan, made.shape, made.heard = self.plan, self.shape, self.heard
         made.pipes = {way: pipe.copy() for way, pipe in self.pipes.items()}
-        for name in ("stands", "sessions", "ends", "on", "packets", "calm", "carrying", "told"):
+        for name in ("stands", "sessions", "ends", "on", "sites_on", "packets", "calm", "carrying", "told"):
             setattr(made, name, getattr(self, name).copy())
         return made
 
-    def begin(self, event):
+    def begin(self, event: Event) -> None:
         """What an event does by itself, before its entries."""
-        if event.is_idle():
-            return
-        kind, words = event.kind, event.words
+        if not event.is_idle():
+            self.apply(event.kind, event.words)
+
+    def apply(self, kind: str, words: Sequence[Any]) -> None:
+        """What an event does that applies, before its entries."""
         if kind in ("connect", "deliver", "restart"):
             self.calm.clear()
         if kind == "connect":
-            for way in (words, words[::-1]):
+            a, b = words
+            for way in ((a, b), (b, a)):
                 self.stands.add(way)
                 self.pipes[way] = Pipe()
         elif kind == "deliver":
-            self.heard += self.pipes[words[:2]].deliver(words[2])
+            pipe = self.pipes.get((words[0], words[1]))
+            self.heard += 0 if pipe is None else pipe.deliver(int(words[2]))
         elif kind == "restart":
             self.restart(words[0])
         elif kind in ("arrive", "drop"):
             self.packets.pop(words[0], None)
         elif kind == "circuit":
             self.on[words[0]] = words[1] == "on"
+            self.sites_on.clear()
 
-    def restart(self, edge):
+    def restart(self, edge: str) -> None:
         """An edge forgets its sessions and the ends of its wires, and tells nothing."""
         for way in self.sessions:
             if way[0] == edge:
                 self.close(way)
                 self.sessions[way] = NEVER
-                self.told.update(self.shape.over[frozenset(way)])
+                self.told.update(self.shape.over.get(frozenset(way), ()))
         for end in self.ends:
             if end[0] == edge:
                 self.ends[end] = "NoLocal"
                 self.told.add(end[1])
 
-    def close(self, way):
+    def close(self, way: tuple[str, str]) -> None:
         """An edge's end of a connection is lost, and what is on its way to it."""
         self.stands.discard(way)
         self.pipes[way[::-1]] = Pipe()
 
-    def take(self, entry):
+    def take(self, entry: Entry) -> None:
         """What an entry tells."""
-        kind, words = entry.kind, entry.words
-        if kind == "said" and words[1::-1] in self.stands:
-            self.pipes[words[:2]].pdus.append(len(words[2]) // 2)
+        self.tell(entry.kind, entry.words)
+
+    def tell(self, kind: str, words: Sequence[Any]) -> None:
+        """What an entry of a kind tells."""
+        if kind == "said":
+            a, b, octets = words
+            if (b, a) in self.stands:
+                self.pipes[a, b].pdus.append(len(octets) // 2)
         elif kind == "session":
-            self.sessions[words[:2]] = words[2]
-            self.told.update(self.shape.over[frozenset(words[:2])])
-            if words[2].startswith("Ended:"):
-                self.close(words[:2])
+            a, b, state = words
+            self.sessions[a, b] = state
+            self.told.update(self.shape.over.get(frozenset((a, b)), ()))
+            if state.startswith("Ended:"):
+                self.close((a, b))
         elif kind == "wire":
-            self.ends[words[:2]] = words[2]
-            self.told.add(words[1])
+            edge, wire, state = words
+            self.ends[edge, wire] = state
+            self.told.add(wire)
         elif kind == "sent":
             self.packets[words[0]] = words[1:6]
         elif kind == "copied" and words[1] in self.packets:
@@ -123,49 +149,61 @@ class Network:
         if kind in ("said", "session", "wire"):
             self.calm.clear()
 
-    def do(self, event):
+    def do(self, event: Event) -> None:
         """A whole event."""
         self.begin(event)
         for entry in event.entries:
             self.take(entry)
 
-    def carries(self, wire):
+    def carries(self, wire: Wire) -> bool:
         """Whether a wire is up at both terminal edges, and each session along it at both ends."""
         return all(self.ends[edge, wire.name] == UP for edge in wire.ends()) and all(self.is_up(a, b) for a, b in wire.segments())
 
-    def look(self):
-        """Looks at the wires of which something was told since the last time, and answers the services of those that carry frames
-        now and did not then, or the other way round."""
-        changed = set()
-        for name in self.told:
-            wire = self.plan.wires[name]
-            if self.carries(wire) != (name in self.carrying):
-                self.carrying ^= {name}
-                changed.add(wire.service)
+    def changes(self) -> list[Wire]:
+        """The wires of which something was told since the last change, and that carry frames now and did not then, or the other way
+        round."""
+        wires = [wire for wire in map(self.plan.wires.__getitem__, self.told) if self.carries(wire) != (wire.name in self.carrying)]
         self.told.clear()
-        return changed
+        return wires
 
-    def is_up(self, a, b):
+    def change(self, wires: Iterable[Wire]) -> None:
+        """These wires carry frames now and did not, or the other way round."""
+        self.carrying ^= {wire.name for wire in wires}
+
+    def look(self) -> set[Any]:
+        """Looks at the wires of which something was told since the last time, and answers the services of those that changed."""
+        wires = self.changes()
+        self.change(wires)
+        return {wire.service for wire in wires}
+
+    def sites(self, service: str) -> list[str]:
+        """The circuits of a service that are on, in the plan's order."""
+        if service not in self.sites_on:
+            self.sites_on[service] = [site for site in self.shape.of[service].circuits if self.on[site]]
+        return self.sites_on[service]
+
+    def is_up(self, a: str, b: str) -> bool:
         """Whether the sessions of two edges are up at both ends."""
-        return self.sessions[a, b] == self.sessions[b, a] == "Operational"
+        return self.sessions[a, b] == self.sessions.get((b, a)) == "Operational"
 
-    def is_settled(self, a, b):
+    def is_settled(self, a: str, b: str) -> bool:
         """Whether neither end of a connection stands, or both and nothing is on its way or held between them."""
         ways = ((a, b), (b, a))
         standing = sum(way in self.stands for way in ways)
         return standing == 0 or standing == 2 and all(self.pipes[way].is_drained() for way in ways)
 
-    def is_calm(self, service):
+    def is_calm(self, service: str) -> bool:
         """Whether a service is calm: nothing of LDP is on its way between its edges, each two core edges have a mesh wire that
         carries frames, and each spoke edge exactly one spoke that does."""
         if service not in self.calm:
             self.calm[service] = self.looks_calm(service)
         return self.calm[service]
 
-    def looks_calm(self, service):
-        """The same, looked at anew."""
+    def looks_calm(self, service: str) -> bool:
+        """The same, looked at anew, by what both terminal edges last told of each wire, as `audit` does: where both say that it is up,
+        so are the sessions along it in every run of `replay`, and the report of another implementation may tell of none."""
         shape = self.shape.of[service]
-        carrying = [wire for wire in shape.wires if self.carries(wire)]
+        carrying = [wire for wire in shape.wires if all(self.ends[edge, wire.name] == UP for edge in wire.ends())]
         meshed = {frozenset(wire.ends()) for wire in carrying if wire.kind == "mesh"}
         spokes = [wire.path[0] for wire in carrying if wire.kind == "spoke"]
         return (
@@ -174,11 +212,11 @@ class Network:
             and all(spokes.count(edge) == 1 for edge in shape.spoke_edges)
         )
 
-    def joined(self, service):
+    def joined(self, service: str) -> set[Any]:
         """The pairs of edges of a service between which a flooded frame finds its way by the wires that carried frames when they were
         looked at last: it does not go back on the wire by which it came, and from no mesh wire to another one. Each pair is a set of
         two edges."""
-        ways = {}
+        ways: Ways = {}
         for wire in self.shape.of[service].wires:
             if wire.name in self.carrying:
                 a, b = wire.path[0], wire.path[-1]
@@ -191,8 +229,9 @@ class Network:
 class ShapeOfService:
     """What does not change of a service: its wires, its neighbours, its spoke edges, and the pairs that its core edges are."""
 
-    def __init__(self, plan, service):
+    def __init__(self, plan: Plan, service: str) -> None:
         self.wires, self.pairs = plan.wires_of(service), plan.pairs(service)
+        self.circuits = plan.circuits_of(service)
         self.spoke_edges = plan.spoke_edges(service)
         cores = plan.core_edges(service)
         self.mesh = [frozenset((a, b)) for place, a in enumerate(cores) for b in cores[place + 1 :]]
@@ -201,7 +240,7 @@ class ShapeOfService:
 class Shape:
     """What does not change of a plan: its neighbours, the names of the wires over each two of them, and its services."""
 
-    def __init__(self, plan):
+    def __init__(self, plan: Plan) -> None:
         self.pairs = plan.pairs()
         self.pair = {(a, b): frozenset((a, b)) for a in plan.edges for b in plan.edges if a != b}
         self.over = {frozenset(pair): [] for pair in self.pairs}
@@ -211,7 +250,7 @@ class Shape:
         self.of = {service: ShapeOfService(plan, service) for service in plan.services}
 
 
-def reached(ways, start):
+def reached(ways: Ways, start: str) -> set[str]:
     """The edges that a frame reaches from one. How it goes on depends on the edge and on the wire by which it came; of several mesh
     wires by which it comes to an edge the first one counts for all, since from each it goes by the same spokes."""
     found, open_ends = {start}, [(start, None)]

@@ -1,5 +1,7 @@
 """What a scenario of version 1 is in version 2: the ends of its wires, its groups, and its text, with comments and layout."""
 
+from __future__ import annotations
+
 import re
 import tomllib
 
@@ -10,10 +12,15 @@ from .places import Places
 from .plan import Plan
 from .writing import value
 
+TYPE_CHECKING = False
+if TYPE_CHECKING:
+    from collections.abc import Iterator
+    from typing import Any
+
 REST = re.compile(r"[ \t]*(#[^\n]*)?(?:\n|\Z)")
 
 
-def group_names(document):
+def group_names(document: dict[str, Any]) -> Any:
     """The names that `migrate` gives to the numbers of groups, in the order of their first use."""
     names = {}
     for row in document.get("wire", []):
@@ -23,7 +30,7 @@ def group_names(document):
     return names
 
 
-def ends_of(row, names):
+def ends_of(row: dict[str, Any], names: Any) -> dict[Any, Any]:
     """The tables of both ends of a wire of version 1, without keys that it does not tell; a group has its name, or its number where no
     names are given. There is no `far` where it would be as `near`, and no `near` that is empty."""
     near = {key.name: row[key.name] for key in PLAIN_OFFER if key.name in row}
@@ -37,7 +44,7 @@ def ends_of(row, names):
     return {end: offer for end, offer in offers.items() if (offer != offers["near"] if end == "far" else offer)}
 
 
-def notes(document):
+def notes(document: dict[str, Any]) -> Iterator[Any]:
     """Where a scenario of version 1 has something that stands otherwise in version 2."""
     if document["version"] == NEWEST:
         return
@@ -52,7 +59,7 @@ def notes(document):
             yield Finding("", ("wire", number, first), None, text)
 
 
-def content(document):
+def content(document: dict[str, Any]) -> tuple[Any, ...]:
     """What a scenario says, whatever its version."""
     plan = Plan(document)
     return plan.edges, plan.services, plan.circuits, plan.wires, plan.events
@@ -61,11 +68,11 @@ def content(document):
 class Newer:
     """Writes a text of version 1 anew, line by line."""
 
-    def __init__(self, text):
+    def __init__(self, text: str) -> None:
         self.document, self.places = tomllib.loads(text), Places(text)
         self.changes = []
 
-    def text(self):
+    def text(self) -> Any:
         """The text of version 2; a fault where the rows stand in another way than a key a line."""
         self.put_version()
         names = group_names(self.document)
@@ -84,12 +91,12 @@ class Newer:
             raise Fault("its rows are not a key a line, each under its header; bin/vplsnet migrate writes it anew")
         return text
 
-    def put_version(self):
+    def put_version(self) -> None:
         """The number of the version."""
         start = self.places.found["version",]
         self.changes.append((start, start + 1, str(NEWEST)))
 
-    def put_ends(self, number, row, names):
+    def put_ends(self, number: int, row: dict[str, Any], names: Any) -> None:
         """The ends of a wire, where the last of their keys stood. What was said behind a key stands above them."""
         keys = [key for key in row if key not in [one.name for one in WIRE]]
         if not keys:
@@ -101,7 +108,7 @@ class Newer:
             self.changes.append((start, stop, ""))
         self.changes.append((*spans[-1][:2], "".join(f"{line}\n" for line in lines)))
 
-    def line_of(self, path):
+    def line_of(self, path: tuple[Any, ...]) -> tuple[Any, ...]:
         """Where the line of a statement begins and ends, and its comment."""
         start = self.places.text.rfind("\n", 0, self.places.key_places[path]) + 1
         rest = REST.match(self.places.text, self.places.ends[path])
@@ -109,7 +116,7 @@ class Newer:
             raise Fault("a key of a wire does not stand on a line of its own; bin/vplsnet migrate writes it anew")
         return start, rest.end(), rest[1] or ""
 
-    def put_groups(self, names):
+    def put_groups(self, names: Any) -> None:
         """The rows of groups, above the first wire and what is said of it."""
         at = self.places.found["wire", 0]
         while (line := self.places.text[self.places.text.rfind("\n", 0, at - 1) + 1 : at]).startswith("#"):

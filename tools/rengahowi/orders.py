@@ -1,10 +1,19 @@
 """Random orders of what is delivered and what arrives around a failure, and the shortest scenario in which a frame comes twice."""
 
+from __future__ import annotations
+
 import pathlib
 import random
 from collections import Counter
 
 from .probing import ALL, BROADCAST, Frame
+
+TYPE_CHECKING = False
+if TYPE_CHECKING:
+    from typing import Any
+
+    from .cases import Base
+    from .failures import Case
 
 # So many broadcasts enter while the failure or its mending is told, and so often each delivery and each arrival may come then.
 FRAMES, PASSES = 6, 3
@@ -16,13 +25,13 @@ KINDS = ("twice", "never")
 class Orders:
     """The random orders of a case: of those edges that said something in the case by itself."""
 
-    def __init__(self, base, case, ways):
+    def __init__(self, base: Base, case: Case, ways: Any) -> None:
         self.base, self.case, self.ways = base, case, ways
         self.sites = list(base.plan.circuits)
         # How many packets a broadcast comes to, as far as the first phase tells.
         self.packets = -(-base.packets_before // max(1, len(base.probes.frames["before"]))) * 2
 
-    def events(self, chance):
+    def events(self, chance: Any) -> list[str]:
         """The events of one order, behind those of the set-up."""
         first = self.base.packets + 1
         events = []
@@ -32,7 +41,7 @@ class Orders:
             first += FRAMES * self.packets
         return events
 
-    def stage(self, chance, switches, ways, first):
+    def stage(self, chance: Any, switches: Any, ways: Any, first: int) -> list[str]:
         """What is switched, with frames, deliveries and arrivals around it, in any order; then deliveries and arrivals alone."""
         frames = [self.broadcast(chance.choice(self.sites)) for _ in range(FRAMES)] if self.sites else []
         events = []
@@ -46,17 +55,17 @@ class Orders:
             events += moved
         return events
 
-    def broadcast(self, circuit):
+    def broadcast(self, circuit: str) -> str:
         """A frame to everybody."""
         return f"frame {circuit} {self.base.probes.octets(Frame(circuit, None))}"
 
     @staticmethod
-    def delivery(chance, way):
+    def delivery(chance: Any, way: Any) -> str:
         """What is on its way from an edge to a neighbour is delivered, or a part of it."""
         return f"deliver {way[0]} {way[1]} {chance.randint(1, OCTETS) if chance.random() < PART else ALL}"
 
 
-def faults_of(base, lines):
+def faults_of(base: Base, lines: list[str]) -> set[str]:
     """Which kinds of fault some broadcast of a report shows: whether it left twice at a site or where it entered, and whether it
     never left at one that was on all the while."""
     on, frames = dict.fromkeys(base.plan.circuits, True), {}
@@ -83,11 +92,11 @@ def faults_of(base, lines):
     return found
 
 
-def try_orders(base, case, folder, ways, wanted, count, seed):
+def try_orders(base: Base, case: Case, folder: pathlib.Path, ways: Any, wanted: Any, count: int, seed: int) -> dict[Any, Any]:
     """In how many orders of a case a broadcast came twice or never; and the shortest scenario of each kind of `wanted`."""
     orders, path = Orders(base, case, ways), pathlib.Path(folder, "order.toml")
 
-    def shows(events):
+    def shows(events: list[str]) -> set[str]:
         return faults_of(base, base.replay(path, events).decode().splitlines())
 
     counts, first = Counter(), {}
@@ -105,7 +114,7 @@ def try_orders(base, case, folder, ways, wanted, count, seed):
     return {"tried": count, "seed": seed, **{kind: counts[kind] for kind in KINDS}, "shortest": shortest}
 
 
-def shortened(events, shows):
+def shortened(events: list[str], shows: Any) -> list[str]:
     """As many events taken out as can be while it still shows: first half of them at a time, and in the end one by one."""
     size = len(events) // 2
     while size > 0:

@@ -1,6 +1,12 @@
 """Where keys and elements stand in a TOML text that tomllib accepts: it tells values, and no places."""
 
+from __future__ import annotations
+
 import re
+
+TYPE_CHECKING = False
+if TYPE_CHECKING:
+    from typing import Any
 
 BLANK = re.compile(r"(?:[ \t\r\n]|#[^\n]*)*")
 SPACE = re.compile(r"[ \t]*")
@@ -12,7 +18,7 @@ STRING = re.compile(r'"""(?:[^\\]|\\.)*?"""|' + r"'''.*?'''" + r'|"(?:[^"\\\n]|\
 class Places:
     """The place of each value, by its path: a key or an element's number at each step, such as ('edge', 0, 'name')."""
 
-    def __init__(self, text):
+    def __init__(self, text: str) -> None:
         self.text, self.at, self.found = text.removeprefix("\ufeff"), 0, {}
         self.key_places, self.ends = {}, {}
         base, counts = (), {}
@@ -22,12 +28,12 @@ class Places:
             else:
                 self.statement(base)
 
-    def skip(self, pattern):
+    def skip(self, pattern: Any) -> Any:
         """Goes on over what a pattern takes, and answers where it is then."""
         self.at = pattern.match(self.text, self.at).end()
         return self.at
 
-    def header(self, counts):
+    def header(self, counts: Any) -> Any:
         """The path of a table's header. A part of it that is an array of tables means the last row there is."""
         start = self.at
         many = self.text.startswith("[[", self.at)
@@ -45,12 +51,12 @@ class Places:
                 self.stands(path, start)
         return path
 
-    def stands(self, path, place):
+    def stands(self, path: tuple[Any, ...], place: Any) -> None:
         """A part of a header or of a key stands where it is named first."""
         self.found.setdefault(path, place)
         self.key_places.setdefault(path, place)
 
-    def keys(self):
+    def keys(self) -> Any:
         """The keys of a header or a statement, parted by dots."""
         found = []
         while True:
@@ -61,7 +67,7 @@ class Places:
                 return found
             self.at += 1
 
-    def statement(self, base):
+    def statement(self, base: tuple[Any, ...]) -> None:
         """A key with its value. Of a key with dots, each part has the place of the whole."""
         start = BLANK.match(self.text, self.at).end()
         path = base
@@ -73,7 +79,7 @@ class Places:
         self.value(path)
         self.ends[path] = self.at
 
-    def value(self, path):
+    def value(self, path: tuple[Any, ...]) -> None:
         """A value, and all in it."""
         self.found[path] = self.at
         first = self.text[self.at]
@@ -84,7 +90,7 @@ class Places:
         else:
             self.skip(STRING if first in "\"'" else BARE)
 
-    def inside(self, end, read):
+    def inside(self, end: Any, read: Any) -> None:
         """What stands in brackets, parted by commas."""
         self.at, number = self.at + 1, 0
         while self.text[self.skip(BLANK)] != end:
@@ -94,7 +100,7 @@ class Places:
                 self.at += 1
         self.at += 1
 
-    def line_and_column(self, path, within=0):
+    def line_and_column(self, path: tuple[Any, ...], within: Any = 0) -> tuple[Any, ...]:
         """Where a value stands, from 1; of a path that has none, where the next part of it does that has one. `within` is how
         many characters behind the first one, and None for the key itself."""
         while path and path not in self.found:

@@ -1,9 +1,19 @@
 """What is tried around a failure: broadcasts and frames for known stations, in four phases, and rounds of deliveries between them."""
 
+from __future__ import annotations
+
 from typing import NamedTuple
 
 from .command import Fault
 from .keys import MOST_ROWS
+
+TYPE_CHECKING = False
+if TYPE_CHECKING:
+    from collections.abc import Iterator
+    from typing import Any
+
+    from .failures import Case
+    from .plan import Plan
 
 # Before the failure; behind it, with nothing of LDP delivered yet; once all is delivered; once it is mended and all is delivered.
 PHASES = ["before", "at once", "failed", "mended"]
@@ -24,7 +34,7 @@ class Frame(NamedTuple):
 class Probes:
     """The frames of a phase, and the events around a failure."""
 
-    def __init__(self, plan):
+    def __init__(self, plan: Plan) -> None:
         self.plan = plan
         self.station = {name: f"02000000{place:04x}" for place, name in enumerate(plan.circuits)}
         self.ways = [way for a, b in plan.pairs() for way in ((a, b), (b, a))]
@@ -35,40 +45,40 @@ class Probes:
         self.frames = {phase: known + broadcasts for phase in PHASES}
         self.frames["before"] = broadcasts + known
 
-    def neighbours(self):
+    def neighbours(self) -> Iterator[Any]:
         """Each circuit with the next one of its service, and the last one with the first."""
         for service in self.plan.services:
             sites = self.plan.circuits_of(service)
             yield from zip(sites, sites[1:] + sites[:1]) if len(sites) > 1 else ()
 
-    def octets(self, frame):
+    def octets(self, frame: Any) -> str:
         """The octets of a frame, as they enter at its circuit."""
         tag = self.plan.circuits[frame.circuit]["tag"]
         to = BROADCAST if frame.to is None else self.station[frame.to]
         return to + self.station[frame.circuit] + (TAG % tag if tag else "") + TYPE
 
-    def phase(self, name):
+    def phase(self, name: str) -> list[Any]:
         """The events of a phase: each frame enters, and all its copies arrive before the next one."""
         return [event for frame in self.frames[name] for event in (f"frame {frame.circuit} {self.octets(frame)}", f"flow {REST}")]
 
-    def before(self, events):
+    def before(self, events: list[str]) -> list[Any]:
         """The set-up, delivered to its end, and the first phase."""
         return [*events, *self.rest(), *self.phase("before")]
 
-    def rest(self):
+    def rest(self) -> list[Any]:
         """Everything is delivered, and arrives."""
         return ([f"settle {REST}"] if self.ways else []) + [f"flow {REST}"]
 
-    def rounds(self, count):
+    def rounds(self, count: int) -> Any:
         """So many rounds: in each one delivery from each edge to each neighbour, of all that is on its way; and what is left then."""
         return self.round * count + self.rest()
 
-    def after(self, case, rounds):
+    def after(self, case: Case, rounds: int) -> list[Any]:
         """A case's own events, behind those of `before`."""
         events = [*case.failure, *self.phase("at once"), *self.rounds(rounds), *self.phase("failed")]
         return [*events, *case.mending, *self.rounds(rounds), *self.phase("mended")]
 
-    def most_rounds(self, events):
+    def most_rounds(self, events: int) -> int:
         """How many rounds a scenario has room for, behind a set-up of so many events."""
         left = MOST_ROWS["events"] - events - 4 * len(self.phase("before")) - 4096
         if left < 2 * len(self.round):

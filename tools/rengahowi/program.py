@@ -1,10 +1,16 @@
 """The proved program, where it was built already: a tool starts no proof."""
 
+from __future__ import annotations
+
 import pathlib
 import subprocess
 import tempfile
 
 from .command import Fault, say
+
+TYPE_CHECKING = False
+if TYPE_CHECKING:
+    from collections.abc import Iterable
 
 TOP = pathlib.Path(__file__).resolve().parent.parent.parent
 PROGRAM = TOP / "crates" / "vplsnet_program" / "out" / "vplsnet_program"
@@ -12,7 +18,7 @@ PROGRAM = TOP / "crates" / "vplsnet_program" / "out" / "vplsnet_program"
 MOST = 60_000_000
 
 
-def decoded(pdus):
+def decoded(pdus: Iterable[bytes]) -> list[list[str]] | None:
     """The lines of `decode` for each of these PDUs, without their places; None where the program was not built yet."""
     if not PROGRAM.exists():
         say("the program is not built yet (bin/vplsnet builds it), so LDP messages have no names here")
@@ -27,7 +33,7 @@ def decoded(pdus):
     return found + decoded_part(part)
 
 
-def decoded_part(pdus):
+def decoded_part(pdus: Iterable[bytes]) -> list[list[str]]:
     """The same of PDUs that fit in one call."""
     places, place = {}, 0
     for number, pdu in enumerate(pdus):
@@ -40,7 +46,7 @@ def decoded_part(pdus):
     return lines
 
 
-def decode(octets):
+def decode(octets: bytes) -> list[str]:
     """The lines of `decode` for a stream, up to its end or its first fault."""
     with tempfile.NamedTemporaryFile() as stream:
         stream.write(octets)

@@ -1,10 +1,19 @@
 """A JSON Schema of scenarios (draft 7), for editors that know TOML, made of the keys that the tools know; and a test of a document
 against it, over the keywords that it uses."""
 
+from __future__ import annotations
+
 import re
 
 from .event_words import SHAPES
 from .keys import MOST_ROWS, NEWEST, OFFER, TABLES, allowed
+
+TYPE_CHECKING = False
+if TYPE_CHECKING:
+    from collections.abc import Iterator
+    from typing import Any
+
+    from .keys import Key
 
 NAME = "[a-z0-9_]{1,32}"
 OCTET = "(25[0-5]|2[0-4][0-9]|1[0-9][0-9]|[1-9]?[0-9])"
@@ -54,14 +63,14 @@ ABOUT = {
 }
 
 
-def about(table, key):
+def about(table: Any, key: str) -> Any:
     """What a key of a table says."""
     plain = key.removeprefix("far_")
     said = ABOUT.get(f"{table} {plain}") or ABOUT[plain]
     return said if plain == key else f"{said}; of the last edge of the path, and as {plain} without it"
 
 
-def value_of(key):
+def value_of(key: Key) -> Any:
     """The schema of a key's value."""
     name = {"type": "string", "pattern": f"^{NAME}$"}
     path = {"type": "array", "items": name, "minItems": 2, "maxItems": 5, "uniqueItems": True}
@@ -78,7 +87,7 @@ def value_of(key):
     }[key.kind]
 
 
-def property_of(table, key):
+def property_of(table: Any, key: Key) -> Any:
     """The schema of a key: its value, what it says, and its default."""
     if key.kind == "table":
         return {"allOf": [value_of(key)], "description": about(table, key.name)}
@@ -86,14 +95,14 @@ def property_of(table, key):
     return found if key.default is None else {**found, "default": key.default}
 
 
-def row_of(table, keys):
+def row_of(table: Any, keys: Any) -> Any:
     """The schema of a row, or of an end."""
     found = {"type": "object", "properties": {key.name: property_of(table, key) for key in keys}, "additionalProperties": False}
     needed = [key.name for key in keys if key.needed]
     return {**found, "required": needed} if needed else found
 
 
-def event_pattern():
+def event_pattern() -> str:
     """What an event looks like."""
     rows = []
     for first, shape in SHAPES.items():
@@ -102,12 +111,12 @@ def event_pattern():
     return f"^({'|'.join(rows)})$"
 
 
-def array(name, items):
+def array(name: str, items: Any) -> dict[Any, Any]:
     """The schema of an array of tables."""
     return {"type": "array", "maxItems": MOST_ROWS[name], "items": items, "description": ABOUT[name]}
 
 
-def schema():
+def schema() -> dict[Any, Any]:
     """The whole schema. An editor shows and completes the keys of version 2; what a version refuses stands in a case of its own."""
     tables = {name: array(name, row_of(name, keys)) for name, keys in TABLES[NEWEST].items()}
     del tables["wire"]["items"]["additionalProperties"]
@@ -134,13 +143,13 @@ def schema():
     }
 
 
-def is_of(kind, value):
+def is_of(kind: str, value: Any) -> Any:
     """Whether a value is of a type of JSON."""
     kinds = {"object": dict, "array": list, "string": str, "integer": int, "boolean": bool}
     return isinstance(value, kinds[kind]) and (kind != "integer" or not isinstance(value, bool))
 
 
-def faults(rule, value, whole, path=()):
+def faults(rule: Any, value: Any, whole: Any, path: tuple[Any, ...] = ()) -> Iterator[Any]:
     """The paths at which a value is not as its schema wants it, over the keywords that stand above; `whole` is the schema of all."""
     if rule is False:
         yield path
@@ -170,7 +179,7 @@ def faults(rule, value, whole, path=()):
         yield from faults(rule[case], value, whole, path)
 
 
-def faults_inside(rule, value, whole, path):
+def faults_inside(rule: Any, value: Any, whole: Any, path: tuple[Any, ...]) -> Iterator[Any]:
     """The same of what stands in a value."""
     if isinstance(value, list) and "items" in rule:
         for number, one in enumerate(value):
@@ -181,7 +190,7 @@ def faults_inside(rule, value, whole, path):
             yield from faults(known.get(key, rule.get("additionalProperties", True)), one, whole, (*path, key))
 
 
-def named(name, whole):
+def named(name: str, whole: Any) -> Any:
     """A part of the schema by its name, such as #/definitions/end."""
     for key in name.split("/")[1:]:
         whole = whole[key]

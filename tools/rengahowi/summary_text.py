@@ -1,9 +1,16 @@
 """A summary as text. Long lists are cut; JSON has all of them."""
 
+from __future__ import annotations
+
+TYPE_CHECKING = False
+if TYPE_CHECKING:
+    from collections.abc import Iterable
+    from typing import Any
+
 MOST = 25
 
 
-def text_of(summary):
+def text_of(summary: dict[str, Any]) -> str:
     """The whole text."""
     parts = [
         [f"{summary['events']} events; {summary['ending']}" + (f"; from event {summary['from']} on" if summary["from"] > 1 else "")],
@@ -20,13 +27,13 @@ def text_of(summary):
     return "\n\n".join("\n".join(part) for part in parts if part) + "\n"
 
 
-def cut(lines):
+def cut(lines: Iterable[str]) -> list[Any]:
     """The first lines of a list, and how many more there are."""
     lines = list(lines)
     return lines[:MOST] + ([f"  .. and {len(lines) - MOST} more (--json has all)"] if len(lines) > MOST else [])
 
 
-def discovery(found):
+def discovery(found: Any) -> list[Any]:
     """How many Hellos were said, which connections were barred, and which adjacencies ended; nothing of a run without them."""
     ended = [row for row in found["adjacencies"] if row["state"] == "down"]
     if not (found["hellos"] or found["barred"] or ended):
@@ -37,7 +44,7 @@ def discovery(found):
     return [head + f"{counted(len(ended), 'adjacency', 'adjacencies')} ended", *cut(line for _, line in sorted(lines))]
 
 
-def sessions(rows):
+def sessions(rows: list[dict[str, Any]]) -> list[Any]:
     """How many sessions are up, and each that is not."""
     if not rows:
         return []
@@ -49,12 +56,12 @@ def sessions(rows):
     return [f"Sessions: {len(rows) - len(down)} of {len(rows)} are up at both ends", *cut(lines)]
 
 
-def never(row):
+def never(row: dict[str, Any]) -> str:
     """Whether it never came up."""
     return "" if row["was_up"] else "; never up"
 
 
-def wires(rows):
+def wires(rows: list[dict[str, Any]]) -> list[Any]:
     """How many wires carry frames, and why each other one does not."""
     if not rows:
         return []
@@ -69,7 +76,7 @@ def wires(rows):
     return [carrying + (f", {standing_by} stand by" if standing_by else ""), *cut(lines)]
 
 
-def service(row):
+def service(row: dict[str, Any]) -> list[Any]:
     """A service, and which sites lost each other."""
     calm = "calm" if row["calm"] else "not calm"
     lines = []
@@ -84,7 +91,7 @@ def service(row):
     return [head + ("sites that lost each other" if lines else "no sites lost each other"), *cut(lines), *cut(never), *cut(spokes)]
 
 
-def frames(rows):
+def frames(rows: list[dict[str, Any]]) -> list[str]:
     """Each flooded frame, each other one that left twice, and those that ended nowhere."""
     if not rows:
         return []
@@ -102,40 +109,40 @@ def frames(rows):
     return lines
 
 
-def head(row):
+def head(row: dict[str, Any]) -> str:
     """Which frame it is."""
     return f"  frame {row['frame']} (event {row['event']}, at {row['circuit']}, to {row['to']})"
 
 
-def flooded_line(row):
+def flooded_line(row: dict[str, Any]) -> str:
     """Whom a flooded frame served, and whether the promise speaks of it."""
     parts = [f"served {names(site for site, count in row['served'].items() if count == 1)}"]
     if row["missed"]:
         parts.append(f"NOT SERVED {names(row['missed'])}")
     if row["twice"]:
         parts.append(f"TWICE {names(row['twice'])}")
-    promise = "promised" if row["promised"] else f"not promised: {'; '.join(row['why_not_promised'])}"
+    promise = ("promised" if row["kept"] else "PROMISED, and not so") if row["promised"] else f"not promised: {'; '.join(row['why_not_promised'])}"
     return f"{head(row)}: {', '.join(parts)}; {promise}"
 
 
-def other_line(row):
+def other_line(row: dict[str, Any]) -> str:
     """Where a frame left twice that was not flooded."""
     return f"{head(row)}: TWICE {names(row['twice'])}"
 
 
-def nowhere_line(row):
+def nowhere_line(row: dict[str, Any]) -> str:
     """Why a frame ended nowhere, as far as it is told."""
     return f"{head(row)}: {why_nowhere(row) or 'no port to go to'}"
 
 
-def why_nowhere(row):
+def why_nowhere(row: dict[str, Any]) -> str:
     """Where what was sent was dropped, and which of its packets were lost, or were under way too long."""
     dropped = [f"dropped at {drop['edge']}: {drop['cause']}" for drop in row["dropped"]]
     lost = [f"packet {number} lost" for number in row["lost"]]
     return ", ".join(dropped + lost + [f"packet {number} aged" for number in row["aged"]])
 
 
-def pings(rows):
+def pings(rows: list[dict[str, Any]]) -> list[Any]:
     """How many pings were answered, and why each other one was not."""
     if not rows:
         return []
@@ -144,26 +151,26 @@ def pings(rows):
     return [head_line, *cut(f"  event {row['event']} (ping {row['edge']} {row['wire']}): {why_unanswered(row)}" for row in unanswered)]
 
 
-def why_unanswered(row):
+def why_unanswered(row: dict[str, Any]) -> str:
     """Why a ping was not answered, as far as it is told."""
     if row["idle"]:
         return "idle"
     return why_nowhere(row) or "still under way"
 
 
-def idle(rows):
+def idle(rows: list[dict[str, Any]]) -> list[Any]:
     """The events that did not apply."""
     if not rows:
         return []
     return ["Idle events, which changed nothing", *cut(f"  event {row['event']} (line {row['line']} of the report): {row['words']}" for row in rows)]
 
 
-def drops(rows):
+def drops(rows: list[dict[str, Any]]) -> list[Any]:
     """Drops by cause."""
     return ["Drops", *cut(f"  {row['cause']} at {row['edge']}: {row['count']}" for row in rows)] if rows else []
 
 
-def under_way(found):
+def under_way(found: Any) -> list[Any]:
     """What is on its way at the end."""
     lines = [f"  {row['octets']} octets from {row['from']} to {row['to']}" for row in found["octets"]]
     for row in found["packets"]:
@@ -172,12 +179,12 @@ def under_way(found):
     return ["Under way at the end", *cut(lines)] if lines else ["Nothing is under way at the end"]
 
 
-def counted(number, one, more=None):
+def counted(number: int, one: Any, more: Any = None) -> str:
     """A number with its word."""
     return f"{number} {one if number == 1 else more or one + 's'}"
 
 
-def names(found):
+def names(found: Any) -> str:
     """Names in a row; nobody where there are none."""
     found = list(found)
     more = f" and {len(found) - MOST} more" if len(found) > MOST else ""

@@ -1,61 +1,74 @@
 """The summary of a run, as plain lists and texts, ready for JSON."""
 
-from collections import Counter
+from __future__ import annotations
 
 from .network import UP
 
+TYPE_CHECKING = False
+if TYPE_CHECKING:
+    from collections.abc import Iterable, Iterator
+    from typing import Any
 
-def sum_up(plan, run, first=1):
+    from .frames import Frame, Moment, Run
+    from .network import Network
+    from .pings import Ping
+    from .plan import Plan, Wire
+    from .report import Report
+
+# Over so many segments at most a flooded frame of a calm service serves each site.
+MOST_SEGMENTS = 12
+
+
+def sum_up(plan: Plan, run: Run, first: int = 1) -> dict[Any, Any]:
     """All of it; of losses, frames, pings, idle events and drops those from an event on, by its number."""
     return {
-        "events": len(run.report.events),
+        "events": run.count,
         "from": first,
         "ending": run.report.ending,
-        "discovery": discovery(run.report, first),
+        "discovery": discovery(run, first),
         "sessions": [session_row(run, *pair) for pair in plan.pairs()],
         "wires": [wire_row(run, wire) for wire in plan.wires.values()],
         "services": [service_row(plan, run, service, first) for service in plan.services],
         "frames": [frame_row(frame) for frame in run.frames.values() if frame.event.number >= first],
         "pings": [ping_row(run, ping) for ping in run.pings.all if ping.event.number >= first],
-        "idle": [
-            {"event": event.number, "words": event.text, "line": event.line}
-            for event in run.report.events
-            if event.number >= first and event.is_idle()
-        ],
+        "idle": [{"event": event.number, "words": event.text, "line": event.line} for event in run.idle if event.number >= first],
         "drops": drop_rows(run, first),
         "under_way": under_way(run.network),
     }
 
 
-def discovery(report, first):
+def discovery(run: Run, first: int) -> dict[str, Any]:
     """What a script told of Hellos from an event on: how many were said, which connections were barred, and which adjacencies came up
     and ended, each with its line and the event that it stands behind (0 before the first one)."""
-    behind = [(event.number, entry) for event in report.events for entry in event.entries]
-    found = [(number, entry) for number, entry in [(0, entry) for entry in report.front] + behind if number >= first or first == 1]
-    rows = {"hellos": sum(entry.kind == "hello" for _, entry in found), "barred": [], "adjacencies": []}
-    for number, entry in found:
-        place = {"event": number, "line": entry.line}
-        if entry.kind == "barred":
-            rows["barred"].append({"edges": list(entry.words), **place})
-        elif entry.kind == "adjacency":
-            rows["adjacencies"].append({"edge": entry.words[0], "peer": entry.words[1], "state": entry.words[2], **place})
+    rows = {"hellos": 0, "barred": [], "adjacencies": []}
+    for number, line, (kind, *words) in run.notes:
+        place = {"event": number, "line": line}
+        if number < first and first > 1:
+            continue
+        if kind == "hello":
+            rows["hellos"] += 1
+        elif kind == "barred":
+            rows["barred"].append({"edges": words, **place})
+        else:
+            rows["adjacencies"].append({"edge": words[0], "peer": words[1], "state": words[2], **place})
     return rows
 
 
-def event_from(report, words):
+def event_from(report: Report, words: Any) -> int | None:
     """The number of the event that somebody means by its number or its words; None where there is none."""
-    if words.isascii() and words.isdigit() and 1 <= int(words) <= len(report.events):
+    texts = [line[2:] for line in report.lines if line.startswith("> ")]
+    if words.isascii() and words.isdigit() and 1 <= int(words) <= len(texts):
         return int(words)
-    return next((event.number for event in report.events if event.text == words), None)
+    return texts.index(words) + 1 if words in texts else None
 
 
-def session_row(run, a, b):
+def session_row(run: Run, a: str, b: str) -> dict[Any, Any]:
     """A session, as both ends see it."""
     sessions = run.network.sessions
     return {"edges": [a, b], "states": [sessions[a, b], sessions[b, a]], "was_up": frozenset((a, b)) in run.ever_up}
 
 
-def wire_row(run, wire):
+def wire_row(run: Run, wire: Wire) -> dict[str, Any]:
     """A wire, with what each terminal edge says of it; with both MTUs where these differ."""
     states = [run.network.ends[edge, wire.name] for edge in wire.ends()]
     row = {"wire": wire.name, "service": wire.service, "class": wire.kind, "path": list(wire.path), "states": states}
@@ -66,13 +79,13 @@ def wire_row(run, wire):
     return row
 
 
-def stands_by(network, wire):
+def stands_by(network: Network, wire: Wire) -> bool:
     """Whether a spoke is one that could be used, and is not since another one is."""
     states = {network.ends[edge, wire.name] for edge in wire.ends()}
     return wire.kind == "spoke" and "Standby" in states and states <= {"Standby", UP} and all(network.is_up(*pair) for pair in wire.segments())
 
 
-def service_row(plan, run, service, first):
+def service_row(plan: Plan, run: Run, service: str, first: int) -> dict[Any, Any]:
     """A service: its sites, whether it is calm at the end, which sites lost each other when, which never had each other, and the
     spoke edges of which not all spokes can be used at the end."""
     spans = {}
@@ -103,13 +116,13 @@ def service_row(plan, run, service, first):
     }
 
 
-def in_order(row):
+def in_order(row: tuple[Any, Any]) -> tuple[Any, ...]:
     """By the event that begins a span, and then by the one that ends it, those that none ends last."""
     start, end, _ = row[0]
     return start.number, end is None, end.number if end else 0
 
 
-def spokes_left(plan, network, service):
+def spokes_left(plan: Plan, network: Network, service: str) -> Iterator[Any]:
     """How many spokes each spoke edge of several ones has, and how many of them could be used."""
     spokes = [wire for wire in plan.wires_of(service) if wire.kind == "spoke"]
     for edge in plan.edges:
@@ -119,12 +132,12 @@ def spokes_left(plan, network, service):
             yield {"edge": edge, "spokes": len(own), "usable": usable}
 
 
-def told(event):
+def told(event: Moment | None) -> dict[Any, Any] | None:
     """An event by its number and its words; None where there is none."""
     return None if event is None else {"event": event.number, "words": event.text}
 
 
-def parted(plan, service, pairs):
+def parted(plan: Plan, service: str, pairs: Any) -> list[dict[str, Any]]:
     """The sites of edges that lost each other: lists of sites, each with those that they lost. The edge that lost most comes
     first."""
     at = {}
@@ -133,7 +146,7 @@ def parted(plan, service, pairs):
     pairs = [pair for pair in pairs if all(edge in at for edge in pair)]
     rows = []
     while pairs:
-        counts = Counter(edge for pair in pairs for edge in pair)
+        counts = count(edge for pair in pairs for edge in pair)
         edge = max((name for name in plan.edges if name in counts), key=counts.get)
         lost = [other for other in plan.edges if other != edge and frozenset((edge, other)) in pairs]
         rows.append({"sites": at[edge], "lost": [site for other in lost for site in at[other]]})
@@ -141,9 +154,17 @@ def parted(plan, service, pairs):
     return rows
 
 
-def frame_row(frame):
+def count(found: Iterable[Any]) -> dict[Any, int]:
+    """How often each thing is there."""
+    counts = {}
+    for one in found:
+        counts[one] = counts.get(one, 0) + 1
+    return counts
+
+
+def frame_row(frame: Frame) -> dict[Any, Any]:
     """What became of a frame."""
-    flooded = frame.is_flooded()
+    flooded, missed, twice, hops = frame.is_flooded(), frame.missed(), frame.twice(), int(frame.hops)
     why_not = frame.why_not_promised()
     return {
         "frame": frame.origin,
@@ -155,31 +176,32 @@ def frame_row(frame):
         "calm": frame.calm,
         "promised": not why_not,
         "why_not_promised": why_not,
+        "kept": None if why_not else not (missed or twice or frame.elsewhere()) and hops <= MOST_SEGMENTS,
         "served": dict(frame.left),
-        "missed": frame.missed() if flooded else [],
-        "twice": frame.twice(),
-        "segments": frame.hops,
+        "missed": missed if flooded else [],
+        "twice": twice,
+        "segments": hops,
         "dropped": dropped(frame),
         "lost": frame.lost,
         "aged": frame.aged,
         "repeated": frame.repeated,
-        "under_way": sorted(frame.under_way),
+        "under_way": sorted(map(int, frame.under_way)),
         "nowhere": not frame.left and not frame.under_way,
     }
 
 
-def dropped(frame):
+def dropped(frame: Frame | Ping) -> list[Any]:
     """Where copies of a frame, or packets of a ping, were dropped, and why."""
     return [{"event": event.number, "edge": edge, "cause": cause} for event, edge, cause in frame.dropped]
 
 
-def ping_row(run, ping):
+def ping_row(run: Run, ping: Ping) -> dict[Any, Any]:
     """What became of a ping."""
     return {
         "event": ping.event.number,
         "edge": ping.edge,
         "wire": ping.wire,
-        "idle": ping.event.is_idle(),
+        "idle": ping.event.is_idle,
         "answers": ping.answers,
         "dropped": dropped(ping),
         "lost": ping.lost,
@@ -188,17 +210,17 @@ def ping_row(run, ping):
     }
 
 
-def drop_rows(run, first):
+def drop_rows(run: Run, first: int) -> list[Any]:
     """How often frames were dropped, by cause and edge."""
-    counts = Counter((cause, edge) for event, (edge, _, cause) in run.drops if event.number >= first)
-    return [{"cause": cause, "edge": edge, "count": count} for (cause, edge), count in sorted(counts.items())]
+    counts = count((cause, edge) for number, edge, cause in run.drops if number >= first)
+    return [{"cause": cause, "edge": edge, "count": times} for (cause, edge), times in sorted(counts.items())]
 
 
-def under_way(network):
+def under_way(network: Network) -> dict[Any, Any]:
     """Octets and packets that are on their way at the end."""
     octets = [{"from": a, "to": b, "octets": pipe.octets()} for (a, b), pipe in network.pipes.items() if pipe.octets()]
     packets = [
-        {"packet": number, "from": words[0], "to": words[1], "wire": words[2], "frame": words[4]}
-        for number, words in sorted(network.packets.items())
+        {"packet": number, "from": words[0], "to": words[1], "wire": words[2], "frame": int(words[4])}
+        for number, words in sorted((int(number), words) for number, words in network.packets.items())
     ]
     return {"octets": octets, "packets": packets}

@@ -1,12 +1,20 @@
 """Where edges and circuits stand in the picture of a hierarchy: core edges on an arch with their circuits above, spoke edges in rows
 below them with their circuits beneath."""
 
+from __future__ import annotations
+
+TYPE_CHECKING = False
+if TYPE_CHECKING:
+    from typing import Any
+
+    from .plan import Plan
+
 # In points: 1,280 pixels are 960 of them.
 WIDTH, ARCH, BOX, LINE, TAGGED = 900, 150, 66, 24, 34
 ROW_GAP = 190
 
 
-def places(plan, edges, circuits, spokes):
+def places(plan: Plan, edges: Any, circuits: Any, spokes: Any) -> Any:
     """The place of each edge and circuit, by kind and name. `spokes` are the wires by which spoke edges hang on core edges."""
     low = list(dict.fromkeys(wire.path[0] for wire in spokes))
     high = [edge for edge in edges if edge not in low]
@@ -29,12 +37,12 @@ def places(plan, edges, circuits, spokes):
     return found
 
 
-def mean(values):
+def mean(values: Any) -> Any:
     """The mean of some numbers; the middle of the picture where there are none."""
     return sum(values) / len(values) if values else WIDTH / 2
 
 
-def stack(plan, found, of_edge, edges, way):
+def stack(plan: Plan, found: Any, of_edge: Any, edges: Any, way: Any) -> None:
     """Places the circuits of edges above or below them, one over the other."""
     for edge in edges:
         x, y = found["edge", edge]

@@ -1,5 +1,7 @@
 """The checks of `tools/what-if`: counts by hand, what `tools/summary` says of each case, orders, expectations, its page."""
 
+from __future__ import annotations
+
 import json
 import pathlib
 import re
@@ -19,6 +21,11 @@ from .report import read_report
 from .summing import event_from, sum_up
 from .trying import HTML, PROGRAM, TOP, compare, run, tool
 
+TYPE_CHECKING = False
+if TYPE_CHECKING:
+    from collections.abc import Iterator
+    from typing import Any
+
 EXAMPLES = TOP / "examples"
 MOVES = ("spoke-moves", "priority x xb 5")
 # A scenario, its first event behind the set-up, a case, and its row as it is counted by hand: who lost whom, the rounds, and how many
@@ -30,8 +37,8 @@ BY_HAND = [
 ]
 
 
-def what_ifs(folder, gone):
-    """All of them."""
+def what_ifs(folder: pathlib.Path, gone: set[str]) -> Iterator[Any]:
+    """Cases counted by hand, and as `summary` counts them; expectations, orders, another design, pages, lines, and an interrupt."""
     yield from by_hand()
     yield from as_summed("frames-cross", "3")
     yield from as_summed(*MOVES)
@@ -44,12 +51,12 @@ def what_ifs(folder, gone):
     yield from interrupted()
 
 
-def tried(name, begin, *words):
+def tried(name: str, begin: str, *words: Any) -> Any:
     """What `--json` tells of an example."""
     return json.loads(tool("what-if", EXAMPLES / f"{name}.toml", "--from", begin, "--json", *words)[1])
 
 
-def by_hand():
+def by_hand() -> Iterator[Any]:
     """Counts by hand, for three small plans."""
     for name, begin, case, lost, never in BY_HAND:
         found = tried(name, begin, "--case", case)
@@ -61,12 +68,12 @@ def by_hand():
         yield compare(f"what-if {name}, before", found["before"], {"never": {}, "twice": {}})
 
 
-def pairs_in(row):
+def pairs_in(row: dict[str, Any]) -> Any:
     """The pairs of sites that lost each other in a row."""
     return Counter(frozenset((a, b)) for part in row["sites"] for a in part["sites"] for b in part["lost"])
 
 
-def as_summed(name, begin):
+def as_summed(name: str, begin: str) -> Iterator[Any]:
     """Each case of a plan, beside what the summary of its own report counts."""
     path = EXAMPLES / f"{name}.toml"
     plan = read_plan(path)
@@ -91,7 +98,7 @@ def as_summed(name, begin):
     yield compare(f"what-if {name}, beside summary", wrong, [])
 
 
-def ordered(folder):
+def ordered(folder: pathlib.Path) -> Iterator[Any]:
     """A frame arrives twice in some order, and the shortest scenario that shows it replays."""
     saved = folder / "saved"
     found = tried(*MOVES, "--case", "priority x xb 9", "--orders", 12, "--seed", 1, "--save", saved)
@@ -105,7 +112,7 @@ def ordered(folder):
     yield compare("what-if --orders, the shortest", (len(events) < 25, events == read_plan(path).events), (True, True))
 
 
-def expected(folder):
+def expected(folder: pathlib.Path) -> Iterator[Any]:
     """Expectations that are met, that are not, and that are none."""
     path, file = EXAMPLES / "spoke-moves.toml", folder / "expect.toml"
     words = [path, "--from", MOVES[1], "--kinds", "session,priority", "--expect", file]
@@ -124,7 +131,7 @@ def expected(folder):
         yield compare(f"what-if --expect {text!r}", (done[0], said in done[2], done[2].count("\n")), (status, True, int(status > 0)))
 
 
-def compared(folder):
+def compared(folder: pathlib.Path) -> Iterator[Any]:
     """Two designs: the same one, and one without a spoke."""
     path, other = EXAMPLES / "spoke-moves.toml", folder / "other.toml"
     status, text, _ = tool("what-if", path, "--from", MOVES[1], "--kinds", "session", "--against", path)
@@ -140,7 +147,7 @@ def compared(folder):
     yield compare("what-if --against another", seen, (True, True))
 
 
-def collected(folder):
+def collected(folder: pathlib.Path) -> Iterator[Any]:
     """Cases as lines for GNU parallel, and what they wrote."""
     path, rows = EXAMPLES / "frames-cross.toml", folder / "rows"
     words = [path, "--from", "3", "--kinds", "session,restart"]
@@ -153,7 +160,7 @@ def collected(folder):
     yield compare("what-if --collect of no lines", (status, said, "line 1" in fault, fault.count("\n")), (1, "", True, 1))
 
 
-def paged(folder):
+def paged(folder: pathlib.Path) -> Iterator[Any]:
     """The page is XML, has its cases, and a browser opens the ladder of a cell."""
     page = folder / "page.html"
     words = [EXAMPLES / "spoke-moves.toml", "--from", MOVES[1], "--kinds", "session,priority", "--page", page]
@@ -170,7 +177,7 @@ def paged(folder):
     yield compare("what-if --page in a browser", [line for line in seen if not line.startswith("wide")], ["cases 7", "cells 12", "ladder True"])
 
 
-def refused(folder):
+def refused(folder: pathlib.Path) -> Iterator[Any]:
     """Words and files that are none."""
     path, none = EXAMPLES / "frames-cross.toml", folder / "none.toml"
     none.write_text("version = 1\nevents = 3\n", encoding="utf-8")
@@ -187,7 +194,7 @@ def refused(folder):
         yield compare(f"what-if {words[1:]}", (status, said, right in fault, fault.count("\n")), (1, "", True, 1))
 
 
-def interrupted():
+def interrupted() -> Iterator[Any]:
     """An interrupt leaves what is done."""
     words = [TOP / "tools" / "what-if", EXAMPLES / "hierarchy.toml", "--pairs", "--lines", "--jobs", "2"]
     streams = {"stdin": subprocess.DEVNULL, "stdout": subprocess.PIPE, "stderr": subprocess.PIPE}

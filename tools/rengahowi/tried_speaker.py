@@ -1,11 +1,18 @@
 """The checks of `tools/speak`: it plays an edge to FRR's ldpd, where that is installed, in a network namespace of its own."""
 
+from __future__ import annotations
+
 import os
 import pathlib
 import re
 import shutil
 
 from .trying import TOP, compare, run, tool
+
+TYPE_CHECKING = False
+if TYPE_CHECKING:
+    from collections.abc import Iterator
+    from typing import Any
 
 EXAMPLES = TOP / "examples"
 DAEMONS = pathlib.Path("/usr/lib/frr")
@@ -42,8 +49,8 @@ exit $status
 """
 
 
-def speakers(folder, _gone):
-    """Words that are none; and an exchange with FRR."""
+def speakers(folder: pathlib.Path, _gone: set[str]) -> Iterator[Any]:
+    """Words of `speak` that are none; and an exchange with FRR."""
     files = EXAMPLES / "pseudowire-comes-up.toml", EXAMPLES / "pseudowire-comes-up.txt"
     for words, right in (((*files, "a", "c"), "no edge 'c'"), ((*files, "a", "a"), "say nothing"), ((files[1], files[0], "a", "b"), "no scenario")):
         status, said, fault = tool("speak", *words)
@@ -55,7 +62,7 @@ def speakers(folder, _gone):
     yield from spoken(folder / "frr", files)
 
 
-def spoken(folder, files):
+def spoken(folder: pathlib.Path, files: Any) -> Iterator[Any]:
     """The exchange by which a pseudowire comes up: what FRR says, and what it holds then. It binds both labels; a kernel
     without MPLS forwards no frames of a pseudowire, which is the one thing that it then lacks."""
     folder.mkdir()

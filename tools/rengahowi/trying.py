@@ -1,11 +1,17 @@
 """How the checks of examples and tools compare: a call and what it has to say, and what is seen in what a tool made."""
 
+from __future__ import annotations
+
 import json
 import pathlib
 import shlex
 import shutil
 import subprocess
 import xml.etree.ElementTree
+
+TYPE_CHECKING = False
+if TYPE_CHECKING:
+    from typing import Any
 
 TOP = pathlib.Path(__file__).resolve().parent.parent.parent
 PROGRAM = str(TOP / "bin" / "vplsnet")
@@ -17,18 +23,18 @@ HTML = "{http://www.w3.org/1999/xhtml}"
 SVG = "{http://www.w3.org/2000/svg}"
 
 
-def run(words, folder, **more):
+def run(words: Any, folder: str | pathlib.Path, **more: Any) -> Any:
     """Runs a command in a folder, and answers how it ended."""
     return subprocess.run(words, cwd=folder, stdin=subprocess.DEVNULL, capture_output=True, check=False, **more)
 
 
-def tool(name, *words, folder=TOP):
+def tool(name: str, *words: Any, folder: str | pathlib.Path = TOP) -> tuple[Any, ...]:
     """Runs a tool, and answers its status, its output and its standard error, both as texts."""
     done = run([TOP / "tools" / name, *map(str, words)], folder, text=True)
     return done.returncode, done.stdout, done.stderr
 
 
-def compare(name, got, want):
+def compare(name: str, got: Any, want: Any) -> bool:
     """Whether two values agree; says where they do not."""
     if got == want:
         return True
@@ -36,12 +42,12 @@ def compare(name, got, want):
     return False
 
 
-def build():
+def build() -> None:
     """Has the program built before the first comparison; it tells how far that is."""
     subprocess.run([PROGRAM, "decode", "/dev/null"], stdin=subprocess.DEVNULL, check=False)
 
 
-def missing():
+def missing() -> Any:
     """The external programs that are missing, each of which is named."""
     gone = {program for program in PACKAGES if shutil.which(program) is None}
     for program in sorted(gone):
@@ -49,20 +55,20 @@ def missing():
     return gone
 
 
-def boxes_in(picture):
+def boxes_in(picture: Any) -> tuple[Any, ...]:
     """How many nodes and lines a picture has; it has to be XML."""
     groups = xml.etree.ElementTree.fromstring(picture).iter(f"{SVG}g")
     kinds = [group.get("class") for group in groups]
     return kinds.count("node"), kinds.count("edge")
 
 
-def rows_in(page):
+def rows_in(page: Any) -> Any:
     """The rows of a ladder; the page has to be XML."""
     scripts = xml.etree.ElementTree.fromstring(page).iter(f"{HTML}script")
     return json.loads(next(script.text for script in scripts if script.get("id") == "data"))["rows"]
 
 
-def capture_seen(call, folder):
+def capture_seen(call: Any, folder: str | pathlib.Path) -> tuple[Any, ...]:
     """What tshark sees in a capture, by the call of Wireshark that `to-pcap` printed: LDP messages, MPLS packets, and packets that
     are malformed or in which its expert finds an error."""
     fields = ["ldp.msg.type", "mpls.label", "_ws.malformed", "_ws.expert.severity"]
@@ -76,7 +82,7 @@ def capture_seen(call, folder):
     return messages, packets, faults
 
 
-def frames_seen(path, folder):
+def frames_seen(path: str | pathlib.Path, folder: str | pathlib.Path) -> tuple[Any, ...]:
     """How tshark and capinfos end on a capture of frames, and how many frames each of them counts there."""
     seen = run(["tshark", "-r", path], folder, text=True)
     told = run(["capinfos", "-T", "-r", "-c", path], folder, text=True)

@@ -1,5 +1,7 @@
 """The cases of a plan as one page for a browser: a matrix of cases and sites, whose cells open the ladder of their case."""
 
+from __future__ import annotations
+
 import base64
 import json
 import pathlib
@@ -7,13 +9,23 @@ import zlib
 
 from .colours import of_service
 from .ladder_rows import Rows, columns, lanes
-from .report import Report, Words, events_of
+from .report import Words, events_of
+
+TYPE_CHECKING = False
+if TYPE_CHECKING:
+    from typing import Any
+
+    from .case_reading import Reading
+    from .cases import Base
+    from .failures import Case
+    from .network import Network
+    from .report import Event
 
 HERE = pathlib.Path(__file__).resolve().parent
 PAGE, LADDER = HERE / "what_if.html", HERE / "ladder.html"
 
 
-def ladder_of(base, case, reading, lines):
+def ladder_of(base: Base, case: Case, reading: Reading, lines: list[str]) -> dict[Any, Any]:
     """The ladder of a case, packed: what switches and is delivered, and of the frames that something is wrong with the first one of
     each phase and site. And that frame of each site."""
     chosen, of_site = {}, {}
@@ -27,7 +39,7 @@ def ladder_of(base, case, reading, lines):
     words = Words(base.plan, case.name)
     events = events_of(words, ((first + 1 + place, text) for place, text in kept), 1)
     number_events(events, kept, lines, base.front.count(b"\n> "))
-    rows = Rows(base.plan, Report(events, ""), base.network.copy())
+    rows = Rows(base.plan, events, [], base.network.copy())
     found = rows.make()
     changed = {place: lane["states"] for place, lane in enumerate(rows.lanes) if len(lane["states"]) > 1}
     text = json.dumps({"rows": found, "lanes": changed}, separators=(",", ":"))
@@ -37,7 +49,7 @@ def ladder_of(base, case, reading, lines):
     }
 
 
-def kept_lines(lines, wanted):
+def kept_lines(lines: list[str], wanted: Any) -> tuple[Any, ...]:
     """The lines of a ladder, each with its place: events without packets that apply, and the frames that are wanted, by their
     number among the frames; and the origin of each of those."""
     kept, origins, frames, keeps = [], {}, 0, False
@@ -54,7 +66,7 @@ def kept_lines(lines, wanted):
     return kept, origins
 
 
-def number_events(events, kept, lines, before):
+def number_events(events: list[Event], kept: Any, lines: list[str], before: Any) -> None:
     """Gives each event that is kept its number in the whole report, of which so many stand before these lines."""
     numbers, number = {}, before
     for place, text in enumerate(lines):
@@ -65,7 +77,7 @@ def number_events(events, kept, lines, before):
         event.number = numbers[place]
 
 
-def script(found):
+def script(found: dict[str, Any]) -> str:
     """JSON in a page that is XML too: no text in it begins a tag or an entity."""
     text = json.dumps(found, separators=(",", ":"))
     for sign in "<>&":
@@ -73,7 +85,7 @@ def script(found):
     return text
 
 
-def page(base, found, ladders):
+def page(base: Base, found: dict[str, Any], ladders: list[Any]) -> str:
     """The page."""
     plan = base.plan
     shared = {
@@ -89,6 +101,6 @@ def page(base, found, ladders):
     return text.replace("@TITLE@", title).replace("@DATA@", script(data))
 
 
-def state_of(network, lane):
+def state_of(network: Network, lane: dict[str, Any]) -> str:
     """The state of a session or a wire behind the set-up."""
     return (network.sessions if lane["kind"] == "session" else network.ends)[lane["edge"], lane["name"]]

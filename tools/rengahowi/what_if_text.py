@@ -1,13 +1,19 @@
 """The cases of a plan as a table."""
 
+from __future__ import annotations
+
 from .summary_text import counted
+
+TYPE_CHECKING = False
+if TYPE_CHECKING:
+    from typing import Any
 
 # So many names of sites stand in a row.
 MOST = 3
 HEAD = ("case", "who lost whom", "rounds", "never", "twice", "calm")
 
 
-def text_of(found):
+def text_of(found: dict[str, Any]) -> str:
     """The whole text."""
     rows = [HEAD, *(columns(row) for row in found["cases"])]
     wide = [max(len(row[place]) for row in rows) for place in range(len(HEAD) - 1)]
@@ -15,7 +21,7 @@ def text_of(found):
     return "\n".join([*before(found), *lines, "", *endings(found)]) + "\n"
 
 
-def before(found):
+def before(found: dict[str, Any]) -> list[Any]:
     """What stands before any failure, where that is not as it should be."""
     lines = [f"Before the failure service {name} is not calm" for name in found["services"] if name not in found["calm"]]
     for kind, text in (("never", "do not arrive at"), ("twice", "arrive twice at")):
@@ -25,12 +31,12 @@ def before(found):
     return lines + [""] if lines else []
 
 
-def columns(row):
+def columns(row: dict[str, Any]) -> tuple[Any, ...]:
     """The columns of a case."""
     return row["case"], lost(row["lost"]), rounds(row), frames(row, "never"), frames(row, "twice"), "yes" if row["calm"] else "NO"
 
 
-def lost(rows):
+def lost(rows: list[dict[str, Any]]) -> str:
     """Who lost whom: the first of those that lost most, and how many more sites there are."""
     if not rows:
         return "-"
@@ -40,7 +46,7 @@ def lost(rows):
     return f"{some(first['sites'])} lost {some(first['lost'])}" + (f"; {counted(len(sites), 'more site')}" if sites else "")
 
 
-def rounds(row):
+def rounds(row: dict[str, Any]) -> str:
     """For how long: rounds while the failure stands, and those behind its mending."""
     if not row["lost"]:
         return "-"
@@ -51,7 +57,7 @@ def rounds(row):
     return ", ".join(([str(max(alone) or "<1")] if alone else []) + ([f"mended + {max(mended)}"] if mended else []))
 
 
-def frames(row, kind):
+def frames(row: dict[str, Any], kind: str) -> str:
     """How many copies of frames never came, or came too often, phase by phase, and in how many orders they did."""
     found = [f"{sum(sites.values())} {phase}" for phase, sites in row[kind].items()]
     orders = row.get("orders")
@@ -60,7 +66,7 @@ def frames(row, kind):
     return ", ".join(found) or "-"
 
 
-def endings(found):
+def endings(found: dict[str, Any]) -> Any:
     """How many cases there are of each ending."""
     rows = found["cases"]
     apart = [row for row in rows if stays_split(row)]
@@ -77,18 +83,18 @@ def endings(found):
     return lines
 
 
-def stays_split(row):
+def stays_split(row: dict[str, Any]) -> bool:
     """Whether sites are apart as long as the failure stands."""
     return any(one["from"]["stage"] == "failed" and (one["to"] is None or one["to"]["stage"] == "mended") for one in row["lost"])
 
 
-def some(sites):
+def some(sites: Any) -> str:
     """The first names of several."""
     names = list(sites)
     return ", ".join(names[:MOST]) + (f" and {len(names) - MOST} more" if len(names) > MOST else "")
 
 
-def differing(found, other):
+def differing(found: dict[str, Any], other: Any) -> str:
     """The cases that end otherwise in another design, and those that only one of the two has."""
     here, there = ({row["case"]: columns(row)[1:] for row in one["cases"]} for one in (found, other))
     lines = []

@@ -1,12 +1,19 @@
 """Writes scenarios of version 2: the text of rows and events, and plans of real size."""
 
+from __future__ import annotations
+
 import re
 
 from .command import Fault
 from .keys import MOST_ROWS, NEWEST
 
+TYPE_CHECKING = False
+if TYPE_CHECKING:
+    from collections.abc import Iterable
+    from typing import Any
 
-def value(it):
+
+def value(it: Any) -> str:
     """A value as TOML writes it."""
     if isinstance(it, bool):
         return "true" if it else "false"
@@ -19,12 +26,12 @@ def value(it):
     return '"' + re.sub(r'[\x00-\x1f"\\\x7f]', escaped, it) + '"'
 
 
-def escaped(found):
+def escaped(found: Any) -> str:
     """A character that a text of TOML cannot have as it is."""
     return f"\\{found[0]}" if found[0] in '"\\' else f"\\u{ord(found[0]):04x}"
 
 
-def scenario(rows, events, comment=""):
+def scenario(rows: dict[str, list[dict[str, Any]]], events: list[str], comment: str = "") -> str:
     """The text of a scenario: `rows` has for each table a list of rows, each a dict of its keys; an end of
     a wire is a dict in it."""
     for table, most in MOST_ROWS.items():
@@ -39,7 +46,7 @@ def scenario(rows, events, comment=""):
     return text
 
 
-def connected(rows):
+def connected(rows: dict[str, list[dict[str, Any]]]) -> list[Any]:
     """The events that connect each two neighbours, and deliver until nothing of LDP is left."""
     pairs = {}
     for wire in rows["wire"]:
@@ -48,11 +55,11 @@ def connected(rows):
     return [f"connect {a} {b}" for a, b in pairs.values()] + ["settle 10000"] * bool(pairs)
 
 
-def rows_of(count, circuits, services=1, tags=False):
+def rows_of(count: int, circuits: int, services: int = 1, tags: bool = False) -> dict[str, list[dict[str, Any]]]:
     """So many edges, e0 and on, so many services, s or s1 and on, and so many circuits of each service at each edge: c0 and on where
     there is one of one service, else c0_0, c0_s1 or c0_s1_0 and on. With tags each service has a VLAN ID of its own, from 101 on."""
     names = ["s"] if services == 1 else [f"s{number + 1}" for number in range(services)]
-    rows = {
+    rows: dict[str, list[dict[str, Any]]] = {
         "edge": [{"name": f"e{edge}", "address": f"10.0.0.{edge + 1}"} for edge in range(count)],
         "service": [{"name": name} for name in names],
         "circuit": [],
@@ -62,12 +69,12 @@ def rows_of(count, circuits, services=1, tags=False):
         for place, service in enumerate(names):
             for number in range(circuits):
                 name = f"c{edge}" + (f"_{service}" if services > 1 else "") + (f"_{number}" if circuits > 1 else "")
-                row = {"name": name, "edge": f"e{edge}", "service": service}
+                row: dict[str, Any] = {"name": name, "edge": f"e{edge}", "service": service}
                 rows["circuit"].append({**row, "tag": 101 + place} if tags else row)
     return rows
 
 
-def add_wires(rows, kind, paths, priorities=None, service="s"):
+def add_wires(rows: dict[str, list[dict[str, Any]]], kind: str, paths: Iterable[tuple[int, ...]], priorities: list[int] | None | None = None, service: str = "s") -> None:
     """Adds wires of a service along paths of edges, whose names and PW IDs go on from those that are there."""
     for place, path in enumerate(paths):
         number = len(rows["wire"]) + 1
@@ -77,7 +84,7 @@ def add_wires(rows, kind, paths, priorities=None, service="s"):
         rows["wire"].append(row)
 
 
-def mesh(count, circuits, services=1, tags=False):
+def mesh(count: int, circuits: int, services: int = 1, tags: bool = False) -> dict[str, list[dict[str, Any]]]:
     """A full mesh of so many edges."""
     rows = rows_of(count, circuits, services, tags)
     for service in rows["service"]:
@@ -85,7 +92,7 @@ def mesh(count, circuits, services=1, tags=False):
     return rows
 
 
-def hierarchy(cores, spoke_edges, circuits, spokes=1, services=1, tags=False, stitched=False):
+def hierarchy(cores: int, spoke_edges: int, circuits: int, spokes: int = 1, services: int = 1, tags: bool = False, stitched: bool = False) -> dict[str, list[dict[str, Any]]]:
     """A full mesh of core edges, and spoke edges that hang on them in turn, each by so many spokes to cores next to each other,
     the first of them with the least priority number. Where they are stitched, a later spoke passes the first one's core edge."""
     rows = rows_of(cores + spoke_edges, circuits, services, tags)
