@@ -9,7 +9,7 @@ mod commands;
 pub mod decimal;
 mod event_place;
 mod events;
-mod hex;
+pub mod hex;
 mod key;
 mod name_index;
 mod plan_names;

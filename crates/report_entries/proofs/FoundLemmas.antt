@@ -1,12 +1,11 @@
 -- An entry is read from its words.
-use Rattle.std.proofs.Common.{◌≡◌, ◌<◌, ◌≤◌, ◌^◌, ◌++◌, ◌∙◌, ℕ, zero, suc, codes, Bool, true, false, List, [], ◌∷◌, Option, Some, None, cond, length, map, nat_lt, option_map, slice_get, slice_index, refl, sym, ap, subst, arith, inl, inr}
+use Rattle.std.proofs.Common.{◌≡◌, ◌<◌, ◌≤◌, ◌^◌, ◌++◌, ◌∙◌, ℕ, suc, codes, Bool, true, false, List, [], ◌∷◌, Option, Some, None, cond, length, map, nat_lt, option_map, slice_get, refl, sym, ap, subst, arith, inl, inr}
 use Rattle.std.proofs.lemmas.Bool.{cases_Bool, le-leb}
 use Rattle.std.proofs.lemmas.Bool.Decides.{Decides-ltb}
 use Rattle.std.proofs.lemmas.Slice.Eq.{bytes_eq-Decides}
 use Rattle.std.specs.List.{position, position_or_len}
 use Rattle.std.specs.Str.{bytes_eq}
 use Rattle.std.specs.Fmt.{decimal}
-use Rattle.hex.proofs.HexLemmas.{decode_of-encode_lower}
 use Rattle.net_base.specs.declared.plan.Plan.{Plan}
 use Rattle.net_base.specs.declared.plan.circuit_plan.CircuitPlan.{CircuitPlan}
 use Rattle.net_base.specs.declared.plan.edge_plan.EdgePlan.{EdgePlan}
@@ -37,16 +36,17 @@ use Rattle.read_lines.specs.Plain.{HasWords}
 use Rattle.report_text.specs.Report.{entry_line, entry_words}
 use Rattle.report_text.specs.Words.{arrival_name, cause_name, circuit_name, edge_name, event_words, name_or_empty, state_name, switch_name, wire_end_name, wire_name}
 use Rattle.event_laws.specs.Law.{HasNames}
-use Rattle.event_laws.proofs.ValueLemmas.{number_said, row_said}
+use Rattle.event_laws.proofs.ValueLemmas.{number_said, octets_read, row_said}
 use Rattle.report_reading.specs.Named.{AreOctets, HasNamesApart, IsArrival, IsCircuit, IsEdge, IsNamed, IsNamedEvent, IsNumber, IsWire, IsWithin}
 use Rattle.report_reading.proofs.ApartLemmas.{names_apart}
 use Rattle.report_reading.proofs.PlainLemmas.{entry_plain}
 use Rattle.report_entries.specs.Cut.{line_words, words_within}
-use Rattle.report_entries.specs.Entries.{aged_in, carried_in, copied_in, dropped_in, entered_in, entry_of, idle_in, left_in, line_entry, loose_entry, packet_told_in, passed_in, pong_in, said_in, sent_in, session_in, told_in, wire_told_in, words_entry}
+use Rattle.report_entries.specs.Entries.{aged_in, carried_in, copied_in, dropped_in, entered_in, entry_of, idle_in, left_in, line_entry, entry_in, packet_told_in, passed_in, pong_in, said_in, sent_in, session_in, told_in, wire_told_in, words_entry}
 use Rattle.report_entries.specs.Events.{circuit_switch_in, connect_in, connection_event_in, deliver_in, event_in, event_of, frame_in, lose_in, packet_in, part_event_in, ping_in, priority_in, restart_in, status_in, tick_in, wire_switch_in}
 use Rattle.report_entries.proofs.CutLemmas.{joined_free, line_is, words_found}
+use Rattle.report_entries.proofs.DigitLemmas.{digits_small}
 use Rattle.report_entries.specs.Laws.{IsFreeOf}
-use Rattle.report_entries.specs.Reading.{arrival_in, cause_in, cause_rest_in, circuit_in, edge_in, ended_in, number_in, octets_in, ok_of, sequence_in, state_in, switch_in, wire_end_in, wire_in}
+use Rattle.report_entries.specs.Reading.{arrival_in, cause_in, cause_rest_in, circuit_in, edge_in, ended_in, number_in, octets_in, sequence_in, state_in, switch_in, wire_end_in, wire_in}
 
 -- ---- values
 
@@ -61,14 +61,9 @@ sequence_found : (n : ℕ) → IsWithin 0 65535 n → sequence_in (decimal n) �
 unfolding sequence_in
 sequence_found n is = within_found 0 65535 n is (omega arith)
 
-small_octets : (octets : List ℕ) → AreOctets octets → (i : ℕ) → slice_index octets i < 256
-small_octets [] are i = omega arith
-small_octets (octet ∷ octets) are zero = are 0 0 (omega arith)
-small_octets (octet ∷ octets) are (suc i) = small_octets octets (λ k d lt. are (suc k) d (omega arith)) i
-
 octets_found : (octets : List ℕ) → AreOctets octets → octets_in (hex octets) ≡ Some octets
 unfolding octets_in
-octets_found octets are = ap ok_of (decode_of-encode_lower octets (small_octets octets are))
+octets_found octets are = rw (digits_small octets are) (octets_read octets are)
 
 switch_found : (on : Bool) → switch_in (switch_name on) ≡ Some on
 unfolding switch_in
@@ -190,9 +185,9 @@ unfolding circuit_in
 no_circuit plan apart a is = ap as_circuit (no_place (λ (row : CircuitPlan). row.name) plan.circuits (wire_name plan a)
     (λ i lt. not_same (wire_name plan a) (circuit_name plan (record { 0 = i })) (λ same. apart.apart (record { 0 = i }) a lt is (sym same))))
 
-few_words : (plan : Plan) (x : Entry) → length (entry_words plan x) ≤ 10
+pub few_words : (plan : Plan) (x : Entry) → length (entry_words plan x) ≤ 9
 few_words plan (entry.Did done) = few_event plan done where
-  few_event : (plan : Plan) (x : Event) → length (codes ">" ∷ event_words plan x) ≤ 10
+  few_event : (plan : Plan) (x : Event) → length (codes ">" ∷ event_words plan x) ≤ 9
   few_event plan (event.Connect from to) = omega arith
   few_event plan (event.Deliver from to count) = omega arith
   few_event plan (event.Lose edge peer) = omega arith
@@ -264,7 +259,7 @@ module _ (plan : Plan) (names : HasNames plan) (apart : HasNamesApart plan) wher
   pub entry_line_of : (x : Entry) (line : List ℕ) → IsNamed plan x → entry_line plan x ≡ line ++ codes "\n" → IsEntryLine x line
   unfolding line_words
   entry_line_of x line is same = by (entry_words plan x) refl (entry_plain plan names x is) (few_words plan x) same where
-    by : (words : List (List ℕ)) → entry_words plan x ≡ words → HasWords words → length words ≤ 10 → line_of words ≡ line ++ codes "\n" → IsEntryLine x line
+    by : (words : List (List ℕ)) → entry_words plan x ≡ words → HasWords words → length words ≤ 9 → line_of words ≡ line ++ codes "\n" → IsEntryLine x line
     by [] at plain few joined_is = absurd plain
     by (word ∷ words) at plain few joined_is = record {
       free = subst (IsFreeOf 10) (sym (line_is word words line joined_is)) (joined_free word words plain);
@@ -273,7 +268,7 @@ module _ (plan : Plan) (names : HasNames plan) (apart : HasNamesApart plan) wher
 
   -- an entry's line is read as the entry
   pub line_found : (x : Entry) (line : List ℕ) → IsNamed plan x → entry_line plan x ≡ line ++ codes "\n" → line_entry plan line ≡ Some x
-  unfolding line_entry loose_entry
+  unfolding line_entry entry_in
   line_found x line is same = rw loose_found (exact_found (entry_line plan x) (line ++ codes "\n") same) where
     loose_found : words_entry (names_of plan) (line_words line) ≡ Some x
     loose_found = ap (words_entry (names_of plan)) (entry_line_of x line is same).words ∙ entry_found x is

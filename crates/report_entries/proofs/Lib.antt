@@ -1,6 +1,8 @@
+pub mod AgainLemmas
 pub mod BeginLemmas
 pub mod CountLemmas
 pub mod CutLemmas
+pub mod DigitLemmas
 pub mod FoundLemmas
 pub mod MarkLemmas
 pub mod NamedLemmas

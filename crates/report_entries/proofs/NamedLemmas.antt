@@ -1,10 +1,8 @@
 -- What is read of a line names places of the plan.
-use Rattle.std.proofs.Common.{◌≡◌, ◌<◌, ◌&&◌, ◌++◌, ℕ, zero, suc, codes, Bool, true, false, List, [], ◌∷◌, Option, Some, None, Result, Ok, Err, IfOk, IfSome, cond, length, nat_le, get_or, slice_index, option_map, is_some, refl, subst, arith}
+use Rattle.std.proofs.Common.{◌≡◌, ◌<◌, ◌&&◌, ◌++◌, ℕ, codes, Bool, true, false, List, [], ◌∷◌, Option, Some, None, Result, Ok, Err, IfOk, IfSome, cond, length, nat_le, option_map, is_some, refl, subst, arith}
 use Rattle.std.proofs.lemmas.List.{length-map}
 use Rattle.std.proofs.lemmas.Bool.{leb-true}
 use Rattle.std.specs.Str.{bytes_eq}
-use Rattle.hex.specs.Hex.{decode_of}
-use Rattle.hex.proofs.HexLemmas.{decode_of-ok}
 use Rattle.net_base.specs.declared.plan.Plan.{Plan}
 use Rattle.net_base.specs.declared.trace.arrival.Arrival.TheVariants as arrival
 use Rattle.net_base.specs.declared.trace.entry.Entry.{Entry}
@@ -12,23 +10,25 @@ use Rattle.net_base.specs.plan.Planned.{IsFrame}
 use Rattle.command_text.proofs.NameLemmas.{place_within}
 use Rattle.command_text.specs.Planned.{names_of}
 use Rattle.command_text.specs.Words.{decimal_from, is_decimal, value_from}
+use Rattle.text_pieces.specs.Pieces.{hex}
 use Rattle.report_text.specs.Report.{entry_line}
 use Rattle.report_reading.specs.Named.{AreOctets, IsArrival, IsCircuit, IsEdge, IsNamed, IsNamedEvent, IsNumber, IsPacket, IsWire, IsWithin}
 use Rattle.report_entries.specs.declared.passed.Carried.{Carried}
 use Rattle.report_entries.specs.declared.passed.Passed.{Passed}
 use Rattle.report_entries.specs.declared.unread.Unread.{Unread}
 use Rattle.report_entries.specs.Cut.{line_words}
-use Rattle.report_entries.specs.Entries.{aged_in, carried_in, copied_in, did_in, dropped_in, entered_in, entry_of, exact, idle_in, left_in, line_entry, loose_entry, packet_told_in, passed_in, pong_in, said_in, sent_in, session_in, told_in, wire_told_in, words_entry}
+use Rattle.report_entries.specs.Entries.{aged_in, carried_in, copied_in, did_in, dropped_in, entered_in, entry_of, exact, idle_in, left_in, line_entry, entry_in, packet_told_in, passed_in, pong_in, said_in, sent_in, session_in, told_in, wire_told_in, words_entry}
 use Rattle.report_entries.specs.Events.{circuit_switch_in, connect_in, connection_event_in, deliver_in, event_in, event_of, frame_in, lose_in, of_record_size, packet_in, part_event_in, ping_in, priority_in, restart_in, status_in, tick_in, wire_switch_in}
-use Rattle.report_entries.specs.Reading.{◌>>=◌, Reads, arrival_in, cause_in, circuit_in, edge_in, number_in, octets_in, ok_of, sequence_in, state_in, switch_in, wire_end_in, wire_in}
+use Rattle.report_entries.proofs.DigitLemmas.{octets_again}
+use Rattle.report_entries.specs.Reading.{◌>>=◌, Reads, arrival_in, cause_in, circuit_in, edge_in, number_in, octets_in, sequence_in, state_in, switch_in, wire_end_in, wire_in}
 
 -- ---- what is read step by step
 
-then : {A B : Type 0} (P : A → Type 0) (Q : B → Type 0) (o : Option A) (f : A → Option B) → IfSome o P → ((x : A) → P x → IfSome (f x) Q) → IfSome (o >>= f) Q
+pub then : {A B : Type 0} (P : A → Type 0) (Q : B → Type 0) (o : Option A) (f : A → Option B) → IfSome o P → ((x : A) → P x → IfSome (f x) Q) → IfSome (o >>= f) Q
 then P Q None f holds next = tt
 then P Q (Some x) f holds next = next x holds
 
-by_word : {A : Type 0} (Q : A → Type 0) (b : Bool) (x y : Option A) → IfSome x Q → IfSome y Q → IfSome (cond b x y) Q
+pub by_word : {A : Type 0} (Q : A → Type 0) (b : Bool) (x y : Option A) → IfSome x Q → IfSome y Q → IfSome (cond b x y) Q
 by_word Q true x y first second = first
 by_word Q false x y first second = second
 
@@ -46,7 +46,7 @@ decimal_within low high word = by (is_decimal word) (nat_le low (value_from 0 wo
   by true false c least most = tt
   by false b c least most = tt
 
-weaker : {A : Type 0} (P Q : A → Type 0) (o : Option A) → ((x : A) → P x → Q x) → IfSome o P → IfSome o Q
+pub weaker : {A : Type 0} (P Q : A → Type 0) (o : Option A) → ((x : A) → P x → Q x) → IfSome o P → IfSome o Q
 weaker P Q None implied holds = tt
 weaker P Q (Some x) implied holds = implied x holds
 
@@ -58,25 +58,16 @@ sequence_is : (word : List ℕ) → IfSome (sequence_in word) (IsWithin 0 65535)
 unfolding sequence_in
 sequence_is word = decimal_within 0 65535 word
 
-small_at : (octets : List ℕ) → ((i : ℕ) → slice_index octets i < 256) → (i d : ℕ) → i < length octets → get_or octets i d < 256
-small_at [] small i d lt = absurd (omega (arith, lt))
-small_at (octet ∷ octets) small zero d lt = small 0
-small_at (octet ∷ octets) small (suc i) d lt = small_at octets (λ k. small (suc k)) i d (omega (arith, lt))
-
-all_small : (octets : List ℕ) → ((i : ℕ) → slice_index octets i < 256) → AreOctets octets
-all_small octets small = λ i d lt. small_at octets small i d lt
-
-where_ok : {A E : Type 0} (P : A → Type 0) (r : Result A E) → ((x : A) → r ≡ Ok x → P x) → IfSome (ok_of r) P
-where_ok P (Ok x) each = each x refl
-where_ok P (Err fault) each = tt
-
 octets_are : (word : List ℕ) → IfSome (octets_in word) AreOctets
-unfolding octets_in
-octets_are word = where_ok AreOctets (decode_of word) (λ octets is. all_small octets (decode_of-ok word octets is).3)
+octets_are word = weaker (λ octets. AreOctets octets × (hex octets ≡ word)) AreOctets (octets_in word) (λ octets is. is.0) (octets_again word)
 
 anything : {A : Type 0} (o : Option A) → IfSome o (λ x. Unit {0})
 anything None = tt
 anything (Some x) = tt
+
+pub mapped : {A B : Type 0} (P : A → Type 0) (Q : B → Type 0) (f : A → B) (o : Option A) → ((x : A) → P x → Q (f x)) → IfSome o P → IfSome (option_map f o) Q
+mapped P Q f None implied holds = tt
+mapped P Q f (Some x) implied holds = implied x holds
 
 module _ (plan : Plan) where
   edge_is : (word : List ℕ) → IfSome (edge_in (names_of plan) word) (IsEdge plan)
@@ -90,10 +81,6 @@ module _ (plan : Plan) where
   wire_is : (word : List ℕ) → IfSome (wire_in (names_of plan) word) (IsWire plan)
   unfolding wire_in
   wire_is word = placed (IsWire plan) (λ n. record { 0 = n }) _ _ (length plan.wires) (λ n lt. lt) (length-map plan.wires _) (place_within (names_of plan).wires word)
-
-  mapped : {A B : Type 0} (P : A → Type 0) (Q : B → Type 0) (f : A → B) (o : Option A) → ((x : A) → P x → Q (f x)) → IfSome o P → IfSome (option_map f o) Q
-  mapped P Q f None implied holds = tt
-  mapped P Q f (Some x) implied holds = implied x holds
 
   arrival_is : (word : List ℕ) → IfSome (arrival_in (names_of plan) word) (IsArrival plan)
   unfolding arrival_in
@@ -329,7 +316,7 @@ module _ (plan : Plan) where
   words_entry_is (kind ∷ words) = entry_of_is kind words
 
   pub line_named : (line : List ℕ) → IfSome (line_entry plan line) (IsNamed plan)
-  unfolding line_entry loose_entry
+  unfolding line_entry entry_in
   line_named line = then (IsNamed plan) (IsNamed plan) (words_entry (names_of plan) (line_words line)) (exact plan line) (words_entry_is (line_words line)) (λ x is. by_word (IsNamed plan) (bytes_eq (entry_line plan x) (line ++ codes "\n")) (Some x) None is tt)
 
 -- what is read of a line names places of the plan

@@ -9,7 +9,7 @@ use Rattle.command_text.specs.Planned.{names_of}
 use Rattle.report_text.specs.Report.{entry_line, entry_lines}
 use Rattle.report_entries.specs.declared.tally.Tally.{Tally}
 use Rattle.report_entries.specs.Cut.{before_mark, behind_mark}
-use Rattle.report_entries.specs.Entries.{exact, line_entry, loose_entry}
+use Rattle.report_entries.specs.Entries.{exact, line_entry, entry_in}
 use Rattle.report_entries.specs.Counted.{counted, first_counts}
 use Rattle.report_entries.specs.Laws.{TellsTrace, counted_all}
 use Rattle.report_entries.specs.Report.{found, goes_on, is_first, is_last, told_of, with_entry, ◌>>=◌}
@@ -24,7 +24,7 @@ refused line = Err line
 no_error : {A : Type 0} {P : Type 0} (line : ℕ) (x : A) → refused line ≡ known x → P
 no_error line x e = absurd (cc e)
 
-cut_joined : (mark : ℕ) (text more : List ℕ) → behind_mark mark text ≡ Some more → text ≡ before_mark mark text ++ mark ∷ more
+pub cut_joined : (mark : ℕ) (text more : List ℕ) → behind_mark mark text ≡ Some more → text ≡ before_mark mark text ++ mark ∷ more
 cut_joined mark [] more is = absurd (cc is)
 cut_joined mark (c ∷ cs) more is = by (nat_eq c mark) refl is (cut_joined mark cs more) where
   by : (b : Bool) → nat_eq c mark ≡ b → cond b (Some cs) (behind_mark mark cs) ≡ Some more → (behind_mark mark cs ≡ Some more → cs ≡ before_mark mark cs ++ mark ∷ more) → c ∷ cs ≡ cond b [] (c ∷ before_mark mark cs) ++ mark ∷ more
@@ -36,7 +36,7 @@ cut_joined mark (c ∷ cs) more is = by (nat_eq c mark) refl is (cut_joined mark
 -- what is read of a line is written so
 pub reads_line : (plan : Plan) (entry : Entry) (line : List ℕ) → line_entry plan line ≡ Some entry → entry_line plan entry ≡ line ++ codes "\n"
 unfolding line_entry
-reads_line plan entry line is = by (loose_entry (names_of plan) line) is where
+reads_line plan entry line is = by (entry_in (names_of plan) line) is where
   some_same : {x y : Entry} → Some x ≡ Some y → x ≡ y
   some_same e = cc e
 

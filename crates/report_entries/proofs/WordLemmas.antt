@@ -1,7 +1,7 @@
 -- Words are found one behind the other.
 use denote.Ref.{Bor}
-use Rattle.std.proofs.Common.{◌≡◌, ◌<◌, ◌-◌, ◌++◌, ◌∙◌, ℕ, zero, suc, List, [], ◌∷◌, Option, Some, None, map, option_map, unwrap_or, sym, ap, arith, append_assoc}
-use Rattle.std.proofs.lemmas.List.{map-append}
+use Rattle.std.proofs.Common.{◌≡◌, ◌<◌, ◌+◌, ◌-◌, ◌++◌, ◌∙◌, ℕ, zero, suc, List, [], ◌∷◌, Option, Some, None, length, map, option_map, slice_set, take, unwrap_or, sym, ap, arith, append_assoc}
+use Rattle.std.proofs.lemmas.List.{map-append, take_more_set}
 use Rattle.report_entries.specs.Cut.{before_mark, behind_mark, words_within}
 
 abbrev octets_now : List (Bor (List ℕ)) → List (List ℕ)
@@ -36,3 +36,19 @@ pub words_end : (words new : List (Bor (List ℕ))) (word : Bor (List ℕ)) (lef
 words_end words new word left rest behind whole some is front back none same =
     one_more words new word is
     ∙ (last_found (octets_now words) left rest word.now some front (ap (λ (o : Option (Bor (List ℕ))). option_map (λ r. r.now) o) (sym none) ∙ back) ∙ same)
+
+-- one word more is put behind those that stand in room
+pub words_put : (room : List (Bor (List ℕ))) (word : Bor (List ℕ)) (count most : ℕ) (rest : List ℕ) (behind : Option (Bor (List ℕ))) (more : Bor (List ℕ)) (whole : List (List ℕ)) → count < most → length room ≡ most
+    → word.now ≡ before_mark 32 rest → option_map (λ r. r.now) behind ≡ behind_mark 32 rest → behind ≡ Some more → map (λ w. w.now) (take count room) ++ words_within (most - count) rest ≡ whole
+    → map (λ w. w.now) (take (count + 1) (slice_set room count word)) ++ words_within (most - (count + 1)) more.now ≡ whole
+words_put room word count most rest behind more whole few size front back found same =
+    let next : most - (count + 1) ≡ most - count - 1 = omega arith in
+    ap (λ (n : ℕ). map (λ w. w.now) (take (count + 1) (slice_set room count word)) ++ words_within n more.now) next
+    ∙ words_on (take count room) (take (count + 1) (slice_set room count word)) word (most - count) rest behind more whole (omega (arith, few)) (take_more_set room count word (omega (arith, few, size))) front back found same
+
+-- the last one
+pub words_put_last : (room : List (Bor (List ℕ))) (word : Bor (List ℕ)) (count most : ℕ) (rest : List ℕ) (behind : Option (Bor (List ℕ))) (whole : List (List ℕ)) → count < most → length room ≡ most
+    → word.now ≡ before_mark 32 rest → option_map (λ r. r.now) behind ≡ behind_mark 32 rest → behind ≡ None → map (λ w. w.now) (take count room) ++ words_within (most - count) rest ≡ whole
+    → map (λ w. w.now) (take (count + 1) (slice_set room count word)) ≡ whole
+words_put_last room word count most rest behind whole few size front back none same =
+    words_end (take count room) (take (count + 1) (slice_set room count word)) word (most - count) rest behind whole (omega (arith, few)) (take_more_set room count word (omega (arith, few, size))) front back none same

@@ -148,9 +148,9 @@ abbrev pub words_entry : PlanNames → List (List ℕ) → Option Entry
 words_entry names [] = None
 words_entry names (kind ∷ words) = entry_of names kind words
 
--- the entry that the words of a line tell, however they are written
-unfoldable pub loose_entry : PlanNames → List ℕ → Option Entry
-loose_entry names line = words_entry names (line_words line)
+-- the entry that the words of a line tell
+unfoldable pub entry_in : PlanNames → List ℕ → Option Entry
+entry_in names line = words_entry names (line_words line)
 
 -- the entry, where this is its line
 abbrev pub exact : Plan → List ℕ → Entry → Option Entry
@@ -158,4 +158,4 @@ exact plan line entry = if bytes_eq (entry_line plan entry) (line ++ codes "\n")
 
 -- the entry of which this is the line, without its line feed
 unfoldable pub line_entry : Plan → List ℕ → Option Entry
-line_entry plan line = loose_entry (names_of plan) line >>= exact plan line
+line_entry plan line = entry_in (names_of plan) line >>= exact plan line

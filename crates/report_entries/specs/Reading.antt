@@ -1,7 +1,8 @@
--- What the words of a report's lines say. Each reader takes what it knows, and what is read is written anew and compared with the line.
-use Rattle.std.specs.Prelude.{◌≡◌, codes, ℕ, Bool, List, Option, Some, None, option_map, is_some, Result, Ok, Err, if◌then◌else◌}
+-- What the words of a report's lines say. No two words say the same: numbers have no leading zeros, and digits no capital letters.
+use Rattle.std.specs.Prelude.{◌≡◌, not, codes, ℕ, Bool, List, Option, Some, None, option_map, is_some, Result, Ok, Err, if◌then◌else◌}
+use Rattle.std.specs.Char.{is_ascii_uppercase}
+use Rattle.std.specs.List.{list_all}
 use Rattle.std.specs.Str.{bytes_eq}
-use Rattle.hex.specs.Hex.{decode_of}
 use Rattle.net_base.specs.declared.plan.places.CircuitId.{CircuitId}
 use Rattle.net_base.specs.declared.plan.places.EdgeId.{EdgeId}
 use Rattle.net_base.specs.declared.plan.places.WireId.{WireId}
@@ -15,6 +16,7 @@ use Rattle.net_base.specs.declared.trace.state_name.Reason.TheVariants as reason
 use Rattle.net_base.specs.declared.trace.state_name.StateName.{StateName}
 use Rattle.net_base.specs.declared.trace.state_name.StateName.TheVariants as state
 use Rattle.command_text.specs.declared.plan_names.PlanNames.{PlanNames}
+use Rattle.command_text.specs.Hex.{unhex}
 use Rattle.command_text.specs.Names.{place_in}
 use Rattle.command_text.specs.Words.{decimal_from}
 use Rattle.report_entries.specs.declared.unread.Unread.{Unread}
@@ -56,12 +58,12 @@ number_in word = decimal_from 0 18446744073709551615 word
 unfoldable pub sequence_in : List ℕ → Option ℕ
 sequence_in word = decimal_from 0 65535 word
 
-abbrev pub ok_of : {A E : Type 0} → Result A E → Option A
-ok_of (Ok x) = Some x
-ok_of (Err e) = None
+abbrev pub is_small : ℕ → Bool
+is_small octet = not (is_ascii_uppercase octet)
 
+-- pairs of digits, without capital letters
 unfoldable pub octets_in : List ℕ → Option (List ℕ)
-octets_in word = ok_of (decode_of word)
+octets_in word = if list_all is_small word then unhex word else None
 
 unfoldable pub switch_in : List ℕ → Option Bool
 switch_in word = if bytes_eq word (codes "on") then Some Bool.true else if bytes_eq word (codes "off") then Some Bool.false else None

@@ -1,10 +1,8 @@
 //! Texts that are cut at an octet.
-ghost use Rattle.std.specs.Prelude.{◌≡◌, ◌≤◌, ◌+◌, nat_lt, Some, None, drop, length, map, option_map, take, if◌then◌else◌, IfOk};
+ghost use Rattle.std.specs.Prelude.{◌≡◌, ◌≤◌, ◌+◌, nat_lt, Some, None, drop, length, map, option_map, take, if◌then◌else◌};
 ghost use Rattle.report_entries.specs.Cut.{before_mark, behind_mark, line_words, words_within};
 
 use memchr::memchr;
-use net_base::NoMemory;
-use std::alloc::Global;
 
 // How many octets stand before the first such one, or all where there is none.
 fn front_len(mark: u8, text: &[u8]) -> usize
@@ -33,29 +31,33 @@ pub fn cut_at(mark: u8, text: &[u8]) -> (&[u8], Option<&[u8]>)
     }
 }
 
-// The first words of a line, at most so many.
-fn first_words(alloc: Global, line: &[u8], most: usize) -> Result<Vec<&[u8]>, NoMemory>
-    ensures { IfOk result (λ words. map (λ w. w.now) words.items ≡ words_within most line.now) }
+// Puts the first words of a line into room, as many as there is room for at most, and tells how many they are.
+fn first_words<'a>(line: &'a [u8], room: &mut [&'a [u8]]) -> usize
+    ensures size { length room.new ≡ length room.old }
+    ensures within { result ≤ length room.new }
+    ensures words { map (λ w. w.now) (take result room.new) ≡ words_within (length room.old) line.now }
 {
-    let mut words = Vec::with_capacity(alloc, most)?;
+    let most = room.len();
     let mut rest = line;
-    let mut left = most;
-    'cutting: while left > 0 {
+    let mut count = 0;
+    'cutting: while count < most {
         let (word, behind) = cut_at(b' ', rest);
-        words.push(word)?;
+        room[count] = word;
+        count += 1;
         match behind {
             Some(behind) => rest = behind,
-            None => return Ok(words),
+            None => return count,
         }
-        left -= 1;
     }
-    Ok(words)
+    count
 }
 
-/// The first ten words of a line, which is cut at each blank.
+/// Puts the first ten words of a line, which is cut at each blank, into room, and tells how many they are. It takes no memory.
 #[tactic(auto, unfolding(crate::specs::Cut::line_words))]
-pub fn words_of(alloc: Global, line: &[u8]) -> Result<Vec<&[u8]>, NoMemory>
-    ensures { IfOk result (λ words. map (λ w. w.now) words.items ≡ line_words line.now) }
+pub fn words_of<'a>(line: &'a [u8], room: &mut [&'a [u8]; 10]) -> usize
+    ensures size { length room.new ≡ 10 }
+    ensures within { result ≤ length room.new }
+    ensures words { map (λ w. w.now) (take result room.new) ≡ line_words line.now }
 {
-    first_words(alloc, line, 10)
+    first_words(line, room)
 }

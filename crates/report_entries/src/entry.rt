@@ -302,7 +302,7 @@ fn entry_of_kind(
     }
 }
 
-/// The entry that the words of a line tell, however they are written: digits of octets may be capital letters.
+/// The entry that the words of a line tell.
 pub fn words_entry(alloc: Global, names: &PlanNames<'_>, words: &[&[u8]]) -> Result<Entry, Unread>
     ensures { Reads result (words_entry names.now (map (λ w. w.now) words.now)) }
 {

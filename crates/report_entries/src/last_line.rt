@@ -1,12 +1,11 @@
 //! The last line of a report.
-ghost use Rattle.std.specs.Prelude.{◌≡◌, ◌++◌, ◌||◌, [], codes, map, IfOk, OnOk};
+ghost use Rattle.std.specs.Prelude.{◌≡◌, ◌++◌, ◌&&◌, ◌||◌, [], codes, map, IfOk, OnOk};
 ghost use Rattle.std.specs.List.{list_all};
 ghost use Rattle.std.specs.Str.{bytes_eq};
 ghost use Rattle.command_text.specs.Words.{is_decimal, is_digit_of};
 ghost use Rattle.report_entries.specs.Cut.{line_words};
 ghost use Rattle.report_entries.specs.Report.{is_last, is_stop, tally_line};
 
-use crate::entry_line::is_line;
 use crate::line_writer::LineWriter;
 use crate::tally::Tally;
 use crate::values::is_word;
@@ -47,6 +46,25 @@ fn is_stop_bound(words: &[&[u8]]) -> bool
         [bound, number] => is_bound(bound) && is_number(number),
         _ => false,
     }
+}
+
+// Whether a line and a line feed are these two parts.
+fn are_parts(front: &[u8], back: &[u8], line: &[u8]) -> bool
+    ensures { result ≡ (bytes_eq front.now line.now && bytes_eq back.now (codes "\n")) }
+{
+    front == line && back == b"\n".as_slice()
+}
+
+// Whether a line was written so, with its line feed.
+#[tactic(auto, using(crate::proofs::ReportLemmas::same_line, crate::proofs::ReportLemmas::other_line))]
+fn is_line(written: &[u8], line: &[u8]) -> bool
+    ensures { result ≡ bytes_eq written.now (line.now ++ codes "\n") }
+{
+    if written.len() != line.len() + 1 {
+        return false;
+    }
+    let (front, back) = written.split_at(line.len());
+    are_parts(front, back, line)
 }
 
 // Whether a line tells these counts.

@@ -1,39 +1,20 @@
-//! Lines that are written anew, to be compared.
+//! The last line that counts ask for, to be compared.
 ghost use Rattle.std.specs.Prelude.{◌≡◌, ◌++◌, ◌∷◌, [], codes, map, IfOk, OnOk};
 ghost use Rattle.std.specs.Fmt.{decimal};
-ghost use Rattle.report_text.specs.Report.{entry_line};
 ghost use Rattle.text_lines.specs.Lines.{word_octets};
 ghost use Rattle.report_entries.specs.Report.{tally_line};
 
 use crate::line_sink::LineSink;
 use crate::tally::Tally;
-use net_base::{Entry, Failed, NoMemory, Plan};
-use report_text::put_entry;
+use net_base::{Failed, NoMemory};
 use std::alloc::Global;
 use text_lines::{Page, Word};
 
-/// Writes one line at a time, into room that it keeps.
+/// Writes the line of counts, into room that it keeps.
 #[derive(Drop)]
 pub struct LineWriter {
     page: Page,
     sink: LineSink,
-}
-
-// Writes the line of an entry over a page on which nothing waits.
-#[tactic(auto, using(crate::proofs::WrittenLemmas::whole_line))]
-fn write_whole(
-    page: &mut Page,
-    sink: &mut LineSink,
-    plan: &Plan,
-    entry: &Entry,
-) -> Result<(), Failed>
-    requires { page.old ≡ [] }
-    ensures none { OnOk result (page.new ≡ []) }
-    ensures line { OnOk result (sink.new.octets ≡ entry_line plan.now entry.now) }
-{
-    sink.clear();
-    put_entry(page, sink, plan, entry)?;
-    page.flush(sink)
 }
 
 // The words of counts.
@@ -50,7 +31,7 @@ fn told<'a>(tally: Tally) -> [Word<'a>; 5]
     ]
 }
 
-// Writes the line that tells counts, in the same way.
+// Writes the line that tells counts over a page on which nothing waits.
 #[tactic(auto, using(crate::proofs::WrittenLemmas::whole_line))]
 fn write_counts(page: &mut Page, sink: &mut LineSink, tally: Tally) -> Result<(), Failed>
     requires { page.old ≡ [] }
@@ -83,16 +64,7 @@ impl LineWriter {
         self.sink.octets()
     }
 
-    /// Writes the line of an entry. `Failed` comes where memory is refused.
-    pub fn write_entry(&mut self, plan: &Plan, entry: &Entry) -> Result<(), Failed>
-        requires { self.old.page ≡ [] }
-        ensures none { OnOk result (self.new.page ≡ []) }
-        ensures line { OnOk result (self.new.sink.octets ≡ entry_line plan.now entry.now) }
-    {
-        write_whole(&mut self.page, &mut self.sink, plan, entry)
-    }
-
-    /// Writes the line that tells these counts, in the same way.
+    /// Writes the line that tells these counts. `Failed` comes where memory is refused.
     pub fn write_tally(&mut self, tally: Tally) -> Result<(), Failed>
         requires { self.old.page ≡ [] }
         ensures none { OnOk result (self.new.page ≡ []) }

@@ -95,23 +95,17 @@ impl<'a> ReportReader<'a> {
         let Some(more) = more else {
             return Err(ReportFault::Form { line: number });
         };
-        let words = words_of(alloc, line)?;
-        if is_last_line(&mut self.writer, self.tally, line, words.as_slice())? {
+        let mut room = [line; 10];
+        let count = words_of(line, &mut room);
+        let (words, _) = room.split_at(count);
+        if is_last_line(&mut self.writer, self.tally, line, words)? {
             return if more.is_empty() {
                 Ok(None)
             } else {
                 Err(ReportFault::Form { line: number + 1 })
             };
         }
-        let entry = entry_at(
-            alloc,
-            plan,
-            names,
-            &mut self.writer,
-            line,
-            words.as_slice(),
-            number,
-        )?;
+        let entry = entry_at(alloc, plan, names, line, words, number)?;
         self.tally.add(&entry);
         self.rest = more;
         Ok(Some(entry))

@@ -1,15 +1,16 @@
 //! What single words say.
-ghost use Rattle.std.specs.Prelude.{◌≡◌, ◌<◌, ◌≤◌, length, IfOk, IfSome};
+ghost use Rattle.std.specs.Prelude.{◌≡◌, ◌≤◌, IfOk};
+ghost use Rattle.std.specs.List.{list_all};
 ghost use Rattle.std.specs.Str.{bytes_eq};
 ghost use Rattle.command_text.specs.Words.{decimal_from};
-ghost use Rattle.report_entries.specs.Reading.{Reads, arrival_in, cause_in, cause_rest_in, circuit_in, edge_in, ended_in, number_in, octets_in, sequence_in, state_in, switch_in, wire_end_in, wire_in};
+ghost use Rattle.report_entries.specs.Reading.{Reads, arrival_in, cause_in, cause_rest_in, circuit_in, edge_in, ended_in, is_small, number_in, octets_in, sequence_in, state_in, switch_in, wire_end_in, wire_in};
 
 use crate::Unread;
 use command_text::PlanNames;
 use command_text::decimal::decimal;
-use hex::FromHexError;
+use command_text::hex::decode;
 use net_base::{
-    Arrival, CircuitId, Down, DropCause, EdgeId, List, Octets, Reason, StateName, WireId,
+    Arrival, CircuitId, Down, DropCause, EdgeId, NoMemory, Octets, Reason, StateName, WireId,
 };
 use std::alloc::Global;
 
@@ -100,18 +101,29 @@ pub fn sequence(word: &[u8]) -> Result<u16, Unread>
     }
 }
 
-/// Octets as pairs of hexadecimal digits.
+// Whether no octet is a capital letter. It looks at each without a branch, so that many are looked at together.
+fn is_all_small(word: &[u8]) -> bool
+    ensures { result ≡ list_all is_small word.now }
+{
+    let mut small = true;
+    'looking: for i in 0..word.len() {
+        small = small & !word[i].is_ascii_uppercase();
+    }
+    small
+}
+
+/// Octets as pairs of hexadecimal digits, without capital letters.
 #[tactic(auto, unfolding(crate::specs::Reading::octets_in))]
 pub fn octets(alloc: Global, word: &[u8]) -> Result<Octets, Unread>
     ensures { Reads result (octets_in word.now) }
 {
-    match hex::decode(alloc, word) {
-        Ok(octets) => match List::from_bytes(alloc, octets.as_slice()) {
-            Ok(octets) => Ok(octets),
-            Err(_) => Err(Unread::NoMemory),
-        },
-        Err(FromHexError::OutOfMemory) => Err(Unread::NoMemory),
-        Err(_) => Err(Unread::NoEntry),
+    if !is_all_small(word) {
+        return Err(Unread::NoEntry);
+    }
+    match decode(alloc, word.len() / 2, word) {
+        Ok(Some(octets)) => Ok(octets),
+        Ok(None) => Err(Unread::NoEntry),
+        Err(NoMemory) => Err(Unread::NoMemory),
     }
 }
 
