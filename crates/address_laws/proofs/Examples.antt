@@ -4,6 +4,7 @@ use Rattle.std.proofs.Common.{◌≡◌, ◌++◌, ◌==◌, ◌≤◌, ◌∙�
 use Rattle.std.specs.Prelude.{codes, if◌then◌else◌}
 use Rattle.std.specs.List.{AllByRecursion, list_all}
 use Rattle.std.specs.Str.{bytes_eq}
+use Rattle.std.proofs.lemmas.Bool.{eqb-true}
 use Rattle.net_base.specs.declared.plan.Plan.{Plan}
 use Rattle.net_base.specs.declared.plan.places.CircuitId.{CircuitId}
 use Rattle.net_base.specs.declared.plan.places.ServiceId.{ServiceId}
@@ -16,8 +17,8 @@ use Rattle.net_base.specs.plan.Places.{service_of}
 use Rattle.net_base.specs.trace.Frame.{destination_of, source_of}
 use Rattle.net_base.specs.trace.Isolated.{inner_at}
 use Rattle.net_values.specs.Mac.{is_group_address}
+use Rattle.net_values.proofs.BoolLemmas.{first_holds, second_holds}
 use Rattle.edge_model.specs.State.{EdgeState}
-use Rattle.edge_model.proofs.LocalLemmas.{and_left, and_right}
 use Rattle.network_model.specs.Frame.{next_origin}
 use Rattle.network_model.specs.KnownOnce.{known_to}
 use Rattle.network_model.specs.Reach.{is_circuit_on, is_site}
@@ -26,7 +27,6 @@ use Rattle.network_model.specs.State.{NetworkState, empty_network}
 use Rattle.network_model.specs.Step.{step}
 use Rattle.network_model.specs.Window.{all_spare, has_copies}
 use Rattle.flight_laws.specs.Laws.{network_after}
-use Rattle.flight_laws.proofs.NameLemmas.{same_number}
 use Rattle.flight_laws.proofs.WholeMessageLemmas.{Moment, Happens, StandAll, along_is, are_right, events_of, stand-append, told_along}
 use Rattle.flight_laws.proofs.UpExamples.{a_circuit, away_up, calm_up, circuit, comes_up, comes_up_stands, evaluated, floods, is_flooded, is_run, is_up, one_service, reached, triangle}
 use Rattle.address_laws.specs.Known.{EntersForSite, ReachesSite}
@@ -47,12 +47,12 @@ comes_right plan site entry = true
 
 came : (plan : Plan) (service : ServiceId) (site : Sites) (entry : Entry) → comes_right plan site entry ≡ true → CameFromSite plan service site entry
 came plan service site (In circuit number octets) right =
-    λ frame served formed single. ap (λ (n : ℕ). record { 0 = n }) (same_number (site (source_of frame)).0 circuit.0 (subst (λ (r : Result (List ℕ) DropCause). is_from site circuit r ≡ true) formed right))
+    λ frame served formed single. ap (λ (n : ℕ). record { 0 = n }) (eqb-true (site (source_of frame)).0 circuit.0 (subst (λ (r : Result (List ℕ) DropCause). is_from site circuit r ≡ true) formed right))
 came plan service site entry right = tt
 
 all_came : (plan : Plan) (service : ServiceId) (site : Sites) (entries : List Entry) → list_all (comes_right plan site) entries ≡ true → OneSite plan service site entries
 all_came plan service site [] right = tt
-all_came plan service site (entry ∷ entries) right = (came plan service site entry (and_left _ _ right), all_came plan service site entries (and_right _ _ right))
+all_came plan service site (entry ∷ entries) right = (came plan service site entry (first_holds _ _ right), all_came plan service site entries (second_holds _ _ right))
 
 -- the station 2:0:0:0:0:1 is at the spoke edge, and every other one at the first core edge
 abbrev site : Sites

@@ -1,6 +1,8 @@
 -- What the copies of a bridge serve that may know the station: of its site as much as the flood's would, and of any circuit no more.
 use Rattle.std.proofs.Common.{◌≡◌, ◌<◌, ◌≤◌, ◌&&◌, ◌+◌, ◌∙◌, ℕ, Bool, true, false, List, [], Option, Some, None, cond, length, nat_eq, not, position, refl, ap, sym, subst, slice_get, zero-add, arith}
 use Rattle.std.proofs.lemmas.Bool.{eq-eqb}
+use Rattle.net_values.proofs.BoolLemmas.{holds_with_true}
+use Rattle.net_values.proofs.NumberLemmas.{equal_at_most}
 use Rattle.net_base.specs.declared.plan.Plan.{Plan}
 use Rattle.net_base.specs.declared.plan.circuit_plan.CircuitPlan.{CircuitPlan}
 use Rattle.net_base.specs.declared.plan.wire_plan.WirePlan.{WirePlan}
@@ -44,13 +46,10 @@ pub record ServesAsFlood (target : CircuitId) (flood meet : CircuitId → ℕ) :
 -- a flood goes by no port that does not forward
 goes_part : (plan : Plan) (edge : EdgeState) (others : ℕ → Bool) (from : Option ℕ) (x : Port) → goes_by plan edge others from x ≡ true → goes_by plan edge (λ c. true) None x ≡ true
 goes_part plan edge others from x goes = by x (goes_forward plan edge others from x goes) where
-  both : (a : Bool) → a ≡ true → a && true ≡ true
-  both a is = rw is refl
-
   by : (x : Port) → forwards plan edge (Some x) ≡ true → goes_by plan edge (λ c. true) None x ≡ true
-  by (port.Circuit at) up = both _ up
-  by (port.Mesh wire) up = both _ up
-  by (port.Spoke wire) up = both _ up
+  by (port.Circuit at) up = holds_with_true _ up
+  by (port.Mesh wire) up = holds_with_true _ up
+  by (port.Spoke wire) up = holds_with_true _ up
 
 one_at_place : (b : Bool) (n : ℕ) → b ≡ true → n ≡ 1 → cond b n 0 ≡ 1
 one_at_place b n is one = rw (is, one) refl
@@ -179,11 +178,8 @@ module _ (plan : Plan) (came : Arrival) (calm : NetworkState) (service : Service
   pub bridge_serves : (target : CircuitId) → IsSiteOf plan calm service target → edge.me.0 < length plan.edges → has_port plan service edge.me.0 ≡ true
       → ((q : ℕ) → known ≡ Some q → LeadsToSite plan calm service target edge.me q) → ServesAsFlood target flood meet
   bridge_serves target site within port leads = by known refl where
-    equal : (m n : ℕ) → m ≡ n → m ≤ n
-    equal m n same = omega (arith, same)
-
     by : (k : Option ℕ) → known ≡ k → ServesAsFlood target flood meet
-    by None is = record { same = unknown_meets is target; most = λ circuit. equal (meet circuit) (flood circuit) (unknown_meets is circuit) }
+    by None is = record { same = unknown_meets is target; most = λ circuit. equal_at_most (meet circuit) (flood circuit) (unknown_meets is circuit) }
     by (Some q) is =
         let lead : LeadsToSite plan calm service target edge.me q = leads q is in
         record { same = named_same q is lead.port lead.at target site within port (lead_serves target site q lead); most = named_most q is lead.port lead.at }

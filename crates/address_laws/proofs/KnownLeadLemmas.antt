@@ -15,6 +15,8 @@ use Rattle.net_base.specs.plan.Accepted.{IsChecked}
 use Rattle.net_base.specs.plan.Places.{is_mesh_row, wire_row}
 use Rattle.net_base.specs.plan.Roles.{is_wire_of}
 use Rattle.net_values.specs.Mac.{is_group_address}
+use Rattle.net_values.proofs.BoolLemmas.{first_holds, second_holds, holds_with_true}
+use Rattle.net_values.proofs.NumberLemmas.{apart_back}
 use Rattle.hvpls_spokes.specs.declared.port.Port.{Port}
 use Rattle.hvpls_spokes.specs.declared.port.Port.TheVariants as port
 use Rattle.hvpls_spokes.specs.Port.{ports_of}
@@ -25,11 +27,9 @@ use Rattle.mac_table.proofs.AddressLemmas.{address_of}
 use Rattle.vsi_bridge.specs.Targets.{known_port}
 use Rattle.edge_model.specs.Ends.{end_forwards}
 use Rattle.edge_model.specs.State.{EdgeState}
-use Rattle.edge_model.proofs.LocalLemmas.{and_left, and_right}
 use Rattle.network_model.specs.Calm.{carries, is_calm}
 use Rattle.network_model.specs.Reach.{ahead_spoke, ahead_wire, at_edge_of, behind_spoke, behind_wire, beside_far, elsewhere_of, far_of, is_circuit_of, is_live, reach}
 use Rattle.network_model.specs.State.{NetworkState}
-use Rattle.flight_laws.proofs.SettleLemmas.{apart_turned}
 use Rattle.flood_laws.specs.Copy.{IsStillEdge}
 use Rattle.flood_laws.specs.Due.{due_towards}
 use Rattle.flood_laws.proofs.BridgeLemmas.{goes_by, port_serves}
@@ -81,9 +81,6 @@ pub record ServesBy (plan : Plan) (came : Arrival) (calm : NetworkState) (servic
   pub goes : goes_by plan edge (λ c. true) None x ≡ true
   pub serves : port_serves plan came calm service circuit frame edge x ≡ 1
 
-both : (a : Bool) → a ≡ true → a && true ≡ true
-both a is = rw is refl
-
 -- the other terminal edge of a wire
 far_link : (plan : Plan) (row : WirePlan) (link : IsLink plan row) (edge : ℕ) → far_of edge row.path ≡ cond (nat_eq edge link.near.0) (Some link.far.0) (Some link.near.0)
 far_link plan row link edge = rw (link.path, link.ends) refl
@@ -101,7 +98,7 @@ behind_ahead plan service circuit edge near last rest far apart is = by (nat_eq 
       → cond b (elsewhere_of plan service edge circuit) (at_edge_of plan service near.0 circuit) ≡ cond (nat_eq far near.0) (at_edge_of plan service far circuit) (elsewhere_of plan service near.0 circuit)
   by true here is =
       let same : last.0 ≡ far = cc (is) in
-      let away : nat_eq far near.0 ≡ false = ap (λ (n : ℕ). nat_eq n near.0) (sym same) ∙ apart_turned near.0 last.0 apart in
+      let away : nat_eq far near.0 ≡ false = ap (λ (n : ℕ). nat_eq n near.0) (sym same) ∙ apart_back near.0 last.0 apart in
       rw away (ap (λ (n : ℕ). elsewhere_of plan service n circuit) (eqb-true edge near.0 here))
   by false there is =
       let same : near.0 ≡ far = cc (is) in
@@ -116,15 +113,15 @@ module _ (plan : Plan) (came : Arrival) (calm : NetworkState) (service : Service
   -- the port of the site itself
   circuit_serves : (at : CircuitId) → IsServed plan.circuits service edge.me at.0 → is_circuit_of plan service circuit && nat_eq circuit.0 at.0 ≡ true → Serves (port.Circuit at)
   circuit_serves at served reached =
-      let same : circuit.0 ≡ at.0 = eqb-true circuit.0 at.0 (and_right (is_circuit_of plan service circuit) (nat_eq circuit.0 at.0) reached) in
+      let same : circuit.0 ≡ at.0 = eqb-true circuit.0 at.0 (second_holds (is_circuit_of plan service circuit) (nat_eq circuit.0 at.0) reached) in
       let rows : Some site.row ≡ Some served.row = sym site.is ∙ (ap (slice_get plan.circuits) same ∙ served.is) in
       let row : site.row ≡ served.row = cc (rows) in
-      let here : served.row.edge.0 ≡ edge.me.0 = eqb-true served.row.edge.0 edge.me.0 (and_right (nat_eq served.row.service.0 service.0) (nat_eq served.row.edge.0 edge.me.0) served.serve) in
+      let here : served.row.edge.0 ≡ edge.me.0 = eqb-true served.row.edge.0 edge.me.0 (second_holds (nat_eq served.row.service.0 service.0) (nat_eq served.row.edge.0 edge.me.0) served.serve) in
       let place : site.row.edge.0 ≡ edge.me.0 = ap (λ (r : CircuitPlan). r.edge.0) row ∙ here in
       let on : edge.circuit_on at.0 ≡ true =
       ap (λ (f : ℕ → Bool). f at.0) (still_on (calm.edges edge.me.0) edge still)
       ∙ (ap (λ (n : ℕ). (calm.edges n).circuit_on at.0) (sym place) ∙ (ap (λ (n : ℕ). (calm.edges site.row.edge.0).circuit_on n) (sym same) ∙ site.on)) in
-      record { goes = both (edge.circuit_on at.0) on; serves = ap (λ (b : Bool). cond {A = ℕ} b 1 0) (eq-eqb at.0 circuit.0 (sym same)) }
+      record { goes = holds_with_true (edge.circuit_on at.0) on; serves = ap (λ (b : Bool). cond {A = ℕ} b 1 0) (eq-eqb at.0 circuit.0 (sym same)) }
 
   -- ---- wires
 
@@ -133,22 +130,22 @@ module _ (plan : Plan) (came : Arrival) (calm : NetworkState) (service : Service
     link = link_at plan wire.0 wired.row checked wired.is
 
     ours : is_wire_of service wired.row ≡ true
-    ours = and_left (is_wire_of service wired.row) _ wired.ends
+    ours = first_holds (is_wire_of service wired.row) _ wired.ends
 
     -- a wire that carries frames forwards at both ends
     here_forwards : carries plan calm wire.0 wired.row ≡ true → end_forwards plan edge wire ≡ true
     here_forwards live = still_forwards plan (calm.edges edge.me.0) edge wire still ∙ by (cases_Bool (nat_eq edge.me.0 link.near.0)) where
       ends_forward : forwards plan calm link.near.0 wire.0 && forwards plan calm link.far.0 wire.0 ≡ true
-      ends_forward = and_left (forwards plan calm link.near.0 wire.0 && forwards plan calm link.far.0 wire.0) (stitches calm wire.0 link) (sym (carries_by plan calm wire.0 wired.row link) ∙ live)
+      ends_forward = first_holds (forwards plan calm link.near.0 wire.0 && forwards plan calm link.far.0 wire.0) (stitches calm wire.0 link) (sym (carries_by plan calm wire.0 wired.row link) ∙ live)
 
       by : (nat_eq edge.me.0 link.near.0 ≡ true) ⊎ (nat_eq edge.me.0 link.near.0 ≡ false) → end_forwards plan (calm.edges edge.me.0) wire ≡ true
       by (inl near) =
           ap (λ (n : ℕ). end_forwards plan (calm.edges n) wire) (eqb-true edge.me.0 link.near.0 near)
-          ∙ and_left (forwards plan calm link.near.0 wire.0) (forwards plan calm link.far.0 wire.0) ends_forward
+          ∙ first_holds (forwards plan calm link.near.0 wire.0) (forwards plan calm link.far.0 wire.0) ends_forward
       by (inr away) =
-          let last : nat_eq edge.me.0 link.far.0 ≡ true = and_right (is_wire_of service wired.row) (nat_eq edge.me.0 link.far.0) (rw (link.path, away, link.last edge.me.0) at wired.ends) in
+          let last : nat_eq edge.me.0 link.far.0 ≡ true = second_holds (is_wire_of service wired.row) (nat_eq edge.me.0 link.far.0) (rw (link.path, away, link.last edge.me.0) at wired.ends) in
           ap (λ (n : ℕ). end_forwards plan (calm.edges n) wire) (eqb-true edge.me.0 link.far.0 last)
-          ∙ and_right (forwards plan calm link.near.0 wire.0) (forwards plan calm link.far.0 wire.0) ends_forward
+          ∙ second_holds (forwards plan calm link.near.0 wire.0) (forwards plan calm link.far.0 wire.0) ends_forward
 
     -- what is due towards the other end
     abbrev due_there : ℕ
@@ -173,7 +170,7 @@ module _ (plan : Plan) (came : Arrival) (calm : NetworkState) (service : Service
       let up : end_forwards plan edge wire ≡ true = here_forwards wire true wired live in
       let behind : beside_far plan calm service (far_of edge.me.0 wired.row.path) circuit ≡ true = ap (λ (r : Option WirePlan). behind_wire plan calm service edge.me.0 wire.0 true r circuit) (sym wired.is) ∙ reached in
       record {
-        goes = both (end_forwards plan edge wire) up;
+        goes = holds_with_true (end_forwards plan edge wire) up;
         serves = end_is_due plan calm service circuit edge wire wired.row checked wired.is up
             ∙ awaits_there wire true wired (beside_far plan calm service (far_of edge.me.0 wired.row.path) circuit) behind
             (λ n there. ap (λ (o : Option ℕ). beside_far plan calm service o circuit) (sym there));
@@ -183,11 +180,11 @@ module _ (plan : Plan) (came : Arrival) (calm : NetworkState) (service : Service
   spoke_serves wire wired reached =
       let here : is_live plan calm service wire.0 wired.row && behind_spoke plan service edge.me.0 wired.row.path circuit ≡ true =
       ap (λ (r : Option WirePlan). behind_wire plan calm service edge.me.0 wire.0 false r circuit) (sym wired.is) ∙ reached in
-      let live : carries plan calm wire.0 wired.row ≡ true = and_right _ (carries plan calm wire.0 wired.row) (and_left (is_live plan calm service wire.0 wired.row) (behind_spoke plan service edge.me.0 wired.row.path circuit) here) in
+      let live : carries plan calm wire.0 wired.row ≡ true = second_holds _ (carries plan calm wire.0 wired.row) (first_holds (is_live plan calm service wire.0 wired.row) (behind_spoke plan service edge.me.0 wired.row.path circuit) here) in
       let up : end_forwards plan edge wire ≡ true = here_forwards wire false wired live in
       let l : IsLink plan wired.row = link wire false wired in
       record {
-        goes = both (end_forwards plan edge wire) up;
+        goes = holds_with_true (end_forwards plan edge wire) up;
         serves = end_is_due plan calm service circuit edge wire wired.row checked wired.is up
             ∙ awaits_there wire false wired (is_live plan calm service wire.0 wired.row && behind_spoke plan service edge.me.0 wired.row.path circuit) here
             (λ n there. ap (λ (b : Bool). is_live plan calm service wire.0 wired.row && b)

@@ -5,6 +5,8 @@ use Rattle.std.proofs.lemmas.Bool.{cases_Bool}
 use Rattle.std.proofs.lemmas.List.Elements.{All-head, All-tail}
 use Rattle.std.proofs.lemmas.List.Folds.{list_all-append}
 use Rattle.std.specs.List.{All, list_all}
+use Rattle.net_values.proofs.BoolLemmas.{first_holds}
+use Rattle.net_values.proofs.RowLemmas.{front_all, back_all}
 use Rattle.net_base.specs.declared.plan.Plan.{Plan}
 use Rattle.net_base.specs.declared.plan.places.CircuitId.{CircuitId}
 use Rattle.net_base.specs.declared.plan.places.ServiceId.{ServiceId}
@@ -16,7 +18,6 @@ use Rattle.net_base.specs.plan.Places.{circuit_row, mtu_of}
 use Rattle.net_base.specs.plan.Planned.{IsEventOf}
 use Rattle.net_base.specs.plan.Roles.{are_joined_by}
 use Rattle.net_base.specs.trace.Frame.{destination_of}
-use Rattle.edge_model.proofs.LocalLemmas.{and_left}
 use Rattle.network_model.specs.Absorb.{Stepped}
 use Rattle.network_model.specs.Calm.{has_live_spokes, is_full, is_quiet}
 use Rattle.network_model.specs.Frame.{frame_event, next_origin}
@@ -37,7 +38,6 @@ use Rattle.packet_laws.proofs.RunLemmas.{runs_keep_packet_rule}
 use Rattle.flood_laws.specs.Copy.{IsStill}
 use Rattle.flood_laws.proofs.CountLemmas.{awaited, due}
 use Rattle.flood_laws.proofs.OriginLemmas.{none_of}
-use Rattle.flood_laws.proofs.SoFarLemmas.{back_all, front_all}
 use Rattle.flood_laws.proofs.StartLemmas.{owed_to, still_self}
 use Rattle.flood_laws.proofs.StillLemmas.{step_still}
 use Rattle.flood_laws.proofs.WindowLemmas.{IsAfter, IsReached, step_reached}
@@ -104,7 +104,7 @@ module _ (plan : Plan) (events : List Event) (is_run : IsRun plan events) (befor
   settled : (a b : ℕ) → are_joined_by plan service a b ≡ true → AreSettled plan calm a b
   settled a b joined =
       runs_settle plan before run_calm service
-      (and_left (is_quiet plan calm service) (is_full plan calm service) (and_left (is_quiet plan calm service && is_full plan calm service) (has_live_spokes plan calm service) right.calm)) a b joined
+      (first_holds (is_quiet plan calm service) (is_full plan calm service) (first_holds (is_quiet plan calm service && is_full plan calm service) (has_live_spokes plan calm service) right.calm)) a b joined
 
   still : IsStill calm network
   still = subst (IsStill calm) (sym (after-append plan (empty_network plan) before during)) (stretch_still plan calm calm during stretch (still_self calm))

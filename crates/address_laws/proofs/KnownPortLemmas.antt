@@ -1,5 +1,6 @@
 -- Which ports of a service are one: two places of ports are the same where they lead to the same circuit or wire.
 use Rattle.std.proofs.Common.{◌≡◌, ℕ, Bool, Some, slice_get, nat_eq}
+use Rattle.net_values.proofs.NumberLemmas.{apart_back}
 use Rattle.net_base.specs.declared.plan.Plan.{Plan}
 use Rattle.net_base.specs.declared.plan.places.EdgeId.{EdgeId}
 use Rattle.net_base.specs.declared.plan.places.ServiceId.{ServiceId}
@@ -8,7 +9,6 @@ use Rattle.hvpls_spokes.specs.declared.port.Port.TheVariants as port
 use Rattle.hvpls_spokes.specs.Port.{is_circuit_port, is_wire_port, ports_of}
 use Rattle.hvpls_spokes.proofs.PortsLemmas.{same_circuit_port}
 use Rattle.hvpls_spokes.proofs.WirePortLemmas.{leads_by_mesh, leads_by_spoke, ports_apart, same_wire_port}
-use Rattle.flight_laws.proofs.SettleLemmas.{apart_turned}
 
 -- a port leads where another one does
 abbrev pub is_same_port : Port → Port → Bool
@@ -25,13 +25,13 @@ same_place plan service edge p q (port.Circuit c) (port.Mesh w) first second =
 same_place plan service edge p q (port.Circuit c) (port.Spoke w) first second =
     ports_apart (ports_of plan service edge) p q c.0 w.0 (record { is = first }) (leads_by_spoke (ports_of plan service edge) q w second)
 same_place plan service edge p q (port.Mesh v) (port.Circuit d) first second =
-    apart_turned q p (ports_apart (ports_of plan service edge) q p d.0 v.0 (record { is = second }) (leads_by_mesh (ports_of plan service edge) p v first))
+    apart_back q p (ports_apart (ports_of plan service edge) q p d.0 v.0 (record { is = second }) (leads_by_mesh (ports_of plan service edge) p v first))
 same_place plan service edge p q (port.Mesh v) (port.Mesh w) first second =
     same_wire_port plan service edge p q v.0 w.0 (leads_by_mesh (ports_of plan service edge) p v first) (leads_by_mesh (ports_of plan service edge) q w second)
 same_place plan service edge p q (port.Mesh v) (port.Spoke w) first second =
     same_wire_port plan service edge p q v.0 w.0 (leads_by_mesh (ports_of plan service edge) p v first) (leads_by_spoke (ports_of plan service edge) q w second)
 same_place plan service edge p q (port.Spoke v) (port.Circuit d) first second =
-    apart_turned q p (ports_apart (ports_of plan service edge) q p d.0 v.0 (record { is = second }) (leads_by_spoke (ports_of plan service edge) p v first))
+    apart_back q p (ports_apart (ports_of plan service edge) q p d.0 v.0 (record { is = second }) (leads_by_spoke (ports_of plan service edge) p v first))
 same_place plan service edge p q (port.Spoke v) (port.Mesh w) first second =
     same_wire_port plan service edge p q v.0 w.0 (leads_by_spoke (ports_of plan service edge) p v first) (leads_by_mesh (ports_of plan service edge) q w second)
 same_place plan service edge p q (port.Spoke v) (port.Spoke w) first second =

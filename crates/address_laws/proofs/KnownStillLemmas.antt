@@ -1,6 +1,7 @@
 -- In a stretch nothing but addresses and packets changes.
 use Rattle.std.proofs.Common.{◌≡◌, ◌&&◌, ℕ, Bool, true, List, [], ◌∷◌, Option, Some, None, refl, ap}
 use Rattle.std.specs.List.{list_all}
+use Rattle.net_values.proofs.BoolLemmas.{first_holds, second_holds}
 use Rattle.net_base.specs.declared.plan.Plan.{Plan}
 use Rattle.net_base.specs.declared.plan.circuit_plan.CircuitPlan.{CircuitPlan}
 use Rattle.net_base.specs.declared.plan.places.CircuitId.{CircuitId}
@@ -10,7 +11,6 @@ use Rattle.net_base.specs.declared.trace.event.Event.TheVariants.{Frame, Arrive,
 use Rattle.net_base.specs.plan.Places.{circuit_row}
 use Rattle.edge_model.specs.Frame.{hearing}
 use Rattle.edge_model.specs.State.{EdgeState, with_addresses, with_learned}
-use Rattle.edge_model.proofs.LocalLemmas.{and_left, and_right}
 use Rattle.network_model.specs.Packet.{packet_at}
 use Rattle.network_model.specs.Reach.{is_circuit_of, is_row_on, is_site}
 use Rattle.network_model.specs.Run.{state_after}
@@ -42,8 +42,8 @@ stretch_step_still plan calm network event of_stretch still = absurd (cc (of_str
 pub stretch_still : (plan : Plan) (calm network : NetworkState) (events : List Event) → list_all is_of_stretch events ≡ true → IsStill calm network → IsStill calm (state_after plan network events)
 stretch_still plan calm network [] all still = still
 stretch_still plan calm network (e ∷ es) all still =
-    stretch_still plan calm (step plan network e).state es (and_right (is_of_stretch e) (list_all is_of_stretch es) all)
-    (stretch_step_still plan calm network e (and_left (is_of_stretch e) (list_all is_of_stretch es) all) still)
+    stretch_still plan calm (step plan network e).state es (second_holds (is_of_stretch e) (list_all is_of_stretch es) all)
+    (stretch_step_still plan calm network e (first_holds (is_of_stretch e) (list_all is_of_stretch es) all) still)
 
 -- ---- the sites
 

@@ -1,8 +1,9 @@
 -- The events of a stretch after a frame to a known station entered: what is due to the station's site is served.
-use Rattle.std.proofs.Common.{◌≡◌, ◌≤◌, ◌+◌, ◌++◌, ◌&&◌, ℕ, Bool, true, false, List, [], ◌∷◌, Option, Some, None, not, refl, ap, inl, inr, arith}
-use Rattle.std.proofs.lemmas.Bool.{cases_Bool}
+use Rattle.std.proofs.Common.{◌≡◌, ◌≤◌, ◌+◌, ◌++◌, ℕ, true, false, List, [], ◌∷◌, Option, Some, None, not, refl, ap, inl, inr, arith}
+use Rattle.std.proofs.lemmas.Bool.{cases_Bool, and_from, not-true}
 use Rattle.std.proofs.lemmas.List.Elements.{All-head, All-tail}
 use Rattle.std.specs.List.{All, list_all, list_any}
+use Rattle.net_values.proofs.BoolLemmas.{first_holds, second_holds}
 use Rattle.net_base.specs.declared.plan.Plan.{Plan}
 use Rattle.net_base.specs.declared.plan.places.CircuitId.{CircuitId}
 use Rattle.net_base.specs.declared.plan.places.ServiceId.{ServiceId}
@@ -14,7 +15,6 @@ use Rattle.net_base.specs.plan.Places.{mtu_of}
 use Rattle.net_base.specs.plan.Planned.{IsEventOf}
 use Rattle.net_base.specs.plan.Roles.{are_joined_by}
 use Rattle.net_base.specs.trace.Frame.{destination_of}
-use Rattle.edge_model.proofs.LocalLemmas.{and_left, and_right, is_not}
 use Rattle.network_model.specs.declared.packet.Packet.{Packet}
 use Rattle.network_model.specs.Absorb.{Stepped}
 use Rattle.network_model.specs.Calm.{is_calm}
@@ -51,9 +51,6 @@ spared_stretch network origin event spared = absurd (cc (spared))
 abbrev pub PointOn : Plan → ServiceId → Sites → NetworkState → List Event → Type 0
 PointOn plan service site network events = (some rest : List Event) → events ≡ some ++ rest → list_all is_of_stretch some ≡ true → Points plan (state_after plan network some) service site
 
-both : (a b : Bool) → a ≡ true → b ≡ true → a && b ≡ true
-both a b one other = rw (one, other) refl
-
 module _ (plan : Plan) (calm : NetworkState) (service : ServiceId) (site : Sites) (frame : List ℕ) (origin : ℕ) (checked : IsChecked plan) (calmed : is_calm plan calm service ≡ true)
     (settled : (a b : ℕ) → are_joined_by plan service a b ≡ true → AreSettled plan calm a b) (sized : IsSized (mtu_of plan service) frame) (on : is_site plan calm service (site (destination_of frame)) ≡ true) where
   abbrev target : CircuitId
@@ -84,7 +81,7 @@ module _ (plan : Plan) (calm : NetworkState) (service : ServiceId) (site : Sites
       arriving_serves_site plan calm network trace service site frame origin number packet checked calmed settled sized reached.ruled reached.rule after.still on points after.copies is own (same_number packet.origin origin own after.numbered)
 
   unmoved : (network : NetworkState) (number : ℕ) → not (list_any (is_copy origin number) network.under_way) ≡ true → is_of origin (packet_at network number) ≡ false
-  unmoved network number spared = not_named origin number network.under_way (is_not (list_any (is_copy origin number) network.under_way) spared)
+  unmoved network number spared = not_named origin number network.under_way (not-true (list_any (is_copy origin number) network.under_way) spared)
 
   step_serves : (network : NetworkState) (trace : List Entry) (event : Event) → IsReached plan network trace → IsAfter plan calm service frame origin network
       → Points plan (step plan network event).state service site → spares network origin event ≡ true → Serve network (step plan network event)
@@ -105,9 +102,9 @@ module _ (plan : Plan) (calm : NetworkState) (service : ServiceId) (site : Sites
   window_serves_site network trace [] types planned reached after points spared = serves_each plan calm service target frame origin (owes network) (along plan network []) (serves_none plan calm service frame origin network after.copies)
   window_serves_site network trace (e ∷ es) types planned reached after points spared =
       let first : Stepped = step plan network e in
-      let here : spares network origin e ≡ true = and_left (spares network origin e) (all_spare plan origin first.state es) spared in
+      let here : spares network origin e ≡ true = first_holds (spares network origin e) (all_spare plan origin first.state es) spared in
       let stretch : is_of_stretch e ≡ true = spared_stretch network origin e here in
-      let serves : Serve network first = step_serves network trace e reached after (points (e ∷ []) es refl (both (is_of_stretch e) true stretch refl)) here in
+      let serves : Serve network first = step_serves network trace e reached after (points (e ∷ []) es refl (and_from (is_of_stretch e) true stretch refl)) here in
       let next : IsAfter plan calm service frame origin first.state = record {
         still = step_still plan calm network trace origin e checked reached.ruled reached.rule here after.still;
         copies = serves.serves.copies;
@@ -117,5 +114,5 @@ module _ (plan : Plan) (calm : NetworkState) (service : ServiceId) (site : Sites
       serves_site_then plan calm service target frame origin (owes network) first (along plan first.state es) on serves
       (window_serves_site first.state (trace ++ first.entries) es types (All-tail (IsEventOf plan) e es planned)
       (step_reached plan network trace e checked types (All-head (IsEventOf plan) e es planned) reached) next
-      (λ some rest split all. points (e ∷ some) rest (ap (λ (l : List Event). e ∷ l) split) (both (is_of_stretch e) (list_all is_of_stretch some) stretch all))
-      (and_right (spares network origin e) (all_spare plan origin first.state es) spared))
+      (λ some rest split all. points (e ∷ some) rest (ap (λ (l : List Event). e ∷ l) split) (and_from (is_of_stretch e) (list_all is_of_stretch some) stretch all))
+      (second_holds (spares network origin e) (all_spare plan origin first.state es) spared))

@@ -2,6 +2,7 @@
 -- frame entered (RFC 4762 section 4.4).
 use Rattle.std.proofs.Common.{◌≡◌, ◌&&◌, ◌∙◌, ℕ, Bool, true, false, Some, cond, nat_eq, slice_get, ap, sym, subst}
 use Rattle.std.proofs.lemmas.Bool.{eqb-true}
+use Rattle.net_values.proofs.BoolLemmas.{second_holds}
 use Rattle.net_base.specs.declared.plan.Plan.{Plan}
 use Rattle.net_base.specs.declared.plan.circuit_plan.CircuitPlan.{CircuitPlan}
 use Rattle.net_base.specs.declared.plan.wire_plan.WirePlan.{WirePlan}
@@ -18,7 +19,6 @@ use Rattle.hvpls_spokes.specs.Port.{is_mesh, is_mesh_port, ports_of, wire_port}
 use Rattle.hvpls_spokes.proofs.PortsLemmas.{IsServed, IsWired, served_at}
 use Rattle.hvpls_spokes.proofs.RowPortLemmas.{wire_behind, wire_leads}
 use Rattle.hvpls_spokes.proofs.WirePortLemmas.{LeadsToWire, same_wire_port}
-use Rattle.edge_model.proofs.LocalLemmas.{and_right}
 use Rattle.edge_model.proofs.PacketLemmas.{mesh_port}
 use Rattle.network_model.specs.Calm.{carries, is_calm}
 use Rattle.network_model.specs.Reach.{far_of, is_circuit_of, reach}
@@ -37,10 +37,10 @@ module _ (plan : Plan) (calm : NetworkState) (service : ServiceId) (circuit : Ci
       → reach plan calm service peer.0 (wire_port wire.0 row) circuit ≡ true
   by_circuit at served reached =
       from_circuit plan calm service circuit site checked calmed wire.0 row is ours me.0 peer.0 ends leads live
-      (subst (λ (r : CircuitPlan). nat_eq r.edge.0 me.0 ≡ true) same (and_right (nat_eq served.row.service.0 service.0) (nat_eq served.row.edge.0 me.0) served.serve))
+      (subst (λ (r : CircuitPlan). nat_eq r.edge.0 me.0 ≡ true) same (second_holds (nat_eq served.row.service.0 service.0) (nat_eq served.row.edge.0 me.0) served.serve))
     where
       place : circuit.0 ≡ at.0
-      place = eqb-true circuit.0 at.0 (and_right (is_circuit_of plan service circuit) (nat_eq circuit.0 at.0) reached)
+      place = eqb-true circuit.0 at.0 (second_holds (is_circuit_of plan service circuit) (nat_eq circuit.0 at.0) reached)
 
       rows : Some served.row ≡ Some site.row
       rows = sym served.is ∙ (ap (slice_get plan.circuits) (sym place) ∙ site.is)

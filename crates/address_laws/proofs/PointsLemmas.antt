@@ -1,7 +1,8 @@
 -- In each stretch of a run addresses keep pointing to their sites, and copies come from where they seem to come from.
 use Rattle.std.proofs.Common.{◌≡◌, ◌++◌, ◌∙◌, ℕ, true, false, List, [], ◌∷◌, ap, sym, subst, not, ◌&&◌, Bool}
-use Rattle.std.proofs.lemmas.List.Elements.{All-cons, All-head, All-nil, All-tail}
 use Rattle.std.specs.List.{All, AllByRecursion, list_all, list_any}
+use Rattle.net_values.proofs.BoolLemmas.{second_fails, first_fails, clash_at}
+use Rattle.net_values.proofs.RowLemmas.{front_all, back_all}
 use Rattle.net_base.specs.declared.plan.Plan.{Plan}
 use Rattle.net_base.specs.declared.plan.places.ServiceId.{ServiceId}
 use Rattle.net_base.specs.declared.trace.entry.Entry.{Entry}
@@ -16,7 +17,6 @@ use Rattle.network_model.specs.declared.packet.Packet.{Packet}
 use Rattle.network_model.specs.Run.{entries_along, state_after}
 use Rattle.network_model.specs.State.{NetworkState, empty_network}
 use Rattle.network_model.specs.Window.{is_row_of_service}
-use Rattle.network_model.proofs.CalmLemmas.{none_first, none_later}
 use Rattle.network_model.proofs.PacketListLemmas.{holds_by}
 use Rattle.network_model.proofs.RunLemmas.{after-append, along-append}
 use Rattle.flight_laws.specs.Laws.{IsRun, network_after}
@@ -35,7 +35,6 @@ use Rattle.address_laws.specs.Stretch.{StartsRight, is_of_stretch, is_packet_of}
 use Rattle.address_laws.proofs.SideLemmas.{HasSide, KnowsSide}
 use Rattle.address_laws.proofs.StillReachLemmas.{still_reach}
 use Rattle.address_laws.proofs.StretchLemmas.{IsRight, among_behind, right_still, stretch_right}
-use Rattle.flood_laws.proofs.WireEdgeLemmas.{never}
 
 -- ---- what a state of a stretch holds
 
@@ -79,9 +78,9 @@ none_claimed : (plan : Plan) (calm : NetworkState) (service : ServiceId) (told :
     → AllByRecursion (KnowsSide plan calm service told) packets
 none_claimed plan calm service told [] free = tt
 none_claimed plan calm service told (p ∷ ps) free = (
-  λ numbered row is ours. never (is_packet_of plan service p) (ap (λ (b : Bool). not b && is_row_of_service service (wire_row plan p.wire)) numbered ∙ (ap (is_row_of_service service) is ∙ ours))
-      (none_first (is_packet_of plan service p) (list_any (is_packet_of plan service) ps) free),
-  none_claimed plan calm service told ps (none_later (is_packet_of plan service p) (list_any (is_packet_of plan service) ps) free),
+  λ numbered row is ours. clash_at (is_packet_of plan service p) (ap (λ (b : Bool). not b && is_row_of_service service (wire_row plan p.wire)) numbered ∙ (ap (is_row_of_service service) is ∙ ours))
+      (first_fails (is_packet_of plan service p) (list_any (is_packet_of plan service) ps) free),
+  none_claimed plan calm service told ps (second_fails (is_packet_of plan service p) (list_any (is_packet_of plan service) ps) free),
 )
 
 begins_right : (plan : Plan) (calm : NetworkState) (service : ServiceId) (site : Sites) (told : List Entry) → StartsRight plan calm service site
@@ -92,14 +91,6 @@ begins_right plan calm service site told starts = record {
 }
 
 -- ---- the whole run
-
-front_all : {X : Type 0} (P : X → Type 0) (xs ys : List X) → All P (xs ++ ys) → All P xs
-front_all P [] ys all = All-nil P
-front_all P (x ∷ xs) ys all = All-cons P x xs (All-head P x (xs ++ ys) all) (front_all P xs ys (All-tail P x (xs ++ ys) all))
-
-back_all : {X : Type 0} (P : X → Type 0) (xs ys : List X) → All P (xs ++ ys) → All P ys
-back_all P [] ys all = all
-back_all P (x ∷ xs) ys all = back_all P xs ys (All-tail P x (xs ++ ys) all)
 
 module _ (plan : Plan) (events : List Event) (run : IsRun plan events) (before during after : List Event) (service : ServiceId)
     (site : Sites)

@@ -2,6 +2,8 @@
 -- a frame that came by a port behind which it entered.
 use Rattle.std.proofs.Common.{◌||◌, ◌≡◌, ◌&&◌, ◌+◌, ◌∙◌, ℕ, true, false, List, [], ◌∷◌, Some, Ok, nat_eq, slice_get, sym, subst, ap, ◌==◌}
 use Rattle.std.specs.List.{AllByRecursion}
+use Rattle.std.proofs.lemmas.Bool.{and_from}
+use Rattle.net_values.proofs.BoolLemmas.{clash_at}
 use Rattle.net_base.specs.declared.plan.Plan.{Plan}
 use Rattle.net_base.specs.declared.plan.wire_plan.WirePlan.{WirePlan}
 use Rattle.net_base.specs.declared.plan.places.EdgeId.{EdgeId}
@@ -27,18 +29,19 @@ use Rattle.network_model.specs.State.{NetworkState}
 use Rattle.network_model.specs.Window.{carried}
 use Rattle.network_model.proofs.PacketListLemmas.{holds_by, packet_from, packets_of}
 use Rattle.flight_laws.proofs.RuledNetworkLemmas.{IsRuledNetwork}
+use Rattle.flight_laws.proofs.PlaceLemmas.{same_row}
+use Rattle.flight_laws.proofs.RuledMendLemmas.{wire_fits}
 use Rattle.packet_laws.proofs.ArriveLemmas.{IsSized}
-use Rattle.packet_laws.proofs.SendLemmas.{HasCome, same_row}
+use Rattle.packet_laws.proofs.SendLemmas.{HasCome}
 use Rattle.flood_laws.specs.Copy.{IsStill}
 use Rattle.flood_laws.proofs.CarryLemmas.{copy_carried, copy_joined}
 use Rattle.flood_laws.proofs.CopyLemmas.{CarriesIn, sent_carry, sent_ended, still_forwards}
 use Rattle.address_laws.proofs.PassLemmas.{passes_on}
 use Rattle.address_laws.proofs.SpokeHomeLemmas.{of_service}
-use Rattle.flood_laws.proofs.WireEdgeLemmas.{AreSides, IsFar, IsNear, both, never, sides_far}
+use Rattle.flood_laws.proofs.WireEdgeLemmas.{AreSides, IsFar, IsNear, sides_far}
 use Rattle.flood_laws.proofs.LinkLemmas.{IsLink, link_at}
 use Rattle.flood_laws.proofs.WholeLemmas.{wire_whole}
 use Rattle.flood_laws.proofs.HopLemmas.{sent_far}
-use Rattle.packet_laws.proofs.PackLemmas.{wire_checked}
 use Rattle.network_model.specs.Goal.{goal}
 use Rattle.net_base.specs.plan.Roles.{wire_ends_at}
 use Rattle.network_model.specs.Reach.{far_of}
@@ -107,10 +110,10 @@ module _ (plan : Plan) (calm network : NetworkState) (service : ServiceId) (told
       ended = ap (λ (r : WirePlan). is_first me.0 r.path || is_last me.0 r.path) (sym same) ∙ sent_ended plan network me came service frame arrival peer wire of_arrival bytes checked ruled copy
 
       ends : wire_ends_at service me.0 row ≡ true
-      ends = both (is_wire_of service row) (is_first me.0 row.path || is_last me.0 row.path) ours ended
+      ends = and_from (is_wire_of service row) (is_first me.0 row.path || is_last me.0 row.path) ours ended
 
       leads : far_of me.0 row.path ≡ Some (goal row.path me peer).0
-      leads = sent_far row.path me peer (wire_checked plan wire row checked is).once joined ended
+      leads = sent_far row.path me peer (wire_fits plan wire row checked is).once joined ended
 
       -- where the far terminal edge forwards too, the wire carries frames
       live : end_forwards plan (calm.edges (goal row.path me peer).0) wire ≡ true → carries plan calm wire.0 row ≡ true
@@ -144,7 +147,7 @@ away_side : (plan : Plan) (calm : NetworkState) (service of : ServiceId) (told :
 away_side plan calm service of told frame packet other carries numbered row is ours =
     let same : carries.row ≡ row = same_row carries.row row (sym carries.is ∙ is) in
     let service_is : row.service ≡ of = ap (λ (r : WirePlan). r.service) (sym same) ∙ carries.same in
-    never (nat_eq row.service.0 service.0) ours (ap (λ (s : ServiceId). nat_eq s.0 service.0) service_is ∙ other)
+    clash_at (nat_eq row.service.0 service.0) ours (ap (λ (s : ServiceId). nat_eq s.0 service.0) service_is ∙ other)
 
 pub copies_away : (plan : Plan) (calm network : NetworkState) (service of : ServiceId) (told : List Entry) (me : EdgeId) (origin hops sent : ℕ) (came : Arrival)
     (frame : List ℕ) (arrival : ℕ) (es : List Effect)

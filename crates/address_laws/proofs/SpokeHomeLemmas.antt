@@ -1,6 +1,8 @@
 -- A spoke that carries frames leads to the home of its spoke edge; and what is behind a port, by where a circuit is.
-use Rattle.std.proofs.Common.{◌≡◌, ◌+◌, ◌&&◌, ◌||◌, ◌∙◌, not, ℕ, zero, suc, true, false, List, [], ◌∷◌, Option, Some, None, option_map, slice_get, nat_eq, refl, ap, sym, subst, zero-add, add-zero, arith, inl, inr}
+use Rattle.std.proofs.Common.{◌≡◌, ◌+◌, ◌&&◌, ◌||◌, ◌∙◌, not, ℕ, zero, suc, true, false, List, [], ◌∷◌, Option, Some, None, option_map, slice_get, nat_eq, refl, ap, sym, subst, zero-add, add-zero, inl, inr}
 use Rattle.std.proofs.lemmas.Bool.{cases_Bool, eq-eqb}
+use Rattle.net_values.proofs.BoolLemmas.{first_holds, second_holds}
+use Rattle.net_values.proofs.NumberLemmas.{next_place}
 use Rattle.net_base.specs.declared.plan.Plan.{Plan}
 use Rattle.net_base.specs.declared.plan.circuit_plan.CircuitPlan.{CircuitPlan}
 use Rattle.net_base.specs.declared.plan.wire_plan.WirePlan.{WirePlan}
@@ -11,7 +13,6 @@ use Rattle.net_base.specs.plan.Accepted.{IsChecked}
 use Rattle.net_base.specs.plan.Places.{circuit_row, is_mesh_class, service_of}
 use Rattle.net_base.specs.plan.Roles.{is_spoke_edge, is_spoke_from}
 use Rattle.hvpls_spokes.specs.Port.{wire_port}
-use Rattle.edge_model.proofs.LocalLemmas.{and_left, and_right}
 use Rattle.network_model.specs.Calm.{carries, is_calm, is_live_spoke}
 use Rattle.network_model.specs.Reach.{far_of, home_among, home_of, is_home, last_place, reach}
 use Rattle.network_model.specs.State.{NetworkState}
@@ -28,9 +29,6 @@ record LeadsHome (plan : Plan) (calm : NetworkState) (service : ServiceId) (edge
   is : slice_get rows k ≡ Some row
   live : is_live_spoke plan calm service edge (place + k) row ≡ true
   home : home_among plan calm service edge place rows ≡ last_place row.path
-
-next_place : (n j : ℕ) → (n + 1) + j ≡ n + suc j
-next_place n j = omega arith
 
 module _ (plan : Plan) (calm : NetworkState) (service : ServiceId) (edge : ℕ) where
   leads_here : (place : ℕ) (row : WirePlan) (rows : List WirePlan) → is_live_spoke plan calm service edge place row ≡ true
@@ -69,8 +67,8 @@ pub live_once : (plan : Plan) (calm : NetworkState) (service : ServiceId) (edge 
     → is_live_spoke plan calm service edge j v ≡ true → k ≡ j
 live_once plan calm service edge k j w v checked calmed is live other other_live =
     one_live_spoke plan calm service edge (record { 0 = k }) (record { 0 = j }) w v checked calmed
-    is (and_left (is_spoke_from service edge w) (carries plan calm k w) live) (and_right (is_spoke_from service edge w) (carries plan calm k w) live)
-    other (and_left (is_spoke_from service edge v) (carries plan calm j v) other_live) (and_right (is_spoke_from service edge v) (carries plan calm j v) other_live)
+    is (first_holds (is_spoke_from service edge w) (carries plan calm k w) live) (second_holds (is_spoke_from service edge w) (carries plan calm k w) live)
+    other (first_holds (is_spoke_from service edge v) (carries plan calm j v) other_live) (second_holds (is_spoke_from service edge v) (carries plan calm j v) other_live)
 
 -- the home of a spoke edge is the other edge of its spoke that carries frames
 pub home_is : (plan : Plan) (calm : NetworkState) (service : ServiceId) (edge k : ℕ) (w : WirePlan) (link : IsLink plan w) → IsChecked plan

@@ -1,9 +1,10 @@
 -- A stretch, one event after another: nothing changes but addresses and packets, addresses point to their sites, and copies come
 -- from where their frames entered.
-use Rattle.std.proofs.Common.{◌≡◌, ◌++◌, ℕ, Bool, true, false, List, [], ◌∷◌, Option, Some, None, cond, nat_eq, refl, sym, subst, ap, ◌∙◌, inl, inr}
+use Rattle.std.proofs.Common.{◌≡◌, ◌++◌, ℕ, Bool, true, false, List, [], ◌∷◌, Option, Some, None, cond, nat_eq, refl, sym, subst, inl, inr}
 use Rattle.std.proofs.lemmas.Bool.{cases_Bool, eqb-true}
 use Rattle.std.proofs.lemmas.List.Elements.{All-head, All-tail}
 use Rattle.std.specs.List.{All, AllByRecursion, list_all}
+use Rattle.net_values.proofs.BoolLemmas.{first_holds, second_holds}
 use Rattle.net_base.specs.declared.plan.Plan.{Plan}
 use Rattle.net_base.specs.declared.plan.circuit_plan.CircuitPlan.{CircuitPlan}
 use Rattle.net_base.specs.declared.plan.places.CircuitId.{CircuitId}
@@ -18,10 +19,9 @@ use Rattle.net_base.specs.plan.Places.{circuit_row}
 use Rattle.net_base.specs.plan.Planned.{IsEventOf}
 use Rattle.net_base.specs.trace.Isolated.{Among}
 use Rattle.net_base.proofs.TraceLemmas.{among-append}
-use Rattle.edge_model.specs.State.{EdgeState, with_learned}
+use Rattle.edge_model.specs.State.{EdgeState}
 use Rattle.edge_model.specs.Work.{Work}
-use Rattle.edge_model.proofs.BridgeLemmas.{LearnsOnly, frame_bridges, learns_is, packet_bridges}
-use Rattle.edge_model.proofs.LocalLemmas.{and_left, and_right}
+use Rattle.edge_model.proofs.BridgeLemmas.{frame_bridges, packet_bridges}
 use Rattle.network_model.specs.declared.packet.Packet.{Packet}
 use Rattle.network_model.specs.Absorb.{absorb, begin_at, idle, taken_all}
 use Rattle.network_model.specs.Calm.{is_calm}
@@ -39,6 +39,7 @@ use Rattle.flight_laws.proofs.RuledNetworkLemmas.{IsRuledNetwork}
 use Rattle.packet_laws.specs.Carried.{KeepsPacketRule, FollowsPacketRule}
 use Rattle.flood_laws.specs.Copy.{IsStill, IsStillEdge}
 use Rattle.flood_laws.proofs.WindowLemmas.{IsReached, step_reached}
+use Rattle.flood_laws.proofs.StillLemmas.{still_learns}
 use Rattle.address_laws.specs.Points.{PointsToSite}
 use Rattle.address_laws.specs.Sites.{OneSite, Sites}
 use Rattle.address_laws.specs.Stretch.{is_of_stretch}
@@ -60,11 +61,6 @@ pub record IsRight (plan : Plan) (calm : NetworkState) (service : ServiceId) (si
 pub right_still : (plan : Plan) (calm : NetworkState) (service : ServiceId) (site : Sites) (told : List Entry) (network : NetworkState)
     → IsRight plan calm service site told network → IsStill calm network
 right_still plan calm service site told network right = record { edges = λ k. (right.edges k).still }
-
--- an edge that only learns
-still_learns : (calm old new : EdgeState) → LearnsOnly old new → IsStillEdge calm old → IsStillEdge calm new
-unfolding with_learned
-still_learns calm old new only still = record { learned = new.learned; is = learns_is old new only ∙ ap (with_learned new.learned) still.is }
 
 -- a repeated packet comes from where the packet does
 again_side : (plan : Plan) (calm : NetworkState) (service : ServiceId) (told : List Entry) (packet : Packet) (sent : ℕ) → KnowsSide plan calm service told packet
@@ -193,7 +189,7 @@ module _ (plan : Plan) (calm : NetworkState) (service : ServiceId) (site : Sites
       let next : NetworkState = (step plan network e).state in
       let here : List Entry = (step plan network e).entries in
       stretch_right next (trace ++ here) es types (All-tail (IsEventOf plan) e es planned)
-      (step_reached plan network trace e checked types (All-head (IsEventOf plan) e es planned) reached) (and_right (is_of_stretch e) (list_all is_of_stretch es) of)
+      (step_reached plan network trace e checked types (All-head (IsEventOf plan) e es planned) reached) (second_holds (is_of_stretch e) (list_all is_of_stretch es) of)
       (λ entry among. tells entry (among_behind entry here (entries_along plan next es) among))
-      (step_right network trace e reached.ruled reached.rule (and_left (is_of_stretch e) (list_all is_of_stretch es) of)
+      (step_right network trace e reached.ruled reached.rule (first_holds (is_of_stretch e) (list_all is_of_stretch es) of)
       (λ entry among. tells entry (among-append entry here (entries_along plan next es) among)) right)

@@ -42,16 +42,17 @@ use Rattle.network_model.specs.State.{NetworkState, edge_at}
 use Rattle.network_model.specs.Window.{carried}
 use Rattle.network_model.proofs.PacketListLemmas.{packets_of}
 use Rattle.flight_laws.proofs.RuledNetworkLemmas.{IsRuledNetwork}
+use Rattle.flight_laws.proofs.PlaceLemmas.{same_row}
+use Rattle.flight_laws.proofs.RuledMendLemmas.{wire_fits}
 use Rattle.packet_laws.specs.Carried.{IsCarried}
 use Rattle.packet_laws.specs.Echoed.{IsEchoed}
-use Rattle.packet_laws.proofs.ArriveLemmas.{IsSized, come_sized}
-use Rattle.packet_laws.proofs.SendLemmas.{HasCome, same_row}
+use Rattle.packet_laws.proofs.ArriveLemmas.{IsSized, come_sized, same_frame}
+use Rattle.packet_laws.proofs.SendLemmas.{HasCome}
 use Rattle.flood_laws.specs.Copy.{IsStill}
 use Rattle.net_base.specs.declared.plan.wire_plan.WirePlan.{WirePlan}
 use Rattle.network_model.specs.Goal.{goal}
 use Rattle.network_model.proofs.GoalLemmas.{goal_reached}
 use Rattle.edge_model.specs.EndPlaces.{is_terminal}
-use Rattle.packet_laws.proofs.PackLemmas.{wire_checked}
 use Rattle.packet_laws.proofs.EchoArriveLemmas.{echo_unheard}
 use Rattle.flood_laws.proofs.PassingLemmas.{IsNotPassed, IsPassedOn, Passed, PassedOn, passed, passed_carries}
 use Rattle.flood_laws.proofs.RelayLemmas.{same_goal}
@@ -213,10 +214,6 @@ module _ (plan : Plan) (calm network : NetworkState) (service : ServiceId) (site
     (ruled : IsRuledNetwork plan network) (still : IsStill calm network)
     (before : AllByRecursion (PointsToSite plan calm service site packet.to.0) ((network.edges packet.to.0).learned service.0))
     (rule : IsCarried plan network trace packet) (knows : KnowsSide plan calm service told packet) where
-  -- what was read twice is the same
-  same_frame : (read : Result (List ℕ) DropCause) (first other : List ℕ) → read ≡ Ok first → read ≡ Ok other → first ≡ other
-  same_frame read first other is also = cc
-
   -- where its wire's end forwards, it came by a port behind which its frame entered
   packet_behind : is_terminal rule.row packet.to ≡ true → end_forwards plan (network.edges packet.to.0) packet.wire ≡ true → (p : ℕ)
       → position (is_wire_port packet.wire) (ports_of plan rule.row.service packet.to) ≡ Some p
@@ -238,7 +235,7 @@ module _ (plan : Plan) (calm network : NetworkState) (service : ServiceId) (site
   }
     where
       reached : goal rule.row.path packet.from packet.to ≡ packet.to
-      reached = goal_reached rule.row.path packet.from packet.to (wire_checked plan packet.wire rule.row checked rule.is).once rule.joined ended
+      reached = goal_reached rule.row.path packet.from packet.to (wire_fits plan packet.wire rule.row checked rule.is).once rule.joined ended
 
       side : HasSide plan calm service told packet rule.row
       side = knows rule.entered.numbered rule.row rule.is same

@@ -3,6 +3,7 @@ use Rattle.std.proofs.Common.{◌≡◌, ◌≢◌, ◌<◌, ◌≤◌, ◌==◌
 use Rattle.std.proofs.lemmas.Bool.{eqb-true}
 use Rattle.std.proofs.lemmas.Bool.Decides.{nat_tests}
 use Rattle.std.proofs.lemmas.List.{length-map, length-set}
+use Rattle.std.proofs.lemmas.Option.{slice_get-get_or}
 use Rattle.net_values.specs.declared.addr.Addr.{Addr}
 use Rattle.net_base.specs.declared.plan.Plan.{Plan}
 use Rattle.net_base.specs.declared.plan.edge_plan.EdgePlan.{EdgePlan}
@@ -35,11 +36,6 @@ get_other (y ∷ ys) zero (suc k) x apart = refl
 get_other (y ∷ ys) (suc me) zero x apart = refl
 get_other (y ∷ ys) (suc me) (suc k) x apart = get_other ys me k x (λ e. apart (ap suc e))
 
-get_at : {A : Type 0} (xs : List A) (k : ℕ) (d : A) → k < length xs → slice_get xs k ≡ Some (get_or xs k d)
-get_at [] k d within = absurd (omega (arith, within))
-get_at (x ∷ xs) zero d within = refl
-get_at (x ∷ xs) (suc k) d within = get_at xs k d (omega (arith, within))
-
 none_past : {A : Type 0} (xs : List A) (k : ℕ) → k < length xs → slice_get xs k ≡ None → ⊥
 none_past [] k within none = omega (arith, within)
 none_past (x ∷ xs) zero within none = cc
@@ -67,7 +63,7 @@ found_of {A = A} P xs k x each is = subst (λ (o : Option A). IfSome o (P k)) is
 
 -- the item that stands at a place, whatever stands for those past the end
 item_is : {A : Type 0} (P : ℕ → A → Type 0) (xs : List A) (k : ℕ) (d : A) → ((k : ℕ) → IfSome (slice_get xs k) (P k)) → k < length xs → P k (get_or xs k d)
-item_is P xs k d each within = found_of P xs k (get_or xs k d) each (get_at xs k d within)
+item_is P xs k d each within = found_of P xs k (get_or xs k d) each (slice_get-get_or xs k d within)
 
 -- one item more
 pub each_push : {A : Type 0} (P : ℕ → A → Type 0) (xs : List A) (x : A) → ((k : ℕ) → IfSome (slice_get xs k) (P k)) → P (length xs) x → (k : ℕ) → IfSome (slice_get (xs ++ x ∷ []) k) (P k)

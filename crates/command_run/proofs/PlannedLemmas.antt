@@ -1,5 +1,5 @@
 -- The events that the commands of an accepted scenario make speak of its plan.
-use Rattle.std.proofs.Common.{◌≡◌, ◌<◌, ◌+◌, ◌++◌, ◌∷◌, [], ℕ, zero, suc, Bool, List, Option, Some, None, refl, sym, subst, arith, length, option_map, slice_get, inl, inr}
+use Rattle.std.proofs.Common.{◌≡◌, ◌<◌, ◌+◌, ◌∷◌, [], ℕ, zero, suc, Bool, List, Option, Some, None, refl, sym, subst, arith, length, option_map, slice_get, inl, inr}
 use Rattle.std.proofs.lemmas.Bool.{cases_Bool}
 use Rattle.std.proofs.lemmas.List.Elements.{All-append, All-cons, All-head, All-nil, All-tail}
 use Rattle.std.specs.List.{All}
@@ -20,11 +20,6 @@ use Rattle.command_text.specs.declared.command.Command.TheVariants.{One, Settle,
 use Rattle.command_text.specs.Planned.{IsPlanned}
 use Rattle.command_run.specs.Made.{arrivals, captures_after, deliveries, entering, event_and, made, made_by, next_frames, ticks, turns}
 use Rattle.command_run.proofs.MadeLemmas.{left_short, next_short}
-
--- the first ones of a list
-pub All-first : {X : Type 0} (P : X → Type 0) (xs ys : List X) → All P (xs ++ ys) → All P xs
-All-first P [] ys all = All-nil P
-All-first P (x ∷ xs) ys all = All-cons P x xs (All-head P x (xs ++ ys) all) (All-first P xs ys (All-tail P x (xs ++ ys) all))
 
 -- ---- the next delivery is between two edges of the plan
 

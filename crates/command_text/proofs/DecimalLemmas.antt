@@ -1,19 +1,16 @@
 -- The value of digits grows.
 use Rattle.std.proofs.Common.{◌≡◌, ◌<◌, ◌≤◌, ◌∙◌, ◌+◌, ◌-◌, ◌*◌, ℕ, false, List, [], ◌∷◌, nat_le, length, drop, get_or, sym, ap, arith}
 use Rattle.std.proofs.lemmas.List.{drop_more}
-use Rattle.std.proofs.lemmas.Bool.Decides.{nat_tests}
+use Rattle.std.proofs.lemmas.Bool.{lt-leb}
 use Rattle.command_text.specs.Words.{value_from}
 
 value_grows : (before : ℕ) (ds : List ℕ) → before ≤ value_from before ds
 value_grows before [] = omega arith
 value_grows before (d ∷ ds) = omega (arith, value_grows (before * 10 + (d - 48)) ds)
 
-refused : (value limit : ℕ) → limit < value → nat_le value limit ≡ false
-refused value limit above = grind (arith, nat_tests)
-
 -- a value above the limit stays there
 pub too_large : (next limit : ℕ) (ds : List ℕ) → limit < next → nat_le (value_from next ds) limit ≡ false
-too_large next limit ds above = refused (value_from next ds) limit (omega (arith, value_grows next ds))
+too_large next limit ds above = lt-leb (value_from next ds) limit (omega (arith, value_grows next ds))
 
 -- the value of one digit more is above the limit, so that of all is
 pub too_large_at : (value limit next i : ℕ) (text : List ℕ) → i < length text → value_from value (drop i text) ≡ value_from 0 text → next ≡ value * 10 + (get_or text i 0 - 48) → limit < next

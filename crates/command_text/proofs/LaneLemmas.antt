@@ -1,9 +1,10 @@
 -- Digits in lanes: what sixteen of them are worth, one by one, and their eight octets.
-use Rattle.std.proofs.Common.{◌≡◌, ◌<◌, ◌≤◌, ◌+◌, ◌-◌, ◌*◌, ◌%◌, ◌^◌, ◌&&◌, ◌||◌, ◌++◌, ◌∙◌, ℕ, zero, suc, Bool, true, false, not, cond, eqb, leb, T, eqb→eq, List, [], ◌∷◌, map, length, get_or, take, drop, replicate, Option, Some, None, nat_eq, option_and_then, option_map, if◌then◌else◌, refl, ap, ap₂, sym, arith, append_assoc, take-append-drop, Fits, w8}
+use Rattle.std.proofs.Common.{◌≡◌, ◌<◌, ◌≤◌, ◌+◌, ◌-◌, ◌*◌, ◌%◌, ◌^◌, ◌&&◌, ◌||◌, ◌++◌, ◌∙◌, ℕ, zero, suc, Bool, true, false, not, cond, eqb, leb, eqb→eq, List, [], ◌∷◌, map, length, get_or, take, drop, replicate, Option, Some, None, nat_eq, option_and_then, option_map, if◌then◌else◌, refl, ap, ap₂, sym, arith, append_assoc, take-append-drop, Fits, w8}
 use Rattle.std.proofs.lemmas.Bool.{agree_below, agree_below_at}
 use Rattle.std.proofs.lemmas.Bool.Decides.{nat_tests}
 use Rattle.std.proofs.lemmas.List.{length-map, length-take-le}
 use Rattle.std.proofs.lemmas.Simd.{zip2_splat_left, mask_l-mod, take_more_put_chunk}
+use Rattle.std.proofs.lemmas.Float.{T_from_true}
 use Rattle.std.specs.Prelude.{unwrap_or}
 use Rattle.std.specs.Simd.Lanes.{zip2, sel_l, mask_l, top, chunk, put_chunk, Each1}
 use Rattle.command_text.specs.Hex.{digit_value, unhex, worth}
@@ -34,15 +35,11 @@ pub splat_is : (v : List ℕ) (n y : ℕ) → length v ≡ n → replicate n y �
 splat_is [] n y e = ap (λ k. replicate k y) (sym e)
 splat_is (x ∷ xs) n y e = ap (λ k. replicate k y) (sym e) ∙ ap (λ r. y ∷ r) (splat_is xs (length xs) y refl)
 
-true_is : (b : Bool) → b ≡ true → T b
-true_is true e = tt
-true_is false e = absurd (cc)
-
 -- two functions that agree at each octet agree at each lane
 pub same_lanes : (f g : ℕ → ℕ) (v : List ℕ) → agree_below (λ x. eqb (f x) (g x)) (λ _. true) 256 ≡ true → Each1 (Fits w8) v → map f v ≡ map g v
 same_lanes f g [] all fits = refl
 same_lanes f g (x ∷ xs) all fits =
-    ap₂ (λ (a : ℕ) (r : List ℕ). a ∷ r) (eqb→eq (f x) (g x) (true_is (eqb (f x) (g x)) (agree_below_at (λ y. eqb (f y) (g y)) (λ _. true) 256 x all fits.0.fits))) (same_lanes f g xs all fits.1)
+    ap₂ (λ (a : ℕ) (r : List ℕ). a ∷ r) (eqb→eq (f x) (g x) (T_from_true (eqb (f x) (g x)) (agree_below_at (λ y. eqb (f y) (g y)) (λ _. true) 256 x all fits.0.fits))) (same_lanes f g xs all fits.1)
 
 -- ---- the octets of digits, by what each is worth
 abbrev strange : ℕ → Bool

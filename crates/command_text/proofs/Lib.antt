@@ -1,3 +1,4 @@
+pub mod CommonLemmas
 pub mod DecimalLemmas
 pub mod FrameLemmas
 pub mod HexLemmas

@@ -1,6 +1,6 @@
 -- Names by their places.
 use Rattle.std.proofs.Common.{◌≡◌, ◌<◌, ◌≤◌, ◌∙◌, ◌+◌, ◌==◌, ◌||◌, not, cond, ℕ, zero, suc, Bool, true, false, List, [], ◌∷◌, length, take, drop, get_or, Option, Some, None, IfSome, position, nat_lt, refl, sym, ap, arith, zero-add}
-use Rattle.std.proofs.lemmas.Bool.{false_from_ne_true}
+use Rattle.std.proofs.lemmas.Bool.{false_from_ne_true, not-true, ltb-true, not-false}
 use Rattle.std.proofs.lemmas.List.{drop_more, get_or-take, get_or_default, length-take-le}
 use Rattle.std.proofs.lemmas.List.Folds.{list_any_none, list_any_at}
 use Rattle.std.proofs.lemmas.List.Quantifiers.{position-Some}
@@ -10,6 +10,7 @@ use Rattle.std.specs.List.{position_or_len, list_any}
 use Rattle.std.specs.Map.{lookup}
 use Rattle.std.specs.Str.{bytes_eq}
 use Rattle.std.specs.Cmp.Lexicographic.{nat_list_eq_equiv}
+use Rattle.net_values.proofs.OptionLemmas.{within_of, placed}
 use Rattle.net_base.specs.plan.Faults.{clash_after}
 use Rattle.net_base.proofs.ClashLemmas.{clash_found, clash_passed}
 use Rattle.command_text.specs.Names.{place_in, FindsNames}
@@ -20,10 +21,6 @@ abbrev pub place_from : ℕ → (List ℕ → Bool) → List (List ℕ) → Opti
 place_from i p [] = None
 place_from i p (x ∷ xs) = cond (p x) (Some i) (place_from (i + 1) p xs)
 
-placed : (passes : Bool) (i n len : ℕ) → cond passes (Some i) (cond (nat_lt n len) (Some (i + 1 + n)) None) ≡ cond (nat_lt (cond (not passes) (1 + n) 0) (suc len)) (Some (i + cond (not passes) (1 + n) 0)) None
-placed true i n len = grind (arith, nat_tests)
-placed false i n len = grind (arith, nat_tests)
-
 -- the same by its number
 pub place_from_position : (i : ℕ) (p : List ℕ → Bool) (xs : List (List ℕ)) → place_from i p xs ≡ cond (nat_lt (position_or_len p xs) (length xs)) (Some (i + position_or_len p xs)) None
 place_from_position i p [] = refl
@@ -32,16 +29,9 @@ place_from_position i p (x ∷ xs) = ap (λ o. cond (p x) (Some i) o) (place_fro
 pub place_from_start : (p : List ℕ → Bool) (xs : List (List ℕ)) → place_from 0 p xs ≡ position p xs
 place_from_start p xs = place_from_position 0 p xs ∙ ap (λ n. cond (nat_lt (position_or_len p xs) (length xs)) (Some n) None) (zero-add (position_or_len p xs))
 
-within_of : (test : Bool) (n len : ℕ) → (test ≡ true → n < len) → IfSome (cond test (Some n) None) (λ place. place < len)
-within_of true n len below = below refl
-within_of false n len below = tt
-
-below_of : (n len : ℕ) → nat_lt n len ≡ true → n < len
-below_of n len test = grind (arith, nat_tests)
-
 -- a place is one of the list
 pub place_within : (names : List (List ℕ)) (name : List ℕ) → IfSome (place_in names name) (λ place. place < length names)
-place_within names name = within_of _ _ _ (below_of (position_or_len (bytes_eq name) names) (length names))
+place_within names name = within_of _ _ _ (ltb-true (position_or_len (bytes_eq name) names) (length names))
 
 -- the entries give each name its first place from i on
 pub record FindsFrom (i : ℕ) (names : List (List ℕ)) (entries : List (Bor (List ℕ) × ℕ)) : Type 0 where
@@ -90,10 +80,6 @@ first_with_none name xs at within is none =
     let first : position_or_len (bytes_eq name) xs ≡ at = position_or_len_is (bytes_eq name) xs at [] reach (λ k less. none_at (bytes_eq name) xs at k less reach none) (λ _. is) in
     rw first (grind (arith, nat_tests))
 
-not_true : (b : Bool) → not b ≡ true → b ≡ false
-not_true true e = absurd (cc)
-not_true false e = refl
-
 -- whether this is that place
 abbrev pub is_place : Option ℕ → ℕ → Bool
 is_place None at = false
@@ -117,14 +103,10 @@ first_there names at name found within is e =
 pub passed_at : (names : List (List ℕ)) (at : ℕ) → at < length names → not (list_any (λ old. bytes_eq old (get_or names at [])) (take at names)) ≡ true
     → clash_after bytes_eq (take (at + 1) names) (at + 1) (drop (at + 1) names) ≡ clash_after bytes_eq (take at names) at (drop at names)
 passed_at names at within e =
-    clash_passed bytes_eq [] names at (get_or names at []) (get_or_default names at [] (get_or names at []) within) within (not_true _ e)
-
-not_false : (b : Bool) → not b ≡ false → b ≡ true
-not_false true e = refl
-not_false false e = absurd (cc)
+    clash_passed bytes_eq [] names at (get_or names at []) (get_or_default names at [] (get_or names at []) within) within (not-true _ e)
 
 -- the name at a place stands before it, so the search ends there
 pub found_at : (names : List (List ℕ)) (at : ℕ) → at < length names → not (list_any (λ old. bytes_eq old (get_or names at [])) (take at names)) ≡ false
     → clash_after bytes_eq (take at names) at (drop at names) ≡ Some at
 found_at names at within e =
-    clash_found bytes_eq [] names at (get_or names at []) (get_or_default names at [] (get_or names at []) within) within (not_false _ e)
+    clash_found bytes_eq [] names at (get_or names at []) (get_or_default names at [] (get_or names at []) within) within (not-false _ e)

@@ -1,10 +1,11 @@
 -- Words by their numbers.
-use Rattle.std.proofs.Common.{◌≡◌, ◌<◌, ◌≤◌, ◌∙◌, ◌+◌, ◌-◌, ℕ, zero, suc, Bool, true, false, cond, not, refl, List, length, drop, nat_lt, Some, None, option_and_then, if◌then◌else◌, sym, ap, arith}
+use Rattle.std.proofs.Common.{◌≡◌, ◌<◌, ◌≤◌, ◌∙◌, ◌+◌, ◌-◌, ℕ, zero, suc, not, refl, List, length, drop, nat_lt, Some, None, option_and_then, if◌then◌else◌, sym, ap, arith}
 use Rattle.std.proofs.lemmas.Bool.{false_from_ne_true}
-use Rattle.std.proofs.lemmas.Bool.Decides.{Decides-ltb, nat_tests}
+use Rattle.std.proofs.lemmas.Bool.Decides.{Decides-ltb}
 use Rattle.std.proofs.lemmas.List.{drop-drop, take_all}
 use Rattle.std.proofs.lemmas.List.Sums.{prefix_len-le-length}
 use Rattle.std.specs.List.{position, position_or_len, after_first}
+use Rattle.net_values.proofs.OptionLemmas.{found_at, none_of}
 use Rattle.command_text.specs.Words.{is_space, after_word, first_word, word_after}
 
 -- one word less of the rest
@@ -34,16 +35,8 @@ no_space_before text e = take_all (position_or_len is_space text) text (omega (a
 pub place_le : (text : List ℕ) → position_or_len is_space text ≤ length text
 place_le text = prefix_len-le-length (λ x. not (is_space x)) text
 
-some_of : (test : Bool) (n at : ℕ) → Some at ≡ cond test (Some n) None → at ≡ n
-some_of true n at e = cc
-some_of false n at e = absurd (cc)
-
-none_of : (test : Bool) (n len : ℕ) → nat_lt n len ≡ test → n ≤ len → None ≡ cond test (Some n) None → len ≡ n
-none_of true n len is within e = absurd (cc)
-none_of false n len is within e = grind (arith, nat_tests)
-
 pub place_of_some : (text : List ℕ) (at : ℕ) → Some at ≡ position is_space text → at ≡ position_or_len is_space text
-place_of_some text at e = some_of (nat_lt (position_or_len is_space text) (length text)) (position_or_len is_space text) at e
+place_of_some text at e = found_at (nat_lt (position_or_len is_space text) (length text)) (position_or_len is_space text) at e
 
 pub place_of_none : (text : List ℕ) → None ≡ position is_space text → length text ≡ position_or_len is_space text
 place_of_none text e = none_of (nat_lt (position_or_len is_space text) (length text)) (position_or_len is_space text) (length text) refl (place_le text) e

@@ -1,9 +1,8 @@
 -- The ends of an edge's connections: each that stands behind an input stood before it, or has come to stand by it.
-use Rattle.std.proofs.Common.{◌≡◌, ◌⊎◌, ◌∙◌, nat_eq, ℕ, Bool, true, false, cond, Option, Some, None, inl, inr, refl, sym, ap, arith}
+use Rattle.std.proofs.Common.{◌≡◌, ◌⊎◌, ◌∙◌, nat_eq, ℕ, Bool, true, false, cond, Option, Some, None, inl, inr, refl, sym, ap}
 use Rattle.std.proofs.lemmas.Bool.{eqb-true}
-use Rattle.std.proofs.lemmas.Bool.Decides.{nat_tests}
+use Rattle.net_values.proofs.NumberLemmas.{same_number}
 use Rattle.net_base.specs.declared.plan.places.EdgeId.{EdgeId}
-use Rattle.net_base.specs.declared.trace.state_name.Reason.{Reason}
 use Rattle.net_base.specs.declared.trace.state_name.Reason.TheVariants as reason
 use Rattle.ldp_grammar.specs.declared.message.Message.{Message}
 use Rattle.session_core.specs.declared.reply.Reply.{Reply}
@@ -11,9 +10,9 @@ use Rattle.session_core.specs.Table.{SessionEvent}
 use Rattle.edge_model.specs.Put.{put_reply, put_reply_to}
 use Rattle.edge_model.specs.Session.{ends, happens, happens_to, happens_with_ends, had_said, says}
 use Rattle.edge_model.specs.State.{Peering, is_there, with_peering}
-use Rattle.edge_model.specs.Work.{Work, changes, gives}
+use Rattle.edge_model.specs.Work.{Work, changes}
 use Rattle.pw_messages.specs.LinkAnswers.{Answers}
-use Rattle.edge_model.proofs.HeldLemmas.{clears_keep}
+use Rattle.edge_model.proofs.HeldLemmas.{clears_keep, ended_gone}
 use Rattle.edge_model.proofs.MendLemmas.{says_nothing}
 use Rattle.edge_model.proofs.SessionLemmas.{IsBesides, advice_works, happens_with_ends_works, says_works}
 
@@ -23,7 +22,7 @@ pub record Stood (may : ℕ → Bool) (old new : Work) : Type 0 where
 
 module _ (may : ℕ → Bool) where
   pub stood_same : (a b : Work) → b.edge.peering ≡ a.edge.peering → Stood may a b
-  stood_same a b same = record { each = λ k is. inl (ap (λ (f : ℕ → Option Peering). is_there (f k)) (sym same) ∙ is) }
+  stood_same a b same_number = record { each = λ k is. inl (ap (λ (f : ℕ → Option Peering). is_there (f k)) (sym same_number) ∙ is) }
 
   pub stood_not : (work : Work) → Stood may work work
   stood_not work = record { each = λ k is. inl is }
@@ -49,28 +48,21 @@ module _ (may : ℕ → Bool) where
           inl (ap (λ (n : ℕ). is_there (a.edge.peering n)) at ∙ at_peer (a.edge.peering peer.0) refl (sym (ap (λ (n : ℕ). is_there (b.edge.peering n)) at) ∙ is))
       by k is false away = inl (sym (ap is_there (besides.others k away)) ∙ is)
 
-  same : (n : ℕ) → nat_eq n n ≡ true
-  same n = grind (arith, nat_tests)
-
   pub says_stood : (told : Answers) (peer : EdgeId) (message : ℕ → Message) (work : Work) → Stood may work (says told peer message work).work
   says_stood told peer message work =
-      stood_beside peer work (says told peer message work).work (says_works told (λ k. nat_eq k peer.0) peer message work (same peer.0)).edge
+      stood_beside peer work (says told peer message work).work (says_works told (λ k. nat_eq k peer.0) peer message work (same_number peer.0)).edge
       (λ none. ap (λ s. s.work.edge.peering peer.0) (says_nothing told peer message work none) ∙ none)
 
   pub happens_stood : (told : Answers) (peer : EdgeId) (event : SessionEvent) (work : Work) → Stood may work (happens_with_ends told peer event work)
   happens_stood told peer event work =
-      stood_beside peer work (happens_with_ends told peer event work) (happens_with_ends_works told (λ k. nat_eq k peer.0) peer event work (same peer.0)).edge
+      stood_beside peer work (happens_with_ends told peer event work) (happens_with_ends_works told (λ k. nat_eq k peer.0) peer event work (same_number peer.0)).edge
       (λ none.
       ap (λ (f : ℕ → Option Peering). f peer.0) (clears_keep peer (happens told peer event work))
       ∙ (ap (λ (o : Option Peering). (happens_to told peer event o work).edge.peering peer.0) none ∙ none))
 
-  ended_gone : (peer : EdgeId) (why : Reason) (work : Work) → (ends peer why work).edge.peering peer.0 ≡ None
-  unfolding changes gives with_peering
-  ended_gone peer why work = ap (λ (b : Bool). cond b None (work.edge.peering peer.0)) (same peer.0)
-
   pub advice_stood : (told : Answers) (peer : EdgeId) (reply : Reply) (work : Work) → Stood may work (had_said peer (put_reply told peer reply work)).work
   advice_stood told peer reply work =
-      stood_beside peer work (had_said peer (put_reply told peer reply work)).work (advice_works told (λ k. nat_eq k peer.0) peer reply work (same peer.0)).edge
+      stood_beside peer work (had_said peer (put_reply told peer reply work)).work (advice_works told (λ k. nat_eq k peer.0) peer reply work (same_number peer.0)).edge
       (λ none.
       ap (λ (o : Option Peering). (had_said peer (put_reply_to told peer reply o work)).work.edge.peering peer.0) none
       ∙ (ap (λ (f : ℕ → Option Peering). f peer.0) (clears_keep peer (ends peer reason.LinkFault work)) ∙ ended_gone peer reason.LinkFault work))

@@ -1,7 +1,8 @@
 -- What the events of the network leave of its connections.
-use Rattle.std.proofs.Common.{◌≡◌, ◌⊎◌, ◌∙◌, ◌+◌, ◌++◌, ◌&&◌, ◌||◌, nat_eq, ℕ, zero, suc, Bool, true, false, cond, List, [], ◌∷◌, length, Option, Some, None, inl, inr, refl, sym, ap, subst, arith}
+use Rattle.std.proofs.Common.{◌≡◌, ◌⊎◌, ◌∙◌, ◌+◌, ◌&&◌, ◌||◌, nat_eq, ℕ, zero, suc, Bool, true, false, cond, List, [], ◌∷◌, length, Option, Some, None, inl, inr, refl, sym, ap, subst, arith}
 use Rattle.std.proofs.lemmas.Bool.{eqb-true}
 use Rattle.std.proofs.lemmas.Bool.Decides.{nat_tests}
+use Rattle.net_values.proofs.NumberLemmas.{same_number}
 use Rattle.net_base.specs.declared.plan.Plan.{Plan}
 use Rattle.net_base.specs.declared.plan.circuit_plan.CircuitPlan.{CircuitPlan}
 use Rattle.net_base.specs.declared.plan.places.CircuitId.{CircuitId}
@@ -33,29 +34,16 @@ use Rattle.network_model.specs.Circuit.{circuit_event}
 use Rattle.network_model.specs.Frame.{entering, frame_event, frame_work}
 use Rattle.network_model.specs.declared.packet.Packet.{Packet}
 use Rattle.network_model.specs.Packet.{again_event, arrive_event, discard_event, packet_at, packet_work}
-use Rattle.network_model.specs.State.{NetworkState, stands, with_edge, with_pipe, with_packet, without_packet, without_octets_to, with_copy, with_frame, with_older}
+use Rattle.network_model.specs.State.{NetworkState, stands, with_edge, with_pipe, without_packet, without_octets_to, with_copy, with_frame, with_older}
 use Rattle.network_model.specs.Step.{step}
 use Rattle.network_model.specs.Age.{ageing}
 use Rattle.network_model.specs.Tick.{tick_at, ticks_from}
+use Rattle.network_model.proofs.CommonLemmas.{one_edges}
 use Rattle.connection_laws.specs.Laws.{EndsAreLost, EndsComeByConnections, connects_them}
 use Rattle.connection_laws.proofs.EndLemmas.{Stood}
 use Rattle.connection_laws.proofs.StepLemmas.{circuit_stood, connected_stood, lost_stood, octets_stood, priority_stood, restart_stood, status_stood, tick_stood, wire_stood}
 
 -- ---- what edges give out is no matter of their ends
-
-one_edges : (me : EdgeId) (origin hops : ℕ) (e : Effect) (network : NetworkState) → (absorb_one me origin hops e network).edges ≡ network.edges
-unfolding with_pipe with_packet
-one_edges me origin hops (effect.Said peer octets) network = by (stands network peer.0 me.0) where
-  by : (b : Bool) → (cond b (with_pipe me peer (network.pipes me.0 peer.0 ++ octets) network) network).edges ≡ network.edges
-  by true = refl
-  by false = refl
-one_edges me origin hops (effect.Sent peer wire came octets) network = refl
-one_edges me origin hops (effect.Closed peer) network = refl
-one_edges me origin hops (effect.Left circuit octets) network = refl
-one_edges me origin hops (effect.Dropped cause) network = refl
-one_edges me origin hops (effect.Session peer state) network = refl
-one_edges me origin hops (effect.Wire wire down) network = refl
-one_edges me origin hops (effect.Pong wire sequence) network = refl
 
 all_edges : (me : EdgeId) (origin hops : ℕ) (es : List Effect) (network : NetworkState) → (absorb_all me origin hops es network).edges ≡ network.edges
 all_edges me origin hops [] network = refl
@@ -230,9 +218,6 @@ module _ (plan : Plan) (network : NetworkState) where
       subst (NetStood may network.edges)
       (sym (all_edges to 0 0 second.effects (absorb_all from 0 0 first.effects put) ∙ all_edges from 0 0 first.effects put))
       (both_stood may from to first second one other)
-
-  same_number : (n : ℕ) → nat_eq n n ≡ true
-  same_number n = grind (arith, nat_tests)
 
   connect_stood : (from to : EdgeId) → NetStood (connects_them (Connect from to)) network.edges (step plan network (Connect from to)).state.edges
   connect_stood from to =

@@ -11,12 +11,9 @@ use Rattle.net_base.specs.declared.trace.state_name.Reason.TheVariants as reason
 use Rattle.net_base.specs.declared.trace.state_name.StateName.TheVariants as name
 use Rattle.net_base.specs.plan.Paths.{are_joined}
 use Rattle.net_base.specs.plan.Places.{wire_row}
-use Rattle.pw_tlvs.specs.declared.pw_fec.PwFec.{PwFec}
 use Rattle.pw_tlvs.specs.declared.pw_status.PwStatus.{PwStatus}
-use Rattle.pw_signalling.specs.declared.told.Told.{Told}
 use Rattle.pw_messages.specs.Content.{mac_withdrawal, mapping, release, status_notification, withdrawal}
 use Rattle.pw_messages.specs.LinkAnswers.{Answers}
-use Rattle.pw_signalling.specs.End.{EndState}
 use Rattle.pw_signalling.specs.Rows.{bound, group_stated, group_unbound, stated, unbound}
 use Rattle.session_core.specs.Table as table
 use Rattle.edge_model.specs.declared.effect.Effect.{Effect}
@@ -24,7 +21,7 @@ use Rattle.edge_model.specs.declared.effect.Effect.TheVariants as effect
 use Rattle.edge_model.specs.declared.end_place.EndPlace.{EndPlace}
 use Rattle.edge_model.specs.Circuit.{circuit_input, is_same, turned}
 use Rattle.edge_model.specs.Connection.{connected_input, connects_between, lost_input, opened_with, restart_input}
-use Rattle.edge_model.specs.EndPlaces.{end_named, ends_here, passes}
+use Rattle.edge_model.specs.EndPlaces.{ends_here, passes}
 use Rattle.edge_model.specs.Frame.{is_own}
 use Rattle.edge_model.specs.Hear.{hears_on, octets_input}
 use Rattle.edge_model.specs.Labels.{meeting}
@@ -33,34 +30,17 @@ use Rattle.edge_model.specs.Role.{down_at, status_to_tell}
 use Rattle.edge_model.specs.Session.{happens_with_ends}
 use Rattle.edge_model.specs.Signal.{end_of_fec, with_end_changed, with_named, with_released}
 use Rattle.edge_model.specs.Spokes.{choosing}
-use Rattle.edge_model.specs.State.{EdgeState, Peering, has_end, is_on, is_there, with_addresses, with_bits, with_chosen, with_circuit, with_end, with_ends_beside, with_kept, with_learned, with_next_label, with_peering, with_priority, with_renewed, with_ticks, with_told_down, with_wire, without_ends, without_peerings}
+use Rattle.edge_model.specs.State.{EdgeState, Peering, has_end, is_on, is_there, with_bits, with_chosen, with_end, with_kept, with_learned, with_peering, with_priority, with_ticks, with_told_down, without_ends, without_peerings}
 use Rattle.edge_model.specs.Tick.{counted, forgetting, tick_input, ticks_sessions}
 use Rattle.edge_model.specs.Wire.{is_own_spoke, priority_input, status_input, turned_wire, wire_input}
 use Rattle.edge_model.specs.Work.{Work, changes, gives, idles}
 use Rattle.edge_model.proofs.BridgeLemmas.{forgetting_only, withdrawing_only}
 use Rattle.edge_model.proofs.WalkLemmas.{HearSteps, MendSteps, hears_on_holds, mends_holds, ticks_hold}
+use Rattle.edge_model.proofs.CommonLemmas.{advertising_changed}
+use Rattle.edge_model.proofs.FitLemmas.{named_keeps, turned_wire_keeps, changed_keeps, released_keeps, turned_keeps}
 use Rattle.connection_laws.proofs.EndLemmas.{Stood, advice_stood, happens_stood, holds_stood, says_stood, stood_not, stood_same, stood_then}
 
 -- ---- changes of an edge that are no matter of its connections
-
-end_changed : (change : EndState → EndState) (place : Option EndPlace) (edge : EdgeState) → (with_end_changed change place edge).peering ≡ edge.peering
-unfolding with_end
-end_changed change None edge = refl
-end_changed change (Some place) edge = refl
-
-named_changed : (plan : Plan) (peer : EdgeId) (fec : PwFec) (one all : EndState → EndState) (pw_id : Option ℕ) (edge : EdgeState) → (with_named plan peer fec one all pw_id edge).peering ≡ edge.peering
-unfolding with_ends_beside
-named_changed plan peer fec one all None edge = refl
-named_changed plan peer fec one all (Some pw_id) edge = end_changed one (end_named plan edge.me peer pw_id) edge
-
-released_changed : (label : Option ℕ) (place : Option EndPlace) (edge : EdgeState) → (with_released label place edge).peering ≡ edge.peering
-unfolding with_end with_kept
-released_changed label None edge = refl
-released_changed label (Some place) edge = refl
-
-advertising_changed : (place : EndPlace) (label : ℕ) (content : Told) (edge : EdgeState) → (advertising place label content edge).peering ≡ edge.peering
-unfolding with_end with_next_label with_kept
-advertising_changed place label content edge = refl
 
 withdrawing_changed : (place : EndPlace) (edge : EdgeState) → (withdrawing place edge).peering ≡ edge.peering
 unfolding with_end
@@ -69,16 +49,6 @@ withdrawing_changed place edge = refl
 telling_changed : (place : EndPlace) (status : PwStatus) (edge : EdgeState) → (telling_status place status edge).peering ≡ edge.peering
 unfolding with_end
 telling_changed place status edge = refl
-
-turned_changed : (plan : Plan) (circuit : CircuitId) (row : CircuitPlan) (on : Bool) (edge : EdgeState) → (turned plan circuit row on edge).peering ≡ edge.peering
-unfolding with_circuit with_addresses
-turned_changed plan circuit row true edge = refl
-turned_changed plan circuit row false edge = refl
-
-wire_changed : (wire : WireId) (on : Bool) (edge : EdgeState) → (turned_wire wire on edge).peering ≡ edge.peering
-unfolding with_wire with_renewed
-wire_changed wire true edge = refl
-wire_changed wire false edge = refl
 
 module _ (may : ℕ → Bool) where
   changes_stood : (change : EdgeState → EdgeState) (work : Work) → (change work.edge).peering ≡ work.edge.peering → Stood may work (changes change work)
@@ -124,13 +94,13 @@ module _ (may : ℕ → Bool) where
     advises = advice_stood may told;
     holds = λ peer kept octets work is. holds_stood may peer kept (record kept { held = octets }) work is;
     releases = λ peer fec label work. says_stood may told peer (release fec label) work;
-    binds = λ peer fec place binding work there is taken. changes_stood (with_end_changed (bound binding) (Some place)) work (end_changed (bound binding) (Some place) work.edge);
+    binds = λ peer fec place binding work there is taken. changes_stood (with_end_changed (bound binding) (Some place)) work (changed_keeps (bound binding) (Some place) work.edge);
     unbinds = λ peer fec label work there.
-        changes_stood (with_named plan peer fec (unbound label) (group_unbound fec.group) fec.pw_id) work (named_changed plan peer fec (unbound label) (group_unbound fec.group) fec.pw_id work.edge);
+        changes_stood (with_named plan peer fec (unbound label) (group_unbound fec.group) fec.pw_id) work (named_keeps plan peer fec (unbound label) (group_unbound fec.group) fec.pw_id work.edge);
     released = λ peer fec label work there.
-        changes_stood (λ edge. with_released label (end_of_fec plan edge peer fec) edge) work (released_changed label (end_of_fec plan work.edge peer fec) work.edge);
+        changes_stood (λ edge. with_released label (end_of_fec plan edge peer fec) edge) work (released_keeps label (end_of_fec plan work.edge peer fec) work.edge);
     states = λ peer fec status work there.
-        changes_stood (with_named plan peer fec (stated status) (group_stated fec.group status) fec.pw_id) work (named_changed plan peer fec (stated status) (group_stated fec.group status) fec.pw_id work.edge);
+        changes_stood (with_named plan peer fec (stated status) (group_stated fec.group status) fec.pw_id) work (named_keeps plan peer fec (stated status) (group_stated fec.group status) fec.pw_id work.edge);
     clears = λ service addresses from work. stood_same may work _ (withdrawing_only service addresses from work).edge.peering;
   }
 
@@ -169,11 +139,11 @@ module _ (may : ℕ → Bool) where
   pub circuit_stood : (plan : Plan) (told : Answers) (circuit : CircuitId) (on : Bool) (row : Option CircuitPlan) (work : Work) → Stood may work (circuit_input plan told circuit on row work)
   circuit_stood plan told circuit on None work = idles_stood work
   circuit_stood plan told circuit on (Some row) work =
-      either (is_own work.edge row && not (is_same on (is_on work.edge circuit))) work _ (changed_stood plan told (turned plan circuit row on) work (turned_changed plan circuit row on work.edge))
+      either (is_own work.edge row && not (is_same on (is_on work.edge circuit))) work _ (changed_stood plan told (turned plan circuit row on) work (turned_keeps plan circuit row on work.edge))
 
   pub wire_stood : (plan : Plan) (told : Answers) (wire : WireId) (on : Bool) (work : Work) → Stood may work (wire_input plan told wire on work)
   wire_stood plan told wire on work =
-      either (passes plan work.edge.me wire && not (is_same on (work.edge.wire_on wire.0))) work _ (changed_stood plan told (turned_wire wire on) work (wire_changed wire on work.edge))
+      either (passes plan work.edge.me wire && not (is_same on (work.edge.wire_on wire.0))) work _ (changed_stood plan told (turned_wire wire on) work (turned_wire_keeps wire on work.edge))
 
   pub status_stood : (plan : Plan) (told : Answers) (wire : WireId) (bits : ℕ) (work : Work) → Stood may work (status_input plan told wire bits work)
   unfolding with_bits

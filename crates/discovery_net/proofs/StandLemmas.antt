@@ -1,9 +1,10 @@
 -- An end of a connection stands only where its edge's adjacency with the peer lives.
-use Rattle.std.proofs.Common.{◌≡◌, ◌⊎◌, ◌<◌, ◌≤◌, ◌==◌, ◌+◌, ◌-◌, ◌++◌, ◌∙◌, ◌&&◌, ◌||◌, not, nat_lt, ℕ, zero, suc, Bool, true, false, List, [], ◌∷◌, length, option_map, slice_get, Option, Some, None, if◌then◌else◌, inl, inr, refl, sym, ap, subst, arith}
-use Rattle.std.proofs.lemmas.Bool.{cases_Bool, eqb-true}
+use Rattle.std.proofs.Common.{◌≡◌, ◌⊎◌, ◌<◌, ◌≤◌, ◌==◌, ◌+◌, ◌-◌, ◌++◌, ◌∙◌, ◌&&◌, not, nat_lt, ℕ, zero, suc, Bool, true, false, List, [], ◌∷◌, length, option_map, slice_get, Option, Some, None, if◌then◌else◌, inl, inr, refl, sym, ap, subst, arith}
+use Rattle.std.proofs.lemmas.Bool.{cases_Bool, eqb-true, or_cases}
 use Rattle.std.proofs.lemmas.List.Elements.{All-head, All-tail}
 use Rattle.std.specs.List.{All, AllByRecursion}
 use Rattle.std.proofs.lemmas.Bool.Decides.{nat_tests}
+use Rattle.net_values.proofs.BoolLemmas.{first_holds, second_holds}
 use Rattle.net_base.specs.declared.plan.Plan.{Plan}
 use Rattle.net_base.specs.declared.plan.places.EdgeId.{EdgeId}
 use Rattle.net_base.specs.declared.trace.event.Event.{Event}
@@ -142,14 +143,6 @@ heard_lives me from hold histories a b is = by (a == me.0)
     by true = fresh (from == b)
     by false = is
 
-and_left : (x y : Bool) → x && y ≡ true → x ≡ true
-and_left true y is = refl
-and_left false y is = absurd (cc (is))
-
-and_right : (x y : Bool) → x && y ≡ true → y ≡ true
-and_right true y is = is
-and_right false y is = absurd (cc (is))
-
 -- the edges are those of an adjacency that ends
 abbrev IsAmong : ℕ → ℕ → List Lapse → Type 0
 IsAmong a b [] = ⊥
@@ -189,23 +182,19 @@ module _ (plan : Plan) where
   held_open d from to of_plan held = by (are_joined plan from.0 to.0) (may_open d from to) refl
     where
       there : (a b x y : ℕ) → a == x && b == y ≡ true → (a ≡ x) × (b ≡ y)
-      there a b x y is = (eqb-true a x (and_left (a == x) (b == y) is), eqb-true b y (and_right (a == x) (b == y) is))
+      there a b x y is = (eqb-true a x (first_holds (a == x) (b == y) is), eqb-true b y (second_holds (a == x) (b == y) is))
 
       connected : may_open d from to ≡ true → Held plan (step plan d.network (Connect from to)).state d.histories
       connected both a b is = of (come_by_connections plan d.network (Connect from to) a b is)
         where
-          way : (x y : Bool) → x || y ≡ true → (x ≡ true) ⊎ (y ≡ true)
-          way true y is = inl refl
-          way false y is = inr is
-
           at : (m n : ℕ) → (a ≡ m) × (b ≡ n) → m < length plan.edges → n < length plan.edges → live n (d.histories m) ≡ true → (a < length plan.edges) × ((b < length plan.edges) × (live b (d.histories a) ≡ true))
           at m n same one other lives = (rw same.0 one, (rw same.1 other, (λ i. live (same.1 i) (d.histories (same.0 i))) ∙ lives))
 
           of : (stands d.network a b ≡ true) ⊎ (connects_them (Connect from to) a b ≡ true) → (a < length plan.edges) × ((b < length plan.edges) × (live b (d.histories a) ≡ true))
           of (inl stood) = held a b stood
-          of (inr came) = elim (way (a == from.0 && b == to.0) (a == to.0 && b == from.0) came) [
-            | inl first ↦ at from.0 to.0 (there a b from.0 to.0 first) of_plan.0 of_plan.1 (and_left (adjacency_lives d from.0 to.0) (adjacency_lives d to.0 from.0) both)
-            | inr back ↦ at to.0 from.0 (there a b to.0 from.0 back) of_plan.1 of_plan.0 (and_right (adjacency_lives d from.0 to.0) (adjacency_lives d to.0 from.0) both)
+          of (inr came) = elim (or_cases (a == from.0 && b == to.0) (a == to.0 && b == from.0) came) [
+            | inl first ↦ at from.0 to.0 (there a b from.0 to.0 first) of_plan.0 of_plan.1 (first_holds (adjacency_lives d from.0 to.0) (adjacency_lives d to.0 from.0) both)
+            | inr back ↦ at to.0 from.0 (there a b to.0 from.0 back) of_plan.1 of_plan.0 (second_holds (adjacency_lives d from.0 to.0) (adjacency_lives d to.0 from.0) both)
           ]
 
       by : (joined may : Bool) → may_open d from to ≡ may

@@ -3,11 +3,12 @@ use Rattle.std.proofs.Common.{◌≡◌, ◌<◌, ◌≤◌, ◌+◌, ◌∙◌,
 use Rattle.std.specs.Prelude.{All}
 use Rattle.std.proofs.lemmas.Bool.{cases_order, eqb-true}
 use Rattle.std.proofs.lemmas.Bool.Decides.{nat_tests}
+use Rattle.net_values.proofs.RowLemmas.{same_read}
 use Rattle.edge_forwarding.specs.declared.domain.Domain.{Domain}
 use Rattle.edge_forwarding.specs.declared.domain_change.DomainChange.{DomainChange}
 use Rattle.edge_forwarding.specs.declared.domain_change.DomainChange.TheVariants as change
 use Rattle.edge_forwarding.specs.Change.{AreChanged, IsKeptChanged, MayChange}
-use Rattle.edge_forwarding.proofs.Views.{past_end, same_read, view_at}
+use Rattle.edge_forwarding.proofs.Views.{past_end, view_at}
 
 -- where there is no domain nothing is changed
 pub changed_none : (to : DomainChange) → IsKeptChanged to None None

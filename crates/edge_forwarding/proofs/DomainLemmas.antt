@@ -3,6 +3,10 @@ use Rattle.std.proofs.Common.{◌≡◌, ◌<◌, ◌+◌, ◌++◌, ◌∙◌, 
 use Rattle.std.proofs.lemmas.Bool.{cases_order, eqb-true}
 use Rattle.std.proofs.lemmas.Bool.Decides.{nat_tests}
 use Rattle.std.proofs.lemmas.Option.{slice_get_read}
+use Rattle.std.proofs.lemmas.List.{length_push}
+use Rattle.net_values.proofs.BoolLemmas.{and_false, and_true}
+use Rattle.net_values.proofs.NumberLemmas.{zero_below, lt_next}
+use Rattle.net_values.proofs.RowLemmas.{last_of}
 use Rattle.net_base.specs.declared.plan.Plan.{Plan}
 use Rattle.net_base.specs.declared.plan.places.EdgeId.{EdgeId}
 use Rattle.net_base.specs.declared.plan.service_plan.ServicePlan.{ServicePlan}
@@ -12,13 +16,13 @@ use Rattle.mac_table.specs.declared.mac_entry.MacEntry.{MacEntry}
 use Rattle.edge_model.specs.State.{without_port}
 use Rattle.edge_forwarding.specs.Domain.{AreNew, IsNew, forgot_domain}
 use Rattle.hvpls_spokes.specs.Port.{is_wire}
-use Rattle.edge_forwarding.proofs.EachLemmas.{before_push, long_push, past_push}
+use Rattle.edge_forwarding.proofs.EachLemmas.{before_push}
 
 next_new : (plan : Plan) (me : EdgeId) (place : ℕ) (domains : List (Option Domain)) (kept : Option Domain) (service : ServicePlan)
     → AreNew plan me place domains → slice_get plan.services place ≡ Some service → IsNew plan me (record { 0 = place }) service.age kept
     → AreNew plan me (place + 1) (domains ++ kept ∷ [])
 next_new plan me place domains kept service are at is = record {
-  len = long_push domains kept ∙ ap (λ (n : ℕ). n + 1) are.len;
+  len = length_push domains kept ∙ ap (λ (n : ℕ). n + 1) are.len;
   each = λ k row below found. elim (cases_order k place) [
     | inl same ↦ of k row found (inr same)
     | inr rest ↦ elim rest [
@@ -33,7 +37,7 @@ next_new plan me place domains kept service are at is = record {
         subst (IsNew plan me (record { 0 = k }) row.age) (sym (before_push domains kept None k (omega (arith, are.len)))) (are.each k row earlier found)
     of k row found (inr here) =
         let one : service ≡ row = cc (at, found, here) in
-        let placed : slice_index_or (domains ++ kept ∷ []) k None ≡ kept = ap (λ (n : ℕ). slice_index_or (domains ++ kept ∷ []) n None) (here ∙ sym are.len) ∙ past_push domains kept None in
+        let placed : slice_index_or (domains ++ kept ∷ []) k None ≡ kept = ap (λ (n : ℕ). slice_index_or (domains ++ kept ∷ []) n None) (here ∙ sym are.len) ∙ last_of domains kept None in
         subst (IsNew plan me (record { 0 = k }) row.age) (sym placed)
         (subst (λ (n : ℕ). IsNew plan me (record { 0 = n }) row.age kept) (sym here) (subst (λ (r : ServicePlan). IsNew plan me (record { 0 = place }) r.age kept) one is))
 
@@ -47,9 +51,6 @@ new_next plan me place domains now kept services service are same within read is
 
 -- ---- the ports of wires are closed one by one
 
-lt_next : (p k : ℕ) → nat_eq p k ≡ false → nat_lt p (k + 1) ≡ nat_lt p k
-lt_next p k apart = grind (arith, nat_tests, apart)
-
 lt_here : (p k : ℕ) → nat_eq p k ≡ true → nat_lt p (k + 1) ≡ true
 lt_here p k same = grind (arith, nat_tests, same)
 
@@ -62,10 +63,6 @@ pub closed_next : (ports : List Port) (old now next : ℕ → Bool) (k : ℕ)
     → ((p : ℕ) → next p ≡ (now p && not (nat_eq p k && is_wire (slice_get ports k))))
     → (p : ℕ) → next p ≡ (old p && not (nat_lt p (k + 1) && is_wire (slice_get ports p)))
 closed_next ports old now next k so_far one p = one p ∙ (ap (λ (b : Bool). b && not (nat_eq p k && is_wire (slice_get ports k))) (so_far p) ∙ by (nat_eq p k) refl) where
-  and_true : (b : Bool) → b && true ≡ b
-  and_true true = refl
-  and_true false = refl
-
   by : (same : Bool) → nat_eq p k ≡ same → (old p && not (nat_lt p k && is_wire (slice_get ports p))) && not (same && is_wire (slice_get ports k)) ≡ (old p && not (nat_lt p (k + 1) && is_wire (slice_get ports p)))
   by false is = and_true (old p && not (nat_lt p k && is_wire (slice_get ports p))) ∙ ap (λ (b : Bool). old p && not (b && is_wire (slice_get ports p))) (sym (lt_next p k is))
   by true is =
@@ -75,18 +72,12 @@ closed_next ports old now next k so_far one p = one p ∙ (ap (λ (b : Bool). b 
       ∙ (ap (λ (n : ℕ). old p && not (is_wire (slice_get ports n))) (sym at)
       ∙ ap (λ (b : Bool). old p && not (b && is_wire (slice_get ports p))) (sym (lt_here p k is))))
 
-lt_zero : (n : ℕ) → nat_lt 0 (suc n) ≡ true
-lt_zero n = grind (arith, nat_tests)
-
 lt_suc : (p n : ℕ) → nat_lt (suc p) (suc n) ≡ nat_lt p n
 lt_suc p n = grind (arith, nat_tests)
 
 wire_within : (ports : List Port) (p : ℕ) → nat_lt p (length ports) && is_wire (slice_get ports p) ≡ is_wire (slice_get ports p)
-wire_within [] p = by (nat_lt p 0) where
-  by : (b : Bool) → b && false ≡ false
-  by true = refl
-  by false = refl
-wire_within (x ∷ ports) zero = ap (λ (b : Bool). b && is_wire (Some x)) (lt_zero (length ports))
+wire_within [] p = and_false (nat_lt p 0)
+wire_within (x ∷ ports) zero = ap (λ (b : Bool). b && is_wire (Some x)) (zero_below (length ports))
 wire_within (x ∷ ports) (suc p) = ap (λ (b : Bool). b && is_wire (slice_get ports p)) (lt_suc p (length ports)) ∙ wire_within ports p
 
 -- all ports

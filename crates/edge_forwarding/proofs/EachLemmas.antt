@@ -1,45 +1,25 @@
 -- A list whose items are changed one by one.
 use Rattle.std.proofs.Common.{◌≡◌, ◌<◌, ◌≤◌, ◌+◌, ◌++◌, ◌∙◌, ◌==◌, ℕ, zero, suc, Bool, true, false, cond, filter, not, List, [], ◌∷◌, Some, None, length, slice_get, slice_index_or, set, get_or, take, drop, map, replicate, refl, ap, subst, arith}
 use Rattle.std.proofs.lemmas.Bool.{eq-eqb}
+use Rattle.net_values.proofs.RowLemmas.{edited_next, edited_length}
 use Rattle.mac_table.specs.declared.mac_entry.MacEntry.{MacEntry}
-
-aged_from : {X : Type 0} (f : X → X) (xs : List X) (i : ℕ) (d : X) → i < length xs
-    → set (map f (take i xs) ++ drop i xs) i (f (get_or (map f (take i xs) ++ drop i xs) i d)) ≡ map f (take (suc i) xs) ++ drop (suc i) xs
-aged_from f [] i d within = absurd (omega arith)
-aged_from f (x ∷ xs) zero d within = refl
-aged_from {X = X} f (x ∷ xs) (suc i) d within = ap (λ (l : List X). f x ∷ l) (aged_from f xs i d (omega arith))
-
-joined : {X : Type 0} (f : X → X) (xs : List X) (i : ℕ) → length (map f (take i xs) ++ drop i xs) ≡ length xs
-joined f [] zero = refl
-joined f [] (suc i) = refl
-joined f (x ∷ xs) zero = refl
-joined f (x ∷ xs) (suc i) = ap suc (joined f xs i)
 
 -- one item more
 pub each_next : {X : Type 0} (f : X → X) (xs now : List X) (i : ℕ) (x y : X) → now ≡ map f (take i xs) ++ drop i xs → i < length now → x ≡ get_or now i x → y ≡ f x
     → set now i y ≡ map f (take (i + 1) xs) ++ drop (i + 1) xs
 each_next {X = X} f xs now i x y so_far within read after =
-    let parts : length (map f (take i xs) ++ drop i xs) ≡ length xs = joined f xs i in
+    let parts : length (map f (take i xs) ++ drop i xs) ≡ length xs = edited_length f xs i in
     let below : i < length xs = omega (arith, ap length so_far) in
     let next : suc i ≡ i + 1 = omega arith in
     ap (λ (v : X). set now i v) (after ∙ ap f read)
     ∙ (ap (λ (l : List X). set l i (f (get_or l i x))) so_far
-    ∙ (aged_from f xs i x below
+    ∙ (edited_next f xs i x below
     ∙ ap (λ (n : ℕ). map f (take n xs) ++ drop n xs) next))
-
--- one new domain more
-pub past_push : {X : Type 0} (xs : List X) (x d : X) → slice_index_or (xs ++ x ∷ []) (length xs) d ≡ x
-past_push [] x d = refl
-past_push (y ∷ xs) x d = past_push xs x d
 
 pub before_push : {X : Type 0} (xs : List X) (x d : X) (k : ℕ) → k < length xs → slice_index_or (xs ++ x ∷ []) k d ≡ slice_index_or xs k d
 before_push [] x d k within = absurd (omega arith)
 before_push (y ∷ xs) x d zero within = refl
 before_push (y ∷ xs) x d (suc k) within = before_push xs x d k (omega arith)
-
-pub long_push : {X : Type 0} (xs : List X) (x : X) → length (xs ++ x ∷ []) ≡ length xs + 1
-long_push [] x = refl
-long_push (y ∷ xs) x = omega (arith, long_push xs x)
 
 -- a port's addresses are dropped, the first one among them
 filtered : (port : ℕ) (entries : List MacEntry) → length (filter (λ e. not (e.port == port)) entries) ≤ length entries

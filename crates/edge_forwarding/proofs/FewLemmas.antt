@@ -1,12 +1,12 @@
 -- No more addresses are held than a bridge has room for.
-use Rattle.std.proofs.Common.{◌≡◌, ◌<◌, ◌≤◌, ◌++◌, ℕ, suc, Bool, true, false, not, cond, filter, length, nat_eq, nat_lt, List, [], ◌∷◌, Option, Some, None, length-append, refl, ap, inl, inr, arith}
-use Rattle.std.proofs.lemmas.Bool.{cases_Bool}
-use Rattle.std.proofs.lemmas.Bool.Decides.{nat_tests}
+use Rattle.std.proofs.Common.{◌≤◌, ◌++◌, ℕ, Bool, true, false, not, cond, filter, length, nat_eq, List, [], ◌∷◌, Option, Some, None, length-append, refl, inl, inr, arith}
+use Rattle.std.proofs.lemmas.Bool.{cases_Bool, ltb-true}
 use Rattle.std.proofs.lemmas.List.Filters.{length-filter_both}
 use Rattle.net_values.specs.Mac.{is_group_address}
 use Rattle.net_values.specs.declared.mac.Mac.{Mac}
-use Rattle.mac_table.specs.Addresses.{has_address, has_room, is_of, learned, replaced}
+use Rattle.mac_table.specs.Addresses.{has_address, has_room, learned, replaced}
 use Rattle.mac_table.specs.declared.mac_entry.MacEntry.{MacEntry}
+use Rattle.mac_table.proofs.AddressLemmas.{length-replaced}
 use Rattle.vsi_bridge.specs.BridgeState.{most_addresses, table_of}
 use Rattle.vsi_bridge.specs.Targets.{heard}
 use Rattle.edge_model.specs.State.{without_port}
@@ -18,22 +18,12 @@ pub few_without_port : (found : Option ℕ) (entries : List MacEntry) → length
 few_without_port None entries few = few
 few_without_port (Some p) entries few = few_filtered (λ e. not (nat_eq e.port p)) entries few
 
-length-replaced : (entry : MacEntry) (entries : List MacEntry) → length (replaced entry entries) ≡ length entries
-length-replaced entry [] = refl
-length-replaced entry (e ∷ es) = elim (is_of entry.address e) as (λ v. length (cond v (entry ∷ es) (e ∷ replaced entry es)) ≡ length (e ∷ es)) [
-  | true ↦ refl
-  | false ↦ ap suc (length-replaced entry es)
-]
-
-is_below : (a n : ℕ) → nat_lt a n ≡ true → a < n
-is_below a n less = grind (arith, nat_tests)
-
 -- a new address is held only where there is room for it
 few_learned : (entries : List MacEntry) (entry : MacEntry) → length entries ≤ most_addresses → length (learned (table_of entries) entry) ≤ most_addresses
 few_learned entries entry few = elim (has_address entries entry.address) as (λ v. length (cond v (replaced entry entries) (cond (has_room (table_of entries)) (entries ++ entry ∷ []) entries)) ≤ most_addresses) [
   | true ↦ rw (length-replaced entry entries) few
   | false ↦ elim (cases_Bool (has_room (table_of entries))) [
-    | inl room ↦ rw room (omega (arith, length-append entries (entry ∷ []), is_below (length entries) most_addresses room))
+    | inl room ↦ rw room (omega (arith, length-append entries (entry ∷ []), ltb-true (length entries) most_addresses room))
     | inr full ↦ rw full few
   ]
 ]

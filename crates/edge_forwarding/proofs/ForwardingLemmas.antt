@@ -2,7 +2,6 @@
 use Rattle.std.proofs.Common.{◌≡◌, ◌<◌, ◌≤◌, ◌+◌, ◌++◌, ◌∙◌, ◌⊎◌, ◌&&◌, not, ℕ, zero, suc, Bool, true, false, List, [], ◌∷◌, Option, Some, None, cond, filter, length, option_map, slice_get, slice_set, slice_index_or, map, take, drop, set, position, nat_eq, replicate, refl, ap, sym, subst, inl, inr, arith, length-set}
 use Rattle.std.proofs.lemmas.Bool.{eq-eqb, eqb-true}
 use Rattle.std.proofs.lemmas.List.{length-map}
-use Rattle.std.proofs.lemmas.List.Elements.{All-get_or}
 use Rattle.std.proofs.lemmas.Option.{slice_get_within, slice_get_past, get_or_from_slice_get}
 use Rattle.std.specs.Prelude.{All}
 use Rattle.net_base.specs.declared.plan.Plan.{Plan}
@@ -16,6 +15,7 @@ use Rattle.net_base.specs.declared.plan.places.WireId.{WireId}
 use Rattle.net_base.specs.declared.trace.down.Down.{Down}
 use Rattle.net_base.specs.declared.trace.down.Down.TheVariants.{NoLocal}
 use Rattle.net_values.specs.declared.mac.Mac.{Mac}
+use Rattle.net_values.proofs.RowLemmas.{row_holds, replicate_length, same_read}
 use Rattle.net_base.specs.plan.Accepted.{IsChecked, IsCircuitOf, IsWireOf}
 use Rattle.net_base.specs.plan.Places.{circuit_row, service_row, wire_row}
 use Rattle.hvpls_spokes.specs.declared.port.Port.{Port}
@@ -41,7 +41,7 @@ use Rattle.edge_forwarding.specs.Views.{view}
 use Rattle.edge_forwarding.proofs.OpenLemmas.{closed_port, opens_within, same_tests, told_elsewhere, told_ports, turned_elsewhere, turned_ports}
 use Rattle.edge_forwarding.proofs.EachLemmas.{each_next}
 use Rattle.edge_forwarding.proofs.FewLemmas.{few_filtered, few_without_port}
-use Rattle.edge_forwarding.proofs.Views.{past_end, same_read, view_at, view_set}
+use Rattle.edge_forwarding.proofs.Views.{past_end, view_at, view_set}
 
 none_past : {X : Type 0} (xs : List X) (k : ℕ) → slice_get xs k ≡ None → length xs ≤ k
 none_past [] k is = omega arith
@@ -592,14 +592,10 @@ few_each f is service = of (slice_get f.plan.services service) refl where
 
 -- ---- before the first input
 
-all_same : {X : Type 0} (n k : ℕ) (x : X) → view x (replicate n x) k ≡ x
+pub all_same : {X : Type 0} (n k : ℕ) (x : X) → view x (replicate n x) k ≡ x
 all_same zero k x = refl
 all_same (suc n) zero x = refl
 all_same (suc n) (suc k) x = all_same n k x
-
-long_same : {X : Type 0} (n : ℕ) (x : X) → length (replicate n x) ≡ n
-long_same zero x = refl
-long_same (suc n) x = ap suc (long_same n x)
 
 nothing_learned : (plan : Plan) (me : EdgeId) (service : ServiceId) (years : ℕ) (kept : Option Domain) → IsNew plan me service years kept → entries_of kept ≡ []
 nothing_learned plan me service years None is = refl
@@ -644,8 +640,8 @@ first_told plan me on told domains are = λ i k. (ap (λ (l : List (Option Down)
 pub new_is : (plan : Plan) (me : EdgeId) (on : List Bool) (told : List (Option Down)) (domains : List (Option Domain)) → IsChecked plan → AreFirst plan me on told domains → IsForwarding (new_forwarding plan me on told domains)
 new_is plan me on told domains checked are = record {
   checked = checked;
-  circuits = ap (λ (l : List Bool). length l) are.circuits ∙ long_same (length plan.circuits) true;
-  each_told = ap (λ (l : List (Option Down)). length l) are.wires ∙ long_same (length plan.wires) (Some NoLocal);
+  circuits = ap (λ (l : List Bool). length l) are.circuits ∙ replicate_length (length plan.circuits) true;
+  each_told = ap (λ (l : List (Option Down)). length l) are.wires ∙ replicate_length (length plan.wires) (Some NoLocal);
   services = are.services.len;
   domains = λ k below.
       subst (λ (o : ℕ → Bool). IsDomainKept plan me o (view (Some NoLocal) told) 0 (record { 0 = k }) (view None domains k)) (sym (first_on plan me on told domains are))
@@ -693,10 +689,6 @@ other_row me row none = chosen (nat_eq row.edge.0 me.0) none
     chosen : (b : Bool) → cond b (Some row.service) None ≡ None → b ≡ false
     chosen false none = refl
     chosen true none = absurd (cc (none))
-
--- what holds of each row holds of one that is found
-pub row_holds : {A : Type 0} (P : A → Type 0) (rows : List A) (place : ℕ) (row : A) → slice_get rows place ≡ Some row → All P rows → P row
-row_holds P rows place row is all = subst P (get_or_from_slice_get rows place row row is) (All-get_or P rows place row (slice_get_within rows place row is) all)
 
 -- the row that was read at a place is the one that is found there
 pub row_read : {A : Type 0} (rows : List A) (place : ℕ) (read row : A) → place < length rows → read ≡ slice_index_or rows place read → slice_get rows place ≡ Some row → read ≡ row

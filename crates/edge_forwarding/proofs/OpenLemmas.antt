@@ -2,6 +2,8 @@
 use Rattle.std.proofs.Common.{◌≡◌, ◌<◌, ◌&&◌, ◌∙◌, ℕ, Bool, true, false, not, is_some, List, Option, Some, None, cond, length, slice_get, position, nat_eq, refl, ap, sym, subst}
 use Rattle.std.proofs.lemmas.Bool.{eq-eqb, eqb-true, ne_eqb}
 use Rattle.std.proofs.lemmas.Option.{slice_get_within}
+use Rattle.net_values.proofs.BoolLemmas.{first_holds, and_false, and_true}
+use Rattle.net_values.proofs.OptionLemmas.{same_number_held}
 use Rattle.net_base.specs.declared.plan.Plan.{Plan}
 use Rattle.net_base.specs.declared.plan.circuit_plan.CircuitPlan.{CircuitPlan}
 use Rattle.net_base.specs.declared.plan.wire_plan.WirePlan.{WirePlan}
@@ -65,10 +67,6 @@ turned_ports plan service me on told circuit turned (Some q) p is =
     let leads : LeadsTo (ports_of plan service me) q circuit.0 = found_port circuit (ports_of plan service me) q (sym is) in
     turned_port on told (ports_of plan service me) circuit turned p q leads (λ c to. same_circuit_port plan service me p q c circuit.0 to leads)
 
-and_left : (a b : Bool) → a && b ≡ true → a ≡ true
-and_left true b both = refl
-and_left false b both = absurd (cc)
-
 -- a port of another service is open as it was
 pub turned_elsewhere : (plan : Plan) (on : ℕ → Bool) (told : ℕ → Option Down) (circuit : CircuitId) (row : CircuitPlan) (other : ServiceId) (me : EdgeId) (turned : Bool) (p : ℕ)
     → circuit_row plan circuit ≡ Some row → nat_eq other.0 row.service.0 ≡ false
@@ -79,7 +77,7 @@ turned_elsewhere plan on told circuit row other me turned p is apart = turns (sl
       let served : IsServed plan.circuits other me c.0 = served_at plan other me p (port.Circuit c) at in
       let rows : Some served.row ≡ Some row = sym served.is ∙ (ap (slice_get plan.circuits) e ∙ is) in
       let same : served.row ≡ row = cc (rows) in
-      let service : served.row.service.0 ≡ other.0 = eqb-true served.row.service.0 other.0 (and_left (nat_eq served.row.service.0 other.0) (nat_eq served.row.edge.0 me.0) served.serve) in
+      let service : served.row.service.0 ≡ other.0 = eqb-true served.row.service.0 other.0 (first_holds (nat_eq served.row.service.0 other.0) (nat_eq served.row.edge.0 me.0) served.serve) in
       let equal : other.0 ≡ row.service.0 = sym service ∙ ap (λ (r : CircuitPlan). r.service.0) same in
       absurd (cc (sym apart ∙ eq-eqb other.0 row.service.0 equal)))
 
@@ -113,9 +111,7 @@ pub told_at : (on : ℕ → Bool) (told : ℕ → Option Down) (ports : List Por
     → is_up down ≡ port_opens on (put_at told wire.0 down) ports p
 told_at on told ports wire down p leads = by (slice_get ports p) refl where
   same : (at : WireId) → LeadsToWire ports p at.0 → nat_eq at.0 wire.0 ≡ true
-  same at to = eq-eqb at.0 wire.0 (some_same at.0 wire.0 (sym to.is ∙ leads.is)) where
-    some_same : (a b : ℕ) → Some a ≡ Some b → a ≡ b
-    some_same a b e = cc (e)
+  same at to = eq-eqb at.0 wire.0 (same_number_held at.0 wire.0 (sym to.is ∙ leads.is))
 
   by : (x : Option Port) → slice_get ports p ≡ x → is_up down ≡ opens on (put_at told wire.0 down) x
   by None at = absurd (cc (sym (ap wire_behind at) ∙ leads.is))
@@ -148,7 +144,7 @@ told_elsewhere plan on told wire row other me down p is apart = told_apart on to
     let (mesh, wired) = wired_at plan other me p wire.0 leads in
     let rows : Some wired.row ≡ Some row = sym wired.is ∙ is in
     let same : wired.row ≡ row = cc (rows) in
-    let service : wired.row.service.0 ≡ other.0 = eqb-true wired.row.service.0 other.0 (and_left (nat_eq wired.row.service.0 other.0) _ wired.ends) in
+    let service : wired.row.service.0 ≡ other.0 = eqb-true wired.row.service.0 other.0 (first_holds (nat_eq wired.row.service.0 other.0) _ wired.ends) in
     let equal : other.0 ≡ row.service.0 = sym service ∙ ap (λ (r : WirePlan). r.service.0) same in
     absurd (cc (sym apart ∙ eq-eqb other.0 row.service.0 equal)))
 
@@ -163,14 +159,6 @@ no_cause (Some why) false is = refl
 
 pub closed_port : (on : ℕ → Bool) (told : ℕ → Option Down) (ports : List Port) (p : ℕ) → (port_opens on told ports p && not (is_wire (slice_get ports p))) ≡ port_opens on nothing_told ports p
 closed_port on told ports p = by (slice_get ports p) where
-  and_true : (b : Bool) → b && true ≡ b
-  and_true true = refl
-  and_true false = refl
-
-  and_false : (b : Bool) → b && false ≡ false
-  and_false true = refl
-  and_false false = refl
-
   by : (x : Option Port) → (opens on told x && not (is_wire x)) ≡ opens on nothing_told x
   by None = refl
   by (Some (port.Circuit c)) = and_true (on c.0)

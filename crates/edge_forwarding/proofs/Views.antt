@@ -1,5 +1,5 @@
 -- A list with another value at one place, seen as a map.
-use Rattle.std.proofs.Common.{◌≡◌, ◌<◌, ◌≤◌, ◌∷◌, [], ℕ, suc, zero, List, refl, arith, length, slice_index_or, slice_set}
+use Rattle.std.proofs.Common.{◌≡◌, ◌<◌, ◌≤◌, ◌∷◌, [], ℕ, suc, zero, List, refl, arith, length, slice_set}
 use Rattle.std.proofs.lemmas.Bool.Decides.{nat_tests}
 use Rattle.edge_model.specs.State.{put_at}
 use Rattle.edge_forwarding.specs.Views.{view}
@@ -18,9 +18,3 @@ pub past_end : {X : Type 0} (d : X) (xs : List X) (k : ℕ) → length xs ≤ k 
 past_end d [] k past = refl
 past_end d (x ∷ xs) zero past = absurd (omega arith)
 past_end d (x ∷ xs) (suc k) past = past_end d xs k (omega arith)
-
--- what is read within does not depend on the value past the end
-pub same_read : {X : Type 0} (xs : List X) (k : ℕ) (d other : X) → k < length xs → slice_index_or xs k d ≡ slice_index_or xs k other
-same_read [] k d other within = absurd (omega arith)
-same_read (x ∷ xs) zero d other within = refl
-same_read (x ∷ xs) (suc k) d other within = same_read xs k d other (omega arith)

@@ -1,9 +1,11 @@
 -- An edge that has mended has nothing to mend, whatever its link answered: a round of mending in which the link did not take a message
 -- has ended a session, and there are more rounds than sessions.
-use Rattle.std.proofs.Common.{◌≡◌, ◌≤◌, ◌<◌, ◌+◌, ◌&&◌, ◌||◌, ◌==◌, ◌∙◌, ℕ, zero, suc, Bool, true, false, List, [], ◌∷◌, Option, Some, None, cond, length, nat_eq, nat_lt, option_map, refl, sym, ap, subst, inl, inr, arith}
-use Rattle.std.proofs.lemmas.Bool.{cases_Bool, eqb-true, and_parts}
+use Rattle.std.proofs.Common.{◌≡◌, ◌≤◌, ◌<◌, ◌+◌, ◌&&◌, ◌||◌, ◌==◌, ◌∙◌, ℕ, zero, suc, Bool, true, false, List, [], ◌∷◌, Option, Some, None, cond, length, nat_eq, option_map, refl, sym, ap, subst, inl, inr, arith}
+use Rattle.std.proofs.lemmas.Bool.{cases_Bool, eqb-true, and_parts, ltb-true}
 use Rattle.std.proofs.lemmas.Bool.Decides.{nat_tests}
 use Rattle.std.specs.List.{AllByRecursion, list_all}
+use Rattle.net_values.proofs.NumberLemmas.{same_number}
+use Rattle.net_values.proofs.RowLemmas.{row_holds}
 use Rattle.net_base.specs.declared.plan.Plan.{Plan}
 use Rattle.net_base.specs.declared.plan.places.EdgeId.{EdgeId}
 use Rattle.net_base.specs.declared.plan.places.WireId.{WireId}
@@ -35,7 +37,7 @@ use Rattle.edge_model.proofs.BridgeLemmas.{forgets_downs_only}
 use Rattle.edge_model.proofs.HeldLemmas.{clears_keep}
 use Rattle.edge_model.proofs.MendLemmas.{says_nothing, says_taken}
 use Rattle.edge_model.proofs.MendedLemmas.{HasOneEnd, IsMended, mends_not, round_mends}
-use Rattle.edge_model.proofs.OneEndLemmas.{one_neighbour, row_holds}
+use Rattle.edge_model.proofs.OneEndLemmas.{one_neighbour}
 use Rattle.edge_model.proofs.PlaceLemmas.{IsEndOf, all-map, places_are}
 use Rattle.edge_model.specs.Labels.{label_to_give}
 
@@ -110,7 +112,7 @@ and_loses n old m next first then = record { few = omega (arith, first.few, then
     lower a b c one other = omega (arith, one, other)
   by false is failed = sum (count (standing old.edge) n) (count (standing m.work.edge) n) (count (standing (next m.work).work.edge) n) first.few (then.less failed)
 
-there_spoken : (kept : Option Peering) → is_there (option_map having_spoken kept) ≡ is_there kept
+pub there_spoken : (kept : Option Peering) → is_there (option_map having_spoken kept) ≡ is_there kept
 there_spoken None = refl
 there_spoken (Some kept) = refl
 
@@ -132,9 +134,7 @@ refused_keeps peer bytes work = clears_keep peer (ends peer reason.LinkFault (pu
 
 gone : (peer : EdgeId) (edge : EdgeState) → standing (with_peering peer None edge) peer.0 ≡ false
 unfolding with_peering
-gone peer edge = ap (λ (b : Bool). is_there (cond b None (edge.peering peer.0))) (same peer.0) where
-  same : (p : ℕ) → nat_eq p p ≡ true
-  same p = grind (arith, nat_tests)
+gone peer edge = ap (λ (b : Bool). is_there (cond b None (edge.peering peer.0))) (same_number peer.0)
 
 others_stand : (peer : EdgeId) (edge : EdgeState) (k : ℕ) → nat_eq k peer.0 ≡ false → standing (with_peering peer None edge) k ≡ standing edge k
 unfolding with_peering
@@ -310,16 +310,13 @@ rounds_mend plan told one within (suc fuel) work few = by (rounds_mend plan told
 one_of : (a b first next n : ℕ) → first < n → next < n → ((a == first && b == next) || (b == first && a == next)) || false ≡ true → b < n
 one_of a b first next n one other joined = grind (arith, nat_tests)
 
-is_within : (k n : ℕ) → nat_lt k n ≡ true → k < n
-is_within k n is = grind (arith, nat_tests)
-
 joined_within : (plan : Plan) (path : List EdgeId) (a b : ℕ) → list_all (is_edge_of plan) path ≡ true → joins a b path ≡ true → b < length plan.edges
 joined_within plan [] a b all joined = absurd (cc (joined))
 joined_within plan (last ∷ []) a b all joined = absurd (cc (joined))
 joined_within plan (first ∷ next ∷ rest) a b all joined =
     let parts = and_parts (is_edge_of plan first) (list_all (is_edge_of plan) (next ∷ rest)) all in
     let more = and_parts (is_edge_of plan next) (list_all (is_edge_of plan) rest) parts.1 in
-    by (joins a b (next ∷ rest)) (joined_within plan (next ∷ rest) a b parts.1) refl (is_within first.0 (length plan.edges) parts.0) (is_within next.0 (length plan.edges) more.0) joined
+    by (joins a b (next ∷ rest)) (joined_within plan (next ∷ rest) a b parts.1) refl (ltb-true first.0 (length plan.edges) parts.0) (ltb-true next.0 (length plan.edges) more.0) joined
   where
     by : (later : Bool) → (joins a b (next ∷ rest) ≡ true → b < length plan.edges) → joins a b (next ∷ rest) ≡ later → first.0 < length plan.edges → next.0 < length plan.edges
         → ((a == first.0 && b == next.0) || (b == first.0 && a == next.0)) || later ≡ true → b < length plan.edges

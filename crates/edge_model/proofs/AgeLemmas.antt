@@ -13,6 +13,8 @@ use Rattle.net_base.specs.declared.plan.wire_plan.WirePlan.{WirePlan}
 use Rattle.net_base.specs.declared.trace.down.Down.{Down}
 use Rattle.net_base.specs.plan.Places.{wire_row}
 use Rattle.net_values.specs.declared.mac.Mac.{Mac}
+use Rattle.net_values.proofs.NumberLemmas.{before_next, next_within, next_within_less, equal_at_most}
+use Rattle.net_values.proofs.RowLemmas.{found_passes, found_among}
 use Rattle.pw_messages.specs.Content.{mac_withdrawal, mapping, status_notification, withdrawal}
 use Rattle.pw_messages.specs.LinkAnswers.{Answers}
 use Rattle.hvpls_spokes.specs.declared.port.Port.{Port}
@@ -44,7 +46,6 @@ use Rattle.edge_model.specs.Work.{Work, beginning, changes}
 use Rattle.edge_model.proofs.AgainLemmas.{one_end}
 use Rattle.edge_model.proofs.AgingLemmas.{at_forgot_is, forgetting_keeps, fresh, less_of, mends_keep, next_tick, one_tick, rest_of, TicksOnce, ticking_goes, ticking_stands}
 use Rattle.edge_model.proofs.BridgeLemmas.{LearnsOnly, forgets_down_only, forgets_downs_only, learns_is}
-use Rattle.edge_model.proofs.CopyLemmas.{found_among, found_passes}
 use Rattle.edge_model.proofs.MendLemmas.{mends_takes}
 use Rattle.edge_model.proofs.MendedLemmas.{HaveTold, all_told, down_like}
 use Rattle.edge_model.proofs.PlaceLemmas.{IsEndOf, places_are}
@@ -295,23 +296,11 @@ module _ (plan : Plan) (fit : HasFitPaths plan) (service : ServiceId) (address :
         let less : work.edge.ticks < 2 ^ 64 - 1 = less_of plan service address work.edge.ticks n (2 ^ 64 - 1) counts in
         let now : next.edge.ticks ≡ work.edge.ticks + 1 = tick.ticks ∙ next_tick plan service address work.edge.ticks less in
         ticking_stands_by told takes row is n next (tick.me ∙ same) (tick.distinct distinct)
-        (tick_stands told takes row is begun same distinct found (fresh plan service address work.edge.ticks row.age entry.tick less past (sooner work.edge.ticks n (entry.tick + row.age) within)) (up 1 (omega arith) (omega arith)))
-        (after entry.tick work.edge.ticks _ now past) (next_within work.edge.ticks _ n (entry.tick + row.age) now within) (rest_of plan service address work.edge.ticks _ n (2 ^ 64 - 1) now counts)
+        (tick_stands told takes row is begun same distinct found (fresh plan service address work.edge.ticks row.age entry.tick less past (next_within_less work.edge.ticks n (entry.tick + row.age) within)) (up 1 (omega arith) (omega arith)))
+        (before_next entry.tick work.edge.ticks _ now past) (next_within work.edge.ticks _ n (entry.tick + row.age) now within) (rest_of plan service address work.edge.ticks _ n (2 ^ 64 - 1) now counts)
         (λ k some most. up (suc k) (omega arith) (omega (arith, most)))
-      where
-        sooner : (t n limit : ℕ) → t + suc n < limit → t + 1 < limit
-        sooner t n limit within = omega (arith, within)
-
-        after : (tick t now : ℕ) → now ≡ t + 1 → tick ≤ t → tick ≤ now
-        after tick t now is past = omega (arith, is, past)
-
-        next_within : (t now n limit : ℕ) → now ≡ t + 1 → t + suc n < limit → now + n < limit
-        next_within t now n limit is within = omega (arith, is, within)
 
 -- ---- the law
-
-starts_past : (tick ticks : ℕ) → tick ≡ ticks → tick ≤ ticks
-starts_past tick ticks is = omega (arith, is)
 
 starts_within : (tick ticks n age : ℕ) → tick ≡ ticks → n < age → ticks + n < tick + age
 starts_within tick ticks n age is less = omega (arith, is, less)
@@ -325,12 +314,12 @@ starts_due tick ticks n age is more = omega (arith, is, more)
 pub addresses_last_their_age : AddressesLastTheirAge
 addresses_last_their_age = record {
   stands = λ plan told n work service row address entry heard here counts within.
-      ticking_stands plan service address told row heard.is n work entry heard.distinct heard.found here (starts_past entry.tick work.edge.ticks heard.now)
+      ticking_stands plan service address told row heard.is n work entry heard.distinct heard.found here (equal_at_most entry.tick work.edge.ticks heard.now)
       (starts_within entry.tick work.edge.ticks n row.age heard.now within) counts;
   stands_by_wire = λ plan told n work service row address entry place fit takes heard at up counts within.
       ticking_stands_by plan fit service address entry place work.edge.me at.here (wire_at (ports_of plan service work.edge.me) entry.port at.x place.wire at.at at.to_wire) told takes row heard.is n work refl
-      heard.distinct heard.found (starts_past entry.tick work.edge.ticks heard.now) (starts_within entry.tick work.edge.ticks n row.age heard.now within) counts up;
+      heard.distinct heard.found (equal_at_most entry.tick work.edge.ticks heard.now) (starts_within entry.tick work.edge.ticks n row.age heard.now within) counts up;
   goes = λ plan told n work service row address entry heard counts some more.
-      ticking_goes plan service address told row heard.is n work entry heard.distinct heard.found (starts_past entry.tick work.edge.ticks heard.now)
+      ticking_goes plan service address told row heard.is n work entry heard.distinct heard.found (equal_at_most entry.tick work.edge.ticks heard.now)
       (starts_young entry.tick work.edge.ticks row.age heard.now some) (starts_due entry.tick work.edge.ticks n row.age heard.now more) counts;
 }

@@ -1,8 +1,7 @@
 -- What is left of an address after ticks alone.
 use Rattle.std.proofs.Common.{◌≡◌, ◌<◌, ◌≤◌, ◌+◌, ◌-◌, ◌^◌, ◌∙◌, ◌⊎◌, ◌==◌, ℕ, zero, suc, Bool, true, false, not, cond, List, Option, Some, None, nat_eq, nat_lt, length, slice_get, refl, sym, ap, subst, inl, inr, arith}
 use Rattle.std.specs.Prelude.{filter, position}
-use Rattle.std.proofs.lemmas.Bool.{cases_Bool, eqb-true}
-use Rattle.std.proofs.lemmas.Bool.Decides.{nat_tests}
+use Rattle.std.proofs.lemmas.Bool.{cases_Bool, eqb-true, ltb-true, lt-ltb, ltb-false}
 use Rattle.std.proofs.lemmas.Map.Entries.{option_filter}
 use Rattle.net_base.specs.declared.plan.Plan.{Plan}
 use Rattle.net_base.specs.declared.plan.places.CircuitId.{CircuitId}
@@ -13,6 +12,7 @@ use Rattle.net_base.specs.declared.plan.service_plan.ServicePlan.{ServicePlan}
 use Rattle.net_base.specs.declared.plan.wire_plan.WirePlan.{WirePlan}
 use Rattle.net_base.specs.plan.Places.{wire_row}
 use Rattle.net_values.specs.declared.mac.Mac.{Mac}
+use Rattle.net_values.proofs.NumberLemmas.{next_within, next_within_less}
 use Rattle.pw_messages.specs.Content.{mac_withdrawal, mapping, status_notification, withdrawal}
 use Rattle.pw_messages.specs.LinkAnswers.{Answers}
 use Rattle.hvpls_spokes.specs.declared.port.Port.TheVariants as port
@@ -253,11 +253,8 @@ module _ (plan : Plan) (service : ServiceId) (address : Mac) where
 
   -- ---- ticks
 
-  below : (t limit : ℕ) → t < limit → nat_lt t limit ≡ true
-  below t limit less = grind (arith, nat_tests)
-
   pub next_tick : (ticks : ℕ) → ticks < 2 ^ 64 - 1 → later ticks ≡ ticks + 1
-  next_tick ticks less = ap (λ (b : Bool). cond b (ticks + 1) ticks) (below ticks (2 ^ 64 - 1) less)
+  next_tick ticks less = ap (λ (b : Bool). cond b (ticks + 1) ticks) (lt-ltb ticks (2 ^ 64 - 1) less)
 
   pub fresh : (ticks age tick : ℕ) → ticks < 2 ^ 64 - 1 → tick ≤ ticks → ticks + 1 < tick + age → nat_lt (later ticks - tick) age ≡ true
   fresh ticks age tick less past within =
@@ -290,18 +287,12 @@ module _ (plan : Plan) (service : ServiceId) (address : Mac) where
       let less : work.edge.ticks < 2 ^ 64 - 1 = less_of work.edge.ticks n (2 ^ 64 - 1) counts in
       let now : (tick_input plan told begun).edge.ticks ≡ work.edge.ticks + 1 = tick.ticks ∙ next_tick work.edge.ticks less in
       ticking_stands told row is n (tick_input plan told begun) entry (tick.distinct distinct)
-      (tick.stands distinct entry found here (fresh work.edge.ticks row.age entry.tick less past (sooner work.edge.ticks n (entry.tick + row.age) within)))
+      (tick.stands distinct entry found here (fresh work.edge.ticks row.age entry.tick less past (next_within_less work.edge.ticks n (entry.tick + row.age) within)))
       (at_same plan service entry work.edge (tick_input plan told begun).edge tick.me here)
       (after entry.tick work.edge.ticks _ now past) (next_within work.edge.ticks _ n (entry.tick + row.age) now within) (rest_of work.edge.ticks _ n (2 ^ 64 - 1) now counts)
     where
-      sooner : (t n limit : ℕ) → t + suc n < limit → t + 1 < limit
-      sooner t n limit within = omega (arith, within)
-
       after : (tick t now : ℕ) → now ≡ t + 1 → tick ≤ t → tick ≤ now
       after tick t now is past = omega (arith, is, past)
-
-      next_within : (t now n limit : ℕ) → now ≡ t + 1 → t + suc n < limit → now + n < limit
-      next_within t now n limit is within = omega (arith, is, within)
 
   pub ticking_goes : (told : Answers) (row : ServicePlan) → slice_get plan.services service.0 ≡ Some row → (n : ℕ) (work : Work) (entry : MacEntry) → AreDistinctAddresses (addresses_of work.edge service)
       → entry_at work.edge service address ≡ Some entry → entry.tick ≤ work.edge.ticks → work.edge.ticks < entry.tick + row.age → entry.tick + row.age ≤ work.edge.ticks + n → work.edge.ticks + n ≤ 2 ^ 64 - 1
@@ -310,15 +301,15 @@ module _ (plan : Plan) (service : ServiceId) (address : Mac) where
     clash : (t limit : ℕ) → t < limit → limit ≤ t + zero → ⊥
     clash t limit less more = omega (arith, less, more)
   ticking_goes told row is (suc n) work entry distinct found past young_yet due counts = elim (cases_Bool (nat_lt (work.edge.ticks + 1) (entry.tick + row.age))) [
-    | inl sooner ↦
-        (let within : work.edge.ticks + 1 < entry.tick + row.age = is_less _ _ sooner in
+    | inl next_within_less ↦
+        (let within : work.edge.ticks + 1 < entry.tick + row.age = ltb-true _ _ next_within_less in
         elim (tick.fades distinct entry found (fresh work.edge.ticks row.age entry.tick less past within)) [
           | inl still ↦
               ticking_goes told row is n next entry (tick.distinct distinct) still (after entry.tick work.edge.ticks _ now past)
               (subst (λ (t : ℕ). t < entry.tick + row.age) (sym now) within) (due_later work.edge.ticks _ n (entry.tick + row.age) now due) (rest_of work.edge.ticks _ n (2 ^ 64 - 1) now counts)
           | inr none ↦ ticking_none told row is n next (tick.distinct distinct) none
         ])
-    | inr later_on ↦ ticking_none told row is n next (tick.distinct distinct) (tick.goes distinct entry found (stale work.edge.ticks row.age entry.tick less (is_more _ _ later_on)))
+    | inr later_on ↦ ticking_none told row is n next (tick.distinct distinct) (tick.goes distinct entry found (stale work.edge.ticks row.age entry.tick less (ltb-false _ _ later_on)))
   ]
     where
       next : Work
@@ -332,12 +323,6 @@ module _ (plan : Plan) (service : ServiceId) (address : Mac) where
 
       now : next.edge.ticks ≡ work.edge.ticks + 1
       now = tick.ticks ∙ next_tick work.edge.ticks less
-
-      is_less : (a b : ℕ) → nat_lt a b ≡ true → a < b
-      is_less a b so = grind (arith, nat_tests)
-
-      is_more : (a b : ℕ) → nat_lt a b ≡ false → b ≤ a
-      is_more a b so = grind (arith, nat_tests)
 
       after : (tick t now : ℕ) → now ≡ t + 1 → tick ≤ t → tick ≤ now
       after tick t now is past = omega (arith, is, past)

@@ -1,5 +1,6 @@
 -- What comes in a control channel is never taken for a customer's frame.
 use Rattle.std.proofs.Common.{◌≡◌, ◌&&◌, ◌∙◌, Bool, true, false, ℕ, List, Option, Some, None, Result, Ok, Err, cond, length, nat_eq, nat_lt, not, refl, ap, sym, subst}
+use Rattle.net_values.proofs.BoolLemmas.{and_false}
 use Rattle.net_base.specs.declared.outside.link_call.LinkCall.{LinkCall}
 use Rattle.net_base.specs.declared.plan.Plan.{Plan}
 use Rattle.net_base.specs.declared.plan.wire_plan.WirePlan.{WirePlan}
@@ -147,10 +148,7 @@ module _ (plan : Plan) (told : Answers) (edge : EdgeState) (calls : List LinkCal
         (subst (λ (o : Option EndPlace). Apart (owned plan told octets to.entry o begun)) (sym to.owner) (owned_apart one))
 
     no_alert : is_alert to.entry ≡ false
-    no_alert = ap (λ (b : Bool). nat_eq to.entry.label 1 && not b) to.bottom ∙ and_false (nat_eq to.entry.label 1) where
-      and_false : (b : Bool) → b && false ≡ false
-      and_false true = refl
-      and_false false = refl
+    no_alert = ap (λ (b : Bool). nat_eq to.entry.label 1 && not b) to.bottom ∙ and_false (nat_eq to.entry.label 1)
 
     packet_apart : Apart offered → Apart (on_packet plan told edge calls octets)
     unfolding begun

@@ -1,7 +1,7 @@
 -- What comes of a frame that a service hears by a port: copies of it by other ports of the service, whatever the link answers.
 use Rattle.std.proofs.Common.{◌≡◌, ◌&&◌, ◌||◌, ◌+◌, ◌++◌, ◌∙◌, ℕ, suc, Bool, true, false, List, [], ◌∷◌, Option, Some, None, slice_get, option_map, refl, ap, sym, subst, not, nat_eq, arith, zero-add, add-zero, cond, append_assoc, append-nil}
 use Rattle.std.proofs.lemmas.Bool.{and_parts, eqb-true}
-use Rattle.std.specs.List.{AllByRecursion, find}
+use Rattle.net_values.proofs.RowLemmas.{found_passes}
 use Rattle.net_base.specs.declared.plan.Plan.{Plan}
 use Rattle.net_base.specs.declared.plan.circuit_plan.CircuitPlan.{CircuitPlan}
 use Rattle.net_base.specs.declared.plan.places.CircuitId.{CircuitId}
@@ -40,24 +40,6 @@ use Rattle.edge_model.specs.State.{EdgeState, end_at, with_addresses}
 use Rattle.edge_model.specs.Work.{Work, changes, gives, next_answer, posts}
 
 -- ---- what is found by a test passes it
-
-pub found_passes : {A : Type 0} (test : A → Bool) (xs : List A) (x : A) → find test xs ≡ Some x → test x ≡ true
-found_passes test [] x found = absurd (cc (found))
-found_passes test (y ∷ ys) x found = by (test y) refl found (found_passes test ys x) where
-  by : (b : Bool) → test y ≡ b → cond b (Some y) (find test ys) ≡ Some x → (find test ys ≡ Some x → test x ≡ true) → test x ≡ true
-  by true passes here rest =
-      let same : y ≡ x = cc (here) in
-      ap test (sym same) ∙ passes
-  by false fails here rest = rest here
-
-pub found_among : {A : Type 0} (P : A → Type 0) (test : A → Bool) (xs : List A) (x : A) → AllByRecursion P xs → find test xs ≡ Some x → P x
-found_among P test [] x all found = absurd (cc (found))
-found_among P test (y ∷ ys) x all found = by (test y) found (found_among P test ys x all.1) where
-  by : (b : Bool) → cond b (Some y) (find test ys) ≡ Some x → (find test ys ≡ Some x → P x) → P x
-  by true here rest =
-      let same : y ≡ x = cc (here) in
-      subst P same all.0
-  by false here rest = rest here
 
 -- the end that is found for a wire is a terminal end of it
 pub record IsWireEnd (wire : WireId) (place : EndPlace) : Type 0 where
@@ -136,7 +118,7 @@ goes_out plan edge service frame arrival p x at target =
       apart = flooded.apart;
     }
 
-up_is_none : (down : Option Down) → is_up down ≡ true → down ≡ None
+pub up_is_none : (down : Option Down) → is_up down ≡ true → down ≡ None
 up_is_none None up = refl
 up_is_none (Some why) up = absurd (cc (up))
 

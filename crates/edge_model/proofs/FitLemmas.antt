@@ -209,27 +209,27 @@ changes_fit : (k : ℕ) (change : EdgeState → EdgeState) (work : Work) → (ch
 unfolding changes
 changes_fit k change work same fits = same_fits k work (changes change work) same fits
 
-changed_keeps : (change : EndState → EndState) (place : Option EndPlace) (edge : EdgeState) → (with_end_changed change place edge).peering ≡ edge.peering
+pub changed_keeps : (change : EndState → EndState) (place : Option EndPlace) (edge : EdgeState) → (with_end_changed change place edge).peering ≡ edge.peering
 unfolding with_end with_kept
 changed_keeps change None edge = refl
 changed_keeps change (Some place) edge = refl
 
-released_keeps : (label : Option ℕ) (place : Option EndPlace) (edge : EdgeState) → (with_released label place edge).peering ≡ edge.peering
+pub released_keeps : (label : Option ℕ) (place : Option EndPlace) (edge : EdgeState) → (with_released label place edge).peering ≡ edge.peering
 unfolding with_end with_kept
 released_keeps label None edge = refl
 released_keeps label (Some place) edge = refl
 
-named_keeps : (plan : Plan) (peer : EdgeId) (fec : PwFec) (one all : EndState → EndState) (pw_id : Option ℕ) (edge : EdgeState) → (with_named plan peer fec one all pw_id edge).peering ≡ edge.peering
+pub named_keeps : (plan : Plan) (peer : EdgeId) (fec : PwFec) (one all : EndState → EndState) (pw_id : Option ℕ) (edge : EdgeState) → (with_named plan peer fec one all pw_id edge).peering ≡ edge.peering
 unfolding with_ends_beside with_kept
 named_keeps plan peer fec one all None edge = refl
 named_keeps plan peer fec one all (Some pw_id) edge = changed_keeps one (end_named plan edge.me peer pw_id) edge
 
-turned_keeps : (plan : Plan) (circuit : CircuitId) (row : CircuitPlan) (on : Bool) (edge : EdgeState) → (turned plan circuit row on edge).peering ≡ edge.peering
+pub turned_keeps : (plan : Plan) (circuit : CircuitId) (row : CircuitPlan) (on : Bool) (edge : EdgeState) → (turned plan circuit row on edge).peering ≡ edge.peering
 unfolding with_addresses with_circuit
 turned_keeps plan circuit row true edge = refl
 turned_keeps plan circuit row false edge = refl
 
-turned_wire_keeps : (wire : WireId) (on : Bool) (edge : EdgeState) → (turned_wire wire on edge).peering ≡ edge.peering
+pub turned_wire_keeps : (wire : WireId) (on : Bool) (edge : EdgeState) → (turned_wire wire on edge).peering ≡ edge.peering
 unfolding with_renewed with_wire
 turned_wire_keeps wire true edge = refl
 turned_wire_keeps wire false edge = refl

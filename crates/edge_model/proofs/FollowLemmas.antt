@@ -1,7 +1,8 @@
 -- An edge's ends follow its sessions: where no session with a neighbour stands, nothing was told of a wire by either side.
-use Rattle.std.proofs.Common.{◌≡◌, ◌&&◌, ◌∙◌, ℕ, Bool, true, false, List, [], ◌∷◌, Option, Some, None, cond, sym, ap, nat_eq, refl, option_and_then, inl, inr}
-use Rattle.std.specs.List.{find}
+use Rattle.std.proofs.Common.{◌≡◌, ◌&&◌, ◌∙◌, ℕ, Bool, true, false, List, Option, Some, None, cond, sym, ap, nat_eq, refl, option_and_then, inl, inr}
 use Rattle.std.proofs.lemmas.Bool.{cases_Bool, eqb-true, eq-eqb}
+use Rattle.net_values.proofs.BoolLemmas.{first_holds}
+use Rattle.net_values.proofs.RowLemmas.{found_passes}
 use Rattle.net_base.specs.declared.plan.Plan.{Plan}
 use Rattle.net_base.specs.declared.plan.circuit_plan.CircuitPlan.{CircuitPlan}
 use Rattle.net_base.specs.declared.plan.places.CircuitId.{CircuitId}
@@ -35,7 +36,6 @@ use Rattle.edge_model.specs.Step.{edge_step}
 use Rattle.edge_model.specs.Wire.{turned_wire}
 use Rattle.edge_model.specs.Work.{Work, changes, gives, idles, next_answer}
 use Rattle.edge_model.proofs.BridgeLemmas.{LearnsOnly, forgetting_only, sends_bridges, withdrawing_only}
-use Rattle.edge_model.proofs.LocalLemmas.{and_left}
 use Rattle.edge_model.proofs.SessionLemmas.{IsSessionWork, happens_works, message_works, reply_works}
 use Rattle.edge_model.proofs.WalkLemmas.{HearSteps, InputSteps, MendSteps, hears_message_holds, hears_one_holds, mends_holds, step_holds}
 use Rattle.edge_model.specs.Labels.{giving}
@@ -128,19 +128,9 @@ beside_follows peer change edge stands follows wire k none = elim (cases_Bool (n
   | inr away ↦ rw away (follows wire k none)
 ]
 
--- the end that a FEC names is beside the peer that sent it
-found : {X : Type 0} (test : X → Bool) (xs : List X) (x : X) → find test xs ≡ Some x → test x ≡ true
-found test [] x is = absurd (cc (is))
-found test (first ∷ xs) x is = by (test first) refl is (λ rest. found test xs x rest) where
-  by : (b : Bool) → test first ≡ b → cond b (Some first) (find test xs) ≡ Some x → (find test xs ≡ Some x → test x ≡ true) → test x ≡ true
-  by true passes is again =
-      let same : first ≡ x = cc (is) in
-      ap test (sym same) ∙ passes
-  by false fails is again = again is
-
 pub end_named_beside : (plan : Plan) (me peer : EdgeId) (pw_id : ℕ) (place : EndPlace) → end_named plan me peer pw_id ≡ Some place → place.peer.0 ≡ peer.0
 end_named_beside plan me peer pw_id place is =
-    eqb-true place.peer.0 peer.0 (and_left (nat_eq place.peer.0 peer.0) (nat_eq place.pw_id pw_id) (found (is_named peer pw_id) (end_places plan me) place is))
+    eqb-true place.peer.0 peer.0 (first_holds (nat_eq place.peer.0 peer.0) (nat_eq place.pw_id pw_id) (found_passes (is_named peer pw_id) (end_places plan me) place is))
 
 changed_follows : (peer : EdgeId) (change : EndState → EndState) (place : Option EndPlace) (edge : EdgeState) → ((p : EndPlace) → place ≡ Some p → p.peer.0 ≡ peer.0) → has_end edge peer ≡ true
     → EndsFollowSessions edge → EndsFollowSessions (with_end_changed change place edge)

@@ -555,7 +555,7 @@ refused_ends phase.OpenSent fault active s = refl
 refused_ends phase.OpenRec fault active s = refl
 refused_ends phase.Operational fault active s = refl
 
-ended_gone : (peer : EdgeId) (why : Reason) (work : Work) → (ends peer why work).edge.peering peer.0 ≡ None
+pub ended_gone : (peer : EdgeId) (why : Reason) (work : Work) → (ends peer why work).edge.peering peer.0 ≡ None
 unfolding gives
 ended_gone peer why work = is_set peer None work
 

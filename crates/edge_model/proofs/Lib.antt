@@ -4,9 +4,10 @@ pub mod AgingLemmas
 pub mod ApartLemmas
 pub mod BridgeLemmas
 pub mod ChoiceLemmas
+pub mod CommonLemmas
 pub mod CopyLemmas
-mod Examples
 mod EchoExamples
+mod Examples
 pub mod FitLemmas
 pub mod FollowLemmas
 pub mod HeldLemmas
@@ -27,9 +28,9 @@ pub mod RisingLemmas
 mod SessionExamples
 pub mod SessionLemmas
 mod SignalExamples
-mod SwitchExamples
 pub mod SignalLemmas
 pub mod StandbyLemmas
 pub mod StillLemmas
+mod SwitchExamples
 pub mod SyncLemmas
 pub mod WalkLemmas

@@ -1,5 +1,5 @@
 -- What an edge gives out on a frame stays beside the circuit of the frame.
-use Rattle.std.proofs.Common.{◌≡◌, ◌&&◌, ◌∙◌, Bool, true, false, ℕ, List, [], ◌∷◌, Option, Some, None, Result, Ok, Err, option_map, refl, ap, sym, subst, not, cond}
+use Rattle.std.proofs.Common.{◌≡◌, ◌&&◌, ◌∙◌, Bool, true, false, ℕ, List, [], ◌∷◌, Option, Some, None, Result, Ok, Err, option_map, refl, ap, sym, subst, cond}
 use Rattle.net_base.specs.declared.outside.link_call.LinkCall.{LinkCall}
 use Rattle.net_base.specs.declared.plan.Plan.{Plan}
 use Rattle.net_base.specs.declared.plan.circuit_plan.CircuitPlan.{CircuitPlan}
@@ -19,19 +19,6 @@ use Rattle.edge_model.specs.Local.{AllStayBeside, FramesStayLocal, StaysBeside}
 use Rattle.edge_model.specs.State.{EdgeState, is_on}
 use Rattle.edge_model.specs.Work.{beginning, gives, idles}
 use Rattle.edge_model.proofs.CopyLemmas.{forwards_copies}
-
--- parts of a conjunction
-pub and_left : (a b : Bool) → a && b ≡ true → a ≡ true
-and_left true b both = refl
-and_left false b both = absurd (cc)
-
-pub and_right : (a b : Bool) → a && b ≡ true → b ≡ true
-and_right true b both = both
-and_right false b both = absurd (cc)
-
-pub is_not : (a : Bool) → not a ≡ true → a ≡ false
-is_not false e = refl
-is_not true e = absurd (cc)
 
 -- ---- what an edge gives out on a frame: nothing, one drop, or copies
 

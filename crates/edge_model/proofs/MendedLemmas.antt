@@ -2,6 +2,7 @@
 use Rattle.std.proofs.Common.{◌≡◌, ◌∙◌, ◌||◌, ◌&&◌, ℕ, Bool, true, false, List, [], ◌∷◌, Option, Some, None, cond, refl, sym, ap, subst, not, is_some, length, nat_eq, option_map, inl, inr}
 use Rattle.std.proofs.lemmas.Bool.{cases_Bool, eqb-true, eq-eqb}
 use Rattle.std.specs.List.{AllByRecursion}
+use Rattle.net_values.proofs.BoolLemmas.{first_holds, second_holds, second_fails, first_fails}
 use Rattle.net_base.specs.declared.plan.Plan.{Plan}
 use Rattle.net_base.specs.declared.plan.places.EdgeId.{EdgeId}
 use Rattle.net_base.specs.declared.plan.places.ServiceId.{ServiceId}
@@ -205,14 +206,6 @@ mends_not plan told work mended = ap (mends_again (mends_few plan told (length p
 
 -- ---- a message that was put, or had no session to be put in, leaves what ends should tell
 
-or_left : (a b : Bool) → a || b ≡ false → a ≡ false
-or_left false b e = refl
-or_left true b e = e
-
-or_right : (a b : Bool) → a || b ≡ false → b ≡ false
-or_right false b e = e
-or_right true b e = absurd (cc (e))
-
 up_spoken : (kept : Option Peering) → is_up_with (option_map having_spoken kept) ≡ is_up_with kept
 up_spoken None = refl
 up_spoken (Some kept) = refl
@@ -371,20 +364,12 @@ end_else place end edge wire k apart = elim (cases_Bool (nat_eq wire place.wire.
 remote_put : (place : EndPlace) (end : EndState) (edge : EdgeState) → end.remote ≡ (end_at edge place).remote → (wire k : ℕ) → ((with_end place end edge).ends wire k).remote ≡ (edge.ends wire k).remote
 remote_put place end edge same wire k = elim (cases_Bool (is_at place wire k)) [
   | inl here ↦
-      (let w : wire ≡ place.wire.0 = eqb-true wire place.wire.0 (first (nat_eq wire place.wire.0) (nat_eq k place.peer.0) here) in
-      let p : k ≡ place.peer.0 = eqb-true k place.peer.0 (second (nat_eq wire place.wire.0) (nat_eq k place.peer.0) here) in
+      (let w : wire ≡ place.wire.0 = eqb-true wire place.wire.0 (first_holds (nat_eq wire place.wire.0) (nat_eq k place.peer.0) here) in
+      let p : k ≡ place.peer.0 = eqb-true k place.peer.0 (second_holds (nat_eq wire place.wire.0) (nat_eq k place.peer.0) here) in
       both w p (ap (λ (e : EndState). e.remote) (end_put place end edge) ∙ same))
   | inr apart ↦ ap (λ (e : EndState). e.remote) (end_else place end edge wire k apart)
 ]
   where
-    first : (a b : Bool) → a && b ≡ true → a ≡ true
-    first true b e = refl
-    first false b e = e
-
-    second : (a b : Bool) → a && b ≡ true → b ≡ true
-    second true b e = e
-    second false b e = absurd (cc (e))
-
     both : wire ≡ place.wire.0 → k ≡ place.peer.0 → (end_at (with_end place end edge) place).remote ≡ (end_at edge place).remote → ((with_end place end edge).ends wire k).remote ≡ (edge.ends wire k).remote
     both w p e =
         ap (λ (n : ℕ). ((with_end place end edge).ends n k).remote) w ∙ (ap (λ (n : ℕ). ((with_end place end edge).ends place.wire.0 n).remote) p
@@ -583,7 +568,7 @@ told_like plan edge p q w k t =
     ∙ (ap (λ (n : ℕ). is_told plan edge (like q.wire.0 n p.terminal)) k ∙ ap (λ (b : Bool). is_told plan edge (like q.wire.0 q.peer.0 b)) t)
 
 -- fewer labels are left
-fewer : (place : EndPlace) (wished : Option Told) (none_left then_none : Bool) (local : LocalPart) → (none_left ≡ true → then_none ≡ true) → tells_wish place wished none_left local ≡ true
+pub fewer : (place : EndPlace) (wished : Option Told) (none_left then_none : Bool) (local : LocalPart) → (none_left ≡ true → then_none ≡ true) → tells_wish place wished none_left local ≡ true
     → tells_wish place wished then_none local ≡ true
 fewer place wished none_left then_none (Idle true) left is = refl
 fewer place None none_left then_none (Idle false) left is = refl
@@ -600,19 +585,11 @@ mended_still plan place old new steady left same is =
     ∙ (same (wish plan old place) (none_to_give new)
     ∙ fewer place (wish plan old place) (none_to_give old) (none_to_give new) (end_at old place).local left is)
 
-and_first : (a b : Bool) → a && b ≡ true → a ≡ true
-and_first true b e = refl
-and_first false b e = e
-
-and_second : (a b : Bool) → a && b ≡ true → b ≡ true
-and_second true b e = e
-and_second false b e = absurd (cc (e))
-
 mends_keeps : (plan : Plan) (p q : EndPlace) (old new : EdgeState) → EndMends plan q old new → (p.wire.0 ≡ q.wire.0 → p.terminal ≡ q.terminal) → is_mended plan old p ≡ true → is_mended plan new p ≡ true
 mends_keeps plan p q old new mends side is = elim (cases_Bool (is_at q p.wire.0 p.peer.0)) [
   | inl here ↦
-      (let w : p.wire.0 ≡ q.wire.0 = eqb-true p.wire.0 q.wire.0 (and_first (nat_eq p.wire.0 q.wire.0) (nat_eq p.peer.0 q.peer.0) here) in
-      let k : p.peer.0 ≡ q.peer.0 = eqb-true p.peer.0 q.peer.0 (and_second (nat_eq p.wire.0 q.wire.0) (nat_eq p.peer.0 q.peer.0) here) in
+      (let w : p.wire.0 ≡ q.wire.0 = eqb-true p.wire.0 q.wire.0 (first_holds (nat_eq p.wire.0 q.wire.0) (nat_eq p.peer.0 q.peer.0) here) in
+      let k : p.peer.0 ≡ q.peer.0 = eqb-true p.peer.0 q.peer.0 (second_holds (nat_eq p.wire.0 q.wire.0) (nat_eq p.peer.0 q.peer.0) here) in
       mended_like plan new p q w k (side w) ∙ mends.mended)
   | inr apart ↦
       mended_still plan p old new mends.step.steady mends.step.labels
@@ -627,8 +604,8 @@ tells_keeps_mended plan p q old new tells is = mended_still plan p old new tells
   same : (wished : Option Told) (none_left : Bool) → tells_wish p wished none_left (end_at new p).local ≡ tells_wish p wished none_left (end_at old p).local
   same wished none_left = elim (cases_Bool (is_at q p.wire.0 p.peer.0)) [
     | inl here ↦
-        (let w : p.wire.0 ≡ q.wire.0 = eqb-true p.wire.0 q.wire.0 (and_first (nat_eq p.wire.0 q.wire.0) (nat_eq p.peer.0 q.peer.0) here) in
-        let k : p.peer.0 ≡ q.peer.0 = eqb-true p.peer.0 q.peer.0 (and_second (nat_eq p.wire.0 q.wire.0) (nat_eq p.peer.0 q.peer.0) here) in
+        (let w : p.wire.0 ≡ q.wire.0 = eqb-true p.wire.0 q.wire.0 (first_holds (nat_eq p.wire.0 q.wire.0) (nat_eq p.peer.0 q.peer.0) here) in
+        let k : p.peer.0 ≡ q.peer.0 = eqb-true p.peer.0 q.peer.0 (second_holds (nat_eq p.wire.0 q.wire.0) (nat_eq p.peer.0 q.peer.0) here) in
         ap (λ (e : EndState). tells_wish p wished none_left e.local) (end_like new w k)
         ∙ (tells.same p wished none_left ∙ ap (λ (e : EndState). tells_wish p wished none_left e.local) (sym (end_like old w k))))
     | inr apart ↦ ap (λ (e : EndState). tells_wish p wished none_left e.local) (tells.step.others p.wire.0 p.peer.0 apart)
@@ -637,8 +614,8 @@ tells_keeps_mended plan p q old new tells is = mended_still plan p old new tells
 tells_keeps_told : (plan : Plan) (p q : EndPlace) (old new : EdgeState) → EndTells plan q old new → (p.wire.0 ≡ q.wire.0 → p.terminal ≡ q.terminal) → is_told plan old p ≡ true → is_told plan new p ≡ true
 tells_keeps_told plan p q old new tells side is = elim (cases_Bool (is_at q p.wire.0 p.peer.0)) [
   | inl here ↦
-      (let w : p.wire.0 ≡ q.wire.0 = eqb-true p.wire.0 q.wire.0 (and_first (nat_eq p.wire.0 q.wire.0) (nat_eq p.peer.0 q.peer.0) here) in
-      let k : p.peer.0 ≡ q.peer.0 = eqb-true p.peer.0 q.peer.0 (and_second (nat_eq p.wire.0 q.wire.0) (nat_eq p.peer.0 q.peer.0) here) in
+      (let w : p.wire.0 ≡ q.wire.0 = eqb-true p.wire.0 q.wire.0 (first_holds (nat_eq p.wire.0 q.wire.0) (nat_eq p.peer.0 q.peer.0) here) in
+      let k : p.peer.0 ≡ q.peer.0 = eqb-true p.peer.0 q.peer.0 (second_holds (nat_eq p.wire.0 q.wire.0) (nat_eq p.peer.0 q.peer.0) here) in
       told_like plan new p q w k (side w) ∙ tells.told)
   | inr apart ↦
       ap (λ (s : PwStatus). tells_now s.0 (end_at new p).local) (status_steady plan old new p tells.step.steady)
@@ -649,8 +626,8 @@ tells_keeps_told plan p q old new tells side is = elim (cases_Bool (is_at q p.wi
 tells_keeps_downs : (plan : Plan) (q : EndPlace) (old new : EdgeState) → EndTells plan q old new → (wire k : ℕ) (role : EndRole) (bits : ℕ) → down role bits (new.ends wire k) ≡ down role bits (old.ends wire k)
 tells_keeps_downs plan q old new tells wire k role bits = elim (cases_Bool (is_at q wire k)) [
   | inl here ↦
-      (let w : wire ≡ q.wire.0 = eqb-true wire q.wire.0 (and_first (nat_eq wire q.wire.0) (nat_eq k q.peer.0) here) in
-      let p : k ≡ q.peer.0 = eqb-true k q.peer.0 (and_second (nat_eq wire q.wire.0) (nat_eq k q.peer.0) here) in
+      (let w : wire ≡ q.wire.0 = eqb-true wire q.wire.0 (first_holds (nat_eq wire q.wire.0) (nat_eq k q.peer.0) here) in
+      let p : k ≡ q.peer.0 = eqb-true k q.peer.0 (second_holds (nat_eq wire q.wire.0) (nat_eq k q.peer.0) here) in
       ap (down role bits) (end_like new w p) ∙ (tells.downs role bits ∙ ap (down role bits) (sym (end_like old w p))))
   | inr apart ↦ ap (down role bits) (tells.step.others wire k apart)
 ] where
@@ -673,7 +650,7 @@ record Passed (places : EndPlace → Type 0) (throughout : EdgeState → Type 0)
 
 fails_not_before : (mend : EndPlace → Work → Spoken) (places : List EndPlace) (m : Spoken) → (each_end mend places m).failed ≡ false → m.failed ≡ false
 fails_not_before mend [] m none = none
-fails_not_before mend (q ∷ rest) m none = or_left m.failed (mend q m.work).failed (fails_not_before mend rest (and_says m (mend q)) none)
+fails_not_before mend (q ∷ rest) m none = first_fails m.failed (mend q m.work).failed (fails_not_before mend rest (and_says m (mend q)) none)
 
 -- of each end, what it tells is as before where no session ended as it told that addresses have moved
 choice_spoken : (plan : Plan) (told : Answers) (before : ℕ → Option WireId) (place : EndPlace) (work : Work) → (mends_choice plan told before place work).failed ≡ false
@@ -694,7 +671,7 @@ choices_spoken plan told before [] m none = spoken_not m.work.edge
 choices_spoken plan told before (q ∷ rest) m none =
     let mend : EndPlace → Work → Spoken = mends_choice plan told before in
     let next : Spoken = and_says m (mend q) in
-    let taken : (mend q m.work).failed ≡ false = or_right m.failed (mend q m.work).failed (fails_not_before mend rest next none) in
+    let taken : (mend q m.work).failed ≡ false = second_fails m.failed (mend q m.work).failed (fails_not_before mend rest next none) in
     spoken_then m.work.edge next.work.edge (each_end mend rest next).work.edge (choice_spoken plan told before q m.work taken) (choices_spoken plan told before rest next none)
 
 -- then what ends should tell, and what they told, is as before
@@ -730,7 +707,7 @@ passes : (mend : EndPlace → Work → Spoken) (places : EndPlace → Type 0) (t
 passes mend places throughout so pass [] all m none holds = record { still = holds; made = tt; kept = λ p here is. is }
 passes mend places throughout so pass (q ∷ rest) all m none holds =
     let next : Spoken = and_says m (mend q) in
-    let taken : (mend q m.work).failed ≡ false = or_right m.failed (mend q m.work).failed (fails_not_before mend rest next none) in
+    let taken : (mend q m.work).failed ≡ false = second_fails m.failed (mend q m.work).failed (fails_not_before mend rest next none) in
     let later : Passed places throughout so rest next.work.edge (each_end mend rest next).work.edge =
     passes mend places throughout so pass rest all.1 next none (pass.goes_on q m.work all.0 taken holds) in
     record {

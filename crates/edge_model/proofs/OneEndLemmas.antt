@@ -1,10 +1,9 @@
 -- A terminal edge of a wire has one end of it, since no edge stands twice on a path.
 use Rattle.std.proofs.Common.{◌≡◌, ◌==◌, ◌∙◌, ◌&&◌, ◌||◌, ℕ, Bool, true, false, List, [], ◌∷◌, Some, nat_eq, slice_get, refl, sym, ap, subst, arith, inl, inr}
-use Rattle.std.specs.List.{All, list_any}
-use Rattle.std.proofs.lemmas.Bool.{cases_Bool, eqb-true, or_parts}
+use Rattle.std.specs.List.{list_any}
+use Rattle.std.proofs.lemmas.Bool.{cases_Bool, eqb-true, or_parts, or_right}
 use Rattle.std.proofs.lemmas.Bool.Decides.{nat_tests}
-use Rattle.std.proofs.lemmas.List.Elements.{All-get_or}
-use Rattle.std.proofs.lemmas.Option.{get_or_from_slice_get, slice_get_within}
+use Rattle.net_values.proofs.RowLemmas.{row_holds}
 use Rattle.net_base.specs.declared.plan.Plan.{Plan}
 use Rattle.net_base.specs.declared.plan.places.EdgeId.{EdgeId}
 use Rattle.net_base.specs.declared.plan.wire_plan.WirePlan.{WirePlan}
@@ -32,10 +31,7 @@ joins_none (first ∷ next ∷ rest) me a none =
 last_on : (path : List EdgeId) (me : ℕ) → is_last me path ≡ true → is_on me path ≡ true
 last_on [] me last = absurd (cc (last))
 last_on (only ∷ []) me last = grind (arith, nat_tests)
-last_on (first ∷ next ∷ rest) me last = later (first.0 == me) (is_on me (next ∷ rest)) (last_on (next ∷ rest) me last) where
-  later : (a b : Bool) → b ≡ true → a || b ≡ true
-  later true b e = refl
-  later false b e = e
+last_on (first ∷ next ∷ rest) me last = or_right (first.0 == me) (is_on me (next ∷ rest)) (last_on (next ∷ rest) me last)
 
 -- an edge that stands later on a path without a repeat is not its first
 not_first : (first : EdgeId) (rest : List EdgeId) (me : ℕ) → is_on first.0 rest ≡ false → is_on me rest ≡ true → (me == first.0) ≡ false
@@ -88,10 +84,6 @@ one_neighbour (first ∷ next ∷ rest) me a b once terminal one other = by (me 
   by : (t : Bool) → (me == first.0) ≡ t → t || is_last me (first ∷ next ∷ rest) ≡ true → a ≡ b
   by true here side = first_neighbour first next rest me a once here one ∙ sym (first_neighbour first next rest me b once here other)
   by false away side = last_neighbour (first ∷ next ∷ rest) me a b once side one other
-
--- what holds of each row holds of the row at a place
-pub row_holds : {A : Type 0} (P : A → Type 0) (rows : List A) (place : ℕ) (row : A) → slice_get rows place ≡ Some row → All P rows → P row
-row_holds P rows place row is all = subst P (get_or_from_slice_get rows place row row is) (All-get_or P rows place row (slice_get_within rows place row is) all)
 
 pub has_one_end : (plan : Plan) (me : EdgeId) → IsChecked plan → HasOneEnd plan me
 has_one_end plan me checked p q one other first second w =

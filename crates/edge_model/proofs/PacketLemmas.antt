@@ -1,6 +1,8 @@
 -- What an edge gives out on a packet stays behind the wire whose label the packet has.
 use Rattle.std.proofs.Common.{◌≡◌, ◌&&◌, ◌/◌, ◌∙◌, ◌-◌, inl, inr, drop, Bool, true, false, ℕ, List, [], ◌∷◌, Option, Some, None, Result, Ok, Err, length, position, slice_get, slice_index, nat_lt, refl, ap, sym, subst, not, nat_eq, cond}
 use Rattle.std.proofs.lemmas.Bool.{and_from, eq-eqb, eqb-true, ne_eqb}
+use Rattle.net_values.proofs.BoolLemmas.{and_false}
+use Rattle.net_values.proofs.RowLemmas.{found_passes, found_among}
 use Rattle.net_base.specs.declared.outside.link_call.LinkCall.{LinkCall}
 use Rattle.net_base.specs.declared.plan.Plan.{Plan}
 use Rattle.net_base.specs.declared.plan.places.EdgeId.{EdgeId}
@@ -50,7 +52,7 @@ use Rattle.edge_model.specs.Role.{down_at}
 use Rattle.edge_model.specs.Send.{drops, had_posted}
 use Rattle.edge_model.specs.State.{EdgeState, end_at}
 use Rattle.edge_model.specs.Work.{Work, beginning, gives, next_answer, posts}
-use Rattle.edge_model.proofs.CopyLemmas.{forwards_copies, found_among, found_passes, wire_class}
+use Rattle.edge_model.proofs.CopyLemmas.{forwards_copies, wire_class}
 use Rattle.edge_model.proofs.PlaceLemmas.{IsEndOf, places_are}
 
 -- ---- the channel that was picked
@@ -419,10 +421,6 @@ module _ (plan : Plan) (told : Answers) (octets frame : List ℕ) (work : Work) 
       ∙ (ap (λ (o : Option EndPlace). owned plan told octets entry o work) comes.owner
       ∙ (ap (λ (b : Bool). cond b (terminated plan told place entry.ttl (wire_row plan place.wire) (end_at work.edge place).remote (behind_entry octets) work) (switched plan told octets entry place work)) comes.terminal
       ∙ terminated_is binding comes.entry.ttl bound comes.is comes.forwards living formed)))))
-    where
-      and_false : (b : Bool) → b && false ≡ false
-      and_false true = refl
-      and_false false = refl
 
 -- ---- the end by which a packet comes
 

@@ -2,7 +2,6 @@
 use Rattle.std.proofs.Common.{◌≡◌, ◌+◌, ◌++◌, ◌==◌, ◌&&◌, ◌∙◌, ℕ, zero, suc, Bool, true, false, not, List, [], ◌∷◌, Option, Some, None, cond, nat_eq, slice_get, option_map, append_assoc, append-nil, refl, sym, ap, subst, inl, inr, arith}
 use Rattle.std.specs.List.{AllByRecursion}
 use Rattle.std.proofs.lemmas.Bool.{and_parts, cases_Bool, eqb-true}
-use Rattle.std.proofs.lemmas.Bool.Decides.{nat_tests}
 use Rattle.net_base.specs.declared.plan.Plan.{Plan}
 use Rattle.net_base.specs.declared.plan.places.EdgeId.{EdgeId}
 use Rattle.net_base.specs.declared.plan.places.ServiceId.{ServiceId}
@@ -12,6 +11,8 @@ use Rattle.net_base.specs.declared.trace.state_name.Reason.TheVariants as reason
 use Rattle.net_base.specs.declared.trace.state_name.StateName.TheVariants as name
 use Rattle.net_base.specs.plan.Places.{wire_row}
 use Rattle.net_values.specs.declared.mac.Mac.{Mac}
+use Rattle.net_values.proofs.NumberLemmas.{same_number, add_zero, from_none}
+use Rattle.net_values.proofs.RowLemmas.{all-append}
 use Rattle.pw_messages.specs.Content.{mac_withdrawal}
 use Rattle.pw_messages.specs.LinkAnswers.{Answers}
 use Rattle.pw_messages.specs.Sender.{platform_of}
@@ -42,7 +43,7 @@ use Rattle.edge_model.specs.Withdraw.{tells_piece, tells_piece_by, tells_pieces}
 use Rattle.edge_model.specs.Work.{Work, changes, gives, next_answer, puts}
 use Rattle.edge_model.proofs.AgainLemmas.{refused, refused_keeps}
 use Rattle.edge_model.proofs.MendLemmas.{says_nothing, says_taken}
-use Rattle.edge_model.proofs.PlaceLemmas.{all-append, all-map}
+use Rattle.edge_model.proofs.PlaceLemmas.{all-map}
 use Rattle.edge_model.proofs.SessionLemmas.{IsBesides, says_works}
 use Rattle.edge_model.proofs.SyncLemmas.{wire_end_is}
 use Rattle.edge_model.specs.Across.{end_beyond}
@@ -92,20 +93,17 @@ saying told peer message work = by (work.edge.peering peer.0) refl where
         Refused (message_octets_of kept message)
         (ap (λ (o : Option Peering). says_to told peer message o work) is ∙ ap (λ (b : Bool). had_said peer (put_octets peer (message_octets_of kept message) b work)) takes)
 
-same : (n : ℕ) → nat_eq n n ≡ true
-same n = grind (arith, nat_tests)
-
 refused_gone : (peer : EdgeId) (bytes : List ℕ) (work : Work) → (refused peer bytes work).edge.peering peer.0 ≡ None
 unfolding with_peering
 refused_gone peer bytes work =
     ap (λ (peering : ℕ → Option Peering). peering peer.0) (refused_keeps peer bytes work)
-    ∙ ap (λ (b : Bool). cond b None (work.edge.peering peer.0)) (same peer.0)
+    ∙ ap (λ (b : Bool). cond b None (work.edge.peering peer.0)) (same_number peer.0)
 
 spoken_is : (peer : EdgeId) (bytes : List ℕ) (kept : Peering) (work : Work) → work.edge.peering peer.0 ≡ Some kept
     → (put_octets peer bytes true work).work.edge.peering peer.0 ≡ Some (having_spoken kept)
 unfolding changes gives puts with_peering with_spoken
 spoken_is peer bytes kept work is =
-    ap (λ (b : Bool). cond b (option_map having_spoken (work.edge.peering peer.0)) (work.edge.peering peer.0)) (same peer.0) ∙ ap (option_map having_spoken) is
+    ap (λ (b : Bool). cond b (option_map having_spoken (work.edge.peering peer.0)) (work.edge.peering peer.0)) (same_number peer.0) ∙ ap (option_map having_spoken) is
 
 put_ends : (peer : EdgeId) (bytes : List ℕ) (work : Work) → (put_octets peer bytes true work).work.edge.ends ≡ work.edge.ends
 unfolding changes gives puts with_peering with_spoken
@@ -117,7 +115,7 @@ says_since told peer message work = record { me = besides.me; stood = λ k kept 
   next = (says told peer message work).work.edge
 
   besides : IsBesides (λ k. nat_eq k peer.0) work.edge next
-  besides = (says_works told (λ k. nat_eq k peer.0) peer message work (same peer.0)).edge
+  besides = (says_works told (λ k. nat_eq k peer.0) peer message work (same_number peer.0)).edge
 
   at_peer : (kept : Peering) → next.peering peer.0 ≡ Some kept → Saying told peer message work → Stood work.edge next peer.0 kept
   at_peer kept is (Quiet none all) =
@@ -216,7 +214,7 @@ module _ (plan : Plan) (first : EdgeState) (service : ServiceId) (from : ℕ) (a
       at_work new is tells = subst (λ (w : Work). GivesMore work.effects w.effects IsIt) (sym is) tells
 
       of : Saying told place.peer message work → GivesMore work.effects (says told place.peer message work).work.effects IsIt
-      of (Quiet none all) = at_work work (ap (λ (s : Spoken). s.work) all) (told_none work.effects tt)
+      of (Quiet add_zero all) = at_work work (ap (λ (s : Spoken). s.work) all) (told_none work.effects tt)
       of (Taken kept is all) =
           let stood : Stood first work.edge place.peer.0 kept = since.stood place.peer.0 kept is in
           at_work (put_octets place.peer (message_octets_of kept message) true work).work (ap (λ (s : Spoken). s.work) all)
@@ -278,7 +276,7 @@ module _ (plan : Plan) (first : EdgeState) (service : ServiceId) (from : ℕ) (a
         p = p;
         x = x;
         at = at;
-        to_wire = leads place.wire ∙ (ap (nat_eq wire.0) w ∙ same wire.0);
+        to_wire = leads place.wire ∙ (ap (nat_eq wire.0) w ∙ same_number wire.0);
         passed = passed;
         here = ap (λ (n : ℕ). wire_end plan first.me (record { 0 = n })) w ∙ here;
       }
@@ -312,9 +310,7 @@ module _ (plan : Plan) (first : EdgeState) (service : ServiceId) (from : ℕ) (a
     moved p i = omega arith
 
   head_at : (p : ℕ) (x : Port) (xs : List Port) → IsRest p (x ∷ xs) → slice_get ports p ≡ Some x
-  head_at p x xs rest = ap (slice_get ports) (none p) ∙ rest zero x refl where
-    none : (p : ℕ) → p ≡ p + zero
-    none p = omega arith
+  head_at p x xs rest = ap (slice_get ports) (add_zero p) ∙ rest zero x refl
 
   ports_pass : (p : ℕ) (xs : List Port) → IsRest p xs → (work : Work) → Since first work.edge → Passes work (copies targets (tells_at plan told addresses) p xs work)
   ports_pass p [] rest work since = passes_not work
@@ -384,8 +380,8 @@ module _ (plan : Plan) (first : EdgeState) (service : ServiceId) (from : ℕ) (a
             then.peers ∙ ap (λ (k : Peering). k.session.peers) one
 
         of : Saying told place.peer message work → has_end (says told place.peer message work).work.edge place.peer ≡ true → Reaches (piece ∷ []) work (says told place.peer message work).work
-        of (Quiet none all) after =
-            let wrong : Some at_work.0 ≡ None = sym at_work.1 ∙ none in
+        of (Quiet add_zero all) after =
+            let wrong : Some at_work.0 ≡ None = sym at_work.1 ∙ add_zero in
             absurd (cc (wrong))
         of (Taken now is all) after =
             subst (λ (w : Work). Reaches (piece ∷ []) work w) (sym (ap (λ (s : Spoken). s.work) all))
@@ -453,15 +449,12 @@ module _ (plan : Plan) (first : EdgeState) (service : ServiceId) (from : ℕ) (a
         let later : Since first next.edge = since_then first work.edge next.edge since one.since in
         let others : Passes next (copies targets (tells_at plan told addresses) (p + 1) xs next) = ports_pass (p + 1) xs (rest_next p y xs rest) next later in
         let told_it : next ≡ tells_pieces told place (pieces_of addresses) work =
-        ap (λ (b : Bool). cond b (tells_at plan told addresses y work) work) (ap targets (plus_none p) ∙ passed) ∙ at_port y (ap_leads at) work since in
+        ap (λ (b : Bool). cond b (tells_at plan told addresses y work) work) (ap targets (add_zero p) ∙ passed) ∙ at_port y (ap_leads at) work since in
         reaches_then (pieces_of addresses) work next (copies targets (tells_at plan told addresses) (p + 1) xs next)
         (subst (λ (w : Work). (has_end w.edge place.peer ≡ true) → Reaches (pieces_of addresses) work w) (sym told_it) (λ there. pieces_reach [] (pieces_of addresses) refl work since there)
         (stands_before next.edge (copies targets (tells_at plan told addresses) (p + 1) xs next).edge others.since stands))
         others
       where
-        plus_none : (p : ℕ) → p ≡ p + zero
-        plus_none p = omega arith
-
         ap_leads : Some y ≡ Some x → is_wire_port place.wire y ≡ true
         ap_leads is = let one : y ≡ x = cc (is) in ap (is_wire_port place.wire) one ∙ leads
     ports_reach p (y ∷ xs) rest (suc i) x at leads passed work since stands =
@@ -495,9 +488,6 @@ begun_since : (service : ServiceId) (addresses : List Mac) (from : ℕ) (work : 
 unfolding changes with_addresses
 begun_since service addresses from work = record { me = refl; stood = λ k kept is. record { before = kept; is = is; peers = refl; ends = λ wire. refl } }
 
-from_first : (i : ℕ) → 0 + i ≡ i
-from_first i = omega arith
-
 reaches : (plan : Plan) (told : Answers) (peer : EdgeId) (fec : PwFec) (addresses : List Mac) (service : ServiceId) (from : ℕ) (place : EndPlace) (content : Told) (kept : Peering) (work : Work)
     → ComesToCore plan work.edge peer fec service from → GoesOnBy plan work.edge service from place content kept
     → has_end (hears_mac_withdraw plan told peer (Some fec) (Some addresses) work).edge place.peer ≡ true
@@ -506,8 +496,8 @@ unfolding changes
 reaches plan told peer fec addresses service from place content kept work comes by stands =
     subst (λ (w : Work). (has_end w.edge place.peer ≡ true) → GivesMore work.effects w.effects (λ more. AllByRecursion (WasTold place content kept more) (pieces_of addresses))) (sym (hears_is plan told peer fec addresses service from work comes))
     (λ there.
-    ports_reach plan work.edge service from addresses told place content kept by 0 (ports_of plan service work.edge.me) (λ i x at. ap (slice_get (ports_of plan service work.edge.me)) (from_first i) ∙ at)
-    by.may.p by.may.x by.may.at by.may.to_wire (ap (is_passed_to role.Core (ports_of plan service work.edge.me) from) (from_first by.may.p) ∙ by.may.passed)
+    ports_reach plan work.edge service from addresses told place content kept by 0 (ports_of plan service work.edge.me) (λ i x at. ap (slice_get (ports_of plan service work.edge.me)) (from_none i) ∙ at)
+    by.may.p by.may.x by.may.at by.may.to_wire (ap (is_passed_to role.Core (ports_of plan service work.edge.me) from) (from_none by.may.p) ∙ by.may.passed)
     (begun service addresses from work) (begun_since service addresses from work) there) stands
 
 alone : (plan : Plan) (told : Answers) (peer : EdgeId) (fec : PwFec) (addresses : List Mac) (service : ServiceId) (from : ℕ) (work : Work)
@@ -516,7 +506,7 @@ alone : (plan : Plan) (told : Answers) (peer : EdgeId) (fec : PwFec) (addresses 
 unfolding changes
 alone plan told peer fec addresses service from work comes =
     subst (λ (w : Work). GivesMore work.effects w.effects (AllByRecursion (IsOfPassing plan work.edge service from (pieces_of addresses)))) (sym (hears_is plan told peer fec addresses service from work comes))
-    (ports_pass plan work.edge service from addresses told 0 (ports_of plan service work.edge.me) (λ i x at. ap (slice_get (ports_of plan service work.edge.me)) (from_first i) ∙ at) (begun service addresses from work) (begun_since service addresses from work)).alone
+    (ports_pass plan work.edge service from addresses told 0 (ports_of plan service work.edge.me) (λ i x at. ap (slice_get (ports_of plan service work.edge.me)) (from_none i) ∙ at) (begun service addresses from work) (begun_since service addresses from work)).alone
 
 -- what came by a spoke goes to a mesh wire
 goes_to_mesh : (ports : List Port) (from p : ℕ) (spoke mesh : WireId) → slice_get ports from ≡ Some (port.Spoke spoke) → slice_get ports p ≡ Some (port.Mesh mesh) → is_passed_to role.Core ports from p ≡ true
@@ -527,8 +517,8 @@ goes_to_mesh ports from p spoke mesh here there =
   where
     apart : (p == from) ≡ false
     apart = elim (cases_Bool (nat_eq p from)) [
-      | inl same ↦
-          (let equal : Some (port.Mesh mesh) ≡ Some (port.Spoke spoke) = sym there ∙ (ap (slice_get ports) (eqb-true p from same) ∙ here) in
+      | inl same_number ↦
+          (let equal : Some (port.Mesh mesh) ≡ Some (port.Spoke spoke) = sym there ∙ (ap (slice_get ports) (eqb-true p from same_number) ∙ here) in
           let wrong : true ≡ false = ap is_mesh equal in
           absurd (cc (wrong)))
       | inr other ↦ other

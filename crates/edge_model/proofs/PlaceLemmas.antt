@@ -1,7 +1,10 @@
 -- The ends of an edge are those of the plan's segments there.
-use Rattle.std.proofs.Common.{◌≡◌, ◌+◌, ◌++◌, ◌||◌, ◌&&◌, ◌∙◌, ℕ, suc, Bool, true, false, nat_eq, List, [], ◌∷◌, Some, slice_get, refl, sym, ap, inl, inr, arith}
+use Rattle.std.proofs.Common.{◌≡◌, ◌+◌, ◌||◌, ◌&&◌, ◌∙◌, ℕ, suc, true, nat_eq, List, [], ◌∷◌, Some, slice_get, refl, sym, ap, inl, inr}
 use Rattle.std.proofs.lemmas.Bool.{cases_Bool}
 use Rattle.std.specs.List.{AllByRecursion}
+use Rattle.net_values.proofs.BoolLemmas.{or_true}
+use Rattle.net_values.proofs.NumberLemmas.{same_number, add_zero, step_into, from_none_back}
+use Rattle.net_values.proofs.RowLemmas.{all-append}
 use Rattle.net_base.specs.declared.plan.Plan.{Plan}
 use Rattle.net_base.specs.declared.plan.places.EdgeId.{EdgeId}
 use Rattle.net_base.specs.declared.plan.places.WireId.{WireId}
@@ -26,27 +29,16 @@ record IsEndAlong (wire : WireId) (row : WirePlan) (me : EdgeId) (path : List Ed
   terminal : place.terminal ≡ is_terminal row me
   joined : joins me.0 place.peer.0 path ≡ true
 
-pub all-append : {A : Type 0} (P : A → Type 0) (xs ys : List A) → AllByRecursion P xs → AllByRecursion P ys → AllByRecursion P (xs ++ ys)
-all-append P [] ys one other = other
-all-append P (x ∷ xs) ys one other = (one.0, all-append P xs ys one.1 other)
-
 pub all-map : {A : Type 0} (P Q : A → Type 0) (xs : List A) → ((x : A) → P x → Q x) → AllByRecursion P xs → AllByRecursion Q xs
 all-map P Q [] follows all = tt
 all-map P Q (x ∷ xs) follows all = (follows x all.0, all-map P Q xs follows all.1)
 
-same : (n : ℕ) → nat_eq n n ≡ true
-same n = grind arith
-
-or_true : (a : Bool) → a || true ≡ true
-or_true true = refl
-or_true false = refl
-
 at_segment : (wire : WireId) (row : WirePlan) (me : EdgeId) (segment : ℕ) (first next : EdgeId) (rest : List EdgeId)
     → AllByRecursion (IsEndAlong wire row me (first ∷ next ∷ rest)) (places_at wire row me segment first next)
 at_segment wire row me segment first next rest = elim (cases_Bool (nat_eq me.0 first.0)) [
-  | inl here ↦ rw here (record { of_wire = refl; pw_id = refl; terminal = refl; joined = rw (here, same next.0) refl }, tt)
+  | inl here ↦ rw here (record { of_wire = refl; pw_id = refl; terminal = refl; joined = rw (here, same_number next.0) refl }, tt)
   | inr away ↦ elim (cases_Bool (nat_eq me.0 next.0)) [
-    | inl there ↦ rw (away, there) (record { of_wire = refl; pw_id = refl; terminal = refl; joined = rw (away, there, same first.0) refl }, tt)
+    | inl there ↦ rw (away, there) (record { of_wire = refl; pw_id = refl; terminal = refl; joined = rw (away, there, same_number first.0) refl }, tt)
     | inr gone ↦ rw (away, gone) tt
   ]
 ]
@@ -62,27 +54,19 @@ along wire row me segment (first ∷ next ∷ rest) =
     (along wire row me (segment + 1) (next ∷ rest)))
 
 from : (plan : Plan) (me : EdgeId) (wire : ℕ) (rows : List WirePlan) → ((k : ℕ) → slice_get rows k ≡ slice_get plan.wires (wire + k)) → AllByRecursion (IsEndOf plan me) (places_from me wire rows)
-from plan me wire [] same = tt
-from plan me wire (row ∷ rows) same =
+from plan me wire [] same_number = tt
+from plan me wire (row ∷ rows) same_number =
     all-append (IsEndOf plan me) (places_along (record { 0 = wire }) row me 0 row.path) (places_from me (wire + 1) rows)
     (all-map (IsEndAlong (record { 0 = wire }) row me row.path) (IsEndOf plan me) (places_along (record { 0 = wire }) row me 0 row.path)
     (λ place h. record {
       row = row;
-      is = ap (λ (w : WireId). slice_get plan.wires w.0) h.of_wire ∙ (ap (slice_get plan.wires) (none_more wire) ∙ sym (same 0));
+      is = ap (λ (w : WireId). slice_get plan.wires w.0) h.of_wire ∙ (ap (slice_get plan.wires) (add_zero wire) ∙ sym (same_number 0));
       pw_id = h.pw_id;
       terminal = h.terminal;
       joined = h.joined;
     })
     (along (record { 0 = wire }) row me 0 row.path))
-    (from plan me (wire + 1) rows (λ k. same (suc k) ∙ ap (slice_get plan.wires) (one_more wire k)))
-  where
-    none_more : (wire : ℕ) → wire ≡ wire + 0
-    none_more wire = omega arith
-
-    one_more : (wire k : ℕ) → wire + suc k ≡ (wire + 1) + k
-    one_more wire k = omega arith
+    (from plan me (wire + 1) rows (λ k. same_number (suc k) ∙ ap (slice_get plan.wires) (step_into wire k)))
 
 pub places_are : (plan : Plan) (me : EdgeId) → AllByRecursion (IsEndOf plan me) (end_places plan me)
-places_are plan me = from plan me 0 plan.wires (λ k. ap (slice_get plan.wires) (from_none k)) where
-  from_none : (k : ℕ) → k ≡ 0 + k
-  from_none k = omega arith
+places_are plan me = from plan me 0 plan.wires (λ k. ap (slice_get plan.wires) (from_none_back k))

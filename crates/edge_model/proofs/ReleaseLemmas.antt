@@ -40,7 +40,7 @@ same_end place end edge same = λ i. record edge { ends = λ wire k. each wire k
     | inr away ↦ rw away refl
   ]
 
-left_none : (own : Option ℕ) → left_label own own ≡ None
+pub left_none : (own : Option ℕ) → left_label own own ≡ None
 left_none None = refl
 left_none (Some label) = refl
 

@@ -2,13 +2,14 @@
 use Rattle.std.proofs.Common.{◌≡◌, ◌≤◌, ◌<◌, ◌+◌, ◌++◌, ℕ, nat_eq, List, [], ◌∷◌, refl, inl, inr, arith}
 use Rattle.std.proofs.lemmas.Bool.{cases_Bool}
 use Rattle.std.specs.List.{AllByRecursion}
+use Rattle.net_values.proofs.RowLemmas.{all-append}
 use Rattle.net_base.specs.declared.plan.places.EdgeId.{EdgeId}
 use Rattle.net_base.specs.declared.plan.places.WireId.{WireId}
 use Rattle.net_base.specs.declared.plan.wire_plan.WirePlan.{WirePlan}
 use Rattle.edge_model.specs.declared.end_place.EndPlace.{EndPlace}
 use Rattle.edge_model.specs.EndPlaces.{places_along, places_at, places_from}
 use Rattle.edge_model.specs.Rising.{AreRisingPlaces, EndPlacesRise, IsBefore}
-use Rattle.edge_model.proofs.PlaceLemmas.{all-append, all-map}
+use Rattle.edge_model.proofs.PlaceLemmas.{all-map}
 
 -- an end of this wire, at this segment or a later one
 record IsBehind (wire segment : ℕ) (place : EndPlace) : Type 0 where

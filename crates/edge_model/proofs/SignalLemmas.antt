@@ -10,6 +10,7 @@ use Rattle.net_base.specs.declared.plan.places.WireId.{WireId}
 use Rattle.net_base.specs.declared.trace.down.Down.{Down}
 use Rattle.net_base.specs.declared.trace.state_name.Reason.TheVariants as reason
 use Rattle.net_values.specs.declared.mac.Mac.{Mac}
+use Rattle.net_values.proofs.BoolLemmas.{first_holds, second_holds}
 use Rattle.net_base.specs.plan.Paths.{are_joined}
 use Rattle.net_base.specs.plan.Places.{wire_row}
 use Rattle.ldp_grammar.specs.declared.message.Message.{Message}
@@ -45,7 +46,6 @@ use Rattle.edge_model.specs.Wire.{is_own_spoke, priority_input, status_input, tu
 use Rattle.edge_model.specs.Withdraw.{tells_piece, tells_piece_by}
 use Rattle.edge_model.specs.Work.{Work, changes, gives, idles}
 use Rattle.edge_model.proofs.BridgeLemmas.{ForgetsOnly, forgets_downs_only, forgetting_only, withdrawing_only}
-use Rattle.edge_model.proofs.LocalLemmas.{and_left, and_right}
 use Rattle.edge_model.proofs.SessionLemmas.{GivesOnly, IsSessionWork, advice_works, any, are_all, connects_works, gives_none, gives_then, happens_with_ends_works, is_of_session, says_works}
 use Rattle.edge_model.proofs.WalkLemmas.{HearSteps, MendSteps, acts_on_holds, hears_holds, hears_mapping_holds, hears_message_holds, hears_messages_holds, hears_on_holds, hears_one_holds, hears_pdu_holds, hears_status_holds, hears_withdraw_holds, mends_holds, mends_once_holds, ticks_hold}
 use Rattle.edge_model.specs.Labels.{label_to_give}
@@ -68,8 +68,8 @@ more_signalling (effect.Closed peer) own = refl
 all_signalling : (es : List Effect) → are_all (is_of_session any) es ≡ true → are_all is_of_signalling es ≡ true
 all_signalling [] own = refl
 all_signalling (e ∷ es) own =
-    ap (λ (b : Bool). b && are_all is_of_signalling es) (more_signalling e (and_left (is_of_session any e) (are_all (is_of_session any) es) own))
-    ∙ all_signalling es (and_right (is_of_session any e) (are_all (is_of_session any) es) own)
+    ap (λ (b : Bool). b && are_all is_of_signalling es) (more_signalling e (first_holds (is_of_session any e) (are_all (is_of_session any) es) own))
+    ∙ all_signalling es (second_holds (is_of_session any e) (are_all (is_of_session any) es) own)
 
 -- of the edge, all stays but its sessions, its ends, what it told of them, the spokes that it has chosen, its next label, and the
 -- addresses that it forgets

@@ -2,6 +2,7 @@
 use Rattle.std.proofs.Common.{◌≡◌, ◌&&◌, ◌||◌, ◌∙◌, ℕ, zero, suc, Bool, true, false, List, [], ◌∷◌, Option, Some, None, cond, not, refl, sym, ap, subst, is_some, length, nat_eq, slice_get}
 use Rattle.std.specs.List.{AllByRecursion, find, list_any}
 use Rattle.std.proofs.lemmas.Bool.{eqb-true}
+use Rattle.net_values.proofs.BoolLemmas.{first_holds, second_holds}
 use Rattle.net_base.specs.declared.plan.Plan.{Plan}
 use Rattle.net_base.specs.declared.plan.circuit_plan.CircuitPlan.{CircuitPlan}
 use Rattle.net_base.specs.declared.plan.edge_plan.EdgePlan.{EdgePlan}
@@ -41,7 +42,6 @@ use Rattle.edge_model.specs.Tick.{counted, forgetting, ticks_sessions}
 use Rattle.edge_model.specs.Wire.{is_own_spoke, turned_wire}
 use Rattle.edge_model.specs.Work.{Work, changes, idles}
 use Rattle.edge_model.proofs.BridgeLemmas.{LearnsOnly, PingsInput, forgets_downs_only, frame_bridges, learns_is, packet_bridges, ping_bridges, with_pings}
-use Rattle.edge_model.proofs.LocalLemmas.{and_left, and_right}
 use Rattle.edge_model.proofs.MendedLemmas.{HaveTold, all_told}
 use Rattle.edge_model.specs.Settled.{is_down_told}
 use Rattle.edge_model.proofs.OneEndLemmas.{has_one_end}
@@ -50,7 +50,7 @@ use Rattle.edge_model.proofs.SignalLemmas.{IsSignalWork, chooses_signals, each_e
 
 -- ---- before the first input, and after a restart
 
-all_of : (P : EndPlace → Type 0) → ((place : EndPlace) → P place) → (places : List EndPlace) → AllByRecursion P places
+pub all_of : (P : EndPlace → Type 0) → ((place : EndPlace) → P place) → (places : List EndPlace) → AllByRecursion P places
 all_of P each [] = tt
 all_of P each (place ∷ places) = (each place, all_of P each places)
 
@@ -298,8 +298,8 @@ pub told_is : (plan : Plan) (edge : EdgeState) (wire : WireId) (place : EndPlace
 told_is plan edge wire place synced is =
     let here : nat_eq place.wire.0 wire.0 && place.terminal ≡ true = wire_end_is plan edge.me wire place is in
     let one : IsSynced plan edge place = found_holds (IsSynced plan edge) (is_end_of_wire wire) (end_places plan edge.me) place synced.each is in
-    ap edge.told_down (sym (eqb-true place.wire.0 wire.0 (and_left (nat_eq place.wire.0 wire.0) place.terminal here)))
-    ∙ cause_same (edge.told_down place.wire.0) (down_at plan edge place) (one.so (and_right (nat_eq place.wire.0 wire.0) place.terminal here))
+    ap edge.told_down (sym (eqb-true place.wire.0 wire.0 (first_holds (nat_eq place.wire.0 wire.0) place.terminal here)))
+    ∙ cause_same (edge.told_down place.wire.0) (down_at plan edge place) (one.so (second_holds (nat_eq place.wire.0 wire.0) place.terminal here))
 
 -- the end is up exactly where nothing was told why not
 pub open_is_forwarding : (plan : Plan) (edge : EdgeState) (wire : WireId) (place : EndPlace) → InSync plan edge → wire_end plan edge.me wire ≡ Some place

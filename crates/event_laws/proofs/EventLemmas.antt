@@ -1,8 +1,9 @@
 -- Each event is read from its words.
-use Rattle.std.proofs.Common.{◌≡◌, ◌<◌, ◌-◌, ◌^◌, ◌∙◌, not, ℕ, Bool, true, false, List, [], ◌∷◌, length, Some, Ok, refl, ap, arith}
+use Rattle.std.proofs.Common.{◌≡◌, ◌<◌, ◌-◌, ◌^◌, ◌∙◌, not, ℕ, true, List, [], ◌∷◌, length, Some, Ok, refl, ap, arith}
 use Rattle.std.specs.Prelude.{codes}
 use Rattle.std.specs.Fmt.{decimal}
 use Rattle.std.specs.List.{list_all}
+use Rattle.std.proofs.lemmas.Bool.{not-true}
 use Rattle.net_base.specs.declared.plan.Plan.{Plan}
 use Rattle.net_base.specs.declared.plan.places.CircuitId.{CircuitId}
 use Rattle.net_base.specs.declared.plan.places.EdgeId.{EdgeId}
@@ -41,16 +42,12 @@ wire_said plan wire names lt = row_said (λ row. row.name) plan.wires wire.0 nam
 wire_whole : (plan : Plan) (wire : WireId) → HasNames plan → wire.0 < length plan.wires → IsWhole (wire_name plan wire)
 wire_whole plan wire names lt = row_whole (λ row. row.name) plan.wires wire.0 names.wires lt
 
-not_true : (b : Bool) → not b ≡ true → b ≡ false
-not_true true e = cc e
-not_true false e = refl
-
 -- the first word of a command has no blank
-literal : (word : List ℕ) → list_all (λ c. not (is_space c)) word ≡ true → IsWhole word
-literal word e = whole_by (λ c. not (is_space c)) (λ c none. not_true (is_space c) none) word e
+pub literal : (word : List ℕ) → list_all (λ c. not (is_space c)) word ≡ true → IsWhole word
+literal word e = whole_by (λ c. not (is_space c)) (λ c none. not-true (is_space c) none) word e
 
 -- a command by its first word
-by_word : (names : PlanNames) (number plays : ℕ) (word : List ℕ) (words : List (List ℕ)) (command : Command) → IsWhole word
+pub by_word : (names : PlanNames) (number plays : ℕ) (word : List ℕ) (words : List (List ℕ)) (command : Command) → IsWhole word
     → command_of names number plays word (joined_words (word ∷ words)) ≡ Ok command → command_in names number plays (joined_words (word ∷ words)) ≡ Ok command
 by_word names number plays word words command whole reads =
     ap (λ (first : List ℕ). command_of names number plays first (joined_words (word ∷ words))) (first_of word words whole) ∙ reads

@@ -1,20 +1,21 @@
 -- What names, numbers, octets and switches say.
-use Rattle.std.proofs.Common.{◌≡◌, ◌<◌, ◌≤◌, ◌+◌, ◌*◌, ◌/◌, ◌%◌, ◌∙◌, ◌^◌, ◌==◌, ◌&&◌, not, ℕ, zero, suc, Bool, true, false, List, [], ◌∷◌, length, map, get_or, slice_get, slice_index, Option, Some, None, option_map, unwrap_or, nat_le, eqb, refl, ap, sym, arith, inl, inr}
+use Rattle.std.proofs.Common.{◌≡◌, ◌<◌, ◌≤◌, ◌+◌, ◌*◌, ◌/◌, ◌%◌, ◌^◌, ◌==◌, ◌&&◌, not, ℕ, zero, suc, Bool, true, false, List, [], ◌∷◌, length, map, get_or, slice_get, slice_index, Option, Some, None, option_map, unwrap_or, nat_le, eqb, refl, ap, arith, inl, inr}
 use Rattle.std.proofs.lemmas.List.{length-map}
 use Rattle.std.specs.Fmt.{decimal}
 use Rattle.std.specs.List.{All, list_all, position_or_len}
-use Rattle.std.proofs.lemmas.Bool.{cases_Bool, cases_lt, eqb-true, ne_eqb, lt-ltb, le-leb}
-use Rattle.std.proofs.lemmas.Slice.Eq.{bytes_eq-Decides}
+use Rattle.std.proofs.lemmas.Bool.{cases_lt, eqb-true, ne_eqb, lt-ltb, le-leb, not-true, and_parts as parts}
 use Rattle.std.specs.Str.{bytes_eq}
 use Rattle.std.proofs.lemmas.Bool.Decides.{nat_tests}
 use Rattle.std.proofs.lemmas.Fmt.{digits_value-decimal, digits_decimal, decimal_nonempty, decimal_digit, first_decimal}
 use Rattle.std.proofs.lemmas.Str.Parse.{IsNumeralModel, IsDigitsTest, numerals_by_fold}
 use Rattle.hex.specs.Hex.{encode_with, lower_digits}
 use Rattle.net_values.specs.Name.{IsName, is_name_octet_of}
+use Rattle.net_values.proofs.RowLemmas.{same_octets, octets_apart_back}
 use Rattle.report_text.specs.Words.{name_or_empty, switch_name}
 use Rattle.command_text.specs.Words.{is_space, is_digit_of, value_from, is_decimal, decimal_from, switch_of}
 use Rattle.command_text.specs.Names.{place_in}
 use Rattle.command_text.specs.Hex.{digit_value, pair_value, unhex, frame_of}
+use Rattle.command_text.proofs.CommonLemmas.{is_digit, in_range}
 use Rattle.text_pieces.specs.Pieces.{hex}
 use Rattle.event_laws.specs.Law.{AreNames, IsWritable}
 use Rattle.event_laws.proofs.WordLemmas.{IsWhole}
@@ -22,10 +23,6 @@ use Rattle.event_laws.proofs.WordLemmas.{IsWhole}
 -- octets of a kind that has no blank
 abbrev pub HasNoSpace : (ℕ → Bool) → Type 0
 HasNoSpace test = (c : ℕ) → test c ≡ true → is_space c ≡ false
-
-parts : (a b : Bool) → (a && b) ≡ true → (a ≡ true) × (b ≡ true)
-parts true b e = (refl, e)
-parts false b e = cc e
 
 pub whole_by : (test : ℕ → Bool) → HasNoSpace test → (word : List ℕ) → list_all test word ≡ true → IsWhole word
 whole_by test none [] e = tt
@@ -36,20 +33,14 @@ whole_by test none (c ∷ cs) e =
 digit_has_none : HasNoSpace is_digit_of
 digit_has_none c e = grind (arith, nat_tests, e)
 
-tells_digits : IsDigitsTest (λ ds. list_all is_digit_of ds ≡ true)
+pub tells_digits : IsDigitsTest (λ ds. list_all is_digit_of ds ≡ true)
 tells_digits = record {
   empty = refl;
   parts = λ c cs e. let both = parts (is_digit_of c) (list_all is_digit_of cs) e in (in_range c both.0, both.1);
   more = λ c cs k e. rw (is_digit c k) e;
 }
-  where
-    in_range : (c : ℕ) → is_digit_of c ≡ true → (48 ≤ c) × (c ≤ 57)
-    in_range c e = grind (arith, nat_tests, e)
 
-    is_digit : (c : ℕ) → (48 ≤ c) × (c ≤ 57) → is_digit_of c ≡ true
-    is_digit c k = grind (arith, nat_tests, k.0, k.1)
-
-numerals : IsNumeralModel (λ ds. list_all is_digit_of ds ≡ true) (value_from 0)
+pub numerals : IsNumeralModel (λ ds. list_all is_digit_of ds ≡ true) (value_from 0)
 numerals = numerals_by_fold _ tells_digits value_from (record { empty = λ n. refl; more = λ n c cs k. refl })
 
 pub decimal_whole : (n : ℕ) → n < 2 ^ 64 → IsWhole (decimal n)
@@ -97,11 +88,7 @@ digit_read d lt = some_from (digit_value (slice_index lower_digits d)) d lt (eqb
 
 digit_whole : (d : ℕ) → d < 16 → is_space (slice_index lower_digits d) ≡ false
 unfolding all_below
-digit_whole d lt = not_true (is_space (slice_index lower_digits d)) (below_at (λ n. not (is_space (slice_index lower_digits n))) 16 d refl lt)
-  where
-    not_true : (b : Bool) → not b ≡ true → b ≡ false
-    not_true true e = cc e
-    not_true false e = refl
+digit_whole d lt = not-true (is_space (slice_index lower_digits d)) (below_at (λ n. not (is_space (slice_index lower_digits n))) 16 d refl lt)
 
 pair_read : (octet : ℕ) → octet < 256 → pair_value (slice_index lower_digits (octet / 16)) (slice_index lower_digits (octet % 16)) ≡ Some octet
 pair_read octet h =
@@ -134,29 +121,19 @@ pub switch_whole : (on : Bool) → IsWhole (switch_name on)
 switch_whole true = (refl, (refl, tt))
 switch_whole false = (refl, (refl, (refl, tt)))
 
--- a name is found at its row
-same_text : (a : List ℕ) → bytes_eq a a ≡ true
-same_text a = (bytes_eq-Decides a a).1 refl
-
-other_text : (a b : List ℕ) → bytes_eq a b ≡ false → bytes_eq b a ≡ false
-other_text a b apart = elim (cases_Bool (bytes_eq b a)) [
-  | inl same ↦ cc (sym apart ∙ (bytes_eq-Decides a b).1 (sym ((bytes_eq-Decides b a).0 same)))
-  | inr other ↦ other
-]
-
 first_at : (names : List (List ℕ)) (i : ℕ) → i < length names → ((j : ℕ) → j < i → bytes_eq (get_or names i []) (get_or names j []) ≡ false)
     → position_or_len (bytes_eq (get_or names i [])) names ≡ i
 first_at [] i lt apart = absurd (omega arith)
-first_at (name ∷ names) zero lt apart = rw (same_text name) refl
+first_at (name ∷ names) zero lt apart = rw (same_octets name) refl
 first_at (name ∷ names) (suc i) lt apart =
     rw (apart 0 (omega arith), first_at names i (omega arith) (λ j under. apart (suc j) (omega arith))) (omega arith)
 
 place_found : (names : List (List ℕ)) (i : ℕ) → AreNames names → i < length names → place_in names (get_or names i []) ≡ Some i
 place_found names i are lt =
-    let first : position_or_len (bytes_eq (get_or names i [])) names ≡ i = first_at names i lt (λ j under. other_text (get_or names j []) (get_or names i []) (are.once j i [] under lt)) in
+    let first : position_or_len (bytes_eq (get_or names i [])) names ≡ i = first_at names i lt (λ j under. octets_apart_back (get_or names j []) (get_or names i []) (are.once j i [] under lt)) in
     rw (first, lt-ltb i (length names) lt) refl
 
-row_name : {Y : Type 0} (f : Y → List ℕ) (rows : List Y) (i : ℕ) → i < length rows → name_or_empty (option_map f (slice_get rows i)) ≡ get_or (map f rows) i []
+pub row_name : {Y : Type 0} (f : Y → List ℕ) (rows : List Y) (i : ℕ) → i < length rows → name_or_empty (option_map f (slice_get rows i)) ≡ get_or (map f rows) i []
 row_name f [] i lt = absurd (omega arith)
 row_name f (row ∷ rows) zero lt = refl
 row_name f (row ∷ rows) (suc i) lt = row_name f rows i (omega arith)

@@ -1,6 +1,7 @@
 -- The words of a text by their numbers.
-use Rattle.std.proofs.Common.{◌≡◌, ◌+◌, ◌-◌, ◌++◌, ◌∙◌, ℕ, zero, suc, true, false, List, [], ◌∷◌, length, take, drop, Option, Some, None, Ok, slice_get, refl, ap, arith, length-append}
+use Rattle.std.proofs.Common.{◌≡◌, ◌+◌, ◌-◌, ◌++◌, ◌∙◌, ℕ, zero, suc, true, false, List, [], ◌∷◌, length, drop, Option, Some, None, Ok, slice_get, refl, ap, arith, length-append}
 use Rattle.std.specs.List.{position_or_len}
+use Rattle.net_values.proofs.RowLemmas.{take_front}
 use Rattle.command_text.specs.Words.{is_space, after_word, first_word, word_after, word_at, said_word, ends_before}
 use Rattle.command_text.proofs.WordLemmas.{no_space_after, no_space_before, space_after}
 use Rattle.event_laws.specs.Law.{joined_words}
@@ -22,10 +23,6 @@ at_blank (c ∷ cs) rest whole = rw (whole.0, at_blank cs rest whole.1) (omega a
 no_blank : (word : List ℕ) → IsWhole word → position_or_len is_space word ≡ length word
 no_blank [] whole = refl
 no_blank (c ∷ cs) whole = rw (whole.0, no_blank cs whole.1) (omega arith)
-
-take_front : (word rest : List ℕ) → take (length word) (word ++ rest) ≡ word
-take_front [] rest = refl
-take_front (c ∷ cs) rest = ap (λ (l : List ℕ). c ∷ l) (take_front cs rest)
 
 drop_blank : (word rest : List ℕ) → drop (length word + 1) (word ++ 32 ∷ rest) ≡ rest
 drop_blank [] rest = refl

@@ -3,7 +3,12 @@ use Rattle.std.proofs.Common.{◌≡◌, ◌<◌, ◌==◌, ◌&&◌, ◌||◌, 
 use Rattle.std.proofs.lemmas.Bool.Decides.{nat_tests}
 use Rattle.std.proofs.lemmas.List.{length-map, map-append}
 use Rattle.std.proofs.lemmas.Option.{slice_get-get_or}
+use Rattle.std.proofs.lemmas.Bool.{ltb-true, and_parts, or_parts}
 use Rattle.std.specs.List.{list_any, list_all}
+use Rattle.net_values.proofs.BoolLemmas.{clash, second_holds}
+use Rattle.net_values.proofs.NumberLemmas.{none_below}
+use Rattle.net_values.proofs.OptionLemmas.{some_same}
+use Rattle.net_values.proofs.RowLemmas.{row_holds}
 use Rattle.net_base.specs.declared.plan.Plan.{Plan}
 use Rattle.net_base.specs.declared.plan.edge_plan.EdgePlan.{EdgePlan}
 use Rattle.net_base.specs.declared.plan.offer.Offer.{Offer}
@@ -25,10 +30,10 @@ use Rattle.edge_model.specs.Signal.{accepts_at, takes_content}
 use Rattle.network_model.proofs.GoalLemmas.{has_mate}
 use Rattle.network_model.proofs.PointLemmas.{passes_offer, passes_points, point_at, points_heard}
 use Rattle.network_model.proofs.ReversedLemmas.{follows_reversed, once_reversed}
-use Rattle.network_model.proofs.WayLemmas.{Homeward, Onward, Passes, behind_first, clash, later_stands, mate_passes, once_behind, one_way}
+use Rattle.network_model.proofs.WayLemmas.{Homeward, Onward, Passes, behind_first, later_stands, mate_passes, once_behind, one_way}
 use Rattle.flight_laws.specs.Rules.{TellsExpected, TellsOfWire, point_of, told_of}
 use Rattle.flight_laws.proofs.PlaceLemmas.{IsEndOf, NamedEnd, end_of, named_is}
-use Rattle.flight_laws.proofs.PlanLemmas.{addresses_apart, both_in, row_holds}
+use Rattle.flight_laws.proofs.PlanLemmas.{addresses_apart, both_in}
 
 -- ---- what is passed on
 
@@ -81,23 +86,15 @@ module _ (plan : Plan) (checked : IsChecked plan) (me : EdgeId) (own : EdgePlan)
   none_own : (row : WirePlan) (before : EdgeId) (way : List EdgeId) → list_all (λ (e : EdgeId). not (e.0 == me.0)) way ≡ true → list_any (is_point_at own.address) (map point_of (points_on plan row (before ∷ way))) ≡ false
   none_own row before [] all = refl
   none_own row before (point ∷ way) all =
-      let parts = both (not (point.0 == me.0)) (list_all (λ (e : EdgeId). not (e.0 == me.0)) way) all in
+      let parts = and_parts (not (point.0 == me.0)) (list_all (λ (e : EdgeId). not (e.0 == me.0)) way) all in
       neither (apart_at point parts.0 (slice_get plan.edges point.0) refl) (none_own row point way parts.1)
     where
-      both : (p q : Bool) → p && q ≡ true → (p ≡ true) × (q ≡ true)
-      both true true h = (refl, refl)
-      both true false h = clash h
-      both false q h = clash h
-
       neither : {p q : Bool} → p ≡ false → q ≡ false → p || q ≡ false
       neither {p} {q} h k = rw (h, k) refl
 
   points_clear : (row : WirePlan) (way : List EdgeId) → list_all (λ (e : EdgeId). not (e.0 == me.0)) way ≡ true → list_any (is_point_at own.address) (map point_of (points_on plan row way)) ≡ false
   points_clear row [] all = refl
-  points_clear row (before ∷ way) all = none_own row before way (rest (not (before.0 == me.0)) (list_all (λ (e : EdgeId). not (e.0 == me.0)) way) all) where
-    rest : (p q : Bool) → p && q ≡ true → q ≡ true
-    rest true q h = h
-    rest false q h = clash h
+  points_clear row (before ∷ way) all = none_own row before way (second_holds (not (before.0 == me.0)) (list_all (λ (e : EdgeId). not (e.0 == me.0)) way) all)
 
   accepts_expected : (row : WirePlan) (from to : EdgeId) (content : Told) → IsWireOf plan row → mate_on row.path me.0 from.0 ≡ Some to → TellsExpected plan row from.0 me.0 content → accepts own.address content ≡ true
   accepts_expected row from to content wire is tells =
@@ -125,12 +122,8 @@ row_there plan me peer row wire joined {P} follows_it = by (slice_get plan.edges
   within = (both_in plan row.path me.0 peer.0 wire.edges joined).0
 
   never : (xs : List EdgePlan) (n : ℕ) → slice_get xs n ≡ None → nat_lt n (length xs) ≡ true → ⊥
-  never [] n none less = nothing n less where
-    nothing : (k : ℕ) → nat_lt k 0 ≡ true → ⊥
-    nothing k less = grind (arith, nat_tests)
-  never (x ∷ xs) n none less = absurd (cc (sym (slice_get-get_or (x ∷ xs) n x (below n (length (x ∷ xs)) less)) ∙ none)) where
-    below : (m k : ℕ) → nat_lt m k ≡ true → m < k
-    below m k less = grind (arith, nat_tests)
+  never [] n none less = none_below n less
+  never (x ∷ xs) n none less = absurd (cc (sym (slice_get-get_or (x ∷ xs) n x (ltb-true n (length (x ∷ xs)) less)) ∙ none))
 
   by : (o : Option EdgePlan) → slice_get plan.edges me.0 ≡ o → P
   by None none = absurd (never plan.edges me.0 none within)
@@ -139,12 +132,8 @@ row_there plan me peer row wire joined {P} follows_it = by (slice_get plan.edges
 -- where the edge has not the wire's end, it has another side
 pub passes_to : (plan : Plan) (me : EdgeId) (place : EndPlace) → IsChecked plan → (is : IsEndOf plan me place) → place.terminal ≡ false → (to : EdgeId) × (mate_on is.row.path me.0 place.peer.0 ≡ Some to)
 passes_to plan me place checked is passes =
-    let apart = neither (is_first me.0 is.row.path) (is_last me.0 is.row.path) (sym is.terminal ∙ passes) in
+    let apart = or_parts (is_first me.0 is.row.path) (is_last me.0 is.row.path) (sym is.terminal ∙ passes) in
     has_mate is.row.path place.peer me (row_holds (IsWireOf plan) plan.wires place.wire.0 is.row is.is checked.wires).once (sym (joins_turned is.row.path me.0 place.peer.0) ∙ is.joined) apart.0 apart.1
-  where
-    neither : (p q : Bool) → p || q ≡ false → (p ≡ false) × (q ≡ false)
-    neither true q e = absurd (cc)
-    neither false q e = (refl, e)
 
 -- an end takes what it is expected to hear
 pub takes_expected : (plan : Plan) (me : EdgeId) (place : EndPlace) (content : Told) → IsChecked plan → (is : IsEndOf plan me place) → TellsExpected plan is.row place.peer.0 me.0 content → takes_content plan me place content ≡ true
@@ -167,15 +156,12 @@ pub takes_told : (plan : Plan) (me peer : EdgeId) (fec : PwFec) (place : EndPlac
     → takes_content plan me place content ≡ true
 takes_told plan me peer fec place content checked tells found =
     let near : NamedEnd plan me peer tells.wire tells.row = end_of plan me peer tells.wire tells.row checked tells.is (sym (joins_turned tells.row.path peer.0 me.0) ∙ tells.joined) in
-    let same : near.place ≡ place = equal (sym (ap (option_and_then (end_named plan me peer)) tells.named ∙ near.named) ∙ found) in
+    let same : near.place ≡ place = some_same (sym (ap (option_and_then (end_named plan me peer)) tells.named ∙ near.named) ∙ found) in
     subst (λ (p : EndPlace). takes_content plan me p content ≡ true) same (named_takes near)
   where
-    equal : {A : Type 0} {a b : A} → Some a ≡ Some b → a ≡ b
-    equal e = cc
-
     named_takes : (near : NamedEnd plan me peer tells.wire tells.row) → takes_content plan me near.place content ≡ true
     named_takes near =
         let is : IsEndOf plan me near.place = (named_is plan me peer tells.row.pw_id near.place near.named).holds in
-        let row : tells.row ≡ is.row = equal (sym tells.is ∙ (ap (wire_row plan) (sym near.wire_is) ∙ is.is)) in
+        let row : tells.row ≡ is.row = some_same (sym tells.is ∙ (ap (wire_row plan) (sym near.wire_is) ∙ is.is)) in
         takes_expected plan me near.place content checked is
         (subst (λ (r : WirePlan). TellsExpected plan r near.place.peer.0 me.0 content) row (subst (λ (k : EdgeId). TellsExpected plan tells.row k.0 me.0 content) (sym near.peer_is) tells.tells))

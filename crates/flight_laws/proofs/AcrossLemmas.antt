@@ -1,6 +1,10 @@
 -- What a switching point tells on one side of a wire is what it holds on the other side.
 use Rattle.std.proofs.Common.{◌≡◌, ◌&&◌, ◌∙◌, ℕ, Bool, true, false, not, cond, nat_eq, is_some, List, Option, Some, None, refl, sym, ap, subst}
 use Rattle.std.proofs.lemmas.Bool.{eqb-true}
+use Rattle.std.proofs.lemmas.Option.{same_Some}
+use Rattle.net_values.proofs.BoolLemmas.{clash}
+use Rattle.net_values.proofs.OptionLemmas.{none_some}
+use Rattle.net_values.proofs.RowLemmas.{row_holds}
 use Rattle.net_base.specs.declared.plan.Plan.{Plan}
 use Rattle.net_base.specs.declared.plan.places.EdgeId.{EdgeId}
 use Rattle.net_base.specs.declared.plan.places.WireId.{WireId}
@@ -35,18 +39,8 @@ use Rattle.flight_laws.proofs.AcceptLemmas.{takes_told, wanted_tells}
 use Rattle.flight_laws.proofs.MendedRunLemmas.{IsMendedAt, run_mended_at}
 use Rattle.flight_laws.proofs.MentionLemmas.{all_kept}
 use Rattle.flight_laws.proofs.PlaceLemmas.{IsEndOf, NamedEnd, end_of, find_holds, named_is}
-use Rattle.flight_laws.proofs.PlanLemmas.{row_holds}
 use Rattle.flight_laws.proofs.RuledRunLemmas.{run_ruled, runs_keep_told_rule}
 use Rattle.flight_laws.proofs.ToldLemmas.{TellsOwn}
-
-pub some_same : {A : Type 0} (x y : A) → Some x ≡ Some y → x ≡ y
-some_same x y e = cc
-
-pub none_some : {A : Type 0} {P : Type 0} (x : A) → None ≡ Some x → P
-none_some x e = absurd (cc)
-
-pub clash : {P : Type 0} → false ≡ true → P
-clash e = absurd (cc)
 
 -- ---- two contents
 
@@ -68,7 +62,7 @@ pub other_side : (path : List EdgeId) (me from to : EdgeId) → has_repeat path 
 other_side path me from to once mated = placed_at (mate_on path me.0 to.0) (mate_back path me.0 from.0 to once mated) where
   placed_at : (o : Option EdgeId) → place_of o ≡ Some from.0 → o ≡ Some from
   placed_at None e = none_some from.0 e
-  placed_at (Some other) e = ap (λ (n : ℕ). Some (record { 0 = n })) (some_same other.0 from.0 e)
+  placed_at (Some other) e = ap (λ (n : ℕ). Some (record { 0 = n })) (same_Some other.0 from.0 e)
 
 module _ (plan : Plan) (checked : IsChecked plan) (me from to : EdgeId) (wire : WireId) (row : WirePlan) (is : wire_row plan wire ≡ Some row) (mated : mate_on row.path me.0 from.0 ≡ Some to) (edge : EdgeState) (mended : IsMendedAt plan me.0 edge) (tells : TellsOwn plan me.0 edge) where
   once : IsWireOf plan row
@@ -84,7 +78,7 @@ module _ (plan : Plan) (checked : IsChecked plan) (me from to : EdgeId) (wire : 
   end_is = (named_is plan me to row.pw_id near.place near.named).holds
 
   end_row : end_is.row ≡ row
-  end_row = some_same end_is.row row (sym end_is.is ∙ (ap (wire_row plan) near.wire_is ∙ is))
+  end_row = same_Some end_is.row row (sym end_is.is ∙ (ap (wire_row plan) near.wire_is ∙ is))
 
   switching : near.place.terminal ≡ false
   switching = end_is.terminal ∙ (ap (λ (r : WirePlan). is_terminal r me) end_row ∙ mate_inside row.path me from to once.once mated)

@@ -1,5 +1,6 @@
 -- What an edge makes of a message in a session that is up keeps what is left of the ends of wires, for every place.
 use Rattle.std.proofs.Common.{◌≡◌, ◌++◌, ◌∙◌, nat_eq, ℕ, Bool, true, false, cond, List, [], ◌∷◌, Option, Some, None, is_some, option_and_then, refl, sym, ap, subst}
+use Rattle.net_values.proofs.BoolLemmas.{clash, second_holds}
 use Rattle.net_base.specs.declared.plan.Plan.{Plan}
 use Rattle.net_base.specs.declared.plan.places.EdgeId.{EdgeId}
 use Rattle.net_base.specs.plan.Accepted.{IsChecked}
@@ -19,8 +20,9 @@ use Rattle.edge_model.specs.EndPlaces.{end_named}
 use Rattle.edge_model.specs.Hear.{acts_on}
 use Rattle.edge_model.specs.Session.{says}
 use Rattle.edge_model.specs.Signal.{end_of_fec, hears_mapping, hears_status, hears_withdraw, maps_to, releases_label, takes_content, with_end_changed, with_named, with_released}
-use Rattle.edge_model.specs.State.{EdgeState, Peering, end_at, is_there, with_end, with_ends_beside, with_kept}
+use Rattle.edge_model.specs.State.{EdgeState, Peering, end_at, is_there, with_ends_beside, with_kept}
 use Rattle.edge_model.specs.Work.{Work, changes}
+use Rattle.edge_model.proofs.FitLemmas.{named_keeps, changed_keeps, released_keeps}
 use Rattle.network_model.specs.Absorb.{taken_all}
 use Rattle.flight_laws.specs.Bound.{AreBound, HasSaid, LeavesBound, is_withdrawal_of}
 use Rattle.flight_laws.specs.Coming.{and_more}
@@ -30,7 +32,7 @@ use Rattle.flight_laws.specs.Messages.{IsSaid, IsSound}
 use Rattle.flight_laws.specs.Pair.{IsStanding}
 use Rattle.flight_laws.specs.Rules.{TellsOfWire, TellsPlan}
 use Rattle.flight_laws.proofs.AcceptLemmas.{takes_told}
-use Rattle.flight_laws.proofs.EdgeBindingLemmas.{HasSameEnds, clash, end_beside_other, end_given}
+use Rattle.flight_laws.proofs.EdgeBindingLemmas.{HasSameEnds, end_beside_other, end_given}
 use Rattle.flight_laws.proofs.GivenLemmas.{given_on, heard_given, released_ends}
 use Rattle.flight_laws.proofs.HeardBindingLemmas.{HearsAs, bound_hears, bound_hears_unknown, bound_hears_withdrawal, mapping_known, mapping_unknown, other_code, release_heard, status_heard_as, unknown_released, withdraw_heard}
 use Rattle.flight_laws.proofs.HearingLemmas.{withdraws_addresses}
@@ -42,7 +44,7 @@ use Rattle.flight_laws.proofs.SayLemmas.{says_none, says_spares}
 use Rattle.flight_laws.proofs.SpokenLemmas.{HasSpoken, says_spoken}
 use Rattle.flight_laws.proofs.WorkLemmas.{spares_same, spares_then}
 use Rattle.flight_laws.proofs.WorksLemmas.{changed_edge}
-use Rattle.flight_laws.proofs.ActLemmas.{second_of, writable_kind}
+use Rattle.flight_laws.proofs.ActLemmas.{writable_kind}
 
 -- ---- for the sender
 
@@ -90,26 +92,9 @@ release_leaves plan me peer far out before after fec label kept work has at of_w
     standing : IsStanding (ends_at plan me.0 peer.0) (ends_at plan peer.0 me.0) kept
     standing = rw at at has.talk.here
 
-end_peering : (place : EndPlace) (end : EndState) (edge : EdgeState) → (with_end place end edge).peering ≡ edge.peering
-unfolding with_end with_kept
-end_peering place end edge = refl
-
-changed_peering : (change : EndState → EndState) (found : Option EndPlace) (edge : EdgeState) → (with_end_changed change found edge).peering ≡ edge.peering
-changed_peering change None edge = refl
-changed_peering change (Some place) edge = end_peering place (change (end_at edge place)) edge
-
-released_peering : (label : Option ℕ) (found : Option EndPlace) (edge : EdgeState) → (with_released label found edge).peering ≡ edge.peering
-unfolding with_end with_kept
-released_peering label None edge = refl
-released_peering label (Some place) edge = refl
-
 beside_peering : (peer : EdgeId) (change : EndState → EndState) (edge : EdgeState) → (with_ends_beside peer change edge).peering ≡ edge.peering
 unfolding with_ends_beside with_kept
 beside_peering peer change edge = refl
-
-named_peering : (plan : Plan) (peer : EdgeId) (fec : PwFec) (one all : EndState → EndState) (pw_id : Option ℕ) (edge : EdgeState) → (with_named plan peer fec one all pw_id edge).peering ≡ edge.peering
-named_peering plan peer fec one all None edge = beside_peering peer all edge
-named_peering plan peer fec one all (Some n) edge = changed_peering one (end_named plan edge.me peer n) edge
 
 module _ (plan : Plan) (peer : EdgeId) (checked : IsChecked plan) (far : EdgeState) (out : List ℕ) (messages : List Message) (kept : Peering) (work : Work) (has : HasSaid plan work.edge.me peer.0 far out work) (at : work.edge.peering peer.0 ≡ Some kept) where
   mapping_leaves : (id : ℕ) (fec : PwFec) (label : ℕ) (status : Option PwStatus) (points : List Point) → IsSound (LabelMapping id fec label status points) → TellsOfWire plan peer.0 work.edge.me.0 fec (told_with fec status points)
@@ -119,20 +104,20 @@ module _ (plan : Plan) (peer : EdgeId) (checked : IsChecked plan) (far : EdgeSta
     by_place : (found : Option EndPlace) → end_of_fec plan work.edge peer fec ≡ found → LeavesBound plan work.edge.me peer.0 far out messages (maps_to plan taken_all peer fec (binding_in fec label status points) found work)
     by_place None none =
         release_leaves plan work.edge.me peer far out (LabelMapping id fec label status points ∷ messages) messages fec (Some label) kept work has at
-        (release_is fec (Some label) (writable_kind fec (second_of (is_some fec.pw_id) (writable_fec fec) sound.1)) sound.0.1.group sound.0.1.pw_id sound.0.2)
+        (release_is fec (Some label) (writable_kind fec (second_holds (is_some fec.pw_id) (writable_fec fec) sound.1)) sound.0.1.group sound.0.1.pw_id sound.0.2)
         (λ id2 ms is. bound_hears_unknown plan work.edge.me peer id id2 fec label status points work.edge far ms messages (mapping_unknown plan peer id fec label status points work.edge checked none)
         (unknown_released plan peer fec label work.edge checked none) is) leaves
     by_place (Some place) named = subst (λ (b : Bool). LeavesBound plan work.edge.me peer.0 far out messages (cond b (changes (with_end_changed (bound (binding_in fec label status points)) (Some place)) work)
         (releases_label taken_all peer fec (Some label) (changes (with_end_changed (unbound None) (Some place)) work))))
         (sym (takes_told plan work.edge.me peer fec place (told_with fec status points) checked tells named))
         (heard_leaves plan work.edge.me peer far out (LabelMapping id fec label status points) messages (with_end_changed (bound (binding_in fec label status points)) (Some place)) work (λ pw_id own. refl)
-        (changed_peering (bound (binding_in fec label status points)) (Some place) work.edge) (mapping_known plan peer id fec label status points place work.edge checked named) leaves)
+        (changed_keeps (bound (binding_in fec label status points)) (Some place) work.edge) (mapping_known plan peer id fec label status points place work.edge checked named) leaves)
 
   withdraw_leaves : (id : ℕ) (fec : PwFec) (label : Option ℕ) → IsSound (LabelWithdraw id fec label) → LeavesBound plan work.edge.me peer.0 far out (LabelWithdraw id fec label ∷ messages) work
       → LeavesBound plan work.edge.me peer.0 far out messages (hears_withdraw plan taken_all peer fec label work)
   withdraw_leaves id fec label sound leaves =
       released_leaves plan work.edge.me peer far out (LabelWithdraw id fec label ∷ messages) messages fec label (with_named plan peer fec (unbound label) (group_unbound fec.group) fec.pw_id) kept work has at
-      (named_peering plan peer fec (unbound label) (group_unbound fec.group) fec.pw_id work.edge)
+      (named_keeps plan peer fec (unbound label) (group_unbound fec.group) fec.pw_id work.edge)
       (release_is fec label (writable_kind fec sound.1) sound.0.1.group sound.0.1.pw_id sound.0.2)
       (λ id2 ms is. bound_hears_withdrawal plan work.edge.me peer id id2 fec label work.edge (with_named plan peer fec (unbound label) (group_unbound fec.group) fec.pw_id work.edge) far ms messages
       (withdraw_heard plan peer id fec label work.edge checked) is) leaves
@@ -146,7 +131,7 @@ module _ (plan : Plan) (peer : EdgeId) (checked : IsChecked plan) (far : EdgeSta
   status_leaves id code (Some status) (Some fec) leaves = by_code (nat_eq code.code pw_status_code) refl where
     by_code : (b : Bool) → nat_eq code.code pw_status_code ≡ b → LeavesBound plan work.edge.me peer.0 far out messages (cond b (changes (with_named plan peer fec (stated status) (group_stated fec.group status) fec.pw_id) work) work)
     by_code true right = heard_leaves plan work.edge.me peer far out (Notification id code (Some status) (Some fec)) messages (with_named plan peer fec (stated status) (group_stated fec.group status) fec.pw_id) work (λ pw_id own. refl)
-        (named_peering plan peer fec (stated status) (group_stated fec.group status) fec.pw_id work.edge) (status_heard_as plan peer id code status fec work.edge checked right) leaves
+        (named_keeps plan peer fec (stated status) (group_stated fec.group status) fec.pw_id work.edge) (status_heard_as plan peer id code status fec work.edge checked right) leaves
     by_code false wrong = unchanged_leaves plan work.edge.me peer far out (Notification id code (Some status) (Some fec)) messages work (λ pw_id own. refl) (other_code plan peer id code status fec work.edge wrong) leaves
 
   pub acts_leaves : (m : Message) (other : Peers) → IsSaid other m → withdraws_addresses m ≡ false → TellsPlan plan peer.0 work.edge.me.0 m → LeavesBound plan work.edge.me peer.0 far out (m ∷ messages) work → LeavesBound plan work.edge.me peer.0 far out messages (acts_on plan taken_all peer m work)
@@ -160,7 +145,7 @@ module _ (plan : Plan) (peer : EdgeId) (checked : IsChecked plan) (far : EdgeSta
   acts_leaves (LabelWithdraw id fec label) other said plain tells leaves = withdraw_leaves id fec label said leaves
   acts_leaves (LabelRelease id fec label) other said plain tells leaves =
       heard_leaves plan work.edge.me peer far out (LabelRelease id fec label) messages (λ edge. with_released label (end_of_fec plan edge peer fec) edge) work (λ pw_id own. refl)
-      (released_peering label (end_of_fec plan work.edge peer fec) work.edge) (release_heard plan peer id fec label work.edge checked) leaves
+      (released_keeps label (end_of_fec plan work.edge peer fec) work.edge) (release_heard plan peer id fec label work.edge checked) leaves
   acts_leaves m other said plain tells leaves = absurd said
 
 -- ---- for every other place
@@ -225,7 +210,7 @@ module _ (plan : Plan) (peer : EdgeId) (place : ℕ) (apart : nat_eq place peer.
   maps_spare : (fec : PwFec) (label : ℕ) (status : Option PwStatus) (points : List Point) (work : Work) → SparesWires place work (hears_mapping plan taken_all peer fec label status points work)
   maps_spare fec label status points work = by_place (end_of_fec plan work.edge peer fec) refl where
     end_spares : (end : EndPlace) (change : EndState → EndState) → end_of_fec plan work.edge peer fec ≡ Some end → SparesWires place work (changes (with_end_changed change (Some end)) work)
-    end_spares end change named = changes_spare place (with_end_changed change (Some end)) work (changed_peering change (Some end) work.edge)
+    end_spares end change named = changes_spare place (with_end_changed change (Some end)) work (changed_keeps change (Some end) work.edge)
         (subst (λ (found : Option EndPlace). HasSameEnds place work.edge (with_end_changed change found work.edge)) named (fec_same change fec.pw_id work.edge))
 
     takes : (end : EndPlace) → end_of_fec plan work.edge peer fec ≡ Some end → (b : Bool) → SparesWires place work (cond b (changes (with_end_changed (bound (binding_in fec label status points)) (Some end)) work)
@@ -244,7 +229,7 @@ module _ (plan : Plan) (peer : EdgeId) (place : ℕ) (apart : nat_eq place peer.
   states_spare code (Some status) None work = wires_same place work
   states_spare code (Some status) (Some fec) work = by_code (nat_eq code.code pw_status_code) where
     by_code : (b : Bool) → SparesWires place work (cond b (changes (with_named plan peer fec (stated status) (group_stated fec.group status) fec.pw_id) work) work)
-    by_code true = changes_spare place (with_named plan peer fec (stated status) (group_stated fec.group status) fec.pw_id) work (named_peering plan peer fec (stated status) (group_stated fec.group status) fec.pw_id work.edge)
+    by_code true = changes_spare place (with_named plan peer fec (stated status) (group_stated fec.group status) fec.pw_id) work (named_keeps plan peer fec (stated status) (group_stated fec.group status) fec.pw_id work.edge)
         (all_same fec (stated status) (group_stated fec.group status) fec.pw_id work.edge)
     by_code false = wires_same place work
 
@@ -256,8 +241,8 @@ module _ (plan : Plan) (peer : EdgeId) (place : ℕ) (apart : nat_eq place peer.
   acts_spare (LabelMapping id fec label status points) other work said plain = maps_spare fec label status points work
   acts_spare (LabelWithdraw id fec label) other work said plain =
       let change : EdgeState → EdgeState = with_named plan peer fec (unbound label) (group_unbound fec.group) fec.pw_id in
-      wires_then place work (changes change work) _ (changes_spare place change work (named_peering plan peer fec (unbound label) (group_unbound fec.group) fec.pw_id work.edge) (all_same fec (unbound label) (group_unbound fec.group) fec.pw_id work.edge))
+      wires_then place work (changes change work) _ (changes_spare place change work (named_keeps plan peer fec (unbound label) (group_unbound fec.group) fec.pw_id work.edge) (all_same fec (unbound label) (group_unbound fec.group) fec.pw_id work.edge))
       (says_spare place peer (release fec label) (changes change work) apart)
   acts_spare (LabelRelease id fec label) other work said plain =
-      changes_spare place (λ edge. with_released label (end_of_fec plan edge peer fec) edge) work (released_peering label (end_of_fec plan work.edge peer fec) work.edge) (released_same label fec.pw_id work.edge)
+      changes_spare place (λ edge. with_released label (end_of_fec plan edge peer fec) edge) work (released_keeps label (end_of_fec plan work.edge peer fec) work.edge) (released_same label fec.pw_id work.edge)
   acts_spare m other work said plain = absurd said

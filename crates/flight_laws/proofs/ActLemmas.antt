@@ -1,13 +1,14 @@
 -- What calm steps keep is kept by what an edge makes of a message about pseudowires.
-use Rattle.std.proofs.Common.{◌≡◌, ◌≤◌, ◌<◌, ◌^◌, ◌&&◌, ◌||◌, ◌∙◌, ℕ, Bool, true, false, not, cond, length, nat_eq, nat_le, nat_lt, List, [], ◌∷◌, Option, Some, None, refl, sym, ap, subst, arith}
-use Rattle.std.proofs.lemmas.Bool.{eqb-true}
+use Rattle.std.proofs.Common.{◌≡◌, ◌≤◌, ◌<◌, ◌^◌, ◌||◌, ◌∙◌, ℕ, Bool, true, false, not, cond, length, nat_eq, nat_le, nat_lt, List, Option, Some, None, refl, sym, ap, subst, arith}
 use Rattle.std.proofs.lemmas.Bool.Decides.{nat_tests}
 use Rattle.std.specs.Prelude.{is_some, option_and_then}
-use Rattle.std.specs.List.{find, list_any}
+use Rattle.std.specs.List.{list_any}
 use Rattle.net_base.specs.declared.plan.Plan.{Plan}
 use Rattle.net_base.specs.declared.plan.places.EdgeId.{EdgeId}
 use Rattle.net_base.specs.plan.Paths.{edge_address}
 use Rattle.net_values.specs.declared.addr.Addr.{Addr}
+use Rattle.net_values.proofs.BoolLemmas.{first_holds, clash, second_holds}
+use Rattle.net_values.proofs.RowLemmas.{found_passes}
 use Rattle.ldp_grammar.specs.declared.message.Message.{Message}
 use Rattle.ldp_grammar.specs.declared.message.Message.TheVariants.{Notification, Initialization, KeepAlive, AddressWithdraw, LabelMapping, LabelWithdraw, LabelRelease}
 use Rattle.ldp_grammar.specs.declared.status_code.StatusCode.{StatusCode}
@@ -24,42 +25,24 @@ use Rattle.pw_messages.specs.Content.{binding_in, pw_status_code, release, told_
 use Rattle.pw_stitch.specs.Accepting.{is_point_at}
 use Rattle.session_core.specs.declared.peers.Peers.{Peers}
 use Rattle.edge_model.specs.declared.end_place.EndPlace.{EndPlace}
-use Rattle.edge_model.specs.EndPlaces.{end_named, end_places, is_named}
+use Rattle.edge_model.specs.EndPlaces.{end_named}
 use Rattle.edge_model.specs.Hear.{acts_on}
 use Rattle.edge_model.specs.Mend.{is_up_with}
 use Rattle.edge_model.specs.Signal.{accepts_at, end_of_fec, hears_mapping, hears_release, hears_status, hears_withdraw, maps_to, releases_label, takes_content, with_end_changed, with_named, with_released}
 use Rattle.edge_model.specs.Labels.{releasing}
 use Rattle.edge_model.specs.State.{EdgeState, end_at, with_end, with_ends_beside, with_kept}
 use Rattle.edge_model.specs.Work.{Work, changes}
+use Rattle.edge_model.proofs.FollowLemmas.{end_named_beside}
 use Rattle.network_model.specs.Absorb.{taken_all}
 use Rattle.flight_laws.specs.Messages.{IsSaid, IsSound}
 use Rattle.flight_laws.specs.Sound.{IsSoundEnd, IsSoundHeld, IsSoundPart, IsSoundTold, TellsSoundly, limit_of, point_limit}
 use Rattle.flight_laws.proofs.HearingLemmas.{withdraws_addresses}
 use Rattle.flight_laws.proofs.OfferLemmas.{IsOfWires, heard_sound, release_is, status_sound}
 use Rattle.flight_laws.proofs.PlaceLemmas.{IsEndOf, named_is}
-use Rattle.flight_laws.proofs.RowLemmas.{clash}
 use Rattle.flight_laws.proofs.SoundLemmas.{sound_beside, sound_releasing, sound_with_end}
 use Rattle.flight_laws.proofs.SteadyLemmas.{IsSteady}
 
 -- ---- the end that a FEC names is beside the peer
-
-same_some : {A : Type 0} (y x : A) → Some y ≡ Some x → y ≡ x
-same_some y x e = cc
-
-found : {A : Type 0} (test : A → Bool) (xs : List A) (x : A) → find test xs ≡ Some x → test x ≡ true
-found test [] x e = absurd (cc)
-found test (y ∷ ys) x e = by_test (λ f. found test ys x f) (test y) refl e where
-  by_test : (find test ys ≡ Some x → test x ≡ true) → (b : Bool) → test y ≡ b → cond b (Some y) (find test ys) ≡ Some x → test x ≡ true
-  by_test later true is e = subst (λ z. test z ≡ true) (same_some y x e) is
-  by_test later false is e = later e
-
-first_of : (a b : Bool) → a && b ≡ true → a ≡ true
-first_of true b h = refl
-first_of false b h = clash h
-
-pub named_beside : (plan : Plan) (me peer : EdgeId) (pw_id : ℕ) (place : EndPlace) → end_named plan me peer pw_id ≡ Some place → place.peer.0 ≡ peer.0
-named_beside plan me peer pw_id place e =
-    eqb-true place.peer.0 peer.0 (first_of (nat_eq place.peer.0 peer.0) (nat_eq place.pw_id pw_id) (found (is_named peer pw_id) (end_places plan me) place e))
 
 -- ---- changes of ends beside a peer with which the session is up
 
@@ -102,9 +85,9 @@ module _ (limit : ℕ → ℕ) where
   named_changes : (plan : Plan) (peer : EdgeId) (change : EndState → EndState) (pw_id : ℕ) (edge : EdgeState) → ((most : ℕ) → KeepsPart most change) → is_up_with (edge.peering peer.0) ≡ true
       → HasChanged limit edge (with_end_changed change (end_named plan edge.me peer pw_id) edge)
   named_changes plan peer change pw_id edge keeps up = by_place (end_named plan edge.me peer pw_id) refl where
-    by_place : (found : Option EndPlace) → end_named plan edge.me peer pw_id ≡ found → HasChanged limit edge (with_end_changed change found edge)
+    by_place : (found_passes : Option EndPlace) → end_named plan edge.me peer pw_id ≡ found_passes → HasChanged limit edge (with_end_changed change found_passes edge)
     by_place None at = unchanged edge
-    by_place (Some place) at = end_changes change place edge (keeps (limit place.wire.0)) (rw (named_beside plan edge.me peer pw_id place at) up)
+    by_place (Some place) at = end_changes change place edge (keeps (limit place.wire.0)) (rw (end_named_beside plan edge.me peer pw_id place at) up)
 
   all_changes : (plan : Plan) (peer : EdgeId) (fec : PwFec) (one all : EndState → EndState) (pw_id : Option ℕ) (edge : EdgeState) → ((most : ℕ) → KeepsPart most one) → ((most : ℕ) → KeepsPart most all) → is_up_with (edge.peering peer.0) ≡ true
       → HasChanged limit edge (with_named plan peer fec one all pw_id edge)
@@ -125,7 +108,7 @@ module _ (limit : ℕ → ℕ) where
       record { peering = refl; me = refl; sound = λ sound. sound_releasing label place edge sound (one.sound sound) }
 
 -- changes of what is held alone
-held_unless : (limit : ℕ) (label : Option ℕ) (held : Option Binding) → IsSoundHeld limit held → IsSoundHeld limit (unless_named label held)
+pub held_unless : (limit : ℕ) (label : Option ℕ) (held : Option Binding) → IsSoundHeld limit held → IsSoundHeld limit (unless_named label held)
 held_unless limit label None sound = tt
 held_unless limit label (Some binding) sound = by_name (names label binding.label) where
   by_name : (b : Bool) → IsSoundHeld limit (cond b None (Some binding))
@@ -176,13 +159,9 @@ released_keeps label limit e part held = (by_local e.local part, held) where
 -- ---- rows
 
 pub writable_kind : (fec : PwFec) → writable_fec fec ≡ true → fec.kind ≤ 0x7FFF
-writable_kind fec can = small (first_of (nat_le fec.kind 0x7FFF) _ can) where
+writable_kind fec can = small (first_holds (nat_le fec.kind 0x7FFF) _ can) where
   small : nat_le fec.kind 0x7FFF ≡ true → fec.kind ≤ 0x7FFF
   small e = grind (arith, nat_tests)
-
-pub second_of : (a b : Bool) → a && b ≡ true → b ≡ true
-second_of true b h = h
-second_of false b h = clash h
 
 -- ---- what a switching point takes
 
@@ -197,7 +176,7 @@ taken_few plan me place content is takes few =
   where
     by_address : (own : Option Addr) → accepts_at own content ≡ true → length content.points ≤ 2
     by_address None accepted = clash accepted
-    by_address (Some own) accepted = few_points (length content.points) (second_of (not (list_any (is_point_at own) content.points)) (nat_lt (length content.points) 3) accepted)
+    by_address (Some own) accepted = few_points (length content.points) (second_holds (not (list_any (is_point_at own) content.points)) (nat_lt (length content.points) 3) accepted)
 
     by_side : (terminal : Bool) → terminal || accepts_at (edge_address plan me) content ≡ true → length content.points ≤ cond terminal 3 2
     by_side true takes = few
@@ -205,9 +184,9 @@ taken_few plan me place content is takes few =
 
 release_changes : (limit : ℕ → ℕ) (plan : Plan) (peer : EdgeId) (label : Option ℕ) (fec : PwFec) (edge : EdgeState) → is_up_with (edge.peering peer.0) ≡ true → HasChanged limit edge (with_released label (end_of_fec plan edge peer fec) edge)
 release_changes limit plan peer label fec edge up = by_id fec.pw_id where
-  by_place : (pw_id : ℕ) (found : Option EndPlace) → end_named plan edge.me peer pw_id ≡ found → HasChanged limit edge (with_released label found edge)
+  by_place : (pw_id : ℕ) (found_passes : Option EndPlace) → end_named plan edge.me peer pw_id ≡ found_passes → HasChanged limit edge (with_released label found_passes edge)
   by_place pw_id None at = unchanged limit edge
-  by_place pw_id (Some place) at = releasing_changes limit label place edge (released_keeps label) (rw (named_beside plan edge.me peer pw_id place at) up)
+  by_place pw_id (Some place) at = releasing_changes limit label place edge (released_keeps label) (rw (end_named_beside plan edge.me peer pw_id place at) up)
 
   by_id : (pw_id : Option ℕ) → HasChanged limit edge (with_released label (option_and_then (end_named plan edge.me peer) pw_id) edge)
   by_id None = unchanged limit edge
@@ -225,7 +204,7 @@ module _ (plan : Plan) (me peer : EdgeId) (other : Peers) (I : Work → Type 0) 
       → I work → I (hears_mapping plan taken_all peer fec label status points work)
   maps id fec label status points work up sound i = by_id fec.pw_id refl where
     of_wires : IsOfWires (release fec (Some label))
-    of_wires = release_is fec (Some label) (writable_kind fec (second_of (is_some fec.pw_id) (writable_fec fec) sound.1)) sound.0.1.group sound.0.1.pw_id sound.0.2
+    of_wires = release_is fec (Some label) (writable_kind fec (second_holds (is_some fec.pw_id) (writable_fec fec) sound.1)) sound.0.1.group sound.0.1.pw_id sound.0.2
 
     takes : (pw_id : ℕ) (place : EndPlace) → end_named plan work.edge.me peer pw_id ≡ Some place → (b : Bool) → takes_content plan work.edge.me place (told_with fec status points) ≡ b
         → I (cond b (changes (with_end_changed (bound (binding_in fec label status points)) (Some place)) work) (releases_label taken_all peer fec (Some label) (changes (with_end_changed (unbound None) (Some place)) work)))
@@ -235,19 +214,19 @@ module _ (plan : Plan) (me peer : EdgeId) (other : Peers) (I : Work → Type 0) 
         (heard_sound (point_limit plan me.0 place.wire.0) id fec label status points sound
         (subst (λ (k : EdgeId). length points ≤ point_limit plan k.0 place.wire.0) (steady.placed work i)
         (taken_few plan work.edge.me place (told_with fec status points) (named_is plan work.edge.me peer pw_id place at).holds taken sound.0.4))))
-        (rw (named_beside plan work.edge.me peer pw_id place at) up)) i
+        (rw (end_named_beside plan work.edge.me peer pw_id place at) up)) i
     takes pw_id place at false refused =
         let change : EdgeState → EdgeState = with_end_changed (unbound None) (Some place) in
         let has : HasChanged (point_limit plan me.0) work.edge (change work.edge) =
-        end_changes (point_limit plan me.0) (unbound None) place work.edge (unbound_keeps None (point_limit plan me.0 place.wire.0)) (rw (named_beside plan work.edge.me peer pw_id place at) up) in
+        end_changes (point_limit plan me.0) (unbound None) place work.edge (unbound_keeps None (point_limit plan me.0 place.wire.0)) (rw (end_named_beside plan work.edge.me peer pw_id place at) up) in
         steady.says peer (release fec (Some label)) (changes change work) (still_up change work has up) of_wires (changed change work has i)
 
-    by_place : (pw_id : ℕ) (found : Option EndPlace) → end_named plan work.edge.me peer pw_id ≡ found → I (maps_to plan taken_all peer fec (binding_in fec label status points) found work)
+    by_place : (pw_id : ℕ) (found_passes : Option EndPlace) → end_named plan work.edge.me peer pw_id ≡ found_passes → I (maps_to plan taken_all peer fec (binding_in fec label status points) found_passes work)
     by_place pw_id None at = steady.says peer (release fec (Some label)) work up of_wires i
     by_place pw_id (Some place) at = takes pw_id place at (takes_content plan work.edge.me place (told_with fec status points)) refl
 
     by_id : (pw_id : Option ℕ) → fec.pw_id ≡ pw_id → I (maps_to plan taken_all peer fec (binding_in fec label status points) (option_and_then (end_named plan work.edge.me peer) pw_id) work)
-    by_id None at = clash (sym (ap is_some at) ∙ first_of (is_some fec.pw_id) (writable_fec fec) sound.1)
+    by_id None at = clash (sym (ap is_some at) ∙ first_holds (is_some fec.pw_id) (writable_fec fec) sound.1)
     by_id (Some pw_id) at = (by_place pw_id (end_named plan work.edge.me peer pw_id) refl)
 
   withdraws : (id : ℕ) (fec : PwFec) (label : Option ℕ) (work : Work) → is_up_with (work.edge.peering peer.0) ≡ true → IsSound (LabelWithdraw id fec label) → I work → I (hears_withdraw plan taken_all peer fec label work)

@@ -2,6 +2,7 @@
 -- every fact.
 use Rattle.std.proofs.Common.{◌≡◌, ◌++◌, ◌∙◌, ℕ, false, cond, nat_eq, List, [], Option, refl, sym, ap, subst, inl, inr}
 use Rattle.std.proofs.lemmas.Bool.{cases_Bool, eqb-true}
+use Rattle.net_values.proofs.NumberLemmas.{apart_back}
 use Rattle.net_base.specs.declared.plan.places.EdgeId.{EdgeId}
 use Rattle.edge_model.specs.State.{EdgeState, Peering, is_there}
 use Rattle.edge_model.specs.Work.{Work}
@@ -12,7 +13,7 @@ use Rattle.flight_laws.specs.Coming.{and_more}
 use Rattle.flight_laws.specs.Facts.{Fact, HoldsAt, HoldsOfTwo, LeavesFor, Turns, flight}
 use Rattle.flight_laws.specs.Meeting.{closes, said_to}
 use Rattle.flight_laws.proofs.PipeLemmas.{all_apart, all_edges, all_from, all_to}
-use Rattle.flight_laws.proofs.SettleLemmas.{apart_turned, edge_else, edge_pipes, edge_there, moved, said_behind}
+use Rattle.flight_laws.proofs.SettleLemmas.{edge_else, edge_pipes, edge_there, moved, said_behind}
 
 -- the octets from the first to the second, and back
 unfoldable pub out_between : Option Peering → Work → Work → EdgeId → EdgeId → List ℕ → List ℕ
@@ -31,11 +32,11 @@ pub connected_two : (P : Fact) (network : NetworkState) (from to : EdgeId) (firs
     → HoldsOfTwo P (connecting from first to second network).state
 unfolding out_between back_between
 connected_two P network from to first second turns between two one_others other_others pair a b apart = elim (cases_Bool (nat_eq a from.0)) [
-  | inl is ↦ subst (λ (k : ℕ). HoldsAt P after k b) (sym (eqb-true a from.0 is)) (from_first b (apart_turned from.0 b (subst (λ (k : ℕ). nat_eq k b ≡ false) (eqb-true a from.0 is) apart)))
+  | inl is ↦ subst (λ (k : ℕ). HoldsAt P after k b) (sym (eqb-true a from.0 is)) (from_first b (apart_back from.0 b (subst (λ (k : ℕ). nat_eq k b ≡ false) (eqb-true a from.0 is) apart)))
   | inr away ↦ elim (cases_Bool (nat_eq b from.0)) [
     | inl is ↦ turns b a _ _ _ _ (subst (λ (k : ℕ). HoldsAt P after k a) (sym (eqb-true b from.0 is)) (from_first a away))
     | inr gone ↦ elim (cases_Bool (nat_eq a to.0)) [
-      | inl is ↦ subst (λ (k : ℕ). HoldsAt P after k b) (sym (eqb-true a to.0 is)) (from_second b gone (apart_turned to.0 b (subst (λ (k : ℕ). nat_eq k b ≡ false) (eqb-true a to.0 is) apart)))
+      | inl is ↦ subst (λ (k : ℕ). HoldsAt P after k b) (sym (eqb-true a to.0 is)) (from_second b gone (apart_back to.0 b (subst (λ (k : ℕ). nat_eq k b ≡ false) (eqb-true a to.0 is) apart)))
       | inr here ↦ elim (cases_Bool (nat_eq b to.0)) [
         | inl is ↦ turns b a _ _ _ _ (subst (λ (k : ℕ). HoldsAt P after k a) (sym (eqb-true b to.0 is)) (from_second a away here))
         | inr there ↦ moved P a b (two a b apart) (other_edge a away here) (other_edge b gone there) (other_flight a b away here gone there) (other_flight b a gone there away here)
@@ -83,13 +84,13 @@ connected_two P network from to first second turns between two one_others other_
 
     -- between the two
     out_is : flight after from.0 to.0 ≡ held_by (second.edge.peering from.0) ++ cond (closes from.0 second.effects) [] (cond (is_there (second.edge.peering from.0)) (network.pipes from.0 to.0 ++ said_to to.0 first.effects) (network.pipes from.0 to.0))
-    out_is = rw (second_edge, all_to to 0 0 from.0 second.effects middle between, all_from from 0 0 to.0 first.effects begun (apart_turned from.0 to.0 between), edge_there to second.edge held_edge, pipes) refl
+    out_is = rw (second_edge, all_to to 0 0 from.0 second.effects middle between, all_from from 0 0 to.0 first.effects begun (apart_back from.0 to.0 between), edge_there to second.edge held_edge, pipes) refl
 
     middle_first : is_there ((middle.edges from.0).peering to.0) ≡ is_there (first.edge.peering to.0)
     middle_first = ap (λ (f : ℕ → EdgeState). is_there ((f from.0).peering to.0)) (all_edges from 0 0 first.effects begun) ∙ ap (λ (e : EdgeState). is_there (e.peering to.0)) begun_first
 
     back_is : flight after to.0 from.0 ≡ held_by (first.edge.peering to.0) ++ cond (is_there (first.edge.peering to.0)) (cond (closes to.0 first.effects) [] (network.pipes to.0 from.0) ++ said_to from.0 second.effects) (cond (closes to.0 first.effects) [] (network.pipes to.0 from.0))
-    back_is = rw (first_edge, all_from to 0 0 from.0 second.effects middle between, middle_first, all_to from 0 0 to.0 first.effects begun (apart_turned from.0 to.0 between), pipes) refl
+    back_is = rw (first_edge, all_from to 0 0 from.0 second.effects middle between, middle_first, all_to from 0 0 to.0 first.effects begun (apart_back from.0 to.0 between), pipes) refl
 
     -- of the first and another one
     first_out : (c : ℕ) → nat_eq c from.0 ≡ false → nat_eq c to.0 ≡ false → flight after from.0 c ≡ and_more ((network.edges c).peering from.0) (flight network from.0 c) (said_to c first.effects)
@@ -106,11 +107,11 @@ connected_two P network from to first second turns between two one_others other_
 
     second_out : (c : ℕ) → nat_eq c from.0 ≡ false → nat_eq c to.0 ≡ false → flight after to.0 c ≡ and_more ((network.edges c).peering to.0) (flight network to.0 c) (said_to c second.effects)
     second_out c away here =
-        rw (other_edge c away here, all_from to 0 0 c second.effects middle here, middle_else c away here, all_apart from 0 0 to.0 c first.effects begun (apart_turned from.0 to.0 between) away, pipes)
+        rw (other_edge c away here, all_from to 0 0 c second.effects middle here, middle_else c away here, all_apart from 0 0 to.0 c first.effects begun (apart_back from.0 to.0 between) away, pipes)
         (said_behind ((network.edges c).peering to.0) (network.pipes to.0 c) (said_to c second.effects))
 
     second_back : (c : ℕ) → nat_eq c from.0 ≡ false → nat_eq c to.0 ≡ false → flight after c to.0 ≡ held_by (second.edge.peering c) ++ cond (closes c second.effects) [] (network.pipes c to.0)
-    second_back c away here = rw (second_edge, all_to to 0 0 c second.effects middle here, all_apart from 0 0 c to.0 first.effects begun away (apart_turned from.0 to.0 between), pipes) refl
+    second_back c away here = rw (second_edge, all_to to 0 0 c second.effects middle here, all_apart from 0 0 c to.0 first.effects begun away (apart_back from.0 to.0 between), pipes) refl
 
     from_first : (c : ℕ) → nat_eq c from.0 ≡ false → HoldsAt P after from.0 c
     from_first c away = elim (cases_Bool (nat_eq c to.0)) [

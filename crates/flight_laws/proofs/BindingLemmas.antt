@@ -1,6 +1,9 @@
 -- One wire's end at an edge and what its neighbour holds of it: what each message that is said or heard makes of the two.
 use Rattle.std.proofs.Common.{◌≡◌, ◌==◌, ◌+◌, ◌&&◌, ◌||◌, ◌++◌, ◌∙◌, not, ℕ, Bool, true, false, cond, List, [], ◌∷◌, Option, Some, None, is_some, refl, sym, ap, arith}
 use Rattle.std.proofs.lemmas.Bool.Decides.{nat_tests}
+use Rattle.std.proofs.lemmas.Bool.{eqb-true, and_from, or_right, or_left}
+use Rattle.net_values.proofs.BoolLemmas.{first_holds, clash, second_holds, or_append}
+use Rattle.net_values.proofs.NumberLemmas.{same_number as itself}
 use Rattle.pw_tlvs.specs.declared.pw_fec.PwFec.{PwFec}
 use Rattle.pw_tlvs.specs.declared.pw_status.PwStatus.{PwStatus}
 use Rattle.ldp_grammar.specs.declared.message.Message.{Message}
@@ -13,21 +16,7 @@ use Rattle.pw_messages.specs.Content.{mapping, pw_status_code, status_notificati
 use Rattle.flight_laws.specs.Binding.{advertised_by, bound_after, heard_of, where_named}
 use Rattle.flight_laws.specs.Bound.{IsBoundBy, answered_part, has_advertised, is_old, is_release_of, is_silent, is_waited_for, is_withdrawal_of, names_label, names_old, names_other, released_by, releases_old, some_message, withdraws_old}
 use Rattle.flight_laws.specs.Flight.{all_messages}
-
-clash : {P : Type 0} → false ≡ true → P
-clash e = absurd (cc)
-
-and_left : (a b : Bool) → a && b ≡ true → a ≡ true
-and_left true b h = refl
-and_left false b h = clash h
-
-and_right : (a b : Bool) → a && b ≡ true → b ≡ true
-and_right true b h = h
-and_right false b h = clash h
-
-and_both : (a b : Bool) → a ≡ true → b ≡ true → a && b ≡ true
-and_both true b h k = k
-and_both false b h k = clash h
+use Rattle.flight_laws.proofs.RowLemmas.{all-append}
 
 -- ---- lists of messages
 
@@ -35,48 +24,26 @@ pub after-append : (pw_id : ℕ) (xs ys : List Message) (held : Option Binding) 
 after-append pw_id [] ys held = refl
 after-append pw_id (x ∷ xs) ys held = after-append pw_id xs ys (heard_of pw_id x held)
 
-all-append : (test : Message → Bool) (xs ys : List Message) → all_messages test xs ≡ true → all_messages test ys ≡ true → all_messages test (xs ++ ys) ≡ true
-all-append test [] ys one other = other
-all-append test (x ∷ xs) ys one other = and_both (test x) (all_messages test (xs ++ ys)) (and_left (test x) (all_messages test xs) one) (all-append test xs ys (and_right (test x) (all_messages test xs) one) other)
-
 -- one more message passes the test
 all_more : (test : Message → Bool) (xs : List Message) (m : Message) → all_messages test xs ≡ true → test m ≡ true → all_messages test (xs ++ m ∷ []) ≡ true
-all_more test xs m all one = all-append test xs (m ∷ []) all (and_both (test m) true one refl)
+all_more test xs m all one = all-append test xs (m ∷ []) all (and_from (test m) true one refl)
 
 all_weaker : (p q : Message → Bool) (xs : List Message) → ((x : Message) → p x ≡ true → q x ≡ true) → all_messages p xs ≡ true → all_messages q xs ≡ true
 all_weaker p q [] follows h = refl
-all_weaker p q (x ∷ xs) follows h = and_both (q x) (all_messages q xs) (follows x (and_left (p x) (all_messages p xs) h)) (all_weaker p q xs follows (and_right (p x) (all_messages p xs) h))
+all_weaker p q (x ∷ xs) follows h = and_from (q x) (all_messages q xs) (follows x (first_holds (p x) (all_messages p xs) h)) (all_weaker p q xs follows (second_holds (p x) (all_messages p xs) h))
 
 some-append : (test : Message → Bool) (xs ys : List Message) → some_message test (xs ++ ys) ≡ (some_message test xs || some_message test ys)
 some-append test [] ys = refl
-some-append test (x ∷ xs) ys = ap (λ (b : Bool). test x || b) (some-append test xs ys) ∙ grouped (test x) (some_message test xs) (some_message test ys)
-  where
-    grouped : (a b c : Bool) → a || (b || c) ≡ (a || b) || c
-    grouped true b c = refl
-    grouped false b c = refl
-
-or_first : (a b : Bool) → a ≡ true → a || b ≡ true
-or_first true b h = refl
-or_first false b h = clash h
-
-or_second : (a b : Bool) → b ≡ true → a || b ≡ true
-or_second true b h = refl
-or_second false b h = h
+some-append test (x ∷ xs) ys = ap (λ (b : Bool). test x || b) (some-append test xs ys) ∙ or_append (test x) (some_message test xs) (some_message test ys)
 
 -- what some message passes some message of more passes
 some_still : (test : Message → Bool) (xs : List Message) (m : Message) → some_message test xs ≡ true → some_message test (xs ++ m ∷ []) ≡ true
-some_still test xs m some = some-append test xs (m ∷ []) ∙ or_first (some_message test xs) (some_message test (m ∷ [])) some
+some_still test xs m some = some-append test xs (m ∷ []) ∙ or_left (some_message test xs) (some_message test (m ∷ [])) some
 
-some_last : (test : Message → Bool) (xs : List Message) (m : Message) → test m ≡ true → some_message test (xs ++ m ∷ []) ≡ true
-some_last test xs m one = some-append test xs (m ∷ []) ∙ or_second (some_message test xs) (some_message test (m ∷ [])) (or_first (test m) false one)
-
-same_number : (m n : ℕ) → (m == n) ≡ true → m ≡ n
-same_number m n is = grind (arith, nat_tests)
+pub some_last : (test : Message → Bool) (xs : List Message) (m : Message) → test m ≡ true → some_message test (xs ++ m ∷ []) ≡ true
+some_last test xs m one = some-append test xs (m ∷ []) ∙ or_right (some_message test xs) (some_message test (m ∷ [])) (or_left (test m) false one)
 
 -- ---- labels that were old stay old
-
-itself : (n : ℕ) → (n == n) ≡ true
-itself n = grind (arith, nat_tests)
 
 -- whatever is old in one state is old in another one
 older : (pw_id : ℕ) (next next2 : ℕ → Bool) (near near2 : LocalPart) → ((label : ℕ) → is_old next near label ≡ true → is_old next2 near2 label ≡ true)
@@ -132,13 +99,13 @@ binding_advertises pw_id next next2 new declined told id far out back follows no
 }
   where
     apart : (label : ℕ) → next label ≡ true → (same : Bool) → (new == label) ≡ same → not same ≡ true
-    apart label old true is = clash (sym none ∙ (ap next (same_number new label is) ∙ old))
+    apart label old true is = clash (sym none ∙ (ap next (eqb-true new label is) ∙ old))
     apart label old false is = refl
 
     still : (label : ℕ) → is_old next (Idle declined) label ≡ true → is_old next2 (Advertised new told) label ≡ true
     still label old =
-        let before : next label ≡ true = and_left (next label) true old in
-        and_both (next2 label) (not (new == label)) (follows label before) (apart label before (new == label) refl)
+        let before : next label ≡ true = first_holds (next label) true old in
+        and_from (next2 label) (not (new == label)) (follows label before) (apart label before (new == label) refl)
 
 -- an end that advertises withdraws its label
 pub binding_withdraws : (pw_id : ℕ) (next : ℕ → Bool) (label : ℕ) (told content : Told) (id : ℕ) (far : Option Binding) (out back : List Message)
@@ -149,12 +116,12 @@ binding_withdraws pw_id next label told content id far out back is = record {
   withdrawn = all_more (withdraws_old pw_id next (Withdrawing label)) out (withdrawal pw_id label content id)
       (all_weaker (withdraws_old pw_id next (Advertised label told)) (withdraws_old pw_id next (Withdrawing label)) out
       (withdraws_older pw_id next next (Advertised label told) (Withdrawing label) (still next label told)) is.withdrawn)
-      (or_second (not (pw_id == pw_id)) (is_old next (Withdrawing label) label) (and_both (next label) true is.waits refl));
+      (or_right (not (pw_id == pw_id)) (is_old next (Withdrawing label) label) (and_from (next label) true is.waits refl));
   released = all_weaker (releases_old pw_id next (Advertised label told)) (releases_old pw_id next (Withdrawing label)) back
       (releases_older pw_id next next (Advertised label told) (Withdrawing label) (still next label told)) is.released;
-  waits = and_both (next label) (some_message (is_withdrawal_of pw_id label) (out ++ withdrawal pw_id label content id ∷ []) || some_message (is_release_of pw_id label) back) is.waits
-      (or_first (some_message (is_withdrawal_of pw_id label) (out ++ withdrawal pw_id label content id ∷ [])) (some_message (is_release_of pw_id label) back)
-      (some_last (is_withdrawal_of pw_id label) out (withdrawal pw_id label content id) (and_both (pw_id == pw_id) (label == label) (itself pw_id) (itself label))));
+  waits = and_from (next label) (some_message (is_withdrawal_of pw_id label) (out ++ withdrawal pw_id label content id ∷ []) || some_message (is_release_of pw_id label) back) is.waits
+      (or_left (some_message (is_withdrawal_of pw_id label) (out ++ withdrawal pw_id label content id ∷ [])) (some_message (is_release_of pw_id label) back)
+      (some_last (is_withdrawal_of pw_id label) out (withdrawal pw_id label content id) (and_from (pw_id == pw_id) (label == label) (itself pw_id) (itself label))));
 }
   where
     still : (next : ℕ → Bool) (own : ℕ) (told : Told) (label : ℕ) → is_old next (Advertised own told) label ≡ true → is_old next (Withdrawing own) label ≡ true
@@ -180,22 +147,22 @@ waits_out : (pw_id : ℕ) (next : ℕ → Bool) (near : LocalPart) (out back : L
 waits_out pw_id next (Idle declined) out back m waits = refl
 waits_out pw_id next (Advertised label told) out back m waits = waits
 waits_out pw_id next (Withdrawing label) out back m waits =
-    and_both (next label) (some_message (is_withdrawal_of pw_id label) (out ++ m ∷ []) || some_message (is_release_of pw_id label) back)
-    (and_left (next label) (some_message (is_withdrawal_of pw_id label) out || some_message (is_release_of pw_id label) back) waits)
-    (either (some_message (is_withdrawal_of pw_id label) out) refl (and_right (next label) (some_message (is_withdrawal_of pw_id label) out || some_message (is_release_of pw_id label) back) waits))
+    and_from (next label) (some_message (is_withdrawal_of pw_id label) (out ++ m ∷ []) || some_message (is_release_of pw_id label) back)
+    (first_holds (next label) (some_message (is_withdrawal_of pw_id label) out || some_message (is_release_of pw_id label) back) waits)
+    (either (some_message (is_withdrawal_of pw_id label) out) refl (second_holds (next label) (some_message (is_withdrawal_of pw_id label) out || some_message (is_release_of pw_id label) back) waits))
   where
     either : (here : Bool) → some_message (is_withdrawal_of pw_id label) out ≡ here → here || some_message (is_release_of pw_id label) back ≡ true
         → some_message (is_withdrawal_of pw_id label) (out ++ m ∷ []) || some_message (is_release_of pw_id label) back ≡ true
-    either true is h = or_first (some_message (is_withdrawal_of pw_id label) (out ++ m ∷ [])) (some_message (is_release_of pw_id label) back) (some_still (is_withdrawal_of pw_id label) out m is)
-    either false is h = or_second (some_message (is_withdrawal_of pw_id label) (out ++ m ∷ [])) (some_message (is_release_of pw_id label) back) h
+    either true is h = or_left (some_message (is_withdrawal_of pw_id label) (out ++ m ∷ [])) (some_message (is_release_of pw_id label) back) (some_still (is_withdrawal_of pw_id label) out m is)
+    either false is h = or_right (some_message (is_withdrawal_of pw_id label) (out ++ m ∷ [])) (some_message (is_release_of pw_id label) back) h
 
 waits_back : (pw_id : ℕ) (next : ℕ → Bool) (near : LocalPart) (out back : List Message) (m : Message) → is_waited_for pw_id next near out back ≡ true → is_waited_for pw_id next near out (back ++ m ∷ []) ≡ true
 waits_back pw_id next (Idle declined) out back m waits = refl
 waits_back pw_id next (Advertised label told) out back m waits = waits
 waits_back pw_id next (Withdrawing label) out back m waits =
-    and_both (next label) (some_message (is_withdrawal_of pw_id label) out || some_message (is_release_of pw_id label) (back ++ m ∷ []))
-    (and_left (next label) (some_message (is_withdrawal_of pw_id label) out || some_message (is_release_of pw_id label) back) waits)
-    (either (some_message (is_withdrawal_of pw_id label) out) (and_right (next label) (some_message (is_withdrawal_of pw_id label) out || some_message (is_release_of pw_id label) back) waits))
+    and_from (next label) (some_message (is_withdrawal_of pw_id label) out || some_message (is_release_of pw_id label) (back ++ m ∷ []))
+    (first_holds (next label) (some_message (is_withdrawal_of pw_id label) out || some_message (is_release_of pw_id label) back) waits)
+    (either (some_message (is_withdrawal_of pw_id label) out) (second_holds (next label) (some_message (is_withdrawal_of pw_id label) out || some_message (is_release_of pw_id label) back) waits))
   where
     either : (here : Bool) → here || some_message (is_release_of pw_id label) back ≡ true → here || some_message (is_release_of pw_id label) (back ++ m ∷ []) ≡ true
     either true h = refl
@@ -221,11 +188,11 @@ silent_old pw_id next near (Some n) None silent = clash (no (not (n == pw_id)) s
     no : (b : Bool) → b && false ≡ true → false ≡ true
     no true h = h
     no false h = h
-silent_old pw_id next near (Some n) (Some label) silent = or_first (not (n == pw_id)) (is_old next near label) (and_left (not (n == pw_id)) true silent)
+silent_old pw_id next near (Some n) (Some label) silent = or_left (not (n == pw_id)) (is_old next near label) (first_holds (not (n == pw_id)) true silent)
 
 pub silent_heard : (pw_id : ℕ) (m : Message) (held : Option Binding) → is_silent pw_id m ≡ true → heard_of pw_id m held ≡ held
 silent_heard pw_id (LabelMapping id fec label status points) held silent = other_named pw_id fec.pw_id _ held fec silent
-silent_heard pw_id (LabelWithdraw id fec label) held silent = by_name fec.pw_id (and_left (names_other pw_id fec.pw_id) (is_some label) silent)
+silent_heard pw_id (LabelWithdraw id fec label) held silent = by_name fec.pw_id (first_holds (names_other pw_id fec.pw_id) (is_some label) silent)
   where
     by_name : (named : Option ℕ) → names_other pw_id named ≡ true → where_named pw_id fec named (unless_named label held) None held ≡ held
     by_name None other = clash other
@@ -301,15 +268,15 @@ binding_goes_on pw_id next next2 near far out back follows is = record {
 }
   where
     still : (near : LocalPart) (label : ℕ) → is_old next near label ≡ true → is_old next2 near label ≡ true
-    still near label old = and_both (next2 label) (not (has_advertised near label)) (follows label (and_left (next label) (not (has_advertised near label)) old)) (and_right (next label) (not (has_advertised near label)) old)
+    still near label old = and_from (next2 label) (not (has_advertised near label)) (follows label (first_holds (next label) (not (has_advertised near label)) old)) (second_holds (next label) (not (has_advertised near label)) old)
 
     waits : (near : LocalPart) → is_waited_for pw_id next near out back ≡ true → is_waited_for pw_id next2 near out back ≡ true
     waits (Idle declined) h = refl
     waits (Advertised label told) h = follows label h
     waits (Withdrawing label) h =
-        and_both (next2 label) (some_message (is_withdrawal_of pw_id label) out || some_message (is_release_of pw_id label) back)
-        (follows label (and_left (next label) (some_message (is_withdrawal_of pw_id label) out || some_message (is_release_of pw_id label) back) h))
-        (and_right (next label) (some_message (is_withdrawal_of pw_id label) out || some_message (is_release_of pw_id label) back) h)
+        and_from (next2 label) (some_message (is_withdrawal_of pw_id label) out || some_message (is_release_of pw_id label) back)
+        (follows label (first_holds (next label) (some_message (is_withdrawal_of pw_id label) out || some_message (is_release_of pw_id label) back) h))
+        (second_holds (next label) (some_message (is_withdrawal_of pw_id label) out || some_message (is_release_of pw_id label) back) h)
 
 -- an idle end is declined no longer, or is declined
 pub binding_renews : (pw_id : ℕ) (next : ℕ → Bool) (one other : Bool) (far : Option Binding) (out back : List Message) → IsBoundBy pw_id next (Idle one) far out back → IsBoundBy pw_id next (Idle other) far out back
@@ -331,7 +298,7 @@ pub binding_heard : (pw_id : ℕ) (next : ℕ → Bool) (near : LocalPart) (far 
     → IsBoundBy pw_id next near far (m ∷ out) back → IsBoundBy pw_id next near (heard_of pw_id m far) out back
 binding_heard pw_id next near far m out back other is = record {
   agrees = is.agrees;
-  withdrawn = and_right (withdraws_old pw_id next near m) (all_messages (withdraws_old pw_id next near) out) is.withdrawn;
+  withdrawn = second_holds (withdraws_old pw_id next near m) (all_messages (withdraws_old pw_id next near) out) is.withdrawn;
   released = is.released;
   waits = waits near other is.waits;
 }
@@ -347,9 +314,9 @@ pub binding_hears_withdrawal : (pw_id : ℕ) (next : ℕ → Bool) (near : Local
     → IsBoundBy pw_id next near (heard_of pw_id (LabelWithdraw id fec label) far) out (back ++ LabelRelease id2 fec2 label ∷ [])
 binding_hears_withdrawal pw_id next near far id id2 fec fec2 label out back same is = record {
   agrees = is.agrees;
-  withdrawn = and_right (withdraws_old pw_id next near (LabelWithdraw id fec label)) (all_messages (withdraws_old pw_id next near) out) is.withdrawn;
+  withdrawn = second_holds (withdraws_old pw_id next near (LabelWithdraw id fec label)) (all_messages (withdraws_old pw_id next near) out) is.withdrawn;
   released = all_more (releases_old pw_id next near) back (LabelRelease id2 fec2 label) is.released
-      (rw same (and_left (names_old pw_id next near fec.pw_id label) (all_messages (withdraws_old pw_id next near) out) is.withdrawn));
+      (rw same (first_holds (names_old pw_id next near fec.pw_id label) (all_messages (withdraws_old pw_id next near) out) is.withdrawn));
   waits = waits near is.waits;
 }
   where
@@ -357,10 +324,10 @@ binding_hears_withdrawal pw_id next near far id id2 fec fec2 label out back same
     waits (Idle declined) h = refl
     waits (Advertised own told) h = h
     waits (Withdrawing own) h =
-        and_both (next own) (some_message (is_withdrawal_of pw_id own) out || some_message (is_release_of pw_id own) (back ++ LabelRelease id2 fec2 label ∷ []))
-        (and_left (next own) ((names_label pw_id own fec.pw_id label || some_message (is_withdrawal_of pw_id own) out) || some_message (is_release_of pw_id own) back) h)
+        and_from (next own) (some_message (is_withdrawal_of pw_id own) out || some_message (is_release_of pw_id own) (back ++ LabelRelease id2 fec2 label ∷ []))
+        (first_holds (next own) ((names_label pw_id own fec.pw_id label || some_message (is_withdrawal_of pw_id own) out) || some_message (is_release_of pw_id own) back) h)
         (either (names_label pw_id own fec.pw_id label) refl (some_message (is_withdrawal_of pw_id own) out)
-        (and_right (next own) ((names_label pw_id own fec.pw_id label || some_message (is_withdrawal_of pw_id own) out) || some_message (is_release_of pw_id own) back) h))
+        (second_holds (next own) ((names_label pw_id own fec.pw_id label || some_message (is_withdrawal_of pw_id own) out) || some_message (is_release_of pw_id own) back) h))
       where
         either : (here : Bool) → names_label pw_id own fec.pw_id label ≡ here → (later : Bool) → (here || later) || some_message (is_release_of pw_id own) back ≡ true
             → later || some_message (is_release_of pw_id own) (back ++ LabelRelease id2 fec2 label ∷ []) ≡ true
@@ -385,7 +352,7 @@ hears_other : (pw_id : ℕ) (next : ℕ → Bool) (near : LocalPart) (far : Opti
 hears_other pw_id next near far m out back other is = record {
   agrees = is.agrees;
   withdrawn = is.withdrawn;
-  released = and_right (releases_old pw_id next near m) (all_messages (releases_old pw_id next near) back) is.released;
+  released = second_holds (releases_old pw_id next near m) (all_messages (releases_old pw_id next near) back) is.released;
   waits = waits near is.waits;
 }
   where
@@ -403,7 +370,7 @@ hears_old pw_id next near far id label fec out back old named is = record {
       (withdraws_older pw_id next next near (release_part (Some label) near) (λ other is. still_old next near label other is)) is.withdrawn;
   released = all_weaker (releases_old pw_id next near) (releases_old pw_id next (release_part (Some label) near)) back
       (releases_older pw_id next next near (release_part (Some label) near) (λ other is. still_old next near label other is))
-      (and_right (names_old pw_id next near fec.pw_id (Some label)) (all_messages (releases_old pw_id next near) back) is.released);
+      (second_holds (names_old pw_id next near fec.pw_id (Some label)) (all_messages (releases_old pw_id next near) back) is.released);
   waits = waits near (rw named at is.waits);
 }
   where
@@ -423,7 +390,7 @@ hears_old pw_id next near far id label fec out back old named is = record {
 
 -- the end hears the next message of its neighbour
 pub binding_hears : (pw_id : ℕ) (next : ℕ → Bool) (near : LocalPart) (far : Option Binding) (m : Message) (out back : List Message) → IsBoundBy pw_id next near far out (m ∷ back) → IsBoundBy pw_id next (answered_part pw_id m near) far out back
-binding_hears pw_id next near far (LabelRelease id fec label) out back is = by_name fec.pw_id label refl refl (and_left (names_old pw_id next near fec.pw_id label) (all_messages (releases_old pw_id next near) back) is.released)
+binding_hears pw_id next near far (LabelRelease id fec label) out back is = by_name fec.pw_id label refl refl (first_holds (names_old pw_id next near fec.pw_id label) (all_messages (releases_old pw_id next near) back) is.released)
   where
     by_name : (named given : Option ℕ) → fec.pw_id ≡ named → label ≡ given → names_old pw_id next near named given ≡ true → IsBoundBy pw_id next (released_by pw_id named given near) far out back
     by_name None given name_is label_is old = clash old
@@ -431,6 +398,6 @@ binding_hears pw_id next near far (LabelRelease id fec label) out back is = by_n
     by_name (Some n) (Some l) name_is label_is old = by_wire (n == pw_id) refl old
       where
         by_wire : (same : Bool) → n == pw_id ≡ same → not same || is_old next near l ≡ true → IsBoundBy pw_id next (cond same (release_part (Some l) near) near) far out back
-        by_wire true here old = hears_old pw_id next near far id l fec out back old (name_is ∙ ap Some (same_number n pw_id here)) (rw label_is at is)
+        by_wire true here old = hears_old pw_id next near far id l fec out back old (name_is ∙ ap Some (eqb-true n pw_id here)) (rw label_is at is)
         by_wire false here old = hears_other pw_id next near far (LabelRelease id fec label) out back (λ own. rw (name_is, label_is, here) refl) is
 binding_hears pw_id next near far m out back is = hears_other pw_id next near far m out back (λ own. refl) is

@@ -1,6 +1,8 @@
 -- A connection that comes up keeps the ends of wires between each two edges bound.
 use Rattle.std.proofs.Common.{◌≡◌, ◌&&◌, ◌∙◌, ℕ, Bool, true, false, cond, not, nat_eq, List, [], Option, Some, None, slice_get, refl, sym, ap, subst, inl, inr}
 use Rattle.std.proofs.lemmas.Bool.{cases_Bool, eqb-true}
+use Rattle.net_values.proofs.BoolLemmas.{clash}
+use Rattle.net_values.proofs.NumberLemmas.{apart_back}
 use Rattle.net_base.specs.declared.plan.Plan.{Plan}
 use Rattle.net_base.specs.declared.plan.edge_plan.EdgePlan.{EdgePlan}
 use Rattle.net_base.specs.declared.plan.places.EdgeId.{EdgeId}
@@ -39,12 +41,12 @@ use Rattle.flight_laws.proofs.BoundEventLemmas.{Bounds, Starts, begins_bound, bo
 use Rattle.flight_laws.proofs.ConnectLemmas.{ConnectsOn, HasOpened, connected_is, connects_on, connects_spares, connects_steady, none_on_way, none_there, opened_low}
 use Rattle.edge_model.specs.Labels.{meeting}
 use Rattle.flight_laws.proofs.GivenLemmas.{met_given}
-use Rattle.flight_laws.proofs.EdgeBindingLemmas.{HasSameEnds, bound_turned, clash}
+use Rattle.flight_laws.proofs.EdgeBindingLemmas.{HasSameEnds, bound_turned}
 use Rattle.flight_laws.proofs.EventBindingLemmas.{bound_silent, event_spare, no_far}
 use Rattle.flight_laws.proofs.MendingLemmas.{mends_keep}
 use Rattle.flight_laws.proofs.PlanLemmas.{ends_are, joined_apart, joined_turned}
 use Rattle.flight_laws.proofs.RowBindingLemmas.{LeavesAll, SaysAll, rows_leave}
-use Rattle.flight_laws.proofs.SettleLemmas.{apart_turned, begins}
+use Rattle.flight_laws.proofs.SettleLemmas.{begins}
 use Rattle.flight_laws.proofs.SteadyLemmas.{IsSteady, steady_rows}
 use Rattle.flight_laws.proofs.UniqueLemmas.{said_once}
 use Rattle.flight_laws.proofs.WorkBindingLemmas.{HoldsAll, HoldsOctets, held_steady, leaves_by_octets}
@@ -168,7 +170,7 @@ module _ (plan : Plan) (network : NetworkState) (me peer : EdgeId) (one other : 
 
 idles_others : (plan : Plan) (network : NetworkState) (me peer : EdgeId) → Bounds plan network → LeavesOthers (AreBoundBy plan) network me peer (idles (begin_at network me))
 unfolding idles
-idles_others plan network me peer bounds place away gone = begins (AreBoundBy plan) network me place (bounds me.0 place (apart_turned place me.0 away))
+idles_others plan network me peer bounds place away gone = begins (AreBoundBy plan) network me place (bounds me.0 place (apart_back place me.0 away))
 
 idles_pair : (plan : Plan) (network : NetworkState) (from to : EdgeId) → (network.edges from.0).peering to.0 ≡ None → (out back : List ℕ) → AreBoundBy plan from.0 to.0 (idles (begin_at network from)).edge (idles (begin_at network to)).edge out back
 unfolding idles
@@ -216,7 +218,7 @@ opens_bounds : (plan : Plan) (network : NetworkState) (from to : EdgeId) (one ot
     → ends_at plan from.0 to.0 ≡ peers_of one other → ends_at plan to.0 from.0 ≡ peers_of other one → (network.edges from.0).peering to.0 ≡ None → (network.edges to.0).peering from.0 ≡ None
     → Bounds plan (connecting from (mends plan taken_all (connects taken_all to (opened_with one other) (begin_at network from))) to (mends plan taken_all (connects taken_all from (opened_with other one) (begin_at network to))) network).state
 opens_bounds plan network from to one other checked types ordered bounds between ends near far none none' =
-    let turned : nat_eq to.0 from.0 ≡ false = apart_turned from.0 to.0 between in
+    let turned : nat_eq to.0 from.0 ≡ false = apart_back from.0 to.0 between in
     let back : AreEnds (peers_of other one) (peers_of one other) = record { one = ends.two; two = ends.one; facing = ends.back; back = ends.facing } in
     all_bound (none_on_way plan network from.0 to.0 ordered between none none') (none_on_way plan network to.0 from.0 ordered turned none' none)
     (mends plan taken_all (connects taken_all to (opened_with one other) (begin_at network from))) (mends plan taken_all (connects taken_all from (opened_with other one) (begin_at network to)))

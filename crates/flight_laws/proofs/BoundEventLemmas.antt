@@ -2,6 +2,8 @@
 use Rattle.std.proofs.Common.{◌≡◌, ◌≤◌, ◌++◌, ◌&&◌, ◌||◌, ◌+◌, ◌∙◌, ℕ, suc, Bool, true, false, cond, not, nat_eq, length, take, drop, List, [], Option, Some, None, refl, sym, ap, subst, append_assoc, inl, inr}
 use Rattle.std.proofs.lemmas.Bool.{cases_Bool, eqb-true}
 use Rattle.std.proofs.lemmas.List.{take-append-drop}
+use Rattle.net_values.proofs.BoolLemmas.{clash}
+use Rattle.net_values.proofs.NumberLemmas.{apart_back}
 use Rattle.net_base.specs.declared.plan.Plan.{Plan}
 use Rattle.net_base.specs.declared.plan.circuit_plan.CircuitPlan.{CircuitPlan}
 use Rattle.net_base.specs.declared.plan.places.CircuitId.{CircuitId}
@@ -40,16 +42,17 @@ use Rattle.flight_laws.specs.Messages.{octets_of_all}
 use Rattle.flight_laws.specs.Pair.{ArePaired}
 use Rattle.flight_laws.proofs.BoundHearLemmas.{HearsAll, all_kept, heard_bound, held_after}
 use Rattle.flight_laws.proofs.CircuitLemmas.{idles_are}
-use Rattle.flight_laws.proofs.EdgeBindingLemmas.{bound_turned, clash}
+use Rattle.flight_laws.proofs.EdgeBindingLemmas.{bound_turned}
 use Rattle.flight_laws.proofs.EventLemmas.{away_from, hears_begin, losing_is, pipe_edges, same_edges, stands_apart}
 use Rattle.flight_laws.proofs.HearBindingLemmas.{answers_for}
 use Rattle.flight_laws.proofs.HearingLemmas.{HasHeard, few_heard, message_heard}
 use Rattle.flight_laws.proofs.MendingLemmas.{mends_keep}
 use Rattle.flight_laws.proofs.PipeLemmas.{pipe_from, pipe_there, pipe_to}
-use Rattle.flight_laws.proofs.SettleLemmas.{apart_turned, settle}
+use Rattle.flight_laws.proofs.SettleLemmas.{settle}
 use Rattle.flight_laws.proofs.WorkBindingLemmas.{HoldsOctets, WorksBound, bound_work_kept, leaves_octets}
 use Rattle.flight_laws.proofs.WorkingLemmas.{bits_kept, circuit_kept, lost_kept, packet_kept, priority_kept, received_kept, wire_kept, ping_kept}
-use Rattle.flight_laws.proofs.WorksLemmas.{no_more, works_begin}
+use Rattle.flight_laws.proofs.WorksLemmas.{works_begin}
+use Rattle.flight_laws.proofs.CommonLemmas.{no_more}
 use Rattle.edge_model.proofs.BridgeLemmas.{PingGoes, PingIdles, PingOutcome, ping_outcome}
 
 -- the ends of wires between each two edges are bound
@@ -76,7 +79,7 @@ picks : (plan : Plan) (network : NetworkState) (me : EdgeId) (place : ℕ) → I
 picks plan network me place ordered = elim (cases_Bool (nat_eq place me.0)) [
   | inl same ↦ record { answers = []; are = λ away. clash (sym away ∙ same) }
   | inr away ↦ (let pair : ArePaired (ends_at plan me.0 place) (ends_at plan place me.0) ((network.edges me.0).peering place) ((network.edges place).peering me.0) (flight network me.0 place) (flight network place me.0) =
-      ordered.two me.0 place (apart_turned place me.0 away) in
+      ordered.two me.0 place (apart_back place me.0 away) in
       record { answers = pair.answers; are = λ off. record { said = pair.talk.answered; octets = pair.back_is } })
 ]
 
@@ -90,7 +93,7 @@ held_now (Some kept) = refl
 pub begins_bound : (plan : Plan) (network : NetworkState) (me : EdgeId) (place : ℕ) → Bounds plan network → (start : Starts plan network me) → nat_eq place me.0 ≡ false
     → LeavesBound plan me place (network.edges place) (flight network me.0 place) (start.answers place) (begin_at network me)
 begins_bound plan network me place bounds start away = record {
-  bound = λ messages said out_is near far. (bounds me.0 place (apart_turned place me.0 away)).bound messages (start.answers place) said (start.are place away).said
+  bound = λ messages said out_is near far. (bounds me.0 place (apart_back place me.0 away)).bound messages (start.answers place) said (start.are place away).said
       (sym (no_more ((network.edges place).peering me.0) (flight network me.0 place)) ∙ out_is) (start.are place away).octets near far;
 }
 
@@ -285,7 +288,7 @@ module _ (plan : Plan) (from to : EdgeId) (count : ℕ) (network : NetworkState)
   later = with_pipe from to (drop count pipe) network
 
   off : nat_eq to.0 from.0 ≡ false
-  off = apart_turned from.0 to.0 apart
+  off = apart_back from.0 to.0 apart
 
   pair : ArePaired (ends_at plan to.0 from.0) (ends_at plan from.0 to.0) (Some kept) ((network.edges from.0).peering to.0) (flight network to.0 from.0) (kept.held ++ pipe)
   unfolding pipe

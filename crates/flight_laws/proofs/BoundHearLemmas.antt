@@ -1,6 +1,7 @@
 -- An edge that has heard octets of a neighbour leaves the ends of wires bound.
 use Rattle.std.proofs.Common.{◌≡◌, ◌∙◌, ℕ, Bool, true, false, cond, nat_eq, List, ◌∷◌, Option, Some, None, refl, sym, ap, subst, inl, inr}
 use Rattle.std.proofs.lemmas.Bool.{cases_Bool, eqb-true}
+use Rattle.net_values.proofs.NumberLemmas.{same_number}
 use Rattle.net_base.specs.declared.plan.Plan.{Plan}
 use Rattle.net_base.specs.declared.plan.places.EdgeId.{EdgeId}
 use Rattle.net_base.specs.plan.Accepted.{IsChecked}
@@ -19,7 +20,7 @@ use Rattle.flight_laws.specs.Ends.{HasTypes, ends_at}
 use Rattle.flight_laws.specs.Facts.{flight}
 use Rattle.flight_laws.specs.Meeting.{said_to}
 use Rattle.flight_laws.proofs.ActLemmas.{steady_acts}
-use Rattle.flight_laws.proofs.EdgeBindingLemmas.{HasSameEnds, itself}
+use Rattle.flight_laws.proofs.EdgeBindingLemmas.{HasSameEnds}
 use Rattle.flight_laws.proofs.EventBindingLemmas.{event_spare}
 use Rattle.flight_laws.proofs.HearBindingLemmas.{HearsBound, answers_for, bound_kept}
 use Rattle.flight_laws.proofs.HearingLemmas.{HasHeard, KeptByHearing}
@@ -120,7 +121,7 @@ module _ (plan : Plan) (network : NetworkState) (me peer : EdgeId) (apart : nat_
     now_held : (rest : List ℕ) (near : Option Peering) (work : Work) → work.edge.peering peer.0 ≡ near → HoldsOctets rest ((holds peer rest near work).edge.peering peer.0)
     unfolding changes with_peering
     now_held rest None work at = rw at tt
-    now_held rest (Some kept) work at = rw (itself peer.0) refl
+    now_held rest (Some kept) work at = rw (same_number peer.0) refl
 
     still_held : (place : ℕ) (octets rest : List ℕ) (near : Option Peering) (work : Work) → nat_eq place peer.0 ≡ false → HoldsOctets octets (work.edge.peering place) → HoldsOctets octets ((holds peer rest near work).edge.peering place)
     still_held place octets rest None work away is = is

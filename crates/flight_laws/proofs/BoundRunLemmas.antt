@@ -1,10 +1,13 @@
 -- Every run of a checked plan keeps the ends of wires bound, and what follows: where both ends stand once an edge has heard the
 -- messages on their way to it, and where they stand in a quiet state.
-use Rattle.std.proofs.Common.{◌≡◌, ◌&&◌, ◌||◌, ◌∙◌, ℕ, zero, suc, Bool, true, false, not, nat_eq, nat_lt, length, List, [], ◌∷◌, Option, Some, None, refl, sym, subst, inl, inr, arith}
+use Rattle.std.proofs.Common.{◌≡◌, ◌&&◌, ◌||◌, ◌∙◌, ℕ, zero, suc, Bool, true, false, not, nat_eq, nat_lt, length, List, [], ◌∷◌, refl, sym, subst, inl, inr, arith}
 use Rattle.std.proofs.lemmas.Bool.{cases_Bool, eqb-true}
 use Rattle.std.proofs.lemmas.Bool.Decides.{nat_tests}
 use Rattle.std.proofs.lemmas.List.Elements.{All-head, All-tail}
 use Rattle.std.specs.List.{All, list_any}
+use Rattle.net_values.proofs.BoolLemmas.{first_holds, clash, second_holds}
+use Rattle.net_values.proofs.NumberLemmas.{none_below}
+use Rattle.net_values.proofs.RowLemmas.{empty_of_test}
 use Rattle.net_base.specs.declared.plan.Plan.{Plan}
 use Rattle.net_base.specs.declared.plan.places.ServiceId.{ServiceId}
 use Rattle.net_base.specs.declared.plan.wire_plan.WirePlan.{WirePlan}
@@ -17,7 +20,7 @@ use Rattle.net_base.specs.plan.Planned.{IsEventOf}
 use Rattle.net_base.specs.plan.Roles.{all_below, are_joined_by, is_wire_of}
 use Rattle.pw_signalling.specs.End.{LocalPart, Idle, Advertised, Withdrawing}
 use Rattle.edge_model.specs.Mend.{is_up_with}
-use Rattle.edge_model.specs.State.{Peering, is_there}
+use Rattle.edge_model.proofs.CommonLemmas.{gone_up}
 use Rattle.network_model.specs.Calm.{is_drained, is_quiet, is_settled}
 use Rattle.network_model.specs.Packet.{packet_at}
 use Rattle.network_model.specs.Run.{state_after}
@@ -33,7 +36,6 @@ use Rattle.flight_laws.specs.Sound.{point_limit}
 use Rattle.flight_laws.proofs.BoundConnectLemmas.{connect_bounds, low_end}
 use Rattle.flight_laws.proofs.BoundEventLemmas.{Bounds, again_bounds, arrive_bounds, circuit_bounds, deliver_bounds, discard_bounds, frame_bounds, lose_bounds, restart_bounds, priority_bounds, status_bounds, wire_bounds, ping_bounds}
 use Rattle.flight_laws.proofs.TickBindingLemmas.{tick_bounds}
-use Rattle.flight_laws.proofs.EdgeBindingLemmas.{clash}
 use Rattle.flight_laws.proofs.PlanLemmas.{both_in}
 use Rattle.flight_laws.proofs.RuledNetworkLemmas.{IsRuledNetwork}
 use Rattle.flight_laws.proofs.RuledRunLemmas.{brings_ruled, empty_ruled, keeps_told_rule}
@@ -95,23 +97,12 @@ runs_agree_after_flight plan events run a b both =
 
 -- ---- quiet states
 
-and_left : (a b : Bool) → a && b ≡ true → a ≡ true
-and_left true b h = refl
-and_left false b h = clash h
-
-and_right : (a b : Bool) → a && b ≡ true → b ≡ true
-and_right true b h = h
-and_right false b h = clash h
-
 -- what holds of each number below another one
 below : (n : ℕ) (test : ℕ → Bool) (k : ℕ) → all_below n test ≡ true → nat_lt k n ≡ true → test k ≡ true
-below zero test k all less = absurd (none k less)
-  where
-    none : (k : ℕ) → nat_lt k 0 ≡ true → ⊥
-    none k less = grind (arith, nat_tests)
+below zero test k all less = absurd (none_below k less)
 below (suc n) test k all less = elim (cases_Bool (nat_eq k n)) [
-  | inl same ↦ subst (λ (m : ℕ). test m ≡ true) (sym (eqb-true k n same)) (and_left (test n) (all_below n test) all)
-  | inr other ↦ below n test k (and_right (test n) (all_below n test) all) (further k n less other)
+  | inl same ↦ subst (λ (m : ℕ). test m ≡ true) (sym (eqb-true k n same)) (first_holds (test n) (all_below n test) all)
+  | inr other ↦ below n test k (second_holds (test n) (all_below n test) all) (further k n less other)
 ]
   where
     further : (k n : ℕ) → nat_lt k (suc n) ≡ true → nat_eq k n ≡ false → nat_lt k n ≡ true
@@ -121,7 +112,7 @@ any_wire : (plan : Plan) (service : ServiceId) (a b : ℕ) (rows : List WirePlan
     → (nat_lt a (length plan.edges) ≡ true) × (nat_lt b (length plan.edges) ≡ true)
 any_wire plan service a b [] all some = clash some
 any_wire plan service a b (row ∷ rows) all some = elim (cases_Bool (is_wire_of service row && joins a b row.path)) [
-  | inl here ↦ both_in plan row.path a b (All-head (IsWireOf plan) row rows all).edges (and_right (is_wire_of service row) (joins a b row.path) here)
+  | inl here ↦ both_in plan row.path a b (All-head (IsWireOf plan) row rows all).edges (second_holds (is_wire_of service row) (joins a b row.path) here)
   | inr later ↦ any_wire plan service a b rows (All-tail (IsWireOf plan) row rows all) (rw later at some)
 ]
 
@@ -138,32 +129,25 @@ settled plan network service a b checked quiet joined =
 
 -- ---- between two ends that stand, nothing is on its way
 
-none_of : (xs : List ℕ) → nat_eq (length xs) 0 ≡ true → xs ≡ []
-none_of [] e = refl
-none_of (x ∷ xs) e = absurd (no (length xs) e)
-  where
-    no : (n : ℕ) → nat_eq (suc n) 0 ≡ true → ⊥
-    no n e = grind (arith, nat_tests)
-
-drained_flight : (network : NetworkState) (from to : ℕ) → is_drained network from to ≡ true → flight network from to ≡ []
+pub drained_flight : (network : NetworkState) (from to : ℕ) → is_drained network from to ≡ true → flight network from to ≡ []
 drained_flight network from to drained =
-    rw (none_of (held network to from) (and_right (nat_eq (length (network.pipes from to)) 0) (nat_eq (length (held network to from)) 0) drained))
-    (none_of (network.pipes from to) (and_left (nat_eq (length (network.pipes from to)) 0) (nat_eq (length (held network to from)) 0) drained))
+    rw (empty_of_test (held network to from) (second_holds (nat_eq (length (network.pipes from to)) 0) (nat_eq (length (held network to from)) 0) drained))
+    (empty_of_test (network.pipes from to) (first_holds (nat_eq (length (network.pipes from to)) 0) (nat_eq (length (held network to from)) 0) drained))
 
 still : (network : NetworkState) (a b : ℕ) → is_settled network a b ≡ true → BothStand network a b → IsStillBetween network a b
 still network a b is both =
     let drained : is_drained network a b && is_drained network b a ≡ true = rw (both.one, both.other) at is in
     record {
       both = both;
-      out = drained_flight network a b (and_left (is_drained network a b) (is_drained network b a) drained);
-      back = drained_flight network b a (and_right (is_drained network a b) (is_drained network b a) drained);
+      out = drained_flight network a b (first_holds (is_drained network a b) (is_drained network b a) drained);
+      back = drained_flight network b a (second_holds (is_drained network a b) (is_drained network b a) drained);
     }
 
 -- an end waits for a release only where a message is on its way
 waits_not : (pw_id : ℕ) (next : ℕ → Bool) (near : LocalPart) → is_waited_for pw_id next near [] [] ≡ true → is_withdrawing near ≡ false
 waits_not pw_id next (Idle declined) waits = refl
 waits_not pw_id next (Advertised label told) waits = refl
-waits_not pw_id next (Withdrawing label) waits = clash (and_right (next label) false waits)
+waits_not pw_id next (Withdrawing label) waits = clash (second_holds (next label) false waits)
 
 agreed : (plan : Plan) (network : NetworkState) (a b : ℕ) → IsStillBetween network a b → AreBoundNow plan network a b → OfWires plan network a b HasAgreed
 agreed plan network a b quiet now wire row is joined =
@@ -179,10 +163,6 @@ agreed plan network a b quiet now wire row is joined =
     }
 
 -- ---- between two ends that do not stand
-
-pub gone_up : (near : Option Peering) → is_there near ≡ false → is_up_with near ≡ false
-gone_up None gone = refl
-gone_up (Some kept) gone = clash (sym gone)
 
 unbound : (plan : Plan) (network : NetworkState) (a b : ℕ) → IsOrdered plan network → stands network a b ≡ false → stands network b a ≡ false → OfWires plan network a b IsUnbound
 unbound plan network a b ordered gone gone' wire row is joined =

@@ -1,6 +1,7 @@
 -- An edge that bridges a frame, or a packet, says nothing to a neighbour and changes nothing of its ends: only what its bridges
 -- have learned, the calls of its link and what it gives out are others.
 use Rattle.std.proofs.Common.{◌≡◌, ◌++◌, ◌||◌, ◌∙◌, ℕ, true, false, List, [], ◌∷◌, Option, Result, refl, ap, sym, subst}
+use Rattle.net_values.proofs.BoolLemmas.{clash, or_false}
 use Rattle.net_base.specs.declared.plan.Plan.{Plan}
 use Rattle.net_base.specs.declared.plan.places.EdgeId.{EdgeId}
 use Rattle.net_base.specs.declared.plan.places.ServiceId.{ServiceId}
@@ -17,7 +18,7 @@ use Rattle.edge_model.proofs.BridgeLemmas.{BridgesOnly, LearnsOnly, PingsOnly, i
 use Rattle.edge_model.proofs.SessionLemmas.{are_all, GivesOnly}
 use Rattle.flight_laws.specs.Meeting.{IsFine, Spares, TellWell, closes, said_to}
 use Rattle.flight_laws.proofs.KeepLemmas.{KeepsEnds}
-use Rattle.flight_laws.proofs.WorkLemmas.{closes-append, or_false, said-append, same_end}
+use Rattle.flight_laws.proofs.WorkLemmas.{closes-append, said-append, same_end}
 
 -- nothing of the ends, of what is kept for neighbours, and of what was said to them is another one
 pub record IsBridged (old new : Work) : Type 0 where
@@ -36,9 +37,6 @@ pub bridged_fine : (me : EdgeId) (old new : Work) → IsBridged old new → IsFi
 bridged_fine me old new bridged fine = record { place = bridged.keeps.me ∙ fine.place; idle = bridged.idle ∙ fine.idle; well = bridged.well fine.well }
 
 -- ---- what bridging gives out
-
-clash : {P : Type 0} → false ≡ true → P
-clash e = absurd (cc)
 
 -- effects of bridging say nothing to a neighbour, close no end, and tell nothing of sessions
 record AreQuiet (es : List Effect) : Type 0 where

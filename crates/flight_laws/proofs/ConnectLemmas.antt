@@ -1,6 +1,8 @@
 -- A connection comes up: both ends stand, and the active one has said its Initialization.
 use Rattle.std.proofs.Common.{◌≡◌, ◌<◌, ◌^◌, ◌++◌, ◌&&◌, ◌∙◌, ℕ, Bool, true, false, cond, not, nat_eq, List, [], ◌∷◌, Option, Some, None, slice_get, refl, sym, ap, subst, inl, inr, arith}
 use Rattle.std.proofs.lemmas.Bool.{cases_Bool, eqb-true}
+use Rattle.net_values.proofs.BoolLemmas.{first_holds, clash, clash_at}
+use Rattle.net_values.proofs.NumberLemmas.{same_number, apart_back}
 use Rattle.net_base.specs.declared.plan.Plan.{Plan}
 use Rattle.net_base.specs.declared.plan.edge_plan.EdgePlan.{EdgePlan}
 use Rattle.net_base.specs.declared.plan.places.EdgeId.{EdgeId}
@@ -44,12 +46,9 @@ use Rattle.flight_laws.proofs.SteadyLemmas.{IsSteady, steady_rows}
 use Rattle.flight_laws.proofs.MeetLemmas.{goes_shows}
 use Rattle.flight_laws.proofs.PipeLemmas.{all_edges, all_good, good-append}
 use Rattle.flight_laws.proofs.PlanLemmas.{ends_are, joined_apart, joined_turned}
-use Rattle.flight_laws.proofs.SettleLemmas.{apart_turned, edge_else, edge_there}
-use Rattle.flight_laws.proofs.WorkLemmas.{same_end, same_place, session_spares, spares_then, well-append, with_peering_spares}
+use Rattle.flight_laws.proofs.SettleLemmas.{edge_else, edge_there}
+use Rattle.flight_laws.proofs.WorkLemmas.{same_end, session_spares, spares_then, well-append, with_peering_spares}
 use Rattle.flight_laws.proofs.WorksLemmas.{LeftBut, apart_from, but_says, but_spared, change_fine, change_spares, changed_edge, event_spares, given_edge, gives_fine, gives_spares, left_spared, pair_turned, says_sound, there_up, works_begin}
-
-clash : {P : Type 0} → false ≡ true → P
-clash e = absurd (cc)
 
 -- ---- what an edge makes of a connection that comes up
 
@@ -76,7 +75,7 @@ open_end : (me peer : EdgeId) (kept : Peering) (work : Work) → work.effects �
     → Shows peer.0 (gives (Session peer name.Initialized) (changes (with_peering peer (Some kept)) work)) (Some kept) [] false × IsFine me (gives (Session peer name.Initialized) (changes (with_peering peer (Some kept)) work))
 unfolding gives changes with_peering
 open_end me peer kept work none fine = (
-  record { keeps = rw (same_place peer.0) refl; says = rw none refl; ended = rw none refl },
+  record { keeps = rw (same_number peer.0) refl; says = rw none refl; ended = rw none refl },
   record { place = fine.place; idle = fine.idle; well = well-append work.effects (Session peer name.Initialized) fine.well tt },
 )
 
@@ -216,9 +215,6 @@ pub record ConnectsOn (plan : Plan) (network : NetworkState) (own other : Peers)
   pub alone : work.edge.peering me.0 ≡ None
   pub left : LeftBut plan network me (λ k. nat_eq k peer.0) work
 
-low_clash : {P : Type 0} (up : Bool) → up ≡ true → up ≡ false → P
-low_clash up e f = clash (sym f ∙ e)
-
 pub connects_steady : (plan : Plan) (network : NetworkState) (own other : Peers) (me peer : EdgeId) → IsSteady plan me (ConnectsOn plan network own other me peer)
 connects_steady plan network own other me peer = record {
   placed = λ work on. on.opened.fine.place;
@@ -245,7 +241,7 @@ connects_steady plan network own other me peer = record {
   where
     to_another : (to : EdgeId) (work : Work) → is_up_with (work.edge.peering to.0) ≡ true → HasOpened own other me peer work → nat_eq peer.0 to.0 ≡ false
     to_another to work up has = elim (cases_Bool (nat_eq peer.0 to.0)) [
-      | inl same ↦ low_clash (is_up_with (work.edge.peering to.0)) up (ap (λ (k : ℕ). is_up_with (work.edge.peering k)) (sym (eqb-true peer.0 to.0 same)) ∙ opened_low own other me peer work has)
+      | inl same ↦ clash_at (is_up_with (work.edge.peering to.0)) up (ap (λ (k : ℕ). is_up_with (work.edge.peering k)) (sym (eqb-true peer.0 to.0 same)) ∙ opened_low own other me peer work has)
       | inr apart ↦ apart
     ]
 
@@ -335,12 +331,8 @@ opened_pair own other from to first second one two =
 pub none_on_way : (plan : Plan) (network : NetworkState) (a b : ℕ) → IsOrdered plan network → nat_eq a b ≡ false → (network.edges a).peering b ≡ None → (network.edges b).peering a ≡ None → network.pipes a b ≡ []
 none_on_way plan network a b ordered apart one two =
     let pair : ArePaired (ends_at plan a b) (ends_at plan b a) None None (network.pipes a b) (network.pipes b a) = rw (one, two) at (ordered.two a b apart) in
-    pair.out_is ∙ ap (octets_of_all (ends_at plan a b).me) (empty pair.messages (left _ _ pair.talk.steps))
+    pair.out_is ∙ ap (octets_of_all (ends_at plan a b).me) (empty pair.messages (first_holds _ _ pair.talk.steps))
   where
-    left : (a b : Bool) → a && b ≡ true → a ≡ true
-    left true b h = refl
-    left false b h = clash h
-
     empty : (ms : List Message) → is_empty ms ≡ true → ms ≡ []
     empty [] h = refl
     empty (m ∷ ms) h = clash h
@@ -393,7 +385,7 @@ opens_keep plan network from to one other checked types ordered between ends nea
     let here : ConnectsOn plan network (peers_of one other) (peers_of other one) from to (mends plan taken_all (connects taken_all to (opened_with one other) (begin_at network from))) =
     mended_on plan network from to one other checked types ordered between ends none in
     let there : ConnectsOn plan network (peers_of other one) (peers_of one other) to from (mends plan taken_all (connects taken_all from (opened_with other one) (begin_at network to))) =
-    mended_on plan network to from other one checked types ordered (apart_turned from.0 to.0 between) (record { one = ends.two; two = ends.one; facing = ends.back; back = ends.facing }) none' in
+    mended_on plan network to from other one checked types ordered (apart_back from.0 to.0 between) (record { one = ends.two; two = ends.one; facing = ends.back; back = ends.facing }) none' in
     both_keep plan network from to one other ordered between near far out back _ _ here there
   where
     both_keep : (plan : Plan) (network : NetworkState) (from to : EdgeId) (one other : EdgePlan) → IsOrdered plan network → nat_eq from.0 to.0 ≡ false
@@ -411,7 +403,7 @@ connect_keeps plan from to network checked types ordered = can (are_joined plan 
       → KeepsOrder plan (connecting from (connects_between plan taken_all to first second (begin_at network from)) to (connects_between plan taken_all from second first (begin_at network to)) network)
   rows between none none' (Some one) (Some other) here there =
       opens_keep plan network from to one other checked types ordered between (ends_are plan from.0 to.0 one other checked types here there between) (rw (here, there) refl) (rw (there, here) refl)
-      (none_on_way plan network from.0 to.0 ordered between none none') (none_on_way plan network to.0 from.0 ordered (apart_turned from.0 to.0 between) none' none) none none'
+      (none_on_way plan network from.0 to.0 ordered between none none') (none_on_way plan network to.0 from.0 ordered (apart_back from.0 to.0 between) none' none) none none'
   rows between none none' None None here there = idles_keep plan network from to ordered between
   rows between none none' None (Some other) here there = idles_keep plan network from to ordered between
   rows between none none' (Some one) None here there = idles_keep plan network from to ordered between

@@ -1,7 +1,7 @@
 -- The ends of all wires between two edges: what an edge that says or hears a message makes of them.
-use Rattle.std.proofs.Common.{◌≡◌, ◌==◌, ◌++◌, ◌∙◌, nat_eq, ℕ, Bool, true, false, List, [], ◌∷◌, Option, Some, refl, sym, ap, subst, inl, inr, arith}
-use Rattle.std.proofs.lemmas.Bool.{cases_Bool}
-use Rattle.std.proofs.lemmas.Bool.Decides.{nat_tests}
+use Rattle.std.proofs.Common.{◌≡◌, ◌==◌, ◌++◌, ◌∙◌, nat_eq, ℕ, Bool, true, false, List, [], ◌∷◌, Option, Some, refl, sym, ap, subst, inl, inr}
+use Rattle.std.proofs.lemmas.Bool.{cases_Bool, eqb-true}
+use Rattle.net_values.proofs.NumberLemmas.{same_number as itself, test_turned}
 use Rattle.net_base.specs.declared.plan.Plan.{Plan}
 use Rattle.net_base.specs.declared.plan.places.EdgeId.{EdgeId}
 use Rattle.net_base.specs.declared.plan.places.WireId.{WireId}
@@ -19,15 +19,6 @@ use Rattle.flight_laws.proofs.BindingLemmas.{StaysGiven, binding_answers, bindin
 use Rattle.flight_laws.proofs.PlaceLemmas.{IsEndOf, member_by_pw_id}
 use Rattle.net_base.proofs.PathLemmas.{joins_turned}
 
-pub clash : {P : Type 0} → false ≡ true → P
-clash e = absurd (cc)
-
-pub itself : (n : ℕ) → nat_eq n n ≡ true
-itself n = grind arith
-
-pub same_number : (m n : ℕ) → nat_eq m n ≡ true → m ≡ n
-same_number m n is = grind (arith, nat_tests)
-
 -- ---- one end of an edge
 
 pub end_there : (place : EndPlace) (end : EndState) (edge : EdgeState) → (with_end place end edge).ends place.wire.0 place.peer.0 ≡ end
@@ -41,7 +32,7 @@ end_of_other place end edge wire peer apart = rw apart refl
 pub end_beside_other : (place : EndPlace) (end : EndState) (edge : EdgeState) (wire peer : ℕ) → nat_eq peer place.peer.0 ≡ false → (with_end place end edge).ends wire peer ≡ edge.ends wire peer
 unfolding with_end with_kept
 end_beside_other place end edge wire peer apart = elim (cases_Bool (nat_eq wire place.wire.0)) [
-  | inl same ↦ rw (same, apart) (ap (λ (n : ℕ). edge.ends n peer) (sym (same_number wire place.wire.0 same)))
+  | inl same ↦ rw (same, apart) (ap (λ (n : ℕ). edge.ends n peer) (sym (eqb-true wire place.wire.0 same)))
   | inr other ↦ rw other refl
 ]
 
@@ -96,27 +87,21 @@ bound_says plan me place m old new other out back checked there says bound = rec
 }
   where
     remote : (wire : ℕ) (same : Bool) → nat_eq wire place.wire.0 ≡ same → (new.ends wire place.peer.0).remote ≡ (old.ends wire place.peer.0).remote
-    remote wire true here = rw (same_number wire place.wire.0 here) says.remote
+    remote wire true here = rw (eqb-true wire place.wire.0 here) says.remote
     remote wire false away = ap (λ (e : EndState). e.remote) (says.others wire away)
-
-    turned : (m n : ℕ) (same : Bool) → nat_eq m n ≡ same → (n == m) ≡ same
-    turned m n same is = sym (sides m n) ∙ is
-      where
-        sides : (m n : ℕ) → nat_eq m n ≡ (n == m)
-        sides m n = grind (arith, nat_tests)
 
     near : (wire : WireId) (row : WirePlan) → wire_row plan wire ≡ Some row → joins me.0 place.peer.0 row.path ≡ true → (same : Bool) → nat_eq wire.0 place.wire.0 ≡ same
         → IsBoundBy row.pw_id (given_of new) (new.ends wire.0 place.peer.0).local (other.ends wire.0 me.0).remote (out ++ m ∷ []) back
     near wire row is joined true here =
-        let pw_id : place.pw_id ≡ row.pw_id = same_number place.pw_id row.pw_id (member_by_pw_id plan me place wire row checked is joined there ∙ turned wire.0 place.wire.0 true here) in
+        let pw_id : place.pw_id ≡ row.pw_id = eqb-true place.pw_id row.pw_id (member_by_pw_id plan me place wire row checked is joined there ∙ test_turned wire.0 place.wire.0 true here) in
         subst (λ (n : ℕ). IsBoundBy n (given_of new) (new.ends wire.0 place.peer.0).local (other.ends wire.0 me.0).remote (out ++ m ∷ []) back) pw_id
-        (subst (λ (w : ℕ). IsBoundBy place.pw_id (given_of new) (new.ends w place.peer.0).local (other.ends wire.0 me.0).remote (out ++ m ∷ []) back) (sym (same_number wire.0 place.wire.0 here))
+        (subst (λ (w : ℕ). IsBoundBy place.pw_id (given_of new) (new.ends w place.peer.0).local (other.ends wire.0 me.0).remote (out ++ m ∷ []) back) (sym (eqb-true wire.0 place.wire.0 here))
         (says.own (other.ends wire.0 me.0).remote out back
-        (subst (λ (w : ℕ). IsBoundBy place.pw_id (given_of old) (old.ends w place.peer.0).local (other.ends wire.0 me.0).remote out back) (same_number wire.0 place.wire.0 here)
+        (subst (λ (w : ℕ). IsBoundBy place.pw_id (given_of old) (old.ends w place.peer.0).local (other.ends wire.0 me.0).remote out back) (eqb-true wire.0 place.wire.0 here)
         (subst (λ (n : ℕ). IsBoundBy n (given_of old) (old.ends wire.0 place.peer.0).local (other.ends wire.0 me.0).remote out back) (sym pw_id) (bound.near wire row is joined)))))
     near wire row is joined false away =
         binding_says_other row.pw_id (given_of new) (new.ends wire.0 place.peer.0).local (other.ends wire.0 me.0).remote out back m
-        (says.silent row.pw_id (member_by_pw_id plan me place wire row checked is joined there ∙ turned wire.0 place.wire.0 false away))
+        (says.silent row.pw_id (member_by_pw_id plan me place wire row checked is joined there ∙ test_turned wire.0 place.wire.0 false away))
         (subst (λ (e : EndState). IsBoundBy row.pw_id (given_of new) e.local (other.ends wire.0 me.0).remote out back) (sym (says.others wire.0 away))
         (binding_goes_on row.pw_id (given_of old) (given_of new) (old.ends wire.0 place.peer.0).local (other.ends wire.0 me.0).remote out back says.goes (bound.near wire row is joined)))
 

@@ -1,9 +1,10 @@
 -- An event of a session keeps what is left of the ends of wires, for every place.
 use Rattle.std.proofs.Common.{◌≡◌, ◌++◌, ◌∙◌, nat_eq, ℕ, Bool, true, false, cond, List, [], ◌∷◌, Option, Some, None, refl, sym, ap, subst}
+use Rattle.net_values.proofs.BoolLemmas.{clash}
 use Rattle.net_base.specs.declared.plan.Plan.{Plan}
 use Rattle.net_base.specs.declared.plan.places.EdgeId.{EdgeId}
-use Rattle.net_base.specs.declared.trace.state_name.Reason.{Reason}
 use Rattle.ldp_grammar.specs.declared.message.Message.{Message}
+use Rattle.ldp_grammar.proofs.CommonLemmas.{none_behind}
 use Rattle.pw_signalling.specs.End.{EndState}
 use Rattle.session_core.specs.declared.peers.Peers.{Peers}
 use Rattle.session_core.specs.declared.reply.Reply.{Reply}
@@ -13,8 +14,10 @@ use Rattle.session_core.specs.State.{SessionState}
 use Rattle.session_core.specs.Table.{SessionEvent, Outcome, Stay, Goes, Ends, outcome_of}
 use Rattle.edge_model.specs.Put.{having_spoken, put_replies}
 use Rattle.edge_model.specs.Session.{clears_ends, comes_of, ends, happens, happens_with_ends, with_session, losing_ends}
-use Rattle.edge_model.specs.State.{EdgeState, Peering, has_end, is_there, with_ends_beside, with_peering, with_kept}
-use Rattle.edge_model.specs.Work.{Work, changes, gives}
+use Rattle.edge_model.specs.State.{EdgeState, Peering, has_end, is_there, with_ends_beside, with_kept}
+use Rattle.edge_model.specs.Work.{Work, changes}
+use Rattle.edge_model.proofs.HeldLemmas.{ended_gone, clears_keep}
+use Rattle.edge_model.proofs.MendLemmas.{clears_not}
 use Rattle.network_model.specs.Absorb.{taken_all}
 use Rattle.flight_laws.specs.Bound.{AreBound, HasSaid, given_of, LeavesBound, is_silent}
 use Rattle.flight_laws.specs.Ends.{ends_at}
@@ -24,14 +27,13 @@ use Rattle.flight_laws.specs.Pair.{StayInStep, having_put_all, messages_put, oct
 use Rattle.flight_laws.proofs.ActBindingLemmas.{SparesWires}
 use Rattle.flight_laws.proofs.BindingLemmas.{binding_answers, binding_says_other, silent_releases}
 use Rattle.flight_laws.proofs.GivenLemmas.{cleared_given, given_on}
-use Rattle.flight_laws.proofs.EdgeBindingLemmas.{bound_same, clash}
+use Rattle.flight_laws.proofs.EdgeBindingLemmas.{bound_same}
 use Rattle.flight_laws.proofs.KeepLemmas.{KeepsEnds, happens_keeps}
 use Rattle.flight_laws.proofs.LeaveLemmas.{leaves_more, leaves_none}
-use Rattle.flight_laws.proofs.MeetLemmas.{goes_shows}
+use Rattle.flight_laws.proofs.MeetLemmas.{goes_shows, put_peers}
 use Rattle.flight_laws.proofs.ReactLemmas.{put_octets_are}
 use Rattle.flight_laws.proofs.SayLemmas.{clears_spares}
-use Rattle.flight_laws.proofs.SoundLemmas.{cleared_peering}
-use Rattle.flight_laws.proofs.WorkLemmas.{happens_spares, same_place, spares_then}
+use Rattle.flight_laws.proofs.WorkLemmas.{happens_spares, spares_then}
 
 -- ---- messages of the session say nothing of wires
 
@@ -51,10 +53,6 @@ behind_one : (xs : List Message) (m : Message) (ys : List Message) → (xs ++ m 
 behind_one [] m ys = refl
 behind_one (x ∷ xs) m ys = ap (λ (l : List Message). x ∷ l) (behind_one xs m ys)
 
-none_behind : (xs : List Message) → xs ++ [] ≡ xs
-none_behind [] = refl
-none_behind (x ∷ xs) = ap (λ (l : List Message). x ∷ l) (none_behind xs)
-
 bound_replies : (plan : Plan) (a b : ℕ) (one other : EdgeState) (out back : List Message) (rs : List Reply) (kept : Peering) → AreBound plan a b one other out back → AreBound plan a b one other (out ++ messages_put rs kept) back
 bound_replies plan a b one other out back [] kept bound = subst (λ (l : List Message). AreBound plan a b one other l back) (sym (none_behind out)) bound
 bound_replies plan a b one other out back (r ∷ rs) kept bound =
@@ -63,12 +61,6 @@ bound_replies plan a b one other out back (r ∷ rs) kept bound =
     (bound_silent plan a b one other out back (message_of r kept.next_id kept.session.peers) (λ pw_id. reply_silent pw_id r kept.next_id kept.session.peers) bound))
 
 -- ---- the ends of wires
-
-pub cleared_there : (peer : EdgeId) (work : Work) → has_end work.edge peer ≡ true → clears_ends peer work ≡ work
-cleared_there peer work there = by_end (has_end work.edge peer) there where
-  by_end : (b : Bool) → b ≡ true → cond b work (changes (losing_ends peer) work) ≡ work
-  by_end true e = refl
-  by_end false e = clash e
 
 cleared_else : (place : ℕ) (peer : EdgeId) (work : Work) → nat_eq place peer.0 ≡ false → (wire : ℕ) → (clears_ends peer work).edge.ends wire place ≡ work.edge.ends wire place
 unfolding changes with_ends_beside with_kept
@@ -101,16 +93,8 @@ said_last : (ends : Peers) (xs ys : List Message) → AreSaid ends (xs ++ ys) �
 said_last ends [] ys said = said
 said_last ends (x ∷ xs) ys said = said_last ends xs ys said.1
 
-ended_none : (peer : EdgeId) (why : Reason) (work : Work) → (ends peer why work).edge.peering peer.0 ≡ None
-unfolding gives changes with_peering
-ended_none peer why work = rw (same_place peer.0) refl
-
 pub no_far : (plan : Plan) (me : EdgeId) (place : ℕ) (far : EdgeState) (out : List ℕ) (answers : List Message) (work : Work) → far.peering me.0 ≡ None → LeavesBound plan me place far out answers work
 no_far plan me place far out answers work none = record { bound = λ messages are is near other. clash (sym (ap is_there none) ∙ other) }
-
-put_peers : (rs : List Reply) (kept : Peering) → (having_put_all rs kept).session.peers ≡ kept.session.peers
-put_peers [] kept = refl
-put_peers (r ∷ rs) kept = put_peers rs (having_spoken kept)
 
 -- what the event makes of the edge
 happens_is : (peer : EdgeId) (event : SessionEvent) (kept : Peering) (o : Outcome) (work : Work) → work.edge.peering peer.0 ≡ Some kept → outcome_of kept.session event ≡ o → happens taken_all peer event work ≡ comes_of taken_all peer kept o work
@@ -138,7 +122,7 @@ leaves_event plan me peer far out before after answers event kept work has fine 
       rw (happens_is peer event kept (Goes next replies) work at is) (goes_shows me peer kept next replies (said_to peer.0 work.effects) work (record { keeps = at; says = refl; ended = unclosed }) fine).0 in
       let keeps : KeepsEnds work.edge new.edge = happens_keeps taken_all peer event work in
       let peers : next.peers ≡ own = sym (put_peers replies now) ∙ goes.here.peers in
-      subst (LeavesBound plan me peer.0 far out after) (sym (cleared_there peer new (ap is_there shows.keeps)))
+      subst (LeavesBound plan me peer.0 far out after) (sym (clears_not peer new (ap is_there shows.keeps)))
       (leaves_more plan me peer.0 far out (octets_put replies now) before after work new has (messages_put replies now) goes.here.between.one (said_last own has.messages (messages_put replies now) goes.said)
       (put_octets_are replies now ∙ ap (λ (p : Peers). octets_of_all p.me (messages_put replies now)) peers) shows.says (λ near. ap is_there at)
       (λ near bound. bound_same plan me.0 peer.0 work.edge new.edge far (has.messages ++ messages_put replies now) after
@@ -152,18 +136,18 @@ leaves_event plan me peer far out before after answers event kept work has fine 
   by_outcome : (o : Outcome) → outcome_of kept.session event ≡ o → LeavesBound plan me peer.0 far out after (clears_ends peer new)
   by_outcome Stay is =
       subst (λ (w : Work). LeavesBound plan me peer.0 far out after (clears_ends peer w)) (sym (happens_is peer event kept Stay work at is))
-      (subst (LeavesBound plan me peer.0 far out after) (sym (cleared_there peer work (ap is_there at)))
+      (subst (LeavesBound plan me peer.0 far out after) (sym (clears_not peer work (ap is_there at)))
       (record { bound = λ ms are octets near there. follows (ap goes_on is) ms (leaves.bound ms are octets near there) }))
   by_outcome (Goes next replies) is = by_far next replies is (far.peering me.0) refl
   by_outcome (Ends why replies) is = leaves_none plan me peer.0 far out after (clears_ends peer new)
-      (ap (λ (f : ℕ → Option Peering). f peer.0) (cleared_peering peer new)
-      ∙ (ap (λ (w : Work). w.edge.peering peer.0) (happens_is peer event kept (Ends why replies) work at is) ∙ ended_none peer why (put_replies taken_all peer replies work).work))
+      (ap (λ (f : ℕ → Option Peering). f peer.0) (clears_keep peer new)
+      ∙ (ap (λ (w : Work). w.edge.peering peer.0) (happens_is peer event kept (Ends why replies) work at is) ∙ ended_gone peer why (put_replies taken_all peer replies work).work))
 
 -- no session stands
 pub leaves_no_event : (plan : Plan) (me peer : EdgeId) (far : EdgeState) (out : List ℕ) (after : List Message) (event : SessionEvent) (work : Work) → work.edge.peering peer.0 ≡ None
     → LeavesBound plan me peer.0 far out after (happens_with_ends taken_all peer event work)
 leaves_no_event plan me peer far out after event work none = leaves_none plan me peer.0 far out after (happens_with_ends taken_all peer event work)
-    (ap (λ (f : ℕ → Option Peering). f peer.0) (cleared_peering peer (happens taken_all peer event work)) ∙ same)
+    (ap (λ (f : ℕ → Option Peering). f peer.0) (clears_keep peer (happens taken_all peer event work)) ∙ same)
   where
     same : (happens taken_all peer event work).edge.peering peer.0 ≡ None
     same = rw none none

@@ -2,6 +2,8 @@
 use Rattle.std.proofs.Common.{◌≡◌, ◌≢◌, ◌∷◌, ◌++◌, ◌&&◌, ◌||◌, ◌+◌, ◌∙◌, ℕ, zero, suc, Bool, true, false, cond, not, nat_eq, length, take, drop, List, [], Option, Some, None, refl, sym, ap, subst, append_assoc, inl, inr, ⊎_elim}
 use Rattle.std.proofs.lemmas.Bool.{cases_Bool, eqb-true}
 use Rattle.std.proofs.lemmas.List.{take-append-drop}
+use Rattle.net_values.proofs.BoolLemmas.{true_clash}
+use Rattle.net_values.proofs.NumberLemmas.{same_number, apart_back}
 use Rattle.net_base.specs.declared.plan.Plan.{Plan}
 use Rattle.net_base.specs.declared.plan.places.EdgeId.{EdgeId}
 use Rattle.net_base.specs.declared.trace.state_name.Reason.TheVariants as reason
@@ -38,18 +40,14 @@ use Rattle.flight_laws.proofs.HearingLemmas.{few_heard, message_heard}
 use Rattle.flight_laws.proofs.MendingLemmas.{mends_keep}
 use Rattle.flight_laws.proofs.PipeLemmas.{all_good, good-append, pipe_from, pipe_there, pipe_to}
 use Rattle.flight_laws.proofs.ReactLemmas.{goes_in_step}
-use Rattle.flight_laws.proofs.SettleLemmas.{apart_turned}
 use Rattle.flight_laws.proofs.SoundLemmas.{end_label, fresh_sound}
 use Rattle.flight_laws.proofs.FreedLemmas.{IsOwnedAt, owned_from, owners_own}
-use Rattle.flight_laws.proofs.WorkLemmas.{same_place}
 use Rattle.flight_laws.proofs.WorkingLemmas.{lost_kept, tick_kept}
-use Rattle.flight_laws.proofs.WorksLemmas.{AreOthers, no_end, no_more, work_keeps, works_begin, works_counted, works_kept, works_settle}
+use Rattle.flight_laws.proofs.WorksLemmas.{AreOthers, no_end, work_keeps, works_begin, works_counted, works_kept, works_settle}
+use Rattle.flight_laws.proofs.CommonLemmas.{no_more}
 
 pub idle_keeps : (plan : Plan) (network : NetworkState) → IsOrdered plan network → KeepsOrder plan (idle network)
 idle_keeps plan network ordered = record { ordered = ordered; good = (tt, tt) }
-
-clash : {P : Type 0} → true ≡ false → P
-clash e = absurd (cc)
 
 -- ---- an end is lost
 
@@ -60,7 +58,7 @@ losing_is plan me peer network up = by_end (stands network me.0 peer.0) up where
   by_end : (b : Bool) → b ≡ true → cond b (mends plan taken_all (happens_with_ends taken_all peer (Closed reason.Closed) (begin_at network me))) (idles (begin_at network me))
       ≡ mends plan taken_all (happens_with_ends taken_all peer (Closed reason.Closed) (begin_at network me))
   by_end true e = refl
-  by_end false e = clash (sym e)
+  by_end false e = true_clash (sym e)
 
 pub losing_keeps : (plan : Plan) (me peer : EdgeId) (network : NetworkState) → IsChecked plan → HasTypes plan → IsOrdered plan network → stands network me.0 peer.0 ≡ true → KeepsOrder plan (losing plan me peer network)
 losing_keeps plan me peer network checked types ordered up =
@@ -113,7 +111,7 @@ gone_anyway own other None (Some y) out back t = record { said = t.said; answere
   where
     right : {c : Bool} (a : Bool) → a && c ≡ true → c ≡ true
     right true h = h
-    right false h = clash (sym h)
+    right false h = true_clash (sym h)
 gone_anyway own other (Some x) far out back t = goes_in_step own other x far out back t
 
 -- octets to other edges stay on their way
@@ -123,7 +121,7 @@ away_from me network a b away = rw away refl
 
 pub none_left : (me : EdgeId) (network : NetworkState) (a : ℕ) → (without_octets_to me network).pipes a me.0 ≡ []
 unfolding without_octets_to
-none_left me network a = rw (same_place me.0) refl
+none_left me network a = rw (same_number me.0) refl
 
 pub same_edges : (me : EdgeId) (network : NetworkState) → (without_octets_to me network).edges ≡ network.edges
 unfolding without_octets_to
@@ -151,7 +149,7 @@ restart_works plan me network ordered = record {
   sound = restart_sound (point_limit plan me.0) me network (ordered.sound me.0);
   alone = refl;
   left = λ place away.
-      let pair = ordered.two me.0 place (apart_turned place me.0 away) in
+      let pair = ordered.two me.0 place (apart_back place me.0 away) in
       record {
         leaves = rw (same_edges me network, none_left me network place, away_from me network me.0 place away, no_more ((network.edges place).peering me.0) (flight network me.0 place))
             (record {
@@ -192,7 +190,7 @@ pub hears_begin : (plan : Plan) (from to : EdgeId) (rest : List ℕ) (network : 
 hears_begin plan from to rest network kept ordered apart at pair =
     let begun : WorksOn plan network to (begin_at network to) = works_begin plan network to ordered in
     record {
-      meets = rw (pipe_edges from to rest network, pipe_from from to rest network to.0 from.0 (apart_turned from.0 to.0 apart)) (record {
+      meets = rw (pipe_edges from to rest network, pipe_from from to rest network to.0 from.0 (apart_back from.0 to.0 apart)) (record {
         fine = begun.fine;
         ended = rw at refl;
         messages = pair.messages;
@@ -202,16 +200,16 @@ hears_begin plan from to rest network kept ordered apart at pair =
       sound = begun.sound;
       alone = begun.alone;
       left = λ place away here.
-          rw (pipe_edges from to rest network, pipe_from from to rest network to.0 place (apart_turned from.0 to.0 apart), pipe_from from to rest network place to.0 here) (begun.left place away);
+          rw (pipe_edges from to rest network, pipe_from from to rest network to.0 place (apart_back from.0 to.0 apart), pipe_from from to rest network place to.0 here) (begun.left place away);
     }
 
 pub deliver_works : (plan : Plan) (from to : EdgeId) (count : ℕ) (network : NetworkState) (kept : Peering) → IsChecked plan → HasTypes plan → IsOrdered plan network → nat_eq from.0 to.0 ≡ false → (network.edges to.0).peering from.0 ≡ Some kept
     → WorksOn plan (with_pipe from to (drop count (network.pipes from.0 to.0)) network) to (octets_input plan taken_all from (take count (network.pipes from.0 to.0)) (Some kept) (begin_at network to))
 deliver_works plan from to count network kept checked types ordered apart at =
     mends_keep plan to (WorksOn plan later to) (works_kept plan later to checked types).rows (hears_few plan taken_all from (suc (length octets)) octets begun)
-    (heard_works plan later to from (apart_turned from.0 to.0 apart) (hears_few plan taken_all from (suc (length octets)) octets begun)
+    (heard_works plan later to from (apart_back from.0 to.0 apart) (hears_few plan taken_all from (suc (length octets)) octets begun)
     (rw (pipe_there from to (drop count pipe) network) (few_heard plan from (ends_at plan from.0 to.0) pair.talk.here.between.two (HearsOn plan later to from)
-    (message_heard plan to from (ends_at plan from.0 to.0) (HearsOn plan later to from) (hears_kept plan later to from (apart_turned from.0 to.0 apart) checked types))
+    (message_heard plan to from (ends_at plan from.0 to.0) (HearsOn plan later to from) (hears_kept plan later to from (apart_back from.0 to.0 apart) checked types))
     (suc (length octets)) octets (drop count pipe) pair.answers begun pair.talk.answered whole (hears_begin plan from to (drop count pipe) network kept ordered apart at pair))))
   where
     pipe : List ℕ
@@ -227,7 +225,7 @@ deliver_works plan from to count network kept checked types ordered apart at =
     later = with_pipe from to (drop count pipe) network
 
     pair : ArePaired (ends_at plan to.0 from.0) (ends_at plan from.0 to.0) (Some kept) ((network.edges from.0).peering to.0) (flight network to.0 from.0) (kept.held ++ pipe)
-    pair = rw at at (ordered.two to.0 from.0 (apart_turned from.0 to.0 apart))
+    pair = rw at at (ordered.two to.0 from.0 (apart_back from.0 to.0 apart))
 
     whole : octets ++ drop count pipe ≡ octets_of_all (ends_at plan from.0 to.0).me pair.answers
     whole = append_assoc kept.held (take count pipe) (drop count pipe) ∙ ap (λ (l : List ℕ). kept.held ++ l) (take-append-drop count pipe) ∙ pair.back_is
@@ -242,7 +240,7 @@ deliver_apart plan from to octets network ordered = record { alone = λ a away. 
 
 delivering_keeps : (plan : Plan) (from to : EdgeId) (count : ℕ) (network : NetworkState) (near : Option Peering) → IsChecked plan → HasTypes plan → IsOrdered plan network → nat_eq from.0 to.0 ≡ false → (network.edges to.0).peering from.0 ≡ near → is_there near ≡ true
     → KeepsOrder plan (delivering plan from to count network)
-delivering_keeps plan from to count network None checked types ordered apart at up = clash (sym up)
+delivering_keeps plan from to count network None checked types ordered apart at up = true_clash (sym up)
 delivering_keeps plan from to count network (Some kept) checked types ordered apart at up =
     let later : NetworkState = with_pipe from to (drop count (network.pipes from.0 to.0)) network in
     let work : Work = hearing_work plan network from to (take count (network.pipes from.0 to.0)) in
@@ -254,7 +252,7 @@ delivering_keeps plan from to count network (Some kept) checked types ordered ap
 
 pub stands_apart : (plan : Plan) (network : NetworkState) (from to : ℕ) → IsOrdered plan network → stands network to from ≡ true → nat_eq from to ≡ false
 stands_apart plan network from to ordered up = elim (cases_Bool (nat_eq from to)) [
-  | inl same ↦ clash (sym up ∙ ap (λ (k : ℕ). stands network to k) (eqb-true from to same) ∙ ap (λ (o : Option Peering). is_there o) (ordered.alone to))
+  | inl same ↦ true_clash (sym up ∙ ap (λ (k : ℕ). stands network to k) (eqb-true from to same) ∙ ap (λ (o : Option Peering). is_there o) (ordered.alone to))
   | inr apart ↦ apart
 ]
 

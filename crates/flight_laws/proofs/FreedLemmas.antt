@@ -2,7 +2,9 @@
 use Rattle.std.proofs.Common.{◌≡◌, ◌≢◌, ◌∙◌, ◌⊎◌, ◌==◌, ℕ, Bool, true, false, cond, List, [], ◌∷◌, Option, Some, None, length, inl, inr, refl, sym, subst, arith}
 use Rattle.std.specs.Prelude.{nat_lt}
 use Rattle.std.specs.List.{AllByRecursion}
-use Rattle.std.proofs.lemmas.Bool.Decides.{nat_tests}
+use Rattle.std.proofs.lemmas.Bool.{eqb-true}
+use Rattle.net_values.proofs.NumberLemmas.{same_number as is_same}
+use Rattle.net_values.proofs.OptionLemmas.{something}
 use Rattle.net_base.specs.declared.plan.places.EdgeId.{EdgeId}
 use Rattle.label_space.specs.declared.kept.Kept.{Kept}
 use Rattle.label_space.specs.declared.kept.KeptState.{KeptState}
@@ -17,15 +19,6 @@ use Rattle.pw_signalling.specs.Laws.{own_label}
 use Rattle.edge_model.specs.declared.end_place.EndPlace.{EndPlace}
 use Rattle.edge_model.specs.Labels.{keeps_lost, keeps_one, keeps_owned, left_label, owner_at, owners_of, unless_kept, with_owner_at}
 use Rattle.flight_laws.specs.Rules.{MayBeKept, part_owns}
-
-same_number : (v w : ℕ) → (v == w) ≡ true → v ≡ w
-same_number v w h = grind (arith, nat_tests)
-
-is_same : (v : ℕ) → (v == v) ≡ true
-is_same v = grind (arith, nat_tests)
-
-something : {X : Type 0} (x : X) → Some x ≡ None → ⊥
-something x is = cc
 
 -- ---- what an end owns
 
@@ -60,7 +53,7 @@ may_keep label peer kept other p age same may = by (kept_at label kept) refl whe
   ]
     where
       there : (b : Bool) → (label == other) ≡ b → MayBeKept p age (cond b (Some (Waits peer)) (kept_at other kept))
-      there true here = same (same_number label other here)
+      there true here = same (eqb-true label other here)
       there false apart = may
 
 pub rising_keep : (label : ℕ) (peer : EdgeId) (kept : List Kept) → AreRisingBy label_of 0 kept → AreRisingBy label_of 0 (keeps_one (Some label) peer kept)
@@ -80,7 +73,7 @@ kept_from label peer kept other = by (kept_at label kept) refl where
   by None is there = either (nat_lt (length kept) most_kept) there
     where
       new : kept_at other (put_in (waiting label peer) kept) ≢ None → (b : Bool) → (label == other) ≡ b → (kept_at other kept ≢ None) ⊎ (label ≡ other)
-      new there true here = inr (same_number label other here)
+      new there true here = inr (eqb-true label other here)
       new there false apart = inl (λ none. there (kept_put (waiting label peer) kept is other ∙ rw apart none))
 
       either : (v : Bool) → kept_at other (cond v (put_in (waiting label peer) kept) kept) ≢ None → (kept_at other kept ≢ None) ⊎ (label ≡ other)
@@ -130,7 +123,7 @@ lost_from beside ends (place ∷ places) kept other there =
   where
     owned : (label : ℕ) → own_label (ends place.wire.0 place.peer.0).local ≡ Some label → (place.peer.0 == beside.0) ≡ true → label ≡ other → IsOwnedBeside beside ends other
     owned label is here same =
-        record { wire = place.wire.0; owned = subst (λ (k : ℕ). part_owns (ends place.wire.0 k).local other ≡ true) (same_number place.peer.0 beside.0 here) (subst (λ (l : ℕ). part_owns (ends place.wire.0 place.peer.0).local l ≡ true) same (owns_own (ends place.wire.0 place.peer.0).local label is)) }
+        record { wire = place.wire.0; owned = subst (λ (k : ℕ). part_owns (ends place.wire.0 k).local other ≡ true) (eqb-true place.peer.0 beside.0 here) (subst (λ (l : ℕ). part_owns (ends place.wire.0 place.peer.0).local l ≡ true) same (owns_own (ends place.wire.0 place.peer.0).local label is)) }
 
     one : (own : Option ℕ) → own_label (ends place.wire.0 place.peer.0).local ≡ own → (place.peer.0 == beside.0) ≡ true → kept_at other (keeps_one own place.peer kept) ≢ None → (kept_at other kept ≢ None) ⊎ IsOwnedBeside beside ends other
     one None is here there = inl there

@@ -1,6 +1,7 @@
 -- What stands in front of the first octets of messages that were said.
 use Rattle.std.proofs.Common.{◌≡◌, ◌≤◌, ◌+◌, ◌++◌, ◌∙◌, ◌⊎◌, ℕ, List, [], ◌∷◌, inl, inr, refl, sym, ap, subst, arith, length, ⊎_elim}
 use Rattle.net_values.specs.declared.addr.Addr.{Addr}
+use Rattle.net_values.proofs.RowLemmas.{front_empty, front_heads, front_tails, join_front}
 use Rattle.ldp_grammar.specs.declared.message.Message.{Message}
 use Rattle.ldp_grammar.specs.Spells.{Spells}
 use Rattle.ldp_grammar.specs.Written.{IsId, message_octets, written}
@@ -26,30 +27,14 @@ pub record GoesBehind (a b c d : List ℕ) : Type 0 where
   pub whole : a ≡ c ++ more
   pub rest : more ++ b ≡ d
 
-join_front : (x y : ℕ) (a c : List ℕ) → x ≡ y → a ≡ c → x ∷ a ≡ y ∷ c
-join_front x y a c p q = cc
-
-heads : (x y : ℕ) (a b c d : List ℕ) → x ∷ (a ++ b) ≡ y ∷ (c ++ d) → x ≡ y
-heads x y a b c d e = cc
-
-tails : (x y : ℕ) (a b c d : List ℕ) → x ∷ (a ++ b) ≡ y ∷ (c ++ d) → a ++ b ≡ c ++ d
-tails x y a b c d e = cc
-
 pub cut : (a b c d : List ℕ) → a ++ b ≡ c ++ d → IsProperFront a b c d ⊎ GoesBehind a b c d
 cut [] b [] d e = inr (record { more = []; whole = refl; rest = e })
 cut [] b (y ∷ c) d e = inl (record { next = y; more = c; whole = refl; rest = e })
 cut (x ∷ a) b [] d e = inr (record { more = x ∷ a; whole = refl; rest = e })
 cut (x ∷ a) b (y ∷ c) d e = ⊎_elim
-    (λ (h : IsProperFront a b c d). inl (record { next = h.next; more = h.more; whole = join_front x y (a ++ h.next ∷ h.more) c (heads x y a b c d e) h.whole; rest = h.rest }))
-    (λ (h : GoesBehind a b c d). inr (record { more = h.more; whole = join_front x y a (c ++ h.more) (heads x y a b c d e) h.whole; rest = h.rest }))
-    (cut a b c d (tails x y a b c d e))
-
-nothing : (x y : List ℕ) → x ++ y ≡ [] → x ≡ []
-nothing [] y e = refl
-nothing (a ∷ x) y e = absurd (no (x ++ y) e)
-  where
-    no : (z : List ℕ) → a ∷ z ≡ [] → ⊥
-    no z e = cc
+    (λ (h : IsProperFront a b c d). inl (record { next = h.next; more = h.more; whole = join_front x y (a ++ h.next ∷ h.more) c (front_heads x y a b c d e) h.whole; rest = h.rest }))
+    (λ (h : GoesBehind a b c d). inr (record { more = h.more; whole = join_front x y a (c ++ h.more) (front_heads x y a b c d e) h.whole; rest = h.rest }))
+    (cut a b c d (front_tails x y a b c d e))
 
 none_front : (max : ℕ) → front_of max [] ≡ More
 unfolding front_of
@@ -66,7 +51,7 @@ pub record HasNext (router : Addr) (ms : List Message) (x y : List ℕ) (max : �
 
 pub front_is : (ends : Peers) (ms : List Message) (x y : List ℕ) (max : ℕ) → AreFit ends → AreSaid ends ms → x ++ y ≡ octets_of_all ends.me ms → 256 ≤ max → max ≤ 4096
     → (front_of max x ≡ More) ⊎ HasNext ends.me ms x y max
-front_is ends [] x y max fit said e least most = inl (ap (front_of max) (nothing x y e) ∙ none_front max)
+front_is ends [] x y max fit said e least most = inl (ap (front_of max) (front_empty x y e) ∙ none_front max)
 front_is ends (m ∷ ms) x y max fit said e least most = ⊎_elim part whole (cut x y (written m (platform_of ends.me)) (octets_of_all ends.me ms) e)
   where
     is_ready : IsReady m ends.me

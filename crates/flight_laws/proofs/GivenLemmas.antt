@@ -1,11 +1,13 @@
 -- Labels that are given and not free: what an edge does leaves them so, and the one that it gives next is none of them.
 use Rattle.std.proofs.Common.{◌≡◌, ◌≤◌, ◌+◌, ◌==◌, ◌&&◌, ◌||◌, not, nat_lt, nat_eq, length, ℕ, Bool, true, false, cond, List, [], ◌∷◌, Option, Some, None, refl, sym, ap, subst, arith}
-use Rattle.std.proofs.lemmas.Bool.{eq-eqb}
+use Rattle.std.proofs.lemmas.Bool.{eq-eqb, and_from, or_right, or_left}
 use Rattle.std.proofs.lemmas.Bool.Decides.{nat_tests}
 use Rattle.std.specs.Prelude.{option_map}
 use Rattle.std.specs.List.{find, list_any}
 use Rattle.net_base.specs.declared.plan.places.EdgeId.{EdgeId}
 use Rattle.net_values.specs.Label.{IsLabel}
+use Rattle.net_values.proofs.BoolLemmas.{first_holds, clash, second_holds, and_not_held}
+use Rattle.net_values.proofs.OptionLemmas.{same_number_held}
 use Rattle.label_space.specs.declared.kept.Kept.{Kept}
 use Rattle.label_space.specs.declared.kept.KeptState.{KeptState}
 use Rattle.label_space.specs.declared.kept.KeptState.TheVariants.{Waits, Rests, Free}
@@ -25,32 +27,9 @@ use Rattle.edge_model.specs.Work.{Work, changes}
 use Rattle.flight_laws.specs.Bound.{given_of, is_free_one}
 use Rattle.flight_laws.proofs.BindingLemmas.{StaysGiven}
 
-clash : {P : Type 0} → false ≡ true → P
-clash e = absurd (cc)
-
-both : (a b : Bool) → a ≡ true → b ≡ true → a && b ≡ true
-both true b one other = other
-both false b one other = clash one
-
-one_of : (a b : Bool) → a && b ≡ true → a ≡ true
-one_of true b is = refl
-one_of false b is = clash is
-
-other_of : (a b : Bool) → a && b ≡ true → b ≡ true
-other_of true b is = is
-other_of false b is = clash is
-
 either_of : (a b c : Bool) → (a ≡ true → c ≡ true) → (b ≡ true → c ≡ true) → a || b ≡ true → c ≡ true
 either_of true b c one other is = one refl
 either_of false b c one other is = other is
-
-or_left : (a b : Bool) → a ≡ true → a || b ≡ true
-or_left true b is = refl
-or_left false b is = clash is
-
-or_right : (a b : Bool) → b ≡ true → a || b ≡ true
-or_right true b is = refl
-or_right false b is = is
 
 -- no number is free that was not
 abbrev pub FreesNone : List Kept → List Kept → Type 0
@@ -58,9 +37,9 @@ FreesNone old new = (label : ℕ) → list_any (is_free_one label) new ≡ true 
 
 pub stays_given : (old new : EdgeState) → ((label : ℕ) → nat_lt label old.next_label ≡ true → nat_lt label new.next_label ≡ true) → FreesNone old.kept new.kept → StaysGiven (given_of old) (given_of new)
 stays_given old new below frees label given =
-    both (nat_lt label new.next_label) (not (list_any (is_free_one label) new.kept))
-    (below label (one_of (nat_lt label old.next_label) (not (list_any (is_free_one label) old.kept)) given))
-    (none (list_any (is_free_one label) old.kept) (list_any (is_free_one label) new.kept) (frees label) (other_of (nat_lt label old.next_label) (not (list_any (is_free_one label) old.kept)) given))
+    and_from (nat_lt label new.next_label) (not (list_any (is_free_one label) new.kept))
+    (below label (first_holds (nat_lt label old.next_label) (not (list_any (is_free_one label) old.kept)) given))
+    (none (list_any (is_free_one label) old.kept) (list_any (is_free_one label) new.kept) (frees label) (second_holds (nat_lt label old.next_label) (not (list_any (is_free_one label) old.kept)) given))
   where
     none : (a b : Bool) → (b ≡ true → a ≡ true) → not a ≡ true → not b ≡ true
     none true b from is = clash is
@@ -74,13 +53,13 @@ given_on old new next kept =
 -- ---- numbers that are kept
 
 put_frees : (label other : ℕ) (peer : EdgeId) (kept : List Kept) → list_any (is_free_one label) (put_by label_of (waiting other peer) kept) ≡ true → list_any (is_free_one label) kept ≡ true
-put_frees label other peer [] free = either_of (nat_eq other label && false) false false (λ is. other_of (nat_eq other label) false is) (λ is. is) free
+put_frees label other peer [] free = either_of (nat_eq other label && false) false false (λ is. second_holds (nat_eq other label) false is) (λ is. is) free
 put_frees label other peer (k ∷ ks) free = by (nat_lt k.label other) (λ rest. put_frees label other peer ks rest) free where
   by : (here : Bool) → (list_any (is_free_one label) (put_by label_of (waiting other peer) ks) ≡ true → list_any (is_free_one label) ks ≡ true)
       → list_any (is_free_one label) (cond here (k ∷ put_by label_of (waiting other peer) ks) (waiting other peer ∷ k ∷ ks)) ≡ true → list_any (is_free_one label) (k ∷ ks) ≡ true
   by true rest free = either_of (is_free_one label k) (list_any (is_free_one label) (put_by label_of (waiting other peer) ks)) (list_any (is_free_one label) (k ∷ ks))
       (λ is. or_left (is_free_one label k) (list_any (is_free_one label) ks) is) (λ is. or_right (is_free_one label k) (list_any (is_free_one label) ks) (rest is)) free
-  by false rest free = either_of (nat_eq other label && false) (list_any (is_free_one label) (k ∷ ks)) (list_any (is_free_one label) (k ∷ ks)) (λ is. clash (other_of (nat_eq other label) false is)) (λ is. is) free
+  by false rest free = either_of (nat_eq other label && false) (list_any (is_free_one label) (k ∷ ks)) (list_any (is_free_one label) (k ∷ ks)) (λ is. clash (second_holds (nat_eq other label) false is)) (λ is. is) free
 
 one_frees : (own : Option ℕ) (peer : EdgeId) (kept : List Kept) → FreesNone kept (keeps_one own peer kept)
 one_frees None peer kept label free = free
@@ -129,8 +108,8 @@ met_frees : (peer : EdgeId) (kept : List Kept) → FreesNone kept (met peer kept
 met_frees peer [] label free = free
 met_frees peer (k ∷ ks) label free =
     either_of (nat_eq k.label label && is_free_state (met_state peer k.state)) (list_any (is_free_one label) (met peer ks)) (list_any (is_free_one label) (k ∷ ks))
-    (λ is. or_left (is_free_one label k) (list_any (is_free_one label) ks) (both (nat_eq k.label label) (is_free k) (one_of (nat_eq k.label label) (is_free_state (met_state peer k.state)) is)
-    (still k.state (other_of (nat_eq k.label label) (is_free_state (met_state peer k.state)) is))))
+    (λ is. or_left (is_free_one label k) (list_any (is_free_one label) ks) (and_from (nat_eq k.label label) (is_free k) (first_holds (nat_eq k.label label) (is_free_state (met_state peer k.state)) is)
+    (still k.state (second_holds (nat_eq k.label label) (is_free_state (met_state peer k.state)) is))))
     (λ is. or_right (is_free_one label k) (list_any (is_free_one label) ks) (met_frees peer ks label is)) free
   where
     either : (b : Bool) (other : EdgeId) → is_free_state (cond b (Rests 0) (Waits other)) ≡ true → false ≡ true
@@ -169,31 +148,21 @@ least_frees label [] found = nothing found where
   nothing : {P : Type 0} → None ≡ Some label → P
   nothing e = absurd (cc)
 least_frees label (k ∷ ks) found = by (is_free k) refl found (λ rest. least_frees label ks rest) where
-  one : (a b : ℕ) → Some a ≡ Some b → a ≡ b
-  one a b e = cc
-
   by : (free : Bool) → is_free k ≡ free → option_map label_of (cond free (Some k) (find is_free ks)) ≡ Some label → (least_free ks ≡ Some label → list_any (is_free_one label) ks ≡ true)
       → (nat_eq k.label label && is_free k) || list_any (is_free_one label) ks ≡ true
-  by true is found rest = or_left (nat_eq k.label label && is_free k) (list_any (is_free_one label) ks) (both (nat_eq k.label label) (is_free k) (eq-eqb k.label label (one k.label label found)) is)
+  by true is found rest = or_left (nat_eq k.label label && is_free k) (list_any (is_free_one label) ks) (and_from (nat_eq k.label label) (is_free k) (eq-eqb k.label label (same_number_held k.label label found)) is)
   by false is found rest = or_right (nat_eq k.label label && is_free k) (list_any (is_free_one label) ks) (rest found)
 
 pub not_given : (edge : EdgeState) (label : ℕ) → label_to_give edge ≡ Some label → given_of edge label ≡ false
 not_given edge label give = by (edge.next_label == numbers_end) give where
-  one : (a b : ℕ) → Some a ≡ Some b → a ≡ b
-  one a b e = cc
-
-  free_not : (a b : Bool) → b ≡ true → a && not b ≡ false
-  free_not true b is = rw is refl
-  free_not false b is = refl
-
   next_not : (a b : ℕ) (c : Bool) → a ≡ b → nat_lt b a && c ≡ false
   next_not a b c same = rw (less a b same) refl where
     less : (a b : ℕ) → a ≡ b → nat_lt b a ≡ false
     less a b same = grind (arith, nat_tests)
 
   by : (last : Bool) → cond last (least_free edge.kept) (Some edge.next_label) ≡ Some label → given_of edge label ≡ false
-  by true give = free_not (nat_lt label edge.next_label) (list_any (is_free_one label) edge.kept) (least_frees label edge.kept give)
-  by false give = next_not edge.next_label label (not (list_any (is_free_one label) edge.kept)) (one edge.next_label label give)
+  by true give = and_not_held (nat_lt label edge.next_label) (list_any (is_free_one label) edge.kept) (least_frees label edge.kept give)
+  by false give = next_not edge.next_label label (not (list_any (is_free_one label) edge.kept)) (same_number_held edge.next_label label give)
 
 advertised_rest : (place : EndPlace) (label : ℕ) (content : Told) (edge : EdgeState) → ((advertising place label content edge).next_label ≡ next_after edge.next_label) × ((advertising place label content edge).kept ≡ without label edge.kept)
 unfolding with_end with_next_label with_kept
@@ -214,13 +183,10 @@ advertised_given place label content edge =
 pub now_given : (place : EndPlace) (label : ℕ) (content : Told) (edge : EdgeState) → label_to_give edge ≡ Some label → IsLabel label → given_of (advertising place label content edge) label ≡ true
 now_given place label content edge give is =
     let rest = advertised_rest place label content edge in
-    both (nat_lt label (advertising place label content edge).next_label) (not (list_any (is_free_one label) (advertising place label content edge).kept))
+    and_from (nat_lt label (advertising place label content edge).next_label) (not (list_any (is_free_one label) (advertising place label content edge).kept))
     (subst (λ (n : ℕ). nat_lt label n ≡ true) (sym rest.0) (by (edge.next_label == numbers_end) refl give))
     (subst (λ (ks : List Kept). not (list_any (is_free_one label) ks) ≡ true) (sym rest.1) (ap (λ (b : Bool). not b) (without_it label edge.kept)))
   where
-    one : (a b : ℕ) → Some a ≡ Some b → a ≡ b
-    one a b e = cc
-
     low : (a b : ℕ) → a ≤ 1048575 → (b == numbers_end) ≡ true → nat_lt a b ≡ true
     low a b below last = grind (arith, nat_tests)
 
@@ -229,4 +195,4 @@ now_given place label content edge give is =
 
     by : (last : Bool) → (edge.next_label == numbers_end) ≡ last → cond last (least_free edge.kept) (Some edge.next_label) ≡ Some label → nat_lt label (cond last edge.next_label (edge.next_label + 1)) ≡ true
     by true last give = low label edge.next_label is.below last
-    by false some give = after edge.next_label label (one edge.next_label label give)
+    by false some give = after edge.next_label label (same_number_held edge.next_label label give)

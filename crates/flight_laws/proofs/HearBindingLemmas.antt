@@ -1,6 +1,8 @@
 -- An edge hears messages of a neighbour: what is left of the ends of wires is kept, for every place.
-use Rattle.std.proofs.Common.{◌≡◌, ◌⊎◌, ◌∙◌, ℕ, Bool, true, false, cond, not, nat_eq, List, [], ◌∷◌, Option, Some, None, refl, sym, ap, subst, inl, inr, arith}
+use Rattle.std.proofs.Common.{◌≡◌, ◌⊎◌, ◌∙◌, ℕ, Bool, true, false, cond, not, nat_eq, List, [], ◌∷◌, Option, Some, None, refl, sym, ap, subst, inl, inr}
 use Rattle.std.proofs.lemmas.Bool.{cases_Bool, eqb-true}
+use Rattle.net_values.proofs.BoolLemmas.{clash}
+use Rattle.net_values.proofs.NumberLemmas.{same_number, apart_back}
 use Rattle.net_base.specs.declared.plan.Plan.{Plan}
 use Rattle.net_base.specs.declared.plan.places.EdgeId.{EdgeId}
 use Rattle.net_base.specs.plan.Accepted.{IsChecked}
@@ -36,7 +38,6 @@ use Rattle.flight_laws.specs.Pair.{AreTalking, StayInStep}
 use Rattle.flight_laws.specs.Rules.{AllMessages, TellsPlan}
 use Rattle.flight_laws.specs.Sound.{IsSoundEnd, point_limit}
 use Rattle.flight_laws.proofs.ActBindingLemmas.{acts_leaves, acts_spare, spared_leaves, unchanged_leaves}
-use Rattle.flight_laws.proofs.EdgeBindingLemmas.{clash}
 use Rattle.flight_laws.proofs.EventBindingLemmas.{event_spare, goes_on, leaves_event, leaves_no_event}
 use Rattle.flight_laws.proofs.HeardBindingLemmas.{HearsAs, bound_hears}
 use Rattle.flight_laws.proofs.HearingLemmas.{KeptByHearing, withdraws_addresses}
@@ -47,7 +48,6 @@ use Rattle.flight_laws.proofs.ReactLemmas.{heard_in_step, received_in_step}
 use Rattle.flight_laws.proofs.RowBindingLemmas.{LeavesAll, SaysAll, rows_leave}
 use Rattle.flight_laws.proofs.SaidLemmas.{fatal_ends}
 use Rattle.flight_laws.proofs.SteadyLemmas.{steady_rows}
-use Rattle.flight_laws.proofs.SettleLemmas.{apart_turned}
 
 -- ---- what a session that is not up hears, and goes on
 
@@ -152,15 +152,12 @@ module _ (plan : Plan) (network : NetworkState) (me peer : EdgeId) (apart : nat_
   Bound place messages work = LeavesBound plan me place (network.edges place) (flight network me.0 place) messages work
 
   away : nat_eq peer.0 me.0 ≡ false
-  away = apart_turned me.0 peer.0 apart
-
-  itself : (n : ℕ) → nat_eq n n ≡ true
-  itself n = grind arith
+  away = apart_back me.0 peer.0 apart
 
   -- for the peer and for every other place
   at_peer : (messages : List Message) (work : Work) → LeavesFor messages work → Bound peer.0 messages work
   unfolding Bound
-  at_peer messages work leaves = subst (λ (l : List Message). LeavesBound plan me peer.0 (network.edges peer.0) (flight network me.0 peer.0) l work) (rw (itself peer.0) refl) (leaves peer.0 away)
+  at_peer messages work leaves = subst (λ (l : List Message). LeavesBound plan me peer.0 (network.edges peer.0) (flight network me.0 peer.0) l work) (rw (same_number peer.0) refl) (leaves peer.0 away)
 
   by_place : (before after : List Message) (old new : Work) → (Bound peer.0 before old → Bound peer.0 after new)
       → ((place : ℕ) → nat_eq place peer.0 ≡ false → Bound place (others place) old → Bound place (others place) new) → LeavesFor before old → LeavesFor after new

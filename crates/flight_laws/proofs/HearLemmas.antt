@@ -1,6 +1,7 @@
 -- An edge hears messages of a neighbour: both stay in step, and each other neighbour too.
 use Rattle.std.proofs.Common.{◌≡◌, ◌++◌, ◌∙◌, ℕ, Bool, true, false, not, nat_eq, List, ◌∷◌, Option, Some, None, refl, sym, ap, subst, inl, inr}
 use Rattle.std.proofs.lemmas.Bool.{cases_Bool, eqb-true}
+use Rattle.net_values.proofs.NumberLemmas.{same_number}
 use Rattle.net_base.specs.declared.plan.Plan.{Plan}
 use Rattle.net_base.specs.declared.plan.places.EdgeId.{EdgeId}
 use Rattle.net_base.specs.plan.Accepted.{IsChecked}
@@ -30,7 +31,7 @@ use Rattle.flight_laws.proofs.ReactLemmas.{heard_in_step, heard_up, received_in_
 use Rattle.flight_laws.proofs.SayLemmas.{clears_fine, clears_spares, meets_says, says_fine, says_spares}
 use Rattle.flight_laws.proofs.SoundLemmas.{happens_sound}
 use Rattle.flight_laws.proofs.SteadyLemmas.{IsSteady, steady_rows}
-use Rattle.flight_laws.proofs.WorkLemmas.{same_place, with_peering_spares}
+use Rattle.flight_laws.proofs.WorkLemmas.{with_peering_spares}
 use Rattle.flight_laws.proofs.WorksLemmas.{LeftBut, apart_from, but_says, but_spared, change_fine, change_spares, changed_edge, event_spares, given_edge, gives_fine, gives_spares, gone_leaves, left_spared, no_end, says_sound, there_up}
 
 -- ---- in step with the neighbour
@@ -170,7 +171,7 @@ module _ (plan : Plan) (network : NetworkState) (me peer : EdgeId) (apart : nat_
       let open_end : closes peer.0 work.effects ≡ false = meets.ended ∙ ap (λ (o : Option Peering). not (is_there o)) at in (
         record { place = meets.fine.place; idle = meets.fine.idle; well = meets.fine.well },
         record {
-          leaves = rw (same_place peer.0, open_end) (record {
+          leaves = rw (same_number peer.0, open_end) (record {
             messages = meets.messages;
             answers = answers;
             out_is = meets.out_is;

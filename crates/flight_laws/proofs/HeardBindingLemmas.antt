@@ -1,6 +1,8 @@
 -- The ends of all wires between two edges: what an edge that hears a message makes of them.
-use Rattle.std.proofs.Common.{◌≡◌, ◌==◌, ◌&&◌, ◌++◌, ◌∙◌, not, nat_eq, ℕ, Bool, true, false, cond, List, [], ◌∷◌, Option, Some, None, is_some, option_and_then, refl, sym, ap, subst, arith}
-use Rattle.std.proofs.lemmas.Bool.Decides.{nat_tests}
+use Rattle.std.proofs.Common.{◌≡◌, ◌==◌, ◌++◌, ◌∙◌, nat_eq, ℕ, Bool, true, false, cond, List, [], ◌∷◌, Option, Some, None, is_some, option_and_then, refl, sym, ap, subst}
+use Rattle.std.proofs.lemmas.Bool.{eqb-true}
+use Rattle.net_values.proofs.BoolLemmas.{first_holds, clash}
+use Rattle.net_values.proofs.NumberLemmas.{same_number as itself, equal_turned}
 use Rattle.net_base.specs.declared.plan.Plan.{Plan}
 use Rattle.net_base.specs.declared.plan.places.EdgeId.{EdgeId}
 use Rattle.net_base.specs.declared.plan.places.WireId.{WireId}
@@ -27,7 +29,7 @@ use Rattle.flight_laws.specs.Bound.{given_of, AreBound, IsBoundBy, answered_part
 use Rattle.flight_laws.specs.Flight.{all_messages}
 use Rattle.flight_laws.proofs.BindingLemmas.{StaysGiven, binding_goes_on, binding_answers, binding_heard, binding_hears, binding_hears_withdrawal, binding_says_release}
 use Rattle.flight_laws.proofs.GivenLemmas.{heard_given, released_ends}
-use Rattle.flight_laws.proofs.EdgeBindingLemmas.{clash, end_given, end_of_other, end_there, itself, same_number}
+use Rattle.flight_laws.proofs.EdgeBindingLemmas.{end_given, end_of_other, end_there}
 use Rattle.flight_laws.proofs.PlaceLemmas.{IsNamed, named_is, not_named, wire_by_pw_id}
 
 -- ---- what an edge makes of a message, wire by wire
@@ -38,10 +40,6 @@ pub record HearsAs (plan : Plan) (me peer : EdgeId) (m : Message) (old new : Edg
   -- the message names its wire
   pub remote : (wire : WireId) (row : WirePlan) (next : ℕ → Bool) (near : LocalPart) → wire_row plan wire ≡ Some row → joins me.0 peer.0 row.path ≡ true → withdraws_old row.pw_id next near m ≡ true
       → (new.ends wire.0 peer.0).remote ≡ heard_of row.pw_id m (old.ends wire.0 peer.0).remote
-
-and_left : (a b : Bool) → a && b ≡ true → a ≡ true
-and_left true b h = refl
-and_left false b h = clash h
 
 near_heard : (plan : Plan) (me peer : EdgeId) (m : Message) (old new other : EdgeState) (out back : List Message) → HearsAs plan me peer m old new → AreBound plan me.0 peer.0 old other out (m ∷ back)
     → (wire : WireId) (row : WirePlan) → wire_row plan wire ≡ Some row → joins me.0 peer.0 row.path ≡ true → IsBoundBy row.pw_id (given_of new) (new.ends wire.0 peer.0).local (other.ends wire.0 me.0).remote out back
@@ -57,7 +55,7 @@ bound_hears plan me peer m old new other out back none hears bound = record {
   far = λ wire row is joined.
       let own : IsBoundBy row.pw_id (given_of other) (other.ends wire.0 me.0).local (old.ends wire.0 peer.0).remote (m ∷ back) out = bound.far wire row is joined in
       rw (hears.remote wire row (given_of other) (other.ends wire.0 me.0).local is joined
-      (and_left (withdraws_old row.pw_id (given_of other) (other.ends wire.0 me.0).local m) (all_messages (withdraws_old row.pw_id (given_of other) (other.ends wire.0 me.0).local) back) own.withdrawn))
+      (first_holds (withdraws_old row.pw_id (given_of other) (other.ends wire.0 me.0).local m) (all_messages (withdraws_old row.pw_id (given_of other) (other.ends wire.0 me.0).local) back) own.withdrawn))
       (binding_heard row.pw_id (given_of other) (other.ends wire.0 me.0).local (old.ends wire.0 peer.0).remote m back out (λ label at. none row.pw_id label) own);
 }
 
@@ -71,7 +69,7 @@ bound_hears_withdrawal plan me peer id id2 fec label old new other out back hear
   far = λ wire row is joined.
       let own : IsBoundBy row.pw_id (given_of other) (other.ends wire.0 me.0).local (old.ends wire.0 peer.0).remote (LabelWithdraw id fec label ∷ back) out = bound.far wire row is joined in
       rw (hears.remote wire row (given_of other) (other.ends wire.0 me.0).local is joined
-      (and_left (withdraws_old row.pw_id (given_of other) (other.ends wire.0 me.0).local (LabelWithdraw id fec label)) (all_messages (withdraws_old row.pw_id (given_of other) (other.ends wire.0 me.0).local) back) own.withdrawn))
+      (first_holds (withdraws_old row.pw_id (given_of other) (other.ends wire.0 me.0).local (LabelWithdraw id fec label)) (all_messages (withdraws_old row.pw_id (given_of other) (other.ends wire.0 me.0).local) back) own.withdrawn))
       (binding_hears_withdrawal row.pw_id (given_of other) (other.ends wire.0 me.0).local (old.ends wire.0 peer.0).remote id id2 fec (bare fec) label back out refl own);
 }
 
@@ -87,14 +85,11 @@ bound_hears_unknown plan me peer id id2 fec label status points edge other out b
       near = λ wire row is joined. binding_says_release row.pw_id (given_of edge) (edge.ends wire.0 peer.0).local (other.ends wire.0 me.0).remote out back id2 (bare fec) (Some label) (heard.near wire row is joined);
       far = λ wire row is joined. binding_answers row.pw_id (given_of other) (other.ends wire.0 me.0).local (edge.ends wire.0 peer.0).remote back out (release fec (Some label) id2)
           (unknown wire row (given_of other) (other.ends wire.0 me.0).local is joined
-          (and_left (is_some fec.pw_id) (all_messages (withdraws_old row.pw_id (given_of other) (other.ends wire.0 me.0).local) back) (bound.far wire row is joined).withdrawn))
+          (first_holds (is_some fec.pw_id) (all_messages (withdraws_old row.pw_id (given_of other) (other.ends wire.0 me.0).local) back) (bound.far wire row is joined).withdrawn))
           (heard.far wire row is joined);
     }
 
 -- ---- an end that a FEC names
-
-sides : (m n : ℕ) → nat_eq m n ≡ nat_eq n m
-sides m n = grind (arith, nat_tests)
 
 -- of the wires beside the peer, that with the PW ID is changed
 pub end_changed : (plan : Plan) (peer : EdgeId) (pw_id : ℕ) (change : EndState → EndState) (place : EndPlace) (edge : EdgeState) (wire : WireId) (row : WirePlan) → IsChecked plan → wire_row plan wire ≡ Some row
@@ -107,19 +102,15 @@ end_changed plan peer pw_id change place edge wire row checked is joined named =
     there = named_is plan edge.me peer pw_id place named
 
     test : (same : Bool) → nat_eq wire.0 place.wire.0 ≡ same → (pw_id == row.pw_id) ≡ same
-    test same e = wire_by_pw_id plan edge.me peer pw_id place wire row checked is joined named ∙ (sides place.wire.0 wire.0 ∙ e)
+    test same e = wire_by_pw_id plan edge.me peer pw_id place wire row checked is joined named ∙ (equal_turned place.wire.0 wire.0 ∙ e)
 
     by_wire : (same : Bool) → nat_eq wire.0 place.wire.0 ≡ same
         → (with_end place (change (end_at edge place)) edge).ends wire.0 peer.0 ≡ cond (pw_id == row.pw_id) (change (edge.ends wire.0 peer.0)) (edge.ends wire.0 peer.0)
     by_wire true here = rw (test true here)
-        (subst (λ (w : ℕ). (with_end place (change (end_at edge place)) edge).ends w peer.0 ≡ change (edge.ends w peer.0)) (sym (same_number wire.0 place.wire.0 here))
+        (subst (λ (w : ℕ). (with_end place (change (end_at edge place)) edge).ends w peer.0 ≡ change (edge.ends w peer.0)) (sym (eqb-true wire.0 place.wire.0 here))
         (subst (λ (p : EdgeId). (with_end place (change (end_at edge place)) edge).ends place.wire.0 p.0 ≡ change (edge.ends place.wire.0 p.0)) there.peer_is
         (end_there place (change (end_at edge place)) edge)))
     by_wire false away = rw (test false away) (end_of_other place (change (end_at edge place)) edge wire.0 peer.0 away)
-
-other_way : (b : Bool) → b ≡ false → not b ≡ true
-other_way true h = clash (sym h)
-other_way false h = refl
 
 -- ---- the rows
 

@@ -1,9 +1,9 @@
 -- Octets of a neighbour are its messages, one by one: what each message keeps, each front of the octets keeps.
 use Rattle.std.proofs.Common.{◌≡◌, ◌≤◌, ◌++◌, ◌⊎◌, ◌∙◌, ℕ, zero, suc, Bool, true, false, cond, List, [], ◌∷◌, Option, Some, None, refl, sym, ap, subst, inl, inr, ⊎_elim}
 use Rattle.std.proofs.lemmas.Bool.{cases_Bool}
+use Rattle.net_values.proofs.BoolLemmas.{clash}
 use Rattle.net_base.specs.declared.plan.Plan.{Plan}
 use Rattle.net_base.specs.declared.plan.places.EdgeId.{EdgeId}
-use Rattle.net_base.specs.declared.trace.state_name.Reason.{Reason}
 use Rattle.net_base.specs.declared.trace.state_name.Reason.TheVariants as reason
 use Rattle.ldp_grammar.specs.declared.message.Message.{Message}
 use Rattle.ldp_grammar.specs.declared.message.Message.TheVariants.{AddressWithdraw}
@@ -18,8 +18,9 @@ use Rattle.pw_messages.specs.Sender.{platform_of}
 use Rattle.edge_model.specs.Hear.{acts, acts_on, hears_few, hears_message, hears_one, hears_pdu, hears_within, holds, is_up_phase, was_up}
 use Rattle.edge_model.specs.Mend.{mends}
 use Rattle.edge_model.specs.Session.{clears_ends, ends, happens_with_ends}
-use Rattle.edge_model.specs.State.{Peering, has_end, is_there, with_ends_beside, with_peering, with_kept}
-use Rattle.edge_model.specs.Work.{Work, changes, gives}
+use Rattle.edge_model.specs.State.{Peering, has_end, is_there, with_ends_beside, with_kept}
+use Rattle.edge_model.specs.Work.{Work, changes}
+use Rattle.edge_model.proofs.HeldLemmas.{ended_gone}
 use Rattle.network_model.specs.Absorb.{taken_all}
 use Rattle.flight_laws.specs.Messages.{AreSaid, IsSaid, octets_of_all}
 use Rattle.flight_laws.specs.Pair.{AreFit}
@@ -27,9 +28,7 @@ use Rattle.flight_laws.proofs.FrontLemmas.{HasNext, front_is}
 use Rattle.flight_laws.proofs.MendingLemmas.{KeptByRows, mends_keep}
 use Rattle.flight_laws.proofs.PassingLemmas.{withdraw_keeps}
 use Rattle.flight_laws.proofs.PieceLemmas.{heard_are}
-use Rattle.flight_laws.proofs.RowLemmas.{clash}
 use Rattle.flight_laws.proofs.SaidLemmas.{fatal_ends, stays_up}
-use Rattle.flight_laws.proofs.WorkLemmas.{same_place}
 
 -- ---- octets
 
@@ -104,10 +103,6 @@ none_acts : (plan : Plan) (told : Answers) (peer : EdgeId) (m : Message) (up : B
 none_acts plan told peer m false work at = refl
 none_acts plan told peer m true work at = rw at refl
 
-ended_none : (peer : EdgeId) (why : Reason) (work : Work) → (ends peer why work).edge.peering peer.0 ≡ None
-unfolding gives changes with_peering
-ended_none peer why work = rw (same_place peer.0) refl
-
 cleared_none : (peer : EdgeId) (work : Work) → work.edge.peering peer.0 ≡ None → (clears_ends peer work).edge.peering peer.0 ≡ None
 unfolding changes with_ends_beside with_kept
 cleared_none peer work at = rw (at, at) refl
@@ -115,7 +110,7 @@ cleared_none peer work at = rw (at, at) refl
 -- a fatal message ends the session
 pub fatal_gone : (other : Peers) (peer : EdgeId) (m : Message) (kept : Peering) (work : Work) → work.edge.peering peer.0 ≡ Some kept → IsSaid other m → is_fatal m ≡ true
     → (happens_with_ends taken_all peer (Received m) work).edge.peering peer.0 ≡ None
-fatal_gone other peer m kept work at said fatal = rw (at, fatal_ends kept.session other m said fatal) (cleared_none peer (ends peer reason.PeerFatal work) (ended_none peer reason.PeerFatal work))
+fatal_gone other peer m kept work at said fatal = rw (at, fatal_ends kept.session other m said fatal) (cleared_none peer (ends peer reason.PeerFatal work) (ended_gone peer reason.PeerFatal work))
 
 -- a session that is up goes on as it is
 pub stays_same : (other : Peers) (peer : EdgeId) (m : Message) (kept : Peering) (work : Work) → work.edge.peering peer.0 ≡ Some kept → kept.session.phase ≡ phase.Operational → IsSaid other m → is_fatal m ≡ false

@@ -1,5 +1,6 @@
 -- What an event of a session leaves of the edge, and which state it leaves the session in.
 use Rattle.std.proofs.Common.{◌≡◌, ◌∙◌, ℕ, Bool, true, false, cond, List, [], ◌∷◌, Option, Some, None, option_map, refl}
+use Rattle.net_values.proofs.NumberLemmas.{same_number}
 use Rattle.net_base.specs.declared.plan.places.EdgeId.{EdgeId}
 use Rattle.net_base.specs.declared.trace.state_name.Reason.{Reason}
 use Rattle.net_base.specs.declared.trace.state_name.Reason.TheVariants as reason
@@ -21,7 +22,6 @@ use Rattle.edge_model.specs.Put.{Spoken, having_spoken, octets_of, put_octets, p
 use Rattle.edge_model.specs.Session.{comes_of, ends, happens, happens_to, is_same_phase, tells_change, with_session}
 use Rattle.edge_model.specs.State.{EdgeState, Peering, with_peering}
 use Rattle.edge_model.specs.Work.{Work, changes, gives, next_answer, puts}
-use Rattle.flight_laws.proofs.WorkLemmas.{same_place}
 
 -- ---- the rest of the edge
 
@@ -114,7 +114,7 @@ spoken_phase p (Some kept) is = is
 
 put_phase : (p : Phase) (peer : EdgeId) (bytes : List ℕ) (taken : Bool) (work : Work) → IsInPhase p (work.edge.peering peer.0) → IsInPhase p ((put_octets peer bytes taken work).work.edge.peering peer.0)
 unfolding gives changes with_spoken with_peering puts
-put_phase p peer bytes true work is = rw (same_place peer.0) (spoken_phase p (work.edge.peering peer.0) is)
+put_phase p peer bytes true work is = rw (same_number peer.0) (spoken_phase p (work.edge.peering peer.0) is)
 put_phase p peer bytes false work is = is
 
 reply_phase : (told : Answers) (p : Phase) (peer : EdgeId) (r : Reply) (near : Option Peering) (work : Work) → IsInPhase p (work.edge.peering peer.0) → IsInPhase p ((put_reply_to told peer r near work).work.edge.peering peer.0)
@@ -133,7 +133,7 @@ replies_phase told p peer (r ∷ rs) work is =
 
 ended_phase : (p : Phase) (peer : EdgeId) (why : Reason) (work : Work) → IsInPhase p ((ends peer why work).edge.peering peer.0)
 unfolding gives changes with_peering
-ended_phase p peer why work = rw (same_place peer.0) tt
+ended_phase p peer why work = rw (same_number peer.0) tt
 
 told_phase : (p : Phase) (peer : EdgeId) (same : Bool) (new : Phase) (work : Work) → IsInPhase p (work.edge.peering peer.0) → IsInPhase p ((cond same work (gives (effect.Session peer (phase_name new)) work)).edge.peering peer.0)
 unfolding gives
@@ -147,7 +147,7 @@ went_phase p peer old new false work is = told_phase p peer (is_same_phase old n
 
 moved_phase : (peer : EdgeId) (next : SessionState) (kept : Peering) (work : Work) → IsInPhase next.phase ((changes (with_peering peer (Some (with_session next kept))) work).edge.peering peer.0)
 unfolding changes with_peering
-moved_phase peer next kept work = rw (same_place peer.0) refl
+moved_phase peer next kept work = rw (same_number peer.0) refl
 
 -- the state after an event, where it stands still
 abbrev pub phase_after : Phase → Outcome → Phase

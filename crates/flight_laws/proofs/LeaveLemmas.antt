@@ -1,5 +1,6 @@
 -- What an edge at work leaves for another place of the ends of wires between the two.
 use Rattle.std.proofs.Common.{◌≡◌, ◌++◌, ◌∙◌, ℕ, true, List, [], ◌∷◌, Option, Some, None, sym, ap, subst, append_assoc}
+use Rattle.net_values.proofs.BoolLemmas.{clash}
 use Rattle.net_base.specs.declared.plan.Plan.{Plan}
 use Rattle.net_base.specs.declared.plan.places.EdgeId.{EdgeId}
 use Rattle.ldp_grammar.specs.declared.message.Message.{Message}
@@ -18,7 +19,7 @@ use Rattle.flight_laws.specs.Pair.{AreFit, IsStanding}
 use Rattle.flight_laws.specs.Bound.{given_of}
 use Rattle.flight_laws.proofs.BindingLemmas.{StaysGiven}
 use Rattle.flight_laws.proofs.GivenLemmas.{given_on}
-use Rattle.flight_laws.proofs.EdgeBindingLemmas.{HasSameEnds, bound_elsewhere, bound_same, clash}
+use Rattle.flight_laws.proofs.EdgeBindingLemmas.{HasSameEnds, bound_elsewhere, bound_same}
 use Rattle.flight_laws.proofs.SaidLemmas.{all_joined, said-append}
 use Rattle.flight_laws.proofs.SpokenLemmas.{HasSpoken}
 use Rattle.flight_laws.proofs.UniqueLemmas.{said_once}

@@ -10,12 +10,15 @@ pub mod BoundHearLemmas
 pub mod BoundRunLemmas
 pub mod BridgeLemmas
 pub mod CircuitLemmas
+pub mod CommonLemmas
 pub mod ConnectLemmas
 pub mod EdgeBindingLemmas
 pub mod EventBindingLemmas
 pub mod EventLemmas
 mod Examples
+pub mod FreedLemmas
 pub mod FrontLemmas
+pub mod GivenLemmas
 pub mod HearBindingLemmas
 pub mod HearLemmas
 pub mod HeardBindingLemmas
@@ -26,8 +29,6 @@ pub mod MeetLemmas
 pub mod MendedRunLemmas
 pub mod MendingLemmas
 pub mod MentionLemmas
-pub mod FreedLemmas
-pub mod GivenLemmas
 pub mod NameLemmas
 pub mod OfferLemmas
 pub mod OutcomeLemmas

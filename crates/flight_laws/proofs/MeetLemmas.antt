@@ -2,6 +2,7 @@
 use Rattle.std.proofs.Common.{◌≡◌, ◌++◌, ◌∙◌, ℕ, Bool, true, false, cond, not, List, [], ◌∷◌, Option, Some, None, refl, sym, ap, append_assoc}
 use Rattle.net_base.specs.declared.plan.places.EdgeId.{EdgeId}
 use Rattle.net_values.specs.declared.addr.Addr.{Addr}
+use Rattle.net_values.proofs.NumberLemmas.{same_number}
 use Rattle.ldp_grammar.specs.declared.message.Message.{Message}
 use Rattle.session_core.specs.declared.peers.Peers.{Peers}
 use Rattle.session_core.specs.declared.reply.Reply.{Reply}
@@ -22,7 +23,7 @@ use Rattle.flight_laws.specs.Messages.{octets_of_all}
 use Rattle.flight_laws.specs.Pair.{AreTalking, StayInStep, having_put_all, messages_put, octets_put}
 use Rattle.flight_laws.proofs.ReactLemmas.{put_octets_are}
 use Rattle.flight_laws.proofs.SaidLemmas.{all_joined}
-use Rattle.flight_laws.proofs.WorkLemmas.{HasPut, all_put, ends_shows, same_place, session_spares, well-append}
+use Rattle.flight_laws.proofs.WorkLemmas.{HasPut, all_put, ends_shows, session_spares, well-append}
 
 -- what the work shows is in step
 pub meets_shown : (own other : Peers) (me peer : EdgeId) (far near : Option Peering) (out said : List ℕ) (messages answers : List Message) (work : Work)
@@ -43,7 +44,7 @@ more_octets router None out said more messages new is more_is = is
 more_octets router (Some y) out said more messages new is more_is =
     sym (append_assoc out said more) ∙ ap (λ (l : List ℕ). l ++ more) is ∙ ap (λ (l : List ℕ). octets_of_all router messages ++ l) more_is ∙ sym (all_joined router messages new)
 
-put_peers : (rs : List Reply) (kept : Peering) → (having_put_all rs kept).session.peers ≡ kept.session.peers
+pub put_peers : (rs : List Reply) (kept : Peering) → (having_put_all rs kept).session.peers ≡ kept.session.peers
 put_peers [] kept = refl
 put_peers (r ∷ rs) kept = put_peers rs (having_spoken kept)
 
@@ -68,7 +69,7 @@ pub moved_shows : (me peer : EdgeId) (kept now : Peering) (said : List ℕ) (clo
     → Shows peer.0 (changes (with_peering peer (Some now)) work) (Some now) said closed × IsFine me (changes (with_peering peer (Some now)) work)
 unfolding changes with_peering
 moved_shows me peer kept now said closed work shows fine = (
-  record { keeps = rw (same_place peer.0) refl; says = shows.says; ended = shows.ended },
+  record { keeps = rw (same_number peer.0) refl; says = shows.says; ended = shows.ended },
   record { place = fine.place; idle = fine.idle; well = fine.well },
 )
 

@@ -39,6 +39,7 @@ use Rattle.edge_model.proofs.MendedLemmas.{IsMended, mends_mended}
 use Rattle.edge_model.proofs.OneEndLemmas.{has_one_end}
 use Rattle.edge_model.proofs.SessionLemmas.{any, connects_works, happens_with_ends_works}
 use Rattle.edge_model.proofs.SignalLemmas.{hears_on_signals, mends_signals, tick_works}
+use Rattle.edge_model.proofs.SyncLemmas.{all_of}
 use Rattle.network_model.specs.Absorb.{absorb, absorb_all, answer, begin_at, idle, taken_all}
 use Rattle.network_model.specs.Circuit.{circuit_event}
 use Rattle.network_model.specs.Connection.{can_connect, connect_event, connected_work, connecting, deliver_event, delivering, hearing_work, is_deliverable, is_drained_pipe, lose_event, losing, losing_work, restart_event}
@@ -70,11 +71,6 @@ mended_at plan k edge me mended = record {
   statuses = subst (λ (e : EdgeId). AllByRecursion (λ place. is_told plan edge place ≡ true) (end_places plan e)) me mended.statuses;
 }
 
--- an edge without a session tells nothing, and should tell nothing
-of_each : (P : EndPlace → Type 0) → ((place : EndPlace) → P place) → (places : List EndPlace) → AllByRecursion P places
-of_each P each [] = tt
-of_each P each (place ∷ places) = (each place, of_each P each places)
-
 silent_wish : (plan : Plan) (edge : EdgeState) (place : EndPlace) (row : Option WirePlan) → edge.peering place.peer.0 ≡ None → wish_of plan edge place row ≡ None
 silent_wish plan edge place None none = refl
 silent_wish plan edge place (Some row) none = by (edge.wire_on place.wire.0) (wish_by plan edge place row) where
@@ -88,18 +84,18 @@ silent_wish plan edge place (Some row) none = by (edge.wire_on place.wire.0) (wi
 silent_mended : (plan : Plan) (k : ℕ) (edge : EdgeState) → edge.me ≡ record { 0 = k } → ((wire peer : ℕ) → edge.ends wire peer ≡ fresh) → ((peer : ℕ) → edge.peering peer ≡ None) → IsMendedAt plan k edge
 silent_mended plan k edge me ends none = record {
   me = me;
-  ends = of_each (λ place. is_mended plan edge place ≡ true) (λ place. rw (ends place.wire.0 place.peer.0, silent_wish plan edge place (wire_row plan place.wire) (none place.peer.0)) refl) (end_places plan (record { 0 = k }));
-  statuses = of_each (λ place. is_told plan edge place ≡ true) (λ place. rw (ends place.wire.0 place.peer.0) refl) (end_places plan (record { 0 = k }));
+  ends = all_of (λ place. is_mended plan edge place ≡ true) (λ place. rw (ends place.wire.0 place.peer.0, silent_wish plan edge place (wire_row plan place.wire) (none place.peer.0)) refl) (end_places plan (record { 0 = k }));
+  statuses = all_of (λ place. is_told plan edge place ≡ true) (λ place. rw (ends place.wire.0 place.peer.0) refl) (end_places plan (record { 0 = k }));
 }
 
 -- ---- each input
 
-turned_me : (plan : Plan) (circuit : CircuitId) (on : Bool) (row : CircuitPlan) (work : Work) → (changes (turned plan circuit row on) work).edge.me ≡ work.edge.me
+pub turned_me : (plan : Plan) (circuit : CircuitId) (on : Bool) (row : CircuitPlan) (work : Work) → (changes (turned plan circuit row on) work).edge.me ≡ work.edge.me
 unfolding changes with_circuit with_addresses
 turned_me plan circuit true row work = refl
 turned_me plan circuit false row work = refl
 
-turned_wire_me : (wire : WireId) (on : Bool) (work : Work) → (changes (turned_wire wire on) work).edge.me ≡ work.edge.me
+pub turned_wire_me : (wire : WireId) (on : Bool) (work : Work) → (changes (turned_wire wire on) work).edge.me ≡ work.edge.me
 unfolding changes with_wire with_renewed
 turned_wire_me wire true work = refl
 turned_wire_me wire false work = refl

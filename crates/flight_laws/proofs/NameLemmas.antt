@@ -1,8 +1,12 @@
 -- What an edge's own work does to its labels: a label that may be named with an end goes on so, and each end still owns its own.
 use Rattle.std.proofs.Common.{◌≡◌, ◌≢◌, ◌≤◌, ◌<◌, ◌+◌, ◌∙◌, ◌⊎◌, ◌==◌, ℕ, Bool, true, false, not, cond, List, Option, Some, None, inl, inr, ⊎_elim, refl, ap, sym, subst, arith}
 use Rattle.std.specs.Prelude.{nat_lt, option_map}
-use Rattle.std.proofs.lemmas.Bool.{cases_Bool}
+use Rattle.std.proofs.lemmas.Bool.{cases_Bool, eqb-true}
 use Rattle.std.proofs.lemmas.Bool.Decides.{nat_tests}
+use Rattle.std.proofs.lemmas.Option.{same_Some}
+use Rattle.net_values.proofs.BoolLemmas.{clash as nothing_owned, clash_at}
+use Rattle.net_values.proofs.NumberLemmas.{same_number as is_same}
+use Rattle.net_values.proofs.OptionLemmas.{something}
 use Rattle.net_base.specs.declared.plan.places.EdgeId.{EdgeId}
 use Rattle.net_base.specs.declared.plan.places.WireId.{WireId}
 use Rattle.label_space.specs.declared.kept.Kept.{Kept}
@@ -31,12 +35,6 @@ pub split : {P : Type 0} (b : Bool) → (b ≡ true → P) → (b ≡ false → 
 split true f g = f refl
 split false f g = g refl
 
-pub same_number : (v w : ℕ) → (v == w) ≡ true → v ≡ w
-same_number v w h = grind (arith, nat_tests)
-
-pub is_same : (v : ℕ) → (v == v) ≡ true
-is_same v = grind (arith, nat_tests)
-
 -- ---- ends by their places
 
 -- a fact of each end, where one end is another now
@@ -45,8 +43,8 @@ pub end_fact : (P : ℕ → ℕ → EndState → Type 0) (place : EndPlace) (end
 unfolding with_end
 end_fact P place end edge wire peer now else = split {P = P wire peer ((with_end place end edge).ends wire peer)} (wire == place.wire.0)
     (λ w. rw w (split {P = P wire peer (put_at (edge.ends place.wire.0) place.peer.0 end peer)} (peer == place.peer.0)
-    (λ p. rw p (subst (λ (k : ℕ). P k peer end) (sym (same_number wire place.wire.0 w)) (subst (λ (k : ℕ). P place.wire.0 k end) (sym (same_number peer place.peer.0 p)) now)))
-    (λ p. rw p (subst (λ (k : ℕ). P wire peer (edge.ends k peer)) (same_number wire place.wire.0 w) else))))
+    (λ p. rw p (subst (λ (k : ℕ). P k peer end) (sym (eqb-true wire place.wire.0 w)) (subst (λ (k : ℕ). P place.wire.0 k end) (sym (eqb-true peer place.peer.0 p)) now)))
+    (λ p. rw p (subst (λ (k : ℕ). P wire peer (edge.ends k peer)) (eqb-true wire place.wire.0 w) else))))
     (λ w. rw w else)
 
 -- a fact of each end, where those beside a peer are changed
@@ -54,7 +52,7 @@ pub beside_fact : (P : ℕ → ℕ → EndState → Type 0) (beside : EdgeId) (c
     → P wire peer (edge.ends wire peer) → P wire peer ((with_ends_beside beside change edge).ends wire peer)
 unfolding with_ends_beside
 beside_fact P beside change edge wire peer changed else = split {P = P wire peer ((with_ends_beside beside change edge).ends wire peer)} (peer == beside.0)
-    (λ p. rw p (changed (same_number peer beside.0 p)))
+    (λ p. rw p (changed (eqb-true peer beside.0 p)))
     (λ p. rw p else)
 
 -- a fact of each end, where those of a wire are renewed
@@ -102,11 +100,6 @@ pub record IsFreed (old new : EdgeState) (label : ℕ) : Type 0 where
   pub owned : part_owns (old.ends wire peer).local label ≡ true
   pub gone : part_owns (new.ends wire peer).local label ≡ false
 
-true_not : {P : Type 0} (b : Bool) → b ≡ true → b ≡ false → P
-true_not b one other = clash (sym one ∙ other) where
-  clash : {P : Type 0} → true ≡ false → P
-  clash e = absurd (cc (e))
-
 -- an edge that owns no more than before, whose next label is the same, and that keeps what it owns no longer
 pub names_freed : (old new : EdgeState) → new.next_label ≡ old.next_label
     → ((wire peer label : ℕ) → part_owns (new.ends wire peer).local label ≡ true → part_owns (old.ends wire peer).local label ≡ true)
@@ -121,12 +114,12 @@ names_freed old new next less rising may from = record {
     below = λ label there. ⊎_elim (λ (before : kept_at label old.kept ≢ None). below label (has.below label before)) (λ (freed : IsFreed old new label). below label (own freed.wire freed.peer label freed.owned).below) (from label there);
     unowned = λ label there w k. ⊎_elim
         (λ (before : kept_at label old.kept ≢ None). split {P = part_owns (new.ends w k).local label ≡ false} (part_owns (new.ends w k).local label)
-        (λ now. true_not (part_owns (old.ends w k).local label) (less w k label now) (has.unowned label before w k))
+        (λ now. clash_at (part_owns (old.ends w k).local label) (less w k label now) (has.unowned label before w k))
         (λ not_now. not_now))
         (λ (freed : IsFreed old new label). split {P = part_owns (new.ends w k).local label ≡ false} (part_owns (new.ends w k).local label)
         (λ now.
         let same : (w ≡ freed.wire) × (k ≡ freed.peer) = (own freed.wire freed.peer label freed.owned).owner w k (less w k label now) in
-        true_not (part_owns (new.ends freed.wire freed.peer).local label)
+        clash_at (part_owns (new.ends freed.wire freed.peer).local label)
         (subst (λ (n : ℕ). part_owns (new.ends n freed.peer).local label ≡ true) same.0 (subst (λ (n : ℕ). part_owns (new.ends w n).local label ≡ true) same.1 now)) freed.gone)
         (λ not_now. not_now))
         (from label there);
@@ -190,9 +183,6 @@ unfolding with_renewed
 names_renewed wire edge =
     names_less edge (with_renewed wire edge) refl refl
     (λ w k label. renewed_fact (λ w k e. part_owns e.local label ≡ true → part_owns (edge.ends w k).local label ≡ true) wire edge w k (λ owned. sym (owns_renewed (edge.ends w k).local label) ∙ owned) (λ owned. owned))
-
-nothing_owned : {P : Type 0} → false ≡ true → P
-nothing_owned e = absurd (cc)
 
 -- ---- numbers that are owned no longer
 
@@ -312,12 +302,6 @@ next_below next other = rw other (omega arith)
 not_below : (label next : ℕ) → label ≡ next → label < next → ⊥
 not_below label next same below = omega (arith, same, below)
 
-something : {X : Type 0} (x : X) → Some x ≡ None → ⊥
-something x is = cc
-
-some_is : {X : Type 0} (a b : X) → Some a ≡ Some b → a ≡ b
-some_is a b is = cc
-
 -- the label that is given is the next one, or it is free
 pub data IsToGive (edge : EdgeState) (label : ℕ) : Type 0 where
   IsNext : label ≡ edge.next_label → (edge.next_label == numbers_end) ≡ false → IsToGive edge label
@@ -326,7 +310,7 @@ pub data IsToGive (edge : EdgeState) (label : ℕ) : Type 0 where
 pub to_give : (edge : EdgeState) (label : ℕ) → HasKept edge → label_to_give edge ≡ Some label → IsToGive edge label
 to_give edge label has given = elim (cases_Bool (edge.next_label == numbers_end)) [
   | inl last ↦ IsFree (least_is label 0 edge.kept has.rising (rw last at given))
-  | inr other ↦ IsNext (sym (some_is edge.next_label label (rw other at given))) other
+  | inr other ↦ IsNext (sym (same_Some edge.next_label label (rw other at given))) other
 ]
 
 -- nothing names it, and no end owns it
@@ -358,7 +342,7 @@ owner_of : (place : EndPlace) (given : ℕ) (content : Told) (edge : EdgeState) 
 unfolding with_next_label with_kept
 owner_of place given content edge declined wire peer label idle =
     end_fact (λ w k e. part_owns e.local label ≡ true → IsNewOwner place given w k label ⊎ (part_owns (edge.ends w k).local label ≡ true)) place (advertised given content (end_at edge place)) edge wire peer
-    (λ owned. inl (record { wire_is = refl; peer_is = refl; label_is = sym (same_number given label (rw idle at owned)) }))
+    (λ owned. inl (record { wire_is = refl; peer_is = refl; label_is = sym (eqb-true given label (rw idle at owned)) }))
     (λ owned. inr owned)
 
 pub advertised_next : (place : EndPlace) (label : ℕ) (content : Told) (edge : EdgeState) → (advertising place label content edge).next_label ≡ next_after edge.next_label
@@ -379,7 +363,7 @@ names_new place label content edge declined idle own has give = record {
   below = subst (λ (n : ℕ). label < n) (sym (advertised_next place label content edge)) (given_below edge label has give);
   owner = λ w k owned. ⊎_elim
       (λ (new : IsNewOwner place label w k label). (new.wire_is, new.peer_is))
-      (λ (old : part_owns (edge.ends w k).local label ≡ true). true_not (part_owns (edge.ends w k).local label) old (given_unowned edge label w k own give))
+      (λ (old : part_owns (edge.ends w k).local label ≡ true). clash_at (part_owns (edge.ends w k).local label) old (given_unowned edge label w k own give))
       (owner_of place label content edge declined w k label idle owned);
   kept = subst (MayBeKept place.peer.0 None) (sym (kept_gone place label content edge)) tt;
 }
@@ -400,7 +384,7 @@ names_advertising place given content edge declined idle own has give = record {
     unowned = λ label there w k. split {P = part_owns ((advertising place given content edge).ends w k).local label ≡ false} (part_owns ((advertising place given content edge).ends w k).local label)
         (λ now. ⊎_elim
         (λ (new : IsNewOwner place given w k label). absurd (there (subst (λ (l : ℕ). kept_at l (advertising place given content edge).kept ≡ None) (sym new.label_is) (kept_gone place given content edge))))
-        (λ (old : part_owns (edge.ends w k).local label ≡ true). true_not (part_owns (edge.ends w k).local label) old (has.unowned label (before label there) w k))
+        (λ (old : part_owns (edge.ends w k).local label ≡ true). clash_at (part_owns (edge.ends w k).local label) old (has.unowned label (before label there) w k))
         (owner_of place given content edge declined w k label idle now))
         (λ not_now. not_now);
   };
@@ -420,12 +404,12 @@ names_advertising place given content edge declined idle own has give = record {
 
     before : (label : ℕ) → kept_at label (advertising place given content edge).kept ≢ None → kept_at label edge.kept ≢ None
     before label there = split {P = kept_at label edge.kept ≢ None} (given == label)
-        (λ here. absurd (there (subst (λ (l : ℕ). kept_at l (advertising place given content edge).kept ≡ None) (same_number given label here) (kept_gone place given content edge))))
+        (λ here. absurd (there (subst (λ (l : ℕ). kept_at l (advertising place given content edge).kept ≡ None) (eqb-true given label here) (kept_gone place given content edge))))
         (λ apart none. there (kept_is label apart ∙ none))
 
     unlike : (wire peer label : ℕ) (age : Option ℕ) → MayBeNamed edge wire peer age label → (given == label) ≡ false
     unlike wire peer label age may = split {P = (given == label) ≡ false} (given == label)
-        (λ here. given_unnamed edge given wire peer age give (subst (λ (l : ℕ). MayBeNamed edge wire peer age l) (sym (same_number given label here)) may))
+        (λ here. given_unnamed edge given wire peer age give (subst (λ (l : ℕ). MayBeNamed edge wire peer age l) (sym (eqb-true given label here)) may))
         (λ apart. apart)
 
     named : (wire peer label : ℕ) (age : Option ℕ) → MayBeNamed edge wire peer age label → MayBeNamed (advertising place given content edge) wire peer age label
@@ -474,7 +458,7 @@ pub rekept_owned : (old new : EdgeState) → IsRekept old new → HasKept old �
 rekept_owned old new same has own wire peer label owned =
     let before : part_owns (old.ends wire peer).local label ≡ true = subst (λ (f : ℕ → ℕ → EndState). part_owns (f wire peer).local label ≡ true) same.ends owned in
     rekept_named old new wire peer label None None same
-    (λ may. none_kept (kept_at label new.kept) refl (λ there. true_not (part_owns (old.ends wire peer).local label) before (has.unowned label (same.from label there) wire peer)))
+    (λ may. none_kept (kept_at label new.kept) refl (λ there. clash_at (part_owns (old.ends wire peer).local label) before (has.unowned label (same.from label there) wire peer)))
     (own wire peer label before)
   where
     none_kept : (r : Option KeptState) → kept_at label new.kept ≡ r → (kept_at label new.kept ≢ None → MayBeKept peer None (kept_at label new.kept)) → MayBeKept peer None (kept_at label new.kept)
@@ -485,7 +469,7 @@ met_may : (beside : EdgeId) (peer : ℕ) (age : Option ℕ) (s : Option KeptStat
 met_may beside peer age None apart may = may
 met_may beside peer age (Some (Waits k)) apart may = by (k.0 == beside.0) refl where
   by : (b : Bool) → (k.0 == beside.0) ≡ b → MayBeKept peer age (Some (cond b (Rests 0) (Waits k)))
-  by true here = true_not (peer == beside.0) (subst (λ (n : ℕ). (n == beside.0) ≡ true) may here) apart
+  by true here = clash_at (peer == beside.0) (subst (λ (n : ℕ). (n == beside.0) ≡ true) may here) apart
   by false other = may
 met_may beside peer age (Some (Rests ticks)) apart may = may
 met_may beside peer age (Some Free) apart may = may

@@ -1,5 +1,5 @@
 -- What an edge tells of a pseudowire can be written, and is octets.
-use Rattle.std.proofs.Common.{◌≡◌, ◌≤◌, ◌<◌, ◌+◌, ◌^◌, ◌++◌, ◌&&◌, ℕ, suc, Bool, true, false, cond, not, nat_le, length, flat_map, List, [], ◌∷◌, Option, Some, None, refl, length-append, inr, arith}
+use Rattle.std.proofs.Common.{◌≡◌, ◌≤◌, ◌<◌, ◌+◌, ◌^◌, ◌++◌, ◌&&◌, ℕ, Bool, true, false, cond, not, nat_le, length, flat_map, List, [], ◌∷◌, Option, Some, None, refl, length-append, inr, arith}
 use Rattle.std.specs.Prelude.{IfSome, is_some, option_map}
 use Rattle.std.specs.List.{AllByRecursion}
 use Rattle.std.proofs.lemmas.Bool.Decides.{nat_tests}
@@ -9,6 +9,7 @@ use Rattle.net_values.specs.declared.mac.Mac.{Mac}
 use Rattle.net_base.specs.plan.Accepted.{IsOffer}
 use Rattle.net_base.specs.plan.Faults.{is_told_within}
 use Rattle.net_values.specs.Label.{IsLabel}
+use Rattle.net_values.proofs.BoolLemmas.{first_holds, second_holds}
 use Rattle.pw_tlvs.specs.declared.if_params.IfParams.{IfParams}
 use Rattle.pw_tlvs.specs.declared.point.Point.{Point}
 use Rattle.pw_tlvs.specs.declared.pw_fec.PwFec.{PwFec}
@@ -16,10 +17,10 @@ use Rattle.pw_tlvs.specs.declared.pw_status.PwStatus.{PwStatus}
 use Rattle.pw_tlvs.specs.declared.registry.Registry.TheVariants.{InterfaceParameter, SwitchingPointPart}
 use Rattle.pw_tlvs.specs.SubTlvs.{SubTlv, spell}
 use Rattle.pw_tlvs.specs.Written.{IsFecInRange, IsPointInRange, control_and_kind, description_value, has_vlan, information, may_tell, pair_octets, parameter_sub_tlvs, part_sub_tlvs, told, writable_fec, written_fec, written_parameters, written_point}
-use Rattle.pw_tlvs.proofs.ParameterLemmas.{parameters_length}
 use Rattle.pw_signalling.specs.declared.told.Told.{Told}
 use Rattle.pw_signalling.specs.Rows.{with_status}
 use Rattle.pw_messages.specs.Content.{bare, bare_fec_of, content_of, fec_of, mac_withdrawal, mapping, params_of, pw_status_notice, release, status_notification, told_with, withdrawal}
+use Rattle.pw_messages.proofs.TellLemmas.{vlan_within}
 use Rattle.pw_stitch.specs.Passing.{own_point, past_point}
 use Rattle.ldp_grammar.specs.Octets.{two, four}
 use Rattle.ldp_grammar.specs.Tlvs.{Tlv}
@@ -30,6 +31,8 @@ use Rattle.session_core.specs.declared.peers.Peers.{Peers}
 use Rattle.pw_tlvs.specs.Fec.{no_params}
 use Rattle.ldp_grammar.specs.declared.message.Message.{Message}
 use Rattle.ldp_grammar.specs.declared.message.Message.TheVariants.{LabelMapping}
+use Rattle.ldp_grammar.proofs.ReadingLemmas.{octets_behind}
+use Rattle.ldp_grammar.proofs.ShortLemmas.{parameters_short}
 use Rattle.flight_laws.specs.Ends.{IsFieldOffer}
 use Rattle.flight_laws.specs.Flight.{is_initialization}
 use Rattle.flight_laws.specs.Messages.{HaveOctets, IsSaid, IsSound}
@@ -85,18 +88,6 @@ parameters_octets params few octets types = sub_octets (parameter_sub_tlvs param
 number_length : (kind : ℕ) (number : Option ℕ) → length (flat_map (spell InterfaceParameter) (told kind (option_map (λ (n : ℕ). two n) number))) ≤ 4
 number_length kind None = omega arith
 number_length kind (Some n) = omega arith
-
-pair_length : (kind : ℕ) (types : Option (ℕ × ℕ)) → length (flat_map (spell InterfaceParameter) (told kind (option_map pair_octets types))) ≤ 4
-pair_length kind None = omega arith
-pair_length kind (Some types) = omega arith
-
-text_length : (kind : ℕ) (text : List ℕ) → length text ≤ 80 → length (flat_map (spell InterfaceParameter) (told kind (description_value text))) ≤ 82
-text_length kind [] few = omega arith
-text_length kind (x ∷ xs) few = omega (arith, few, length-append xs [])
-
-parameters_short : (params : IfParams) → length params.description ≤ 80 → length (written_parameters params) ≤ 94
-parameters_short params few =
-    omega (arith, parameters_length params, number_length 0x01 params.mtu, text_length 0x03 params.description few, number_length 0x06 params.vlan, pair_length 0x0C params.vccv)
 
 -- ---- octets of FECs
 
@@ -194,10 +185,6 @@ content_kind offer status = by_mode offer.tagged where
 pub content_can : (label : ℕ) (offer : Offer) (status : Option PwStatus) → IsLabel label → IsFieldOffer offer → CanBeTold label (content_of offer status)
 content_can label offer status is field = record { is_label = is; kind = content_kind offer status; group = field.group }
 
-vlan_has : (vlan : Option ℕ) → is_told_within 0 4095 vlan ≡ true → has_vlan vlan ≡ true
-vlan_has None h = refl
-vlan_has (Some n) h = grind (arith, nat_tests)
-
 small_kind : (n : ℕ) → n ≤ 0x7FFF → nat_le n 0x7FFF ≡ true
 small_kind n few = grind (arith, nat_tests)
 
@@ -216,7 +203,7 @@ offer_sound limit offer status state field fit = record {
   group = field.group;
   mtu = field.mtu;
   description = field.description;
-  vlan = vlan_has offer.vlan fit.vlan;
+  vlan = vlan_within offer.vlan fit.vlan;
   octets = parameters_octets (params_of (content_of offer status)) field.description field.octets (channels_small offer.vccv fit.vccv);
   status = state;
   few = omega arith;
@@ -271,10 +258,6 @@ past_sound limit point content range octets sound = record {
 
 -- ---- what a Label Mapping that is heard has
 
-octets_behind : (front more : List ℕ) → AreOctets (front ++ more) → AreOctets more
-octets_behind [] more octets = octets
-octets_behind (x ∷ front) more octets = octets_behind front more (λ i. octets (suc i))
-
 -- its FEC names a PW ID
 parameters_in : (fec : PwFec) → is_some fec.pw_id ≡ true → AreOctets (written_fec fec) → AreOctets (written_parameters fec.params)
 parameters_in fec some octets = by_id fec.pw_id some (octets_behind (four fec.group) (information fec.pw_id fec.params)
@@ -290,28 +273,20 @@ tlvs_behind : (front more : List Tlv) → HaveOctets (front ++ more) → HaveOct
 tlvs_behind [] more all = all
 tlvs_behind (t ∷ front) more all = tlvs_behind front more all.1
 
-first_of : (a b : Bool) → a && b ≡ true → a ≡ true
-first_of true b h = refl
-first_of false b h = absurd (cc)
-
-second_of : (a b : Bool) → a && b ≡ true → b ≡ true
-second_of true b h = h
-second_of false b h = absurd (cc)
-
 kind_of : (n : ℕ) → nat_le n 0x7FFF ≡ true → n ≤ 0x7FFF
 kind_of n few = grind (arith, nat_tests)
 
 -- what it tells is a content of one, with the points that it may have
 pub heard_sound : (limit id : ℕ) (fec : PwFec) (label : ℕ) (status : Option PwStatus) (points : List Point) → IsSound (LabelMapping id fec label status points) → length points ≤ limit → IsSoundTold limit (told_with fec status points)
 heard_sound limit id fec label status points sound few =
-    let some : is_some fec.pw_id ≡ true = first_of (is_some fec.pw_id) (writable_fec fec) sound.1 in
-    let can : writable_fec fec ≡ true = second_of (is_some fec.pw_id) (writable_fec fec) sound.1 in
+    let some : is_some fec.pw_id ≡ true = first_holds (is_some fec.pw_id) (writable_fec fec) sound.1 in
+    let can : writable_fec fec ≡ true = second_holds (is_some fec.pw_id) (writable_fec fec) sound.1 in
     record {
-      kind = kind_of fec.kind (first_of (nat_le fec.kind 0x7FFF) (has_vlan fec.params.vlan && may_tell fec.pw_id fec.params) can);
+      kind = kind_of fec.kind (first_holds (nat_le fec.kind 0x7FFF) (has_vlan fec.params.vlan && may_tell fec.pw_id fec.params) can);
       group = sound.0.1.group;
       mtu = sound.0.1.mtu;
       description = sound.0.1.description;
-      vlan = first_of (has_vlan fec.params.vlan) (may_tell fec.pw_id fec.params) (second_of (nat_le fec.kind 0x7FFF) (has_vlan fec.params.vlan && may_tell fec.pw_id fec.params) can);
+      vlan = first_holds (has_vlan fec.params.vlan) (may_tell fec.pw_id fec.params) (second_holds (nat_le fec.kind 0x7FFF) (has_vlan fec.params.vlan && may_tell fec.pw_id fec.params) can);
       octets = parameters_in fec some sound.2.0;
       status = sound.0.3;
       few = few;

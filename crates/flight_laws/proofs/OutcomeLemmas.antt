@@ -2,6 +2,7 @@
 use Rattle.std.proofs.Common.{◌≡◌, ◌≤◌, ◌<◌, ◌^◌, ℕ, Bool, true, false, cond, min, List, [], ◌∷◌, Option, Some, None, ap, arith}
 use Rattle.std.specs.List.{AllByRecursion}
 use Rattle.std.proofs.lemmas.Bool.Decides.{nat_tests}
+use Rattle.net_values.proofs.BoolLemmas.{clash}
 use Rattle.net_base.specs.declared.trace.state_name.Reason.{Reason}
 use Rattle.net_base.specs.declared.trace.state_name.Reason.TheVariants as reason
 use Rattle.ldp_codec.specs.declared.decode_fault.DecodeFault.{DecodeFault}
@@ -48,9 +49,6 @@ FitEvent (Received m) = Fits m × (writable m ≡ true)
 FitEvent event = Unit {0}
 
 -- ---- replies
-
-clash : {P : Type 0} → false ≡ true → P
-clash e = absurd (cc)
 
 fit_id : (m : Message) → Fits m → id_of m < 2 ^ 32
 fit_id (Notification id code status fec) fits = fits.0

@@ -1,5 +1,5 @@
 -- The MAC addresses of an Address Withdraw, the pieces in which they are passed on, and the size of what is written.
-use Rattle.std.proofs.Common.{◌≡◌, ◌≤◌, ◌+◌, ◌*◌, ◌++◌, ℕ, zero, suc, List, [], ◌∷◌, length, flat_map, take, drop, Option, Some, None, length-append, arith}
+use Rattle.std.proofs.Common.{◌≡◌, ◌≤◌, ◌+◌, ℕ, zero, suc, List, [], ◌∷◌, length, take, drop, Option, Some, None, arith}
 use Rattle.std.specs.List.{AllByRecursion}
 use Rattle.net_values.specs.declared.mac.Mac.{Mac}
 use Rattle.pw_tlvs.specs.declared.pw_fec.PwFec.{PwFec}
@@ -8,11 +8,13 @@ use Rattle.pw_tlvs.specs.Written.{information, written_fec}
 use Rattle.mac_withdraw.specs.Pieces.{most_in_piece, piece_count, pieces_from, pieces_of}
 use Rattle.ldp_grammar.specs.declared.message.Message.TheVariants.{AddressWithdraw}
 use Rattle.ldp_grammar.specs.Rows.{fec, mac_list}
-use Rattle.ldp_grammar.specs.Tlvs.{Tlv, spell_tlv}
 use Rattle.ldp_grammar.specs.Written.{ignorable, mac_tlvs, message_octets, tlv}
 use Rattle.ldp_grammar.proofs.OctetLemmas.{AreOctets, octets_before}
 use Rattle.ldp_grammar.proofs.WrittenOctets.{no_octets, octets_append}
+use Rattle.ldp_grammar.proofs.ReadingLemmas.{octets_behind}
+use Rattle.ldp_grammar.proofs.ShortLemmas.{first_length}
 use Rattle.pw_tlvs.specs.Fec.{no_params}
+use Rattle.pw_tlvs.proofs.MacLemmas.{length_macs}
 use Rattle.flight_laws.specs.Messages.{IsSound}
 
 -- ---- addresses
@@ -35,10 +37,6 @@ none_are_piece = record { few = omega arith; are = record { six = tt; octets = t
 pub macs_octets : (macs : List Mac) → AllByRecursion (λ mac. AreOctets mac.0) macs → AreOctets (mac_octets macs)
 macs_octets [] all = no_octets
 macs_octets (mac ∷ macs) all = octets_append mac.0 (mac_octets macs) all.0 (macs_octets macs all.1)
-
-octets_behind : (front more : List ℕ) → AreOctets (front ++ more) → AreOctets more
-octets_behind [] more octets = octets
-octets_behind (x ∷ front) more octets = octets_behind front more (λ i. octets (suc i))
 
 each_octets : (macs : List Mac) → AreOctets (mac_octets macs) → AllByRecursion (λ mac. AreOctets mac.0) macs
 each_octets [] octets = tt
@@ -89,10 +87,6 @@ pieces_are macs are = pieces_from_are (piece_count (length macs)) macs are
 
 -- ---- the size of the message
 
-macs_length : (macs : List Mac) → AllByRecursion (λ mac. length mac.0 ≡ 6) macs → length (mac_octets macs) ≡ 6 * length macs
-macs_length [] all = omega arith
-macs_length (mac ∷ macs) all = omega (arith, all.0, macs_length macs all.1, length-append mac.0 (mac_octets macs))
-
 bare_length : (pw_id : Option ℕ) → length (information pw_id no_params) ≤ 4
 bare_length None = omega arith
 bare_length (Some n) = omega arith
@@ -103,10 +97,7 @@ fec_length pw bare = omega (arith, inner)
     inner : length (information pw.pw_id pw.params) ≤ 4
     inner = rw bare (bare_length pw.pw_id)
 
-first_length : (t : Tlv) (ts : List Tlv) → length (flat_map spell_tlv (t ∷ ts)) ≡ 4 + length t.value + length (flat_map spell_tlv ts)
-first_length t ts = omega (arith, length-append t.value (flat_map spell_tlv ts))
-
 pub withdraw_is_short : (id : ℕ) (pw : PwFec) (macs : List Mac) → pw.params ≡ no_params → length macs ≤ most_in_piece → AllByRecursion (λ mac. length mac.0 ≡ 6) macs
     → 6 + length (message_octets (AddressWithdraw id None (Some pw) (Some macs))) ≤ 256
 withdraw_is_short id pw macs bare few six =
-    omega (arith, first_length (tlv fec (written_fec pw)) (mac_tlvs (Some macs)), first_length (ignorable mac_list (mac_octets macs)) [], fec_length pw bare, macs_length macs six, few)
+    omega (arith, first_length (tlv fec (written_fec pw)) (mac_tlvs (Some macs)), first_length (ignorable mac_list (mac_octets macs)) [], fec_length pw bare, length_macs macs six, few)

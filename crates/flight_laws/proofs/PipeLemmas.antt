@@ -1,6 +1,7 @@
 -- What the effects of an edge make of the pipes, and what they tell of sessions.
 use Rattle.std.proofs.Common.{◌≡◌, ◌++◌, ◌||◌, ◌∙◌, ℕ, Bool, true, false, cond, nat_eq, List, [], ◌∷◌, refl, sym, ap, append_assoc, inl, inr}
 use Rattle.std.proofs.lemmas.Bool.{cases_Bool, eqb-true}
+use Rattle.net_values.proofs.NumberLemmas.{same_number}
 use Rattle.net_base.specs.declared.plan.places.EdgeId.{EdgeId}
 use Rattle.net_base.specs.declared.trace.entry.Entry.{Entry}
 use Rattle.edge_model.specs.declared.effect.Effect.{Effect}
@@ -8,9 +9,10 @@ use Rattle.edge_model.specs.declared.effect.Effect.TheVariants as effect
 use Rattle.edge_model.specs.State.{EdgeState, is_there}
 use Rattle.network_model.specs.Absorb.{absorb_all, absorb_one, all_entries_of, put_towards}
 use Rattle.network_model.specs.State.{NetworkState, stands, with_packet, with_pipe}
+use Rattle.network_model.proofs.CommonLemmas.{one_edges}
 use Rattle.flight_laws.specs.Endings.{TellGoodEnds}
 use Rattle.flight_laws.specs.Meeting.{TellWell, closes, said_to}
-use Rattle.flight_laws.proofs.WorkLemmas.{closes-append, said-append, same_end, same_place}
+use Rattle.flight_laws.proofs.WorkLemmas.{closes-append, said-append, same_end}
 
 -- ---- one effect
 
@@ -19,17 +21,10 @@ unfolding with_pipe
 put_edges from to octets network true = refl
 put_edges from to octets network false = refl
 
-pub one_edges : (me : EdgeId) (origin hops : ℕ) (e : Effect) (network : NetworkState) → (absorb_one me origin hops e network).edges ≡ network.edges
-unfolding with_packet with_pipe
-one_edges me origin hops (effect.Said peer octets) network = put_edges me peer _ network (stands network peer.0 me.0)
-one_edges me origin hops (effect.Sent peer wire came octets) network = refl
-one_edges me origin hops (effect.Closed peer) network = refl
-one_edges me origin hops e network = refl
-
 -- a pipe that another one is put beside
 pub pipe_there : (from to : EdgeId) (octets : List ℕ) (network : NetworkState) → (with_pipe from to octets network).pipes from.0 to.0 ≡ octets
 unfolding with_pipe
-pipe_there from to octets network = rw (same_place from.0, same_place to.0) refl
+pipe_there from to octets network = rw (same_number from.0, same_number to.0) refl
 
 pub pipe_from : (from to : EdgeId) (octets : List ℕ) (network : NetworkState) (a b : ℕ) → nat_eq a from.0 ≡ false → (with_pipe from to octets network).pipes a b ≡ network.pipes a b
 unfolding with_pipe
@@ -45,7 +40,7 @@ pipe_to from to octets network a b apart = elim (cases_Bool (nat_eq a from.0)) [
 said_from : (me peer : EdgeId) (octets : List ℕ) (place : ℕ) (network : NetworkState)
     → (put_towards me peer octets network).pipes me.0 place ≡ cond (stands network place me.0) (network.pipes me.0 place ++ said_to place (effect.Said peer octets ∷ [])) (network.pipes me.0 place)
 said_from me peer octets place network = elim (cases_Bool (nat_eq place peer.0)) [
-  | inl same ↦ rw (eqb-true place peer.0 same, same_place peer.0, same_end octets) (there (stands network peer.0 me.0))
+  | inl same ↦ rw (eqb-true place peer.0 same, same_number peer.0, same_end octets) (there (stands network peer.0 me.0))
   | inr apart ↦ rw (apart, same_end (network.pipes me.0 place)) (other apart (stands network peer.0 me.0) ∙ both (stands network place me.0))
 ]
   where
@@ -82,7 +77,7 @@ one_to : (me : EdgeId) (origin hops place : ℕ) (e : Effect) (network : Network
 unfolding with_packet
 one_to me origin hops place (effect.Said peer octets) network apart = said_keeps me peer _ network place me.0 (stands network peer.0 me.0) apart
 one_to me origin hops place (effect.Closed peer) network apart = elim (cases_Bool (nat_eq place peer.0)) [
-  | inl same ↦ rw (eqb-true place peer.0 same, same_place peer.0) (pipe_there peer me [] network)
+  | inl same ↦ rw (eqb-true place peer.0 same, same_number peer.0) (pipe_there peer me [] network)
   | inr other ↦ rw other (pipe_from peer me [] network place me.0 other)
 ]
 one_to me origin hops place (effect.Sent peer wire came octets) network apart = refl

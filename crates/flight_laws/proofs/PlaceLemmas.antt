@@ -1,11 +1,13 @@
 -- Where an edge has ends of pseudowires, by the paths of a checked plan's wires.
 use Rattle.std.proofs.Common.{◌≡◌, ◌==◌, ◌+◌, ◌<◌, ◌&&◌, ◌||◌, ◌++◌, ◌∙◌, ℕ, zero, suc, Bool, true, false, List, [], ◌∷◌, Some, None, if◌then◌else◌, slice_get, refl, sym, ap, subst, inl, inr, arith}
-use Rattle.std.specs.List.{All, AllByRecursion, find, list_any}
-use Rattle.std.proofs.lemmas.Bool.{cases_Bool, cases_lt, or_parts}
+use Rattle.std.specs.List.{AllByRecursion, find, list_any}
+use Rattle.std.proofs.lemmas.Bool.{cases_Bool, cases_lt, or_parts, eqb-true, and_from, or_left, eq-eqb}
 use Rattle.std.proofs.lemmas.Bool.Decides.{nat_tests}
-use Rattle.std.proofs.lemmas.List.Elements.{All-get_or}
 use Rattle.std.proofs.lemmas.List.Folds.{list_any-append}
 use Rattle.std.proofs.lemmas.Option.{get_or_from_slice_get, slice_get_within}
+use Rattle.net_values.proofs.BoolLemmas.{first_holds, clash, second_holds, or_later, by_either, both_of}
+use Rattle.net_values.proofs.NumberLemmas.{step_into, equal_back, from_none_back, at_start}
+use Rattle.net_values.proofs.RowLemmas.{row_holds, all-append}
 use Rattle.net_base.specs.declared.plan.Plan.{Plan}
 use Rattle.net_base.specs.declared.plan.places.EdgeId.{EdgeId}
 use Rattle.net_base.specs.declared.plan.places.WireId.{WireId}
@@ -17,10 +19,6 @@ use Rattle.net_base.specs.plan.WireFaults.{repeats_pw_id}
 use Rattle.net_base.proofs.PathLemmas.{joins_apart, joins_turned}
 use Rattle.edge_model.specs.EndPlaces.{end_named, end_place_at, end_places, is_named, is_terminal, places_along, places_at, places_from}
 use Rattle.edge_model.specs.declared.end_place.EndPlace.{EndPlace}
-
-pub all-append : {A : Type 0} (P : A → Type 0) (xs ys : List A) → AllByRecursion P xs → AllByRecursion P ys → AllByRecursion P (xs ++ ys)
-all-append P [] ys one other = other
-all-append P (x ∷ xs) ys one other = (one.0, all-append P xs ys one.1 other)
 
 pub all-map : {A : Type 0} (P Q : A → Type 0) (xs : List A) → ((x : A) → P x → Q x) → AllByRecursion P xs → AllByRecursion Q xs
 all-map P Q [] follows all = tt
@@ -42,10 +40,6 @@ joined_first me first next later same = grind (arith, nat_tests)
 joined_next : (me first next : ℕ) (later : Bool) → (me == next) ≡ true → ((me == first && first == next) || (first == first && me == next)) || later ≡ true
 joined_next me first next later same = grind (arith, nat_tests)
 
-joined_later : (here : Bool) {later : Bool} → later ≡ true → here || later ≡ true
-joined_later true is = refl
-joined_later false is = is
-
 -- at each segment of a path
 pub along_are : (P : EndPlace → Type 0) (wire : WireId) (row : WirePlan) (me : EdgeId) (segment : ℕ) (path : List EdgeId)
     → ((segment side : ℕ) (peer : EdgeId) → joins me.0 peer.0 path ≡ true → P (end_place_at wire row me segment side peer)) → AllByRecursion P (places_along wire row me segment path)
@@ -55,7 +49,7 @@ along_are P wire row me segment (first ∷ next ∷ rest) each = all-append P (p
     (here (me.0 == first.0) (me.0 == next.0)
     (λ same. each segment 0 next (joined_first me.0 first.0 next.0 (joins me.0 next.0 (next ∷ rest)) same))
     (λ same. each segment 1 first (joined_next me.0 first.0 next.0 (joins me.0 first.0 (next ∷ rest)) same)))
-    (along_are P wire row me (segment + 1) (next ∷ rest) (λ number side peer joined. each number side peer (joined_later ((me.0 == first.0 && peer.0 == next.0) || (peer.0 == first.0 && me.0 == next.0)) joined)))
+    (along_are P wire row me (segment + 1) (next ∷ rest) (λ number side peer joined. each number side peer (or_later ((me.0 == first.0 && peer.0 == next.0) || (peer.0 == first.0 && me.0 == next.0)) joined)))
   where
     here : (p q : Bool) → (p ≡ true → P (end_place_at wire row me segment 0 next)) → (q ≡ true → P (end_place_at wire row me segment 1 first))
         → AllByRecursion P (if p then end_place_at wire row me segment 0 next ∷ [] else if q then end_place_at wire row me segment 1 first ∷ [] else [])
@@ -69,21 +63,12 @@ pub from_are : (P : EndPlace → Type 0) (me : EdgeId) (start : ℕ) (rows : Lis
 from_are P me start [] each = tt
 from_are P me start (row ∷ rows) each = all-append P (places_along (record { 0 = start }) row me 0 row.path) (places_from me (start + 1) rows)
     (subst (λ (n : ℕ). AllByRecursion P (places_along (record { 0 = n }) row me 0 row.path)) (at_start start) (each zero row refl))
-    (from_are P me (start + 1) rows (λ k later is. subst (λ (n : ℕ). AllByRecursion P (places_along (record { 0 = n }) later me 0 later.path)) (next_start start k) (each (suc k) later is)))
-  where
-    at_start : (n : ℕ) → n + zero ≡ n
-    at_start n = omega arith
-
-    next_start : (n k : ℕ) → n + suc k ≡ (n + 1) + k
-    next_start n k = omega arith
+    (from_are P me (start + 1) rows (λ k later is. subst (λ (n : ℕ). AllByRecursion P (places_along (record { 0 = n }) later me 0 later.path)) (step_into start k) (each (suc k) later is)))
 
 -- each end of an edge is one of a wire whose path has a segment that joins the edge and the peer
 pub places_are : (plan : Plan) (me : EdgeId) → AllByRecursion (IsEndOf plan me) (end_places plan me)
 places_are plan me = from_are (IsEndOf plan me) me 0 plan.wires (λ k row is. along_are (IsEndOf plan me) (record { 0 = 0 + k }) row me 0 row.path
-    (λ segment side peer joined. record { row = row; is = subst (λ (n : ℕ). slice_get plan.wires n ≡ Some row) (at_front k) is; joined = joined; pw_id = refl; terminal = refl }))
-  where
-    at_front : (k : ℕ) → k ≡ 0 + k
-    at_front k = omega arith
+    (λ segment side peer joined. record { row = row; is = subst (λ (n : ℕ). slice_get plan.wires n ≡ Some row) (from_none_back k) is; joined = joined; pw_id = refl; terminal = refl }))
 
 -- ---- an end by its peer and PW ID
 
@@ -114,15 +99,11 @@ find_some test (first ∷ places) some = elim (cases_Bool (test first)) [
   | inr fails ↦ (let more : Finds test places = find_some test places (rw fails at some) in record { place = more.place; is = rw fails more.is })
 ]
 
-either : {P : Type 0} (p q : Bool) → p || q ≡ true → (p ≡ true → P) → (q ≡ true → P) → P
-either true q h f g = f refl
-either false q h f g = g h
-
 any_first : (test : EndPlace → Bool) (xs ys : List EndPlace) → list_any test xs ≡ true → list_any test (xs ++ ys) ≡ true
 any_first test xs ys some = list_any-append test xs ys ∙ rw some refl
 
 any_later : (test : EndPlace → Bool) (xs ys : List EndPlace) → list_any test ys ≡ true → list_any test (xs ++ ys) ≡ true
-any_later test xs ys some = list_any-append test xs ys ∙ joined_later (list_any test xs) some
+any_later test xs ys some = list_any-append test xs ys ∙ or_later (list_any test xs) some
 
 -- an end beside a neighbour is there
 named_along : (wire : WireId) (row : WirePlan) (me : EdgeId) (peer : EdgeId) (segment : ℕ) (path : List EdgeId) → (me.0 == peer.0) ≡ false → joins me.0 peer.0 path ≡ true
@@ -130,7 +111,7 @@ named_along : (wire : WireId) (row : WirePlan) (me : EdgeId) (peer : EdgeId) (se
 named_along wire row me peer segment [] apart joined = absurd (cc)
 named_along wire row me peer segment (last ∷ []) apart joined = absurd (cc)
 named_along wire row me peer segment (first ∷ next ∷ rest) apart joined =
-    either ((me.0 == first.0 && peer.0 == next.0) || (peer.0 == first.0 && me.0 == next.0)) (joins me.0 peer.0 (next ∷ rest)) joined
+    by_either ((me.0 == first.0 && peer.0 == next.0) || (peer.0 == first.0 && me.0 == next.0)) (joins me.0 peer.0 (next ∷ rest)) joined
     (λ here. any_first (is_named peer row.pw_id) (places_at wire row me segment first next) (places_along wire row me (segment + 1) (next ∷ rest))
     (chosen (me.0 == first.0) (me.0 == next.0)
     (λ same. beside_next me.0 first.0 next.0 peer.0 row.pw_id apart here same)
@@ -168,13 +149,6 @@ named_from me peer start (suc k) row (first ∷ rows) apart is joined =
 
 -- ---- PW IDs of a checked plan
 
-clash : {P : Type 0} → false ≡ true → P
-clash e = absurd (cc)
-
--- what holds of each row holds of the row at a place
-row_holds : {A : Type 0} (P : A → Type 0) (rows : List A) (place : ℕ) (row : A) → slice_get rows place ≡ Some row → All P rows → P row
-row_holds P rows place row is all = subst P (get_or_from_slice_get rows place row row is) (All-get_or P rows place row (slice_get_within rows place row is) all)
-
 -- no edge is its own neighbour on a wire of the plan
 pub wire_apart : (plan : Plan) (wire : WireId) (row : WirePlan) (a b : ℕ) → IsChecked plan → wire_row plan wire ≡ Some row → joins a b row.path ≡ true → (a == b) ≡ false
 wire_apart plan wire row a b checked is joined = joins_apart row.path a b (row_holds (IsWireOf plan) plan.wires wire.0 row is checked.wires).once joined
@@ -184,29 +158,14 @@ shares : (path other : List EdgeId) (a b : ℕ) → joins a b path ≡ true → 
 shares path [] a b one two = clash two
 shares path (last ∷ []) a b one two = clash two
 shares path (first ∷ next ∷ rest) a b one two =
-    either ((a == first.0 && b == next.0) || (b == first.0 && a == next.0)) (joins a b (next ∷ rest)) two
-    (λ here. or_first (joins first.0 next.0 path) (share_segment path (next ∷ rest)) (either (a == first.0 && b == next.0) (b == first.0 && a == next.0) here
+    by_either ((a == first.0 && b == next.0) || (b == first.0 && a == next.0)) (joins a b (next ∷ rest)) two
+    (λ here. or_left (joins first.0 next.0 path) (share_segment path (next ∷ rest)) (by_either (a == first.0 && b == next.0) (b == first.0 && a == next.0) here
     (λ same. at_ends a b first.0 next.0 same one)
     (λ turned. at_ends b a first.0 next.0 turned (sym (joins_turned path a b) ∙ one))))
-    (λ later. joined_later (joins first.0 next.0 path) (shares path (next ∷ rest) a b one later))
+    (λ later. or_later (joins first.0 next.0 path) (shares path (next ∷ rest) a b one later))
   where
-    or_first : (p q : Bool) → p ≡ true → p || q ≡ true
-    or_first true q is = refl
-    or_first false q is = clash is
-
-    equal : (m n : ℕ) → (m == n) ≡ true → m ≡ n
-    equal m n is = grind (arith, nat_tests)
-
-    left : (p q : Bool) → p && q ≡ true → p ≡ true
-    left true q is = refl
-    left false q is = clash is
-
-    right : (p q : Bool) → p && q ≡ true → q ≡ true
-    right true q is = is
-    right false q is = clash is
-
     at_ends : (m n f g : ℕ) → m == f && n == g ≡ true → joins m n path ≡ true → joins f g path ≡ true
-    at_ends m n f g same is = subst (λ (k : ℕ). joins f k path ≡ true) (equal n g (right (m == f) (n == g) same)) (subst (λ (k : ℕ). joins k n path ≡ true) (equal m f (left (m == f) (n == g) same)) is)
+    at_ends m n f g same is = subst (λ (k : ℕ). joins f k path ≡ true) (eqb-true n g (second_holds (m == f) (n == g) same)) (subst (λ (k : ℕ). joins k n path ≡ true) (eqb-true m f (first_holds (m == f) (n == g) same)) is)
 
 before_differs : (plan : Plan) (i j a b : ℕ) (one other : WirePlan) → IsChecked plan → slice_get plan.wires i ≡ Some one → slice_get plan.wires j ≡ Some other → joins a b one.path ≡ true → joins a b other.path ≡ true
     → i < j → (one.pw_id == other.pw_id) ≡ false
@@ -225,13 +184,10 @@ pub pw_id_once : (plan : Plan) (i j a b : ℕ) (one other : WirePlan) → IsChec
 pw_id_once plan i j a b one other checked first second there too same = elim (cases_lt i j) [
   | inl before ↦ clash (sym (before_differs plan i j a b one other checked first second there too before) ∙ same)
   | inr behind ↦ elim (cases_lt j i) [
-    | inl after ↦ clash (sym (before_differs plan j i a b other one checked second first too there after) ∙ turned one.pw_id other.pw_id same)
+    | inl after ↦ clash (sym (before_differs plan j i a b other one checked second first too there after) ∙ equal_back one.pw_id other.pw_id same)
     | inr other_way ↦ grind (arith, nat_tests)
   ]
 ]
-  where
-    turned : (m n : ℕ) → (m == n) ≡ true → (n == m) ≡ true
-    turned m n is = grind (arith, nat_tests)
 
 -- ---- the end of a wire beside a neighbour, seen from either of them
 
@@ -249,24 +205,14 @@ pub record IsNamed (plan : Plan) (me peer : EdgeId) (pw_id : ℕ) (place : EndPl
   pub peer_is : place.peer ≡ peer
   pub pw_id_is : place.pw_id ≡ pw_id
 
-both_of : {P : Type 0} (p q : Bool) → p && q ≡ true → (p ≡ true → q ≡ true → P) → P
-both_of true q both f = f refl both
-both_of false q both f = clash both
-
-same_number : (m n : ℕ) → (m == n) ≡ true → m ≡ n
-same_number m n is = grind (arith, nat_tests)
-
-same_test : (m n : ℕ) → m ≡ n → (m == n) ≡ true
-same_test m n is = grind (arith, nat_tests)
-
 pub named_is : (plan : Plan) (me peer : EdgeId) (pw_id : ℕ) (place : EndPlace) → end_named plan me peer pw_id ≡ Some place → IsNamed plan me peer pw_id place
 named_is plan me peer pw_id place is =
     let found : IsFound (IsEndOf plan me) (is_named peer pw_id) place = find_holds (IsEndOf plan me) (is_named peer pw_id) (end_places plan me) place (places_are plan me) is in
     both_of (place.peer.0 == peer.0) (place.pw_id == pw_id) found.passes
     (λ beside numbered. record {
       holds = found.holds;
-      peer_is = ap (λ (n : ℕ). record { 0 = n }) (same_number place.peer.0 peer.0 beside);
-      pw_id_is = same_number place.pw_id pw_id numbered;
+      peer_is = ap (λ (n : ℕ). record { 0 = n }) (eqb-true place.peer.0 peer.0 beside);
+      pw_id_is = eqb-true place.pw_id pw_id numbered;
     })
 
 -- the wire of a named end is the one with the PW ID
@@ -277,7 +223,7 @@ wire_named plan me peer pw_id place wire row checked is joined named same =
     ap (λ (n : ℕ). record { 0 = n })
     (pw_id_once plan place.wire.0 wire.0 me.0 peer.0 there.holds.row row checked there.holds.is is
     (subst (λ (k : EdgeId). joins me.0 k.0 there.holds.row.path ≡ true) there.peer_is there.holds.joined) joined
-    (same_test there.holds.row.pw_id row.pw_id (sym there.holds.pw_id ∙ (there.pw_id_is ∙ same_number pw_id row.pw_id same))))
+    (eq-eqb there.holds.row.pw_id row.pw_id (sym there.holds.pw_id ∙ (there.pw_id_is ∙ eqb-true pw_id row.pw_id same))))
 
 pub end_of : (plan : Plan) (me peer : EdgeId) (wire : WireId) (row : WirePlan) → IsChecked plan → wire_row plan wire ≡ Some row → joins me.0 peer.0 row.path ≡ true → NamedEnd plan me peer wire row
 end_of plan me peer wire row checked is joined =
@@ -287,7 +233,7 @@ end_of plan me peer wire row checked is joined =
     record {
       place = found.place;
       named = found.is;
-      wire_is = wire_named plan me peer row.pw_id found.place wire row checked is joined found.is (same_test row.pw_id row.pw_id refl);
+      wire_is = wire_named plan me peer row.pw_id found.place wire row checked is joined found.is (eq-eqb row.pw_id row.pw_id refl);
       peer_is = there.peer_is;
       pw_id_is = there.pw_id_is;
     }
@@ -296,16 +242,16 @@ end_of plan me peer wire row checked is joined =
 pub end_of_back : (plan : Plan) (me peer : EdgeId) (wire : WireId) (row : WirePlan) → IsChecked plan → wire_row plan wire ≡ Some row → joins me.0 peer.0 row.path ≡ true → NamedEnd plan peer me wire row
 end_of_back plan me peer wire row checked is joined = end_of plan peer me wire row checked is (sym (joins_turned row.path me.0 peer.0) ∙ joined)
 
-same_row : (one other : WirePlan) → Some one ≡ Some other → one ≡ other
+pub same_row : (one other : WirePlan) → Some one ≡ Some other → one ≡ other
 same_row one other is = cc
 
 -- an end of another wire has another PW ID, and one of the wire has this one
 pub wire_by_pw_id : (plan : Plan) (me peer : EdgeId) (pw_id : ℕ) (place : EndPlace) (wire : WireId) (row : WirePlan) → IsChecked plan → wire_row plan wire ≡ Some row → joins me.0 peer.0 row.path ≡ true
     → end_named plan me peer pw_id ≡ Some place → (pw_id == row.pw_id) ≡ (place.wire.0 == wire.0)
 wire_by_pw_id plan me peer pw_id place wire row checked is joined named = elim (cases_Bool (pw_id == row.pw_id)) [
-  | inl same ↦ same ∙ sym (same_test place.wire.0 wire.0 (ap (λ (w : WireId). w.0) (wire_named plan me peer pw_id place wire row checked is joined named same)))
+  | inl same ↦ same ∙ sym (eq-eqb place.wire.0 wire.0 (ap (λ (w : WireId). w.0) (wire_named plan me peer pw_id place wire row checked is joined named same)))
   | inr differs ↦ elim (cases_Bool (place.wire.0 == wire.0)) [
-    | inl here ↦ clash (sym differs ∙ same_test pw_id row.pw_id (pw_id_of here))
+    | inl here ↦ clash (sym differs ∙ eq-eqb pw_id row.pw_id (pw_id_of here))
     | inr other ↦ differs ∙ sym other
   ]
 ]
@@ -313,7 +259,7 @@ wire_by_pw_id plan me peer pw_id place wire row checked is joined named = elim (
     pw_id_of : (place.wire.0 == wire.0) ≡ true → pw_id ≡ row.pw_id
     pw_id_of here =
         let there : IsNamed plan me peer pw_id place = named_is plan me peer pw_id place named in
-        let rows : there.holds.row ≡ row = same_row there.holds.row row (sym there.holds.is ∙ (ap (λ (k : ℕ). slice_get plan.wires k) (same_number place.wire.0 wire.0 here) ∙ is)) in
+        let rows : there.holds.row ≡ row = same_row there.holds.row row (sym there.holds.is ∙ (ap (λ (k : ℕ). slice_get plan.wires k) (eqb-true place.wire.0 wire.0 here) ∙ is)) in
         sym there.pw_id_is ∙ (there.holds.pw_id ∙ ap (λ (r : WirePlan). r.pw_id) rows)
 
 -- where a PW ID names no end, it is not that of a wire between the two edges
@@ -321,7 +267,7 @@ pub not_named : (plan : Plan) (me peer : EdgeId) (pw_id : ℕ) (wire : WireId) (
     → end_named plan me peer pw_id ≡ None → (pw_id == row.pw_id) ≡ false
 not_named plan me peer pw_id wire row checked is joined none = elim (cases_Bool (pw_id == row.pw_id)) [
   | inl same ↦ (let there : NamedEnd plan me peer wire row = end_of plan me peer wire row checked is joined in
-      absurd (nothing there.place (sym none ∙ (ap (λ (n : ℕ). end_named plan me peer n) (same_number pw_id row.pw_id same) ∙ there.named))))
+      absurd (nothing there.place (sym none ∙ (ap (λ (n : ℕ). end_named plan me peer n) (eqb-true pw_id row.pw_id same) ∙ there.named))))
   | inr differs ↦ differs
 ]
   where
@@ -332,10 +278,10 @@ not_named plan me peer pw_id wire row checked is joined none = elim (cases_Bool 
 pub member_by_pw_id : (plan : Plan) (me : EdgeId) (place : EndPlace) (wire : WireId) (row : WirePlan) → IsChecked plan → wire_row plan wire ≡ Some row → joins me.0 place.peer.0 row.path ≡ true
     → IsEndOf plan me place → (place.pw_id == row.pw_id) ≡ (place.wire.0 == wire.0)
 member_by_pw_id plan me place wire row checked is joined there = elim (cases_Bool (place.pw_id == row.pw_id)) [
-  | inl same ↦ same ∙ sym (same_test place.wire.0 wire.0 (pw_id_once plan place.wire.0 wire.0 me.0 place.peer.0 there.row row checked there.is is there.joined joined
-      (same_test there.row.pw_id row.pw_id (sym there.pw_id ∙ same_number place.pw_id row.pw_id same))))
+  | inl same ↦ same ∙ sym (eq-eqb place.wire.0 wire.0 (pw_id_once plan place.wire.0 wire.0 me.0 place.peer.0 there.row row checked there.is is there.joined joined
+      (eq-eqb there.row.pw_id row.pw_id (sym there.pw_id ∙ eqb-true place.pw_id row.pw_id same))))
   | inr differs ↦ elim (cases_Bool (place.wire.0 == wire.0)) [
-    | inl here ↦ clash (sym differs ∙ same_test place.pw_id row.pw_id (there.pw_id ∙ ap (λ (r : WirePlan). r.pw_id) (same_row there.row row (sym there.is ∙ (ap (λ (k : ℕ). slice_get plan.wires k) (same_number place.wire.0 wire.0 here) ∙ is)))))
+    | inl here ↦ clash (sym differs ∙ eq-eqb place.pw_id row.pw_id (there.pw_id ∙ ap (λ (r : WirePlan). r.pw_id) (same_row there.row row (sym there.is ∙ (ap (λ (k : ℕ). slice_get plan.wires k) (eqb-true place.wire.0 wire.0 here) ∙ is)))))
     | inr other ↦ differs ∙ sym other
   ]
 ]
@@ -354,21 +300,21 @@ apart_joined [] ys one other cross = other
 apart_joined (x ∷ xs) ys one other cross = (all-append (λ (other : EndPlace). is_same_place x other ≡ false) xs ys one.0 cross.0, apart_joined xs ys one.1 other cross.1)
 
 -- two edges that are joined are both on the path
-joined_there : (path : List EdgeId) (a b : ℕ) → joins a b path ≡ true → list_any (λ (edge : EdgeId). edge.0 == a) path ≡ true
+pub joined_there : (path : List EdgeId) (a b : ℕ) → joins a b path ≡ true → list_any (λ (edge : EdgeId). edge.0 == a) path ≡ true
 joined_there [] a b joined = clash joined
 joined_there (last ∷ []) a b joined = clash joined
 joined_there (first ∷ next ∷ rest) a b joined =
-    either ((a == first.0 && b == next.0) || (b == first.0 && a == next.0)) (joins a b (next ∷ rest)) joined
+    by_either ((a == first.0 && b == next.0) || (b == first.0 && a == next.0)) (joins a b (next ∷ rest)) joined
     (λ here. among a b first.0 next.0 (list_any (λ (edge : EdgeId). edge.0 == a) rest) here)
-    (λ later. joined_later (first.0 == a) (joined_there (next ∷ rest) a b later))
+    (λ later. or_later (first.0 == a) (joined_there (next ∷ rest) a b later))
   where
     among : (a b f n : ℕ) (more : Bool) → (a == f && b == n) || (b == f && a == n) ≡ true → (f == a) || ((n == a) || more) ≡ true
     among a b f n more here = grind (arith, nat_tests)
 
 -- an edge that is not on it is another one
-not_there : (path : List EdgeId) (a b : ℕ) → list_any (λ (edge : EdgeId). edge.0 == a) path ≡ false → list_any (λ (edge : EdgeId). edge.0 == b) path ≡ true → (a == b) ≡ false
+pub not_there : (path : List EdgeId) (a b : ℕ) → list_any (λ (edge : EdgeId). edge.0 == a) path ≡ false → list_any (λ (edge : EdgeId). edge.0 == b) path ≡ true → (a == b) ≡ false
 not_there path a b none some = elim (cases_Bool (a == b)) [
-  | inl same ↦ clash (sym none ∙ (ap (λ (n : ℕ). list_any (λ (edge : EdgeId). edge.0 == n) path) (same_number a b same) ∙ some))
+  | inl same ↦ clash (sym none ∙ (ap (λ (n : ℕ). list_any (λ (edge : EdgeId). edge.0 == n) path) (eqb-true a b same) ∙ some))
   | inr differ ↦ differ
 ]
 
@@ -380,7 +326,7 @@ along_apart wire row me segment (first ∷ next ∷ rest) once =
     apart_joined (places_at wire row me segment first next) (places_along wire row me (segment + 1) (next ∷ rest)) (one_only (me.0 == first.0) (me.0 == next.0)) (along_apart wire row me (segment + 1) (next ∷ rest) parts.1)
     (cross (me.0 == first.0) (me.0 == next.0)
     (λ same. along_are (λ (other : EndPlace). is_same_place (end_place_at wire row me segment 0 next) other ≡ false) wire row me (segment + 1) (next ∷ rest)
-    (λ number side peer joined. clash (sym (not_there (next ∷ rest) first.0 me.0 parts.0 (joined_there (next ∷ rest) me.0 peer.0 joined)) ∙ turned me.0 first.0 same)))
+    (λ number side peer joined. clash (sym (not_there (next ∷ rest) first.0 me.0 parts.0 (joined_there (next ∷ rest) me.0 peer.0 joined)) ∙ equal_back me.0 first.0 same)))
     (along_are (λ (other : EndPlace). is_same_place (end_place_at wire row me segment 1 first) other ≡ false) wire row me (segment + 1) (next ∷ rest)
     (λ number side peer joined. and_false (wire.0 == wire.0) (not_there (next ∷ rest) first.0 peer.0 parts.0 (joined_there (next ∷ rest) peer.0 me.0 (sym (joins_turned (next ∷ rest) me.0 peer.0) ∙ joined))))))
   where
@@ -395,9 +341,6 @@ along_apart wire row me segment (first ∷ next ∷ rest) once =
     cross true q one other = (one refl, tt)
     cross false true one other = (other, tt)
     cross false false one other = tt
-
-    turned : (m n : ℕ) → (m == n) ≡ true → (n == m) ≡ true
-    turned m n is = grind (arith, nat_tests)
 
     and_false : (p : Bool) {q : Bool} → q ≡ false → p && q ≡ false
     and_false true is = is
@@ -428,21 +371,17 @@ all_both P Q (x ∷ xs) one other = ((one.0, other.0), all_both P Q xs one.1 oth
 named_alone : (plan : Plan) (me : EdgeId) (first other : EndPlace) → IsChecked plan → IsEndOf plan me first → IsEndOf plan me other → is_same_place first other ≡ false → is_named other.peer other.pw_id first ≡ false
 named_alone plan me first other checked here there apart = elim (cases_Bool (is_named other.peer other.pw_id first)) [
   | inl named ↦ both_of (first.peer.0 == other.peer.0) (first.pw_id == other.pw_id) named
-      (λ beside numbered. clash (sym apart ∙ both (first.wire.0 == other.wire.0) (first.peer.0 == other.peer.0)
-      (same_test first.wire.0 other.wire.0 (pw_id_once plan first.wire.0 other.wire.0 me.0 other.peer.0 here.row there.row checked here.is there.is
-      (subst (λ (n : ℕ). joins me.0 n here.row.path ≡ true) (same_number first.peer.0 other.peer.0 beside) here.joined) there.joined
-      (same_test here.row.pw_id there.row.pw_id (sym here.pw_id ∙ (same_number first.pw_id other.pw_id numbered ∙ there.pw_id))))) beside))
+      (λ beside numbered. clash (sym apart ∙ and_from (first.wire.0 == other.wire.0) (first.peer.0 == other.peer.0)
+      (eq-eqb first.wire.0 other.wire.0 (pw_id_once plan first.wire.0 other.wire.0 me.0 other.peer.0 here.row there.row checked here.is there.is
+      (subst (λ (n : ℕ). joins me.0 n here.row.path ≡ true) (eqb-true first.peer.0 other.peer.0 beside) here.joined) there.joined
+      (eq-eqb here.row.pw_id there.row.pw_id (sym here.pw_id ∙ (eqb-true first.pw_id other.pw_id numbered ∙ there.pw_id))))) beside))
   | inr apart_named ↦ apart_named
 ]
-  where
-    both : (p q : Bool) → p ≡ true → q ≡ true → p && q ≡ true
-    both true q is too = too
-    both false q is too = clash is
 
 named_among : (plan : Plan) (me : EdgeId) (xs : List EndPlace) → IsChecked plan → AllByRecursion (IsEndOf plan me) xs → AreApart xs → AllByRecursion (λ (x : EndPlace). find (is_named x.peer x.pw_id) xs ≡ Some x) xs
 named_among plan me [] checked are apart = tt
 named_among plan me (x ∷ xs) checked are apart = (
-  rw (same_test x.peer.0 x.peer.0 refl, same_test x.pw_id x.pw_id refl) refl,
+  rw (eq-eqb x.peer.0 x.peer.0 refl, eq-eqb x.pw_id x.pw_id refl) refl,
   all-map (λ (y : EndPlace). ((IsEndOf plan me y) × (is_same_place x y ≡ false)) × (find (is_named y.peer y.pw_id) xs ≡ Some y)) (λ (y : EndPlace). find (is_named y.peer y.pw_id) (x ∷ xs) ≡ Some y) xs
       (λ y holds. rw (named_alone plan me x y checked are.0 holds.0.0 holds.0.1) holds.1)
       (all_both (λ (y : EndPlace). (IsEndOf plan me y) × (is_same_place x y ≡ false)) (λ (y : EndPlace). find (is_named y.peer y.pw_id) xs ≡ Some y) xs

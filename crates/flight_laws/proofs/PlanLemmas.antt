@@ -1,12 +1,13 @@
 -- What a checked plan says of the two ends of a connection.
-use Rattle.std.proofs.Common.{◌≡◌, ◌<◌, ◌⊎◌, ◌&&◌, ◌||◌, ◌∙◌, ℕ, Bool, true, false, length, nat_eq, nat_lt, List, [], ◌∷◌, Some, slice_get, refl, sym, subst, inl, inr, arith}
-use Rattle.std.proofs.lemmas.Bool.{cases_Bool, cases_lt, eqb-true}
-use Rattle.std.proofs.lemmas.Bool.Decides.{nat_tests}
-use Rattle.std.proofs.lemmas.List.Elements.{All-get_or, All-head, All-tail}
+use Rattle.std.proofs.Common.{◌≡◌, ◌<◌, ◌&&◌, ◌||◌, ℕ, Bool, true, false, length, nat_eq, nat_lt, List, [], ◌∷◌, Some, slice_get, refl, inl, inr}
+use Rattle.std.proofs.lemmas.Bool.{cases_Bool, eqb-true}
+use Rattle.std.proofs.lemmas.List.Elements.{All-head, All-tail}
 use Rattle.std.proofs.lemmas.Option.{get_or_from_slice_get, slice_get_within}
-use Rattle.std.proofs.lemmas.Slice.Eq.{bytes_eq-Decides}
 use Rattle.std.specs.List.{All, list_all, list_any}
 use Rattle.std.specs.Str.{bytes_eq}
+use Rattle.net_values.proofs.BoolLemmas.{first_holds, clash, second_holds}
+use Rattle.net_values.proofs.NumberLemmas.{one_before}
+use Rattle.net_values.proofs.RowLemmas.{row_holds, octets_apart_back}
 use Rattle.net_base.specs.declared.plan.Plan.{Plan}
 use Rattle.net_base.specs.declared.plan.edge_plan.EdgePlan.{EdgePlan}
 use Rattle.net_base.specs.declared.plan.places.EdgeId.{EdgeId}
@@ -20,35 +21,16 @@ use Rattle.edge_model.specs.Connection.{peers_of}
 use Rattle.flight_laws.specs.Ends.{HasTypes}
 use Rattle.flight_laws.specs.Pair.{AreEnds, AreFit}
 
-clash : {P : Type 0} → false ≡ true → P
-clash e = absurd (cc)
-
--- what holds of each row holds of the row at a place
-pub row_holds : {A : Type 0} (P : A → Type 0) (rows : List A) (place : ℕ) (row : A) → slice_get rows place ≡ Some row → All P rows → P row
-row_holds P rows place row is all = subst P (get_or_from_slice_get rows place row row is) (All-get_or P rows place row (slice_get_within rows place row is) all)
-
 -- the addresses of two rows differ
 before_apart : (plan : Plan) (a b : ℕ) (one other : EdgePlan) → IsChecked plan → slice_get plan.edges a ≡ Some one → slice_get plan.edges b ≡ Some other → a < b → bytes_eq one.address.0 other.address.0 ≡ false
 before_apart plan a b one other checked first second before =
     rw (← get_or_from_slice_get plan.edges a one one first, ← get_or_from_slice_get plan.edges b other one second)
     (checked.addresses a b one before (slice_get_within plan.edges b other second))
 
-turned : (xs ys : List ℕ) → bytes_eq xs ys ≡ false → bytes_eq ys xs ≡ false
-turned xs ys apart = elim (cases_Bool (bytes_eq ys xs)) [
-  | inl same ↦ clash (sym apart ∙ (bytes_eq-Decides xs ys).1 (sym ((bytes_eq-Decides ys xs).0 same)))
-  | inr other ↦ other
-]
-
-one_before : (a b : ℕ) → nat_eq a b ≡ false → (a < b) ⊎ (b < a)
-one_before a b apart = elim (cases_lt a b) [
-  | inl before ↦ inl before
-  | inr behind ↦ inr (grind (arith, nat_tests))
-]
-
 pub addresses_apart : (plan : Plan) (a b : ℕ) (one other : EdgePlan) → IsChecked plan → slice_get plan.edges a ≡ Some one → slice_get plan.edges b ≡ Some other → nat_eq a b ≡ false → bytes_eq one.address.0 other.address.0 ≡ false
 addresses_apart plan a b one other checked first second apart = elim (one_before a b apart) [
   | inl before ↦ before_apart plan a b one other checked first second before
-  | inr behind ↦ turned other.address.0 one.address.0 (before_apart plan b a other one checked second first behind)
+  | inr behind ↦ octets_apart_back other.address.0 one.address.0 (before_apart plan b a other one checked second first behind)
 ]
 
 ends_fit : (one other : EdgePlan) → IsEdgePlan one → IsAddress one.address → IsAddress other.address → bytes_eq one.address.0 other.address.0 ≡ false → AreFit (peers_of one other)
@@ -70,7 +52,7 @@ ends_are plan a b one other checked types first second apart =
     let differ : bytes_eq one.address.0 other.address.0 ≡ false = addresses_apart plan a b one other checked first second apart in
     record {
       one = ends_fit one other edge me peer differ;
-      two = ends_fit other one far peer me (turned one.address.0 other.address.0 differ);
+      two = ends_fit other one far peer me (octets_apart_back one.address.0 other.address.0 differ);
       facing = record { there = refl; back = refl };
       back = record { there = refl; back = refl };
     }
@@ -98,21 +80,13 @@ joined_turned plan a b = any_same (λ (row : WirePlan). joins a b row.path) (λ 
 
 -- ---- paths
 
-and_left : (a b : Bool) → a && b ≡ true → a ≡ true
-and_left true b h = refl
-and_left false b h = clash h
-
-and_right : (a b : Bool) → a && b ≡ true → b ≡ true
-and_right true b h = h
-and_right false b h = clash h
-
 -- an edge that a path joins to another one is in the plan
 pub both_in : (plan : Plan) (path : List EdgeId) (a b : ℕ) → list_all (is_edge_of plan) path ≡ true → joins a b path ≡ true → (nat_lt a (length plan.edges) ≡ true) × (nat_lt b (length plan.edges) ≡ true)
 both_in plan [] a b all joined = clash joined
 both_in plan (last ∷ []) a b all joined = clash joined
 both_in plan (first ∷ next ∷ rest) a b all joined = elim (cases_Bool ((nat_eq a first.0 && nat_eq b next.0) || (nat_eq b first.0 && nat_eq a next.0))) [
-  | inl here ↦ among first.0 next.0 (and_left (is_edge_of plan first) (list_all (is_edge_of plan) (next ∷ rest)) all) (and_left (is_edge_of plan next) (list_all (is_edge_of plan) rest) (and_right (is_edge_of plan first) (list_all (is_edge_of plan) (next ∷ rest)) all)) here
-  | inr later ↦ both_in plan (next ∷ rest) a b (and_right (is_edge_of plan first) (list_all (is_edge_of plan) (next ∷ rest)) all) (rw later at joined)
+  | inl here ↦ among first.0 next.0 (first_holds (is_edge_of plan first) (list_all (is_edge_of plan) (next ∷ rest)) all) (first_holds (is_edge_of plan next) (list_all (is_edge_of plan) rest) (second_holds (is_edge_of plan first) (list_all (is_edge_of plan) (next ∷ rest)) all)) here
+  | inr later ↦ both_in plan (next ∷ rest) a b (second_holds (is_edge_of plan first) (list_all (is_edge_of plan) (next ∷ rest)) all) (rw later at joined)
 ]
   where
     n : ℕ
@@ -120,9 +94,9 @@ both_in plan (first ∷ next ∷ rest) a b all joined = elim (cases_Bool ((nat_e
 
     two : (f g : ℕ) → nat_lt f n ≡ true → nat_lt g n ≡ true → (p q : Bool) → nat_eq a f && nat_eq b g ≡ p → nat_eq b f && nat_eq a g ≡ q → p || q ≡ true → (nat_lt a n ≡ true) × (nat_lt b n ≡ true)
     two f g less less' true q one other some =
-        (rw (eqb-true a f (and_left (nat_eq a f) (nat_eq b g) one)) less, rw (eqb-true b g (and_right (nat_eq a f) (nat_eq b g) one)) less')
+        (rw (eqb-true a f (first_holds (nat_eq a f) (nat_eq b g) one)) less, rw (eqb-true b g (second_holds (nat_eq a f) (nat_eq b g) one)) less')
     two f g less less' false true one other some =
-        (rw (eqb-true a g (and_right (nat_eq b f) (nat_eq a g) other)) less', rw (eqb-true b f (and_left (nat_eq b f) (nat_eq a g) other)) less)
+        (rw (eqb-true a g (second_holds (nat_eq b f) (nat_eq a g) other)) less', rw (eqb-true b f (first_holds (nat_eq b f) (nat_eq a g) other)) less)
     two f g less less' false false one other some = clash some
 
     among : (f g : ℕ) → nat_lt f n ≡ true → nat_lt g n ≡ true → (nat_eq a f && nat_eq b g) || (nat_eq b f && nat_eq a g) ≡ true → (nat_lt a n ≡ true) × (nat_lt b n ≡ true)

@@ -1,17 +1,18 @@
 -- Two ends stay in step through each event of one of them.
-use Rattle.std.proofs.Common.{rules, ◌≡◌, ◌≤◌, ◌<◌, ◌^◌, ◌++◌, ◌&&◌, ◌∙◌, ℕ, Bool, true, false, not, min, List, [], ◌∷◌, Option, Some, None, option_map, refl, sym, ap, subst, arith}
+use Rattle.std.proofs.Common.{◌≡◌, ◌≤◌, ◌<◌, ◌^◌, ◌++◌, ◌∙◌, ℕ, true, false, not, min, List, [], ◌∷◌, Option, Some, None, option_map, refl, sym, ap, subst, arith}
 use Rattle.std.proofs.lemmas.Bool.Decides.{nat_tests}
 use Rattle.std.proofs.lemmas.Bool.{cases_Bool}
 use Rattle.std.proofs.Common.{inl, inr}
-use Rattle.std.specs.Str.{bytes_eq}
+use Rattle.net_values.proofs.BoolLemmas.{first_holds, clash, second_holds}
 use Rattle.net_base.specs.declared.trace.state_name.Reason.TheVariants as reason
 use Rattle.ldp_grammar.specs.declared.message.Message.{Message}
 use Rattle.ldp_grammar.specs.declared.message.Message.TheVariants.{Notification, Initialization, KeepAlive}
 use Rattle.ldp_grammar.proofs.WrittenOctets.{status_are}
+use Rattle.ldp_grammar.proofs.CommonLemmas.{none_behind}
 use Rattle.session_core.specs.declared.peers.Peers.{Peers}
 use Rattle.session_core.specs.declared.reply.Reply.{Reply}
 use Rattle.session_core.specs.declared.reply.Reply.TheVariants as reply
-use Rattle.session_core.specs.Parameters.{agreed, is_platform, longest, proposal, proposal_refusal}
+use Rattle.session_core.specs.Parameters.{agreed, longest, proposal, proposal_refusal}
 use Rattle.session_core.specs.Phase.{Phase, is_agreed}
 use Rattle.session_core.specs.Phase as phase
 use Rattle.session_core.specs.Reasons.{is_fatal}
@@ -20,6 +21,7 @@ use Rattle.session_core.specs.Table.{Heard, Received, Ticked, Closed, Goes, Ends
 use Rattle.session_core.specs.StatusCodes.{about_none, keep_alive_timer_expired}
 use Rattle.session_core.proofs.LawLemmas.{ends_agree}
 use Rattle.pw_messages.specs.Sender.{following, platform_of}
+use Rattle.pw_messages.proofs.CommonLemmas.{following_small}
 use Rattle.edge_model.specs.Put.{having_spoken, octets_of}
 use Rattle.edge_model.specs.Session.{with_session}
 use Rattle.edge_model.specs.State.{Peering}
@@ -27,22 +29,11 @@ use Rattle.flight_laws.specs.Coming.{and_more, is_talk}
 use Rattle.flight_laws.specs.Flight.{is_initialization}
 use Rattle.flight_laws.specs.Messages.{AreSaid, IsSaid, expiry, octets_of_all}
 use Rattle.flight_laws.specs.Pair.{AreTalking, IsStanding, StayInStep, messages_put, octets_put, phase_of}
-use Rattle.flight_laws.proofs.RowLemmas.{clash}
 use Rattle.flight_laws.proofs.SaidLemmas.{active_init, fatal_ends, keep_alive, keeping_form, opening_form, passive_init, said-append, said_sender, stays_up}
 use Rattle.flight_laws.proofs.TalkLemmas.{goes, goes_on, keeps_rec, keeps_up, opens_initialized, opens_sent, rises, says_up, tells_end}
-
-left : (a b : Bool) → a && b ≡ true → a ≡ true
-left true b h = refl
-left false b h = clash h
-
-right : (a b : Bool) → a && b ≡ true → b ≡ true
-right true b h = h
-right false b h = clash h
+use Rattle.flight_laws.proofs.CommonLemmas.{platform_is}
 
 -- ---- what is put
-
-following_small : (id : ℕ) → id < 2 ^ 32 → following id < 2 ^ 32
-following_small id small = grind (arith, nat_tests)
 
 pub spoken_stands : (own other : Peers) (kept : Peering) → IsStanding own other kept → IsStanding own other (having_spoken kept)
 spoken_stands own other kept is = record { peers = is.peers; between = is.between; least = is.least; most = is.most; numbered = following_small kept.next_id is.numbered; passive = is.passive }
@@ -58,10 +49,7 @@ more_by_phase (Some y) out more = refl
 
 no_more : (far : Option Peering) (out : List Message) → and_more far out [] ≡ out
 no_more None out = refl
-no_more (Some y) out = same_end out where
-  same_end : (xs : List Message) → xs ++ [] ≡ xs
-  same_end [] = refl
-  same_end (x ∷ xs) = ap (λ (l : List Message). x ∷ l) (same_end xs)
+no_more (Some y) out = none_behind out
 
 pub put_octets_are : (rs : List Reply) (kept : Peering) → octets_put rs kept ≡ octets_of_all kept.session.peers.me (messages_put rs kept)
 put_octets_are [] kept = refl
@@ -86,15 +74,9 @@ same_phase own other kept now far out back is same t = record { said = t.said; a
 pub heard_in_step : (own other : Peers) (kept : Peering) (far : Option Peering) (out back : List Message) → AreTalking own other (Some kept) far out back
     → StayInStep own other kept far out back (outcome_of kept.session (Heard (platform_of other.me)))
 heard_in_step own other kept far out back t =
-    subst (StayInStep own other kept far out back) (sym (said_sender kept.session other.me (platform own other kept t.here)))
+    subst (StayInStep own other kept far out back) (sym (said_sender kept.session other.me (platform_is own other kept t.here)))
     (rw (no_more far out) (same_phase own other kept (with_session (record kept.session { wait = 0 }) kept) far out back
     (record { peers = t.here.peers; between = t.here.between; least = t.here.least; most = t.here.most; numbered = t.here.numbered; passive = t.here.passive }) refl t))
-  where
-    same_bytes : (xs : List ℕ) → bytes_eq xs xs ≡ true
-    same_bytes xs = search rules
-
-    platform : (own other : Peers) (kept : Peering) → IsStanding own other kept → is_platform kept.session.peers.peer (platform_of other.me) ≡ true
-    platform own other kept is = rw (is.peers, is.between.facing.there, same_bytes other.me.0) refl
 
 -- ---- a message of the peer
 
@@ -139,25 +121,25 @@ received_initialized own other kept far out back m plain at t =
     let init : Message = Initialization kept.next_id (proposal kept.session.peers) in
     let alive : Message = KeepAlive (following kept.next_id) in
     let both = opens_initialized (option_map phase_of far) out back m init alive plain refl refl (rw (passive, at) at t.steps) in
-    let form = opening_form other m t.answered.0 (left _ _ both) in
+    let form = opening_form other m t.answered.0 (first_holds _ _ both) in
     let now : Peering = with_session (agreed kept.session (proposal other)) kept in
     let stands : IsStanding own other now = agreed_stands own other kept t.here in
     subst (StayInStep own other kept far out back)
     (sym (ap (λ (x : Message). outcome_of kept.session (Received x)) form.is ∙ passive_init kept.session form.id (proposal other) at (rw t.here.peers passive) (acceptable own other kept t.here)))
     (said_on own other kept (having_spoken (having_spoken now)) far out back (init ∷ alive ∷ []) m (spoken_stands own other (having_spoken now) (spoken_stands own other now stands))
-    ((t.here.numbered, ap proposal t.here.peers), (following_small kept.next_id t.here.numbered, tt)) t (rw passive (right _ _ both)))
+    ((t.here.numbered, ap proposal t.here.peers), (following_small kept.next_id t.here.numbered, tt)) t (rw passive (second_holds _ _ both)))
 
 received_open_sent : (own other : Peers) (kept : Peering) (far : Option Peering) (out back : List Message) (m : Message) → is_fatal m ≡ false → kept.session.phase ≡ phase.OpenSent
     → AreTalking own other (Some kept) far out (m ∷ back) → StayInStep own other kept far out back (outcome_of kept.session (Received m))
 received_open_sent own other kept far out back m plain at t =
     let alive : Message = KeepAlive kept.next_id in
     let both = opens_sent (is_active own) (option_map phase_of far) out back m alive plain refl (rw at at t.steps) in
-    let form = opening_form other m t.answered.0 (left _ _ both) in
+    let form = opening_form other m t.answered.0 (first_holds _ _ both) in
     let now : Peering = with_session (agreed kept.session (proposal other)) kept in
     let stands : IsStanding own other now = agreed_stands own other kept t.here in
     subst (StayInStep own other kept far out back)
     (sym (ap (λ (x : Message). outcome_of kept.session (Received x)) form.is ∙ active_init kept.session form.id (proposal other) at (acceptable own other kept t.here)))
-    (said_on own other kept (having_spoken now) far out back (alive ∷ []) m (spoken_stands own other now stands) (t.here.numbered, tt) t (right _ _ both))
+    (said_on own other kept (having_spoken now) far out back (alive ∷ []) m (spoken_stands own other now stands) (t.here.numbered, tt) t (second_holds _ _ both))
 
 entered_stands : (own other : Peers) (kept : Peering) → IsStanding own other kept → IsStanding own other (with_session (enters_phase phase.Operational kept.session) kept)
 entered_stands own other kept is = record { peers = is.peers; between = is.between; least = is.least; most = is.most; numbered = is.numbered; passive = λ e. absurd (no e) }
@@ -169,18 +151,15 @@ received_open_rec : (own other : Peers) (kept : Peering) (far : Option Peering) 
     → AreTalking own other (Some kept) far out (m ∷ back) → StayInStep own other kept far out back (outcome_of kept.session (Received m))
 received_open_rec own other kept far out back m plain at t =
     let both = rises (is_active own) (option_map phase_of far) out back m plain (rw at at t.steps) in
-    let form = keeping_form m (left _ _ both) in
+    let form = keeping_form m (first_holds _ _ both) in
     let now : Peering = with_session (enters_phase phase.Operational kept.session) kept in
     subst (StayInStep own other kept far out back)
     (sym (ap (λ (x : Message). outcome_of kept.session (Received x)) form.is ∙ keep_alive kept.session form.id at))
-    (said_on own other kept now far out back [] m (entered_stands own other kept t.here) tt t (rw (more_none (option_map phase_of far) out) (right _ _ both)))
+    (said_on own other kept now far out back [] m (entered_stands own other kept t.here) tt t (rw (more_none (option_map phase_of far) out) (second_holds _ _ both)))
   where
     more_none : (far : Option Phase) (out : List Message) → and_more far out [] ≡ out
     more_none None out = refl
-    more_none (Some y) out = same_end out where
-      same_end : (xs : List Message) → xs ++ [] ≡ xs
-      same_end [] = refl
-      same_end (x ∷ xs) = ap (λ (l : List Message). x ∷ l) (same_end xs)
+    more_none (Some y) out = none_behind out
 
 -- a session that is up hears it and goes on
 pub heard_up : (own other : Peers) (kept : Peering) (far : Option Peering) (out back : List Message) (m : Message) → kept.session.phase ≡ phase.Operational
@@ -285,7 +264,7 @@ pub ticked_in_step : (own other : Peers) (kept : Peering) (far : Option Peering)
 ticked_in_step own other kept far out back t = subst (StayInStep own other kept far out back) (sym (tick_is kept.session)) (elim (cases_Bool (is_expired (a_tick_later kept.session))) [
   | inl over ↦ rw over (expires own other kept far out back t)
   | inr waits ↦ rw waits (elim (cases_Bool (is_keep_alive_due (a_tick_later kept.session))) [
-    | inl quiet ↦ rw quiet (keeps own other kept far out back (left _ _ quiet) t)
+    | inl quiet ↦ rw quiet (keeps own other kept far out back (first_holds _ _ quiet) t)
     | inr spoken ↦ rw (spoken, no_more far out) (same_phase own other kept (with_session (a_tick_later kept.session) kept) far out back (later_stands own other kept t.here) refl t)
   ])
 ])

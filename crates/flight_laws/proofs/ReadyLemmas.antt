@@ -46,7 +46,7 @@ first_same p q m n x y is too e = head (sym is ∙ (ap (λ (r : Pdu). r.messages
 rest_same : (p q : Pdu) (x y : List ℕ) → Got p x ≡ Got q y → x ≡ y
 rest_same p q x y e = cc
 
-joined_same : (m n : Message) (ms ns : List Message) → m ≡ n → ms ≡ ns → m ∷ ms ≡ n ∷ ns
+pub joined_same : (m n : Message) (ms ns : List Message) → m ≡ n → ms ≡ ns → m ∷ ms ≡ n ∷ ns
 joined_same m n ms ns e f = cc
 
 pub same_messages : (ends : Peers) (ms ns : List Message) → AllMessages (IsReadyBetween ends) ms → AllMessages (IsReadyBetween ends) ns → octets_of_all ends.me ms ≡ octets_of_all ends.me ns → ms ≡ ns

@@ -1,6 +1,8 @@
 -- Every run keeps to what is on its way of labels that are withdrawn.
-use Rattle.std.proofs.Common.{◌≡◌, ◌&&◌, ◌||◌, ◌∙◌, not, nat_eq, ℕ, Bool, true, false, List, [], ◌∷◌, Option, Some, None, option_and_then, refl, sym, ap, subst, inl, inr}
-use Rattle.std.proofs.lemmas.Bool.{cases_Bool}
+use Rattle.std.proofs.Common.{◌≡◌, ◌||◌, ◌∙◌, not, nat_eq, ℕ, Bool, true, false, List, [], ◌∷◌, Option, Some, None, option_and_then, refl, sym, ap, subst, inl, inr}
+use Rattle.std.proofs.lemmas.Bool.{cases_Bool, not-true}
+use Rattle.net_values.proofs.BoolLemmas.{first_holds, clash, second_holds, clash_at}
+use Rattle.net_values.proofs.NumberLemmas.{same_number, apart_back}
 use Rattle.net_base.specs.declared.plan.Plan.{Plan}
 use Rattle.net_base.specs.declared.plan.places.EdgeId.{EdgeId}
 use Rattle.net_base.specs.declared.plan.places.WireId.{WireId}
@@ -26,26 +28,12 @@ use Rattle.flight_laws.specs.Pair.{ArePaired}
 use Rattle.flight_laws.specs.Releases.{AwaitsRelease, NamesUnadvertised, RunsAwaitReleases, RunsReleaseUnadvertised}
 use Rattle.flight_laws.specs.Rules.{AllMessages, MayNameAt, NamesTold, part_owns}
 use Rattle.flight_laws.proofs.BoundRunLemmas.{AreBoundNow, bound_now, run_bounds}
-use Rattle.flight_laws.proofs.EdgeBindingLemmas.{clash, itself}
 use Rattle.flight_laws.proofs.PlaceLemmas.{wire_named}
 use Rattle.flight_laws.proofs.RuledLemmas.{IsRuled}
 use Rattle.flight_laws.proofs.RuledNetworkLemmas.{IsRuledNetwork, RulesTo}
 use Rattle.flight_laws.proofs.RuledRunLemmas.{messages_said, run_ruled}
 use Rattle.flight_laws.proofs.RunLemmas.{both_apart, run_ordered}
-use Rattle.flight_laws.proofs.SettleLemmas.{apart_turned}
 use Rattle.flight_laws.proofs.ToldLemmas.{tells_plan}
-
-and_left : (a b : Bool) → a && b ≡ true → a ≡ true
-and_left true b h = refl
-and_left false b h = clash h
-
-and_right : (a b : Bool) → a && b ≡ true → b ≡ true
-and_right true b h = h
-and_right false b h = clash h
-
-never : {P : Type 0} (b : Bool) → b ≡ true → b ≡ false → P
-never true so fails = clash (sym fails)
-never false so fails = clash so
 
 -- ---- a label that is withdrawn
 
@@ -53,7 +41,7 @@ awaits_release : (pw_id : ℕ) (next : ℕ → Bool) (near : LocalPart) (out bac
 awaits_release pw_id next (Idle declined) out back waits = tt
 awaits_release pw_id next (Advertised label told) out back waits = tt
 awaits_release pw_id next (Withdrawing label) out back waits =
-    let some = and_right (next label) (some_message (is_withdrawal_of pw_id label) out || some_message (is_release_of pw_id label) back) waits in
+    let some = second_holds (next label) (some_message (is_withdrawal_of pw_id label) out || some_message (is_release_of pw_id label) back) waits in
     elim (cases_Bool (some_message (is_withdrawal_of pw_id label) out)) [
       | inl here ↦ inl here
       | inr away ↦ inr (rw away at some)
@@ -83,11 +71,7 @@ advertised_owned (Withdrawing own) label is = clash is
 old_label : (pw_id : ℕ) (next : ℕ → Bool) (near : LocalPart) (named : Option ℕ) (label : ℕ) → named ≡ Some pw_id → names_old pw_id next near named (Some label) ≡ true → has_advertised near label ≡ false
 old_label pw_id next near named label is old =
     let own : not (nat_eq pw_id pw_id) || is_old next near label ≡ true = rw is at old in
-    is_not (has_advertised near label) (and_right (next label) (not (has_advertised near label)) (rw (itself pw_id) at own))
-  where
-    is_not : (b : Bool) → not b ≡ true → b ≡ false
-    is_not true e = clash e
-    is_not false e = refl
+    not-true (has_advertised near label) (second_holds (next label) (not (has_advertised near label)) (rw (same_number pw_id) at own))
 
 -- and there is one
 some_label : {P : Type 0} (pw_id : ℕ) (next : ℕ → Bool) (near : LocalPart) (named : Option ℕ) → named ≡ Some pw_id → names_old pw_id next near named None ≡ true → P
@@ -110,11 +94,11 @@ module _ (plan : Plan) (checked : IsChecked plan) (a b : ℕ) (one other : EdgeS
     by_place (Some place) is may wire peer = elim (cases_Bool (has_advertised (one.ends wire peer).local label)) [
       | inl so ↦
           (let at = may.owner wire peer (advertised_owned (one.ends wire peer).local label so) in
-          let same : place.wire ≡ told.wire = wire_named plan (record { 0 = a }) (record { 0 = b }) told.row.pw_id place told.wire told.row checked told.is told.joined (sym (ap (λ (m : EdgeId). end_named plan m (record { 0 = b }) told.row.pw_id) placed) ∙ is) (itself told.row.pw_id) in
+          let same : place.wire ≡ told.wire = wire_named plan (record { 0 = a }) (record { 0 = b }) told.row.pw_id place told.wire told.row checked told.is told.joined (sym (ap (λ (m : EdgeId). end_named plan m (record { 0 = b }) told.row.pw_id) placed) ∙ is) (same_number told.row.pw_id) in
           let there : has_advertised (one.ends told.wire.0 b).local label ≡ true =
           subst (λ (k : ℕ). has_advertised (one.ends told.wire.0 k).local label ≡ true) at.1
           (subst (λ (w : ℕ). has_advertised (one.ends w peer).local label ≡ true) (at.0 ∙ ap (λ (w : WireId). w.0) same) so) in
-          never (has_advertised (one.ends told.wire.0 b).local label) there (old_label told.row.pw_id (given_of one) (one.ends told.wire.0 b).local fec.pw_id label named old))
+          clash_at (has_advertised (one.ends told.wire.0 b).local label) there (old_label told.row.pw_id (given_of one) (one.ends told.wire.0 b).local fec.pw_id label named old))
       | inr not_so ↦ not_so
     ]
 
@@ -140,8 +124,8 @@ module _ (plan : Plan) (checked : IsChecked plan) (a b : ℕ) (one other : EdgeS
       → AllMessages (NamesUnadvertised one) messages
   all_named [] ruled old = tt
   all_named (m ∷ messages) ruled old = (
-    one_named m ruled.0 (λ wire row is joined. and_left (releases_old row.pw_id (given_of one) (one.ends wire.0 b).local m) (all_messages (releases_old row.pw_id (given_of one) (one.ends wire.0 b).local) messages) (old wire row is joined)),
-    all_named messages ruled.1 (λ wire row is joined. and_right (releases_old row.pw_id (given_of one) (one.ends wire.0 b).local m) (all_messages (releases_old row.pw_id (given_of one) (one.ends wire.0 b).local) messages) (old wire row is joined)),
+    one_named m ruled.0 (λ wire row is joined. first_holds (releases_old row.pw_id (given_of one) (one.ends wire.0 b).local m) (all_messages (releases_old row.pw_id (given_of one) (one.ends wire.0 b).local) messages) (old wire row is joined)),
+    all_named messages ruled.1 (λ wire row is joined. second_holds (releases_old row.pw_id (given_of one) (one.ends wire.0 b).local m) (all_messages (releases_old row.pw_id (given_of one) (one.ends wire.0 b).local) messages) (old wire row is joined)),
   )
 
 pub runs_release_unadvertised : RunsReleaseUnadvertised
@@ -150,7 +134,7 @@ runs_release_unadvertised plan events run a b both =
     let ordered : IsOrdered plan network = run_ordered plan events run in
     let ruled : IsRuledNetwork plan network = run_ruled plan events run in
     let apart : nat_eq a b ≡ false = both_apart plan network a b ordered both.one in
-    let turned : nat_eq b a ≡ false = apart_turned a b apart in
+    let turned : nat_eq b a ≡ false = apart_back a b apart in
     let comes : RulesTo plan b a (network.edges b) (network.edges a) (flight network b a) = (ruled.two b a turned).0 in
     let said : AreOnWay plan network b a comes.messages = messages_said plan network b a turned ordered ruled in
     let pair : ArePaired (ends_at plan a b) (ends_at plan b a) ((network.edges a).peering b) ((network.edges b).peering a) (flight network a b) (flight network b a) = ordered.two a b apart in

@@ -7,6 +7,7 @@ use Rattle.net_base.specs.declared.trace.down.Down.{Down}
 use Rattle.net_values.specs.declared.mac.Mac.{Mac}
 use Rattle.net_base.specs.plan.Accepted.{IsChecked}
 use Rattle.net_values.specs.Label.{IsLabel}
+use Rattle.net_values.proofs.BoolLemmas.{clash}
 use Rattle.ldp_grammar.specs.declared.message.Message.{Message}
 use Rattle.pw_tlvs.specs.declared.pw_status.PwStatus.{PwStatus}
 use Rattle.pw_signalling.specs.declared.binding.Binding.{Binding}
@@ -23,6 +24,7 @@ use Rattle.edge_model.specs.State.{EdgeState, Peering, end_at, is_there, with_en
 use Rattle.edge_model.specs.Work.{Work, changes, gives}
 use Rattle.network_model.specs.Absorb.{taken_all}
 use Rattle.edge_model.specs.Labels.{giving, label_to_give}
+use Rattle.edge_model.proofs.CommonLemmas.{advertising_changed}
 use Rattle.flight_laws.proofs.GivenLemmas.{advertised_given, given_on, not_given, now_given}
 use Rattle.flight_laws.specs.Bound.{given_of, AreBound, HasSaid, IsBoundBy, LeavesBound, is_silent, releases_old}
 use Rattle.flight_laws.specs.Ends.{HasTypes, ends_at}
@@ -30,7 +32,7 @@ use Rattle.flight_laws.specs.Meeting.{said_to}
 use Rattle.flight_laws.specs.Pair.{IsStanding}
 use Rattle.flight_laws.specs.Sound.{TellsSoundly, point_limit}
 use Rattle.flight_laws.proofs.BindingLemmas.{binding_advertises, binding_says_other, binding_tells, binding_withdraws}
-use Rattle.flight_laws.proofs.EdgeBindingLemmas.{SaysOf, bound_says, clash, end_beside_other, end_given, end_label, end_of_other, end_there}
+use Rattle.flight_laws.proofs.EdgeBindingLemmas.{SaysOf, bound_says, end_beside_other, end_given, end_label, end_of_other, end_there}
 use Rattle.flight_laws.proofs.KeepLemmas.{KeepsEnds}
 use Rattle.flight_laws.proofs.LeaveLemmas.{leaves_goes, leaves_same, leaves_spoken}
 use Rattle.flight_laws.proofs.MendingLemmas.{KeptByRows}
@@ -144,15 +146,11 @@ pub changed_said : (change : EdgeState → EdgeState) (work : Work) (place : ℕ
 unfolding changes
 changed_said change work place = refl
 
-advertising_peering : (place : EndPlace) (label : ℕ) (content : Told) (edge : EdgeState) → (advertising place label content edge).peering ≡ edge.peering
-unfolding with_end with_next_label with_kept
-advertising_peering place label content edge = refl
-
 advertising_else : (place : EndPlace) (label : ℕ) (content : Told) (edge : EdgeState) (wire peer : ℕ) → nat_eq peer place.peer.0 ≡ false → (advertising place label content edge).ends wire peer ≡ edge.ends wire peer
 advertising_else place label content edge wire peer apart =
     ap (λ (f : ℕ → ℕ → EndState). f wire peer) (giving_ends label (with_end place (advertised label content (end_at edge place)) edge)) ∙ end_beside_other place (advertised label content (end_at edge place)) edge wire peer apart
 
-end_peering : (place : EndPlace) (end : EndState) (edge : EdgeState) → (with_end place end edge).peering ≡ edge.peering
+pub end_peering : (place : EndPlace) (end : EndState) (edge : EdgeState) → (with_end place end edge).peering ≡ edge.peering
 unfolding with_end with_kept
 end_peering place end edge = refl
 
@@ -209,7 +207,7 @@ module _ (plan : Plan) (me : EdgeId) (checked : IsChecked plan) (fars : ℕ → 
         let told : WishesSoundly work.edge place content = wishes plan me checked types work.edge place content tells is wished in
         let one : IsLabel label = next_is_label work.edge label tells give in (
           rows.advertises place label content work is at wished give all.0,
-          row_leaves place (mapping place.pw_id label content) (advertising place label content) work is told.up (advertising_peering place label content work.edge)
+          row_leaves place (mapping place.pw_id label content) (advertising place label content) work is told.up (advertising_changed place label content work.edge)
               (λ id. advertising_says place label content id work.edge at give one) (advertising_else place label content work.edge)
               (mapping_sound place.pw_id label content (end_small plan me place checked is) one told.sound)
               (said work all.0) all.1,

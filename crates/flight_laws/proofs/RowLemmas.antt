@@ -1,20 +1,18 @@
 -- The table of session states and flights is kept by each thing that one end does.
-use Rattle.std.proofs.Common.{◌≡◌, ◌++◌, ◌&&◌, Bool, true, false, not, List, [], ◌∷◌, refl, arith}
+use Rattle.std.proofs.Common.{◌≡◌, ◌++◌, ◌&&◌, Bool, true, not, List, [], ◌∷◌, refl, arith}
+use Rattle.net_values.proofs.BoolLemmas.{clash}
 use Rattle.ldp_grammar.specs.declared.message.Message.{Message}
 use Rattle.session_core.specs.Phase.{Phase, Initialized, OpenSent, OpenRec, Operational}
 use Rattle.session_core.specs.Reasons.{is_fatal, is_keep_alive}
 use Rattle.flight_laws.specs.Coming.{initialization_comes, is_coming, keep_alive_comes}
 use Rattle.flight_laws.specs.Flight.{all_messages, begins_with_keep_alive, has_keep_alives, has_no_initialization, has_some_keep_alives, is_empty, is_initialization, is_one_initialization, is_row, opens_session}
 
-pub clash : {P : Type 0} → false ≡ true → P
-clash e = absurd (cc)
-
 pub all-append : (test : Message → Bool) (xs ys : List Message) → all_messages test xs ≡ true → all_messages test ys ≡ true → all_messages test (xs ++ ys) ≡ true
 all-append test [] ys one other = other
 all-append test (x ∷ xs) ys one other = grind (arith, all-append test xs ys)
 
 -- a KeepAlive is no Initialization
-keep_is_plain : (m : Message) → is_keep_alive m ≡ true → not (is_initialization m) ≡ true
+pub keep_is_plain : (m : Message) → is_keep_alive m ≡ true → not (is_initialization m) ≡ true
 keep_is_plain m e = grind arith
 
 pub keeps_are_plain : (ms : List Message) → has_keep_alives ms ≡ true → has_no_initialization ms ≡ true

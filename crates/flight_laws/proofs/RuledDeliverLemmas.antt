@@ -2,6 +2,8 @@
 use Rattle.std.proofs.Common.{◌≡◌, ◌++◌, ◌&&◌, ◌||◌, ◌∙◌, ℕ, Bool, true, false, cond, not, nat_eq, take, drop, List, [], ◌∷◌, Option, Some, None, slice_get, refl, sym, ap, subst, append_assoc, inl, ⊎_elim, arith}
 use Rattle.std.proofs.lemmas.Bool.{eqb-true}
 use Rattle.std.proofs.lemmas.List.{take-append-drop}
+use Rattle.net_values.proofs.BoolLemmas.{first_holds, clash, second_holds}
+use Rattle.net_values.proofs.NumberLemmas.{same_number, apart_back}
 use Rattle.net_base.specs.declared.plan.Plan.{Plan}
 use Rattle.net_base.specs.declared.plan.edge_plan.EdgePlan.{EdgePlan}
 use Rattle.net_base.specs.declared.plan.places.EdgeId.{EdgeId}
@@ -40,11 +42,7 @@ use Rattle.flight_laws.proofs.RuledLemmas.{IsFitEnd, IsRuled, IsRuledEdge, IsRul
 use Rattle.flight_laws.proofs.RuledNetworkLemmas.{Carries, IsRuledNetwork, OutRules, RulesTo, StaysRuled, carries_same, held_again, held_at, held_is, leaves_ruled, octets_held, ruled_begin, ruled_far, ruled_settle, rules_mentioned, stays_ruled}
 use Rattle.flight_laws.proofs.RuledOctetsLemmas.{HasHeardRuled, connects_ruled, held_now, octets_ruled}
 use Rattle.flight_laws.proofs.SaidLemmas.{all_joined}
-use Rattle.flight_laws.proofs.SettleLemmas.{apart_turned, both_turn, edge_else, edge_there}
-use Rattle.flight_laws.proofs.WorkLemmas.{same_place}
-
-clash : {P : Type 0} → false ≡ true → P
-clash e = absurd (cc)
+use Rattle.flight_laws.proofs.SettleLemmas.{both_turn, edge_else, edge_there}
 
 -- ---- messages are those that were said
 
@@ -84,8 +82,8 @@ module _ (plan : Plan) (checked : IsChecked plan) (types : HasTypes plan) where
       ))
       (λ a away. ruled.edges a) (ruled.edges to.0).place
       (subst (WorksRuled plan network.edges to.0 (network.edges to.0) (held_now from.0 heard.rest (held_at network to.0))) (sym work_is) heard.works)
-      (λ place away. subst (RulesTo plan to.0 place (network.edges to.0) (network.edges place)) (ap (λ (l : List ℕ). held_by ((network.edges place).peering to.0) ++ l) (sym (pipe_from from to (drop count pipe) network to.0 place (apart_turned from.0 to.0 apart))))
-      (ruled.two to.0 place (apart_turned place to.0 away)).0)
+      (λ place away. subst (RulesTo plan to.0 place (network.edges to.0) (network.edges place)) (ap (λ (l : List ℕ). held_by ((network.edges place).peering to.0) ++ l) (sym (pipe_from from to (drop count pipe) network to.0 place (apart_back from.0 to.0 apart))))
+      (ruled.two to.0 place (apart_back place to.0 away)).0)
       (λ place away. split {P = Back place} (nat_eq place from.0)
       (λ is. subst (λ (k : ℕ). Back k) (sym (eqb-true place from.0 is)) from_peer)
       (λ other. from_other place away other))
@@ -95,7 +93,7 @@ module _ (plan : Plan) (checked : IsChecked plan) (types : HasTypes plan) where
       pipe = network.pipes from.0 to.0
 
       back : RulesTo plan from.0 to.0 (network.edges from.0) (network.edges to.0) (flight network from.0 to.0)
-      back = (ruled.two to.0 from.0 (apart_turned from.0 to.0 apart)).1
+      back = (ruled.two to.0 from.0 (apart_back from.0 to.0 apart)).1
 
       whole : (kept.held ++ take count pipe) ++ drop count pipe ≡ octets_of_all (ends_at plan from.0 to.0).me back.messages
       whole = append_assoc kept.held (take count pipe) (drop count pipe)
@@ -115,11 +113,11 @@ module _ (plan : Plan) (checked : IsChecked plan) (types : HasTypes plan) where
       Back place = RulesTo plan place to.0 (network.edges place) (network.edges to.0) (octets_held (held_now from.0 heard.rest (held_at network to.0) place) ++ (with_pipe from to (drop count pipe) network).pipes place to.0)
 
       from_peer : Back from.0
-      from_peer = rw (same_place from.0, same_place to.0) (record { messages = heard.later; octets = heard.behind; ruled = heard.ruled; bound = back.bound })
+      from_peer = rw (same_number from.0, same_number to.0) (record { messages = heard.later; octets = heard.behind; ruled = heard.ruled; bound = back.bound })
 
       from_other : (place : ℕ) → nat_eq place to.0 ≡ false → nat_eq place from.0 ≡ false → Back place
       from_other place away other = rw other
-          (subst (λ (l : List ℕ). RulesTo plan place to.0 (network.edges place) (network.edges to.0) (l ++ network.pipes place to.0)) (held_again ((network.edges to.0).peering place)) (ruled.two to.0 place (apart_turned place to.0 away)).1)
+          (subst (λ (l : List ℕ). RulesTo plan place to.0 (network.edges place) (network.edges to.0) (l ++ network.pipes place to.0)) (held_again ((network.edges to.0).peering place)) (ruled.two to.0 place (apart_back place to.0 away)).1)
 
   no_own_end : (a : ℕ) (network : NetworkState) (kept : Peering) → (network.edges a).peering a ≡ None → (network.edges a).peering a ≡ Some kept → ⊥
   no_own_end a network kept none is = clash2 (sym none ∙ is)
@@ -136,7 +134,7 @@ module _ (plan : Plan) (checked : IsChecked plan) (types : HasTypes plan) where
     by_drained kept at true = losing_ruled plan checked types to from network ruled
     by_drained kept at false = split {P = StaysRuled plan network (delivering plan from to count network).state} (nat_eq from.0 to.0)
         (λ is. absurd (no_own_end to.0 network kept (ordered.alone to.0) (ap (λ (k : ℕ). (network.edges to.0).peering k) (sym (eqb-true from.0 to.0 is)) ∙ at)))
-        (λ apart. delivering_ruled from to count network kept (ordered.two to.0 from.0 (apart_turned from.0 to.0 apart)) ruled apart at)
+        (λ apart. delivering_ruled from to count network kept (ordered.two to.0 from.0 (apart_back from.0 to.0 apart)) ruled apart at)
 
     by_test : (kept : Peering) → (network.edges to.0).peering from.0 ≡ Some kept → (b : Bool)
         → StaysRuled plan network (cond b (cond (is_drained_pipe network from.0 to.0) (losing plan to from network) (delivering plan from to count network)) (idle network)).state
@@ -177,14 +175,6 @@ nand false b none is = clash is
 contra : (a b : Bool) → (a ≡ true → b ≡ false) → b ≡ true → a ≡ false
 contra true b next is = clash (sym (next refl) ∙ is)
 contra false b next is = refl
-
-both_left : (a b : Bool) → a && b ≡ true → a ≡ true
-both_left true b is = refl
-both_left false b is = clash is
-
-both_right : (a b : Bool) → a && b ≡ true → b ≡ true
-both_right true b is = is
-both_right false b is = clash is
 
 meeting_is : (beside : EdgeId) (edge : EdgeState) → ((meeting beside edge).me ≡ edge.me) × ((meeting beside edge).ends ≡ edge.ends) × ((meeting beside edge).peering ≡ edge.peering)
 unfolding with_kept
@@ -267,12 +257,12 @@ module _ (plan : Plan) (network : NetworkState) (from to : EdgeId) (apart : nat_
   met_rules x y differ = by (nat_eq x from.0 && nat_eq y to.0) refl (nat_eq x to.0 && nat_eq y from.0) refl where
     by : (here : Bool) → nat_eq x from.0 && nat_eq y to.0 ≡ here → (there : Bool) → nat_eq x to.0 && nat_eq y from.0 ≡ there → RulesTo plan x y (met x) (met y) (flight network x y)
     by true is there too =
-        let same : nat_eq x from.0 ≡ true = both_left (nat_eq x from.0) (nat_eq y to.0) is in
-        let also : nat_eq y to.0 ≡ true = both_right (nat_eq x from.0) (nat_eq y to.0) is in
+        let same : nat_eq x from.0 ≡ true = first_holds (nat_eq x from.0) (nat_eq y to.0) is in
+        let also : nat_eq y to.0 ≡ true = second_holds (nat_eq x from.0) (nat_eq y to.0) is in
         silent x y differ (moved x y from.0 to.0 same also one) (moved y x to.0 from.0 also same other)
     by false is true too =
-        let same : nat_eq x to.0 ≡ true = both_left (nat_eq x to.0) (nat_eq y from.0) too in
-        let also : nat_eq y from.0 ≡ true = both_right (nat_eq x to.0) (nat_eq y from.0) too in
+        let same : nat_eq x to.0 ≡ true = first_holds (nat_eq x to.0) (nat_eq y from.0) too in
+        let also : nat_eq y from.0 ≡ true = second_holds (nat_eq x to.0) (nat_eq y from.0) too in
         silent x y differ (moved x y to.0 from.0 same also other) (moved y x from.0 to.0 also same one)
     by false is false too = rules_else x y differ (nand (nat_eq x from.0) (nat_eq y to.0) is) (nand (nat_eq x to.0) (nat_eq y from.0) too)
 
@@ -286,10 +276,10 @@ module _ (plan : Plan) (network : NetworkState) (from to : EdgeId) (apart : nat_
   }
 
   pub met_from : met from.0 ≡ meeting to (network.edges from.0)
-  met_from = rw (same_place from.0) refl
+  met_from = rw (same_number from.0) refl
 
   pub met_to : met to.0 ≡ meeting from (network.edges to.0)
-  met_to = rw (apart_turned from.0 to.0 apart, same_place to.0) refl
+  met_to = rw (apart_back from.0 to.0 apart, same_number to.0) refl
 
 -- an edge begins, where it has met
 met_begin : (plan : Plan) (network : NetworkState) (met : ℕ → EdgeState) (a b : ℕ) (me : EdgeId) (work : Work) → HasMet plan network met a b → work.edge ≡ met me.0 → work.effects ≡ [] → WorksRuled plan met me.0 (met me.0) (held_at network me.0) work
@@ -317,7 +307,7 @@ no_octets_held : (near : Option Peering) → is_there near ≡ false → octets_
 no_octets_held None none = refl
 no_octets_held (Some kept) none = clash (sym none)
 
-no_octets_by : (near : Option Peering) → is_there near ≡ false → held_by near ≡ []
+pub no_octets_by : (near : Option Peering) → is_there near ≡ false → held_by near ≡ []
 no_octets_by None none = refl
 no_octets_by (Some kept) none = clash (sym none)
 
@@ -355,7 +345,7 @@ module _ (plan : Plan) (checked : IsChecked plan) (types : HasTypes plan) where
         held = held_now peer.0 [] (held_at network me.0);
         works = works;
         same = λ place away. rw away refl;
-        none = rw (same_place peer.0) refl;
+        none = rw (same_number peer.0) refl;
         carries = carries_on plan network met a b me.0 (held_now peer.0 [] (held_at network me.0)) result is works;
       }
     where
@@ -420,7 +410,7 @@ module _ (plan : Plan) (a b : EdgeId) (network : NetworkState) (met : ℕ → Ed
 
   -- where the other end still stands
   stands_between : (there : Bool) → RulesTo plan a.0 b.0 one.edge other.edge (cond there (network.pipes a.0 b.0 ++ said_to b.0 one.effects) (network.pipes a.0 b.0))
-  stands_between true = between_rules plan a.0 b.0 network one other (met a.0) (met b.0) base one_me other_me up.works.keeps too.works.keeps (up.held b.0) (up.works.left b.0 (apart_turned a.0 b.0 apart)) bound_is
+  stands_between true = between_rules plan a.0 b.0 network one other (met a.0) (met b.0) base one_me other_me up.works.keeps too.works.keeps (up.held b.0) (up.works.left b.0 (apart_back a.0 b.0 apart)) bound_is
   stands_between false = between_still plan a.0 b.0 network one other (met a.0) (met b.0) base one_me other_me up.works.keeps too.works.keeps bound_is
 
   none_between : RulesTo plan a.0 b.0 one.edge other.edge []
@@ -463,7 +453,7 @@ module _ (plan : Plan) (checked : IsChecked plan) (types : HasTypes plan) where
   others_ruled : (met : ℕ → EdgeState) (me peer : EdgeId) (network : NetworkState) (work : Work) → HasMet plan network met me.0 peer.0 → HasConnected plan network met me peer work → LeavesOthers (FromBoth (OutRules plan)) network me peer work
   others_ruled met me peer network work is up place away gone =
       subst (λ (e : EdgeState). LeavesTo (FromBoth (OutRules plan)) me place e (flight network me.0 place) (network.pipes place me.0) work) (is.else place away gone)
-      (leaves_ruled plan me place (met me.0) (met place) (flight network me.0 place) (network.pipes place me.0) (up.held place) work (is.rules me.0 place (apart_turned place me.0 away))
+      (leaves_ruled plan me place (met me.0) (met place) (flight network me.0 place) (network.pipes place me.0) (up.held place) work (is.rules me.0 place (apart_back place me.0 away))
       (subst (λ (o : Option (List ℕ)). RulesTo plan place me.0 (met place) (met me.0) (octets_held o ++ network.pipes place me.0)) (sym (up.same place gone))
       (subst (λ (l : List ℕ). RulesTo plan place me.0 (met place) (met me.0) (l ++ network.pipes place me.0)) (held_again ((network.edges me.0).peering place)) (is.rules place me.0 away)))
       (up.works.edge.place ∙ sym (is.edges me.0).place) up.works.keeps (up.works.left place away))
@@ -481,7 +471,7 @@ module _ (plan : Plan) (checked : IsChecked plan) (types : HasTypes plan) where
       two = connected_two (FromBoth (OutRules plan)) network from to first second (both_turn (OutRules plan)) apart ruled.two
           (others_ruled met from to network first is_met up) (others_ruled met to from network second (met_turned plan network met from.0 to.0 is_met) too) (
             between_ruled plan from to network met first second up too apart is_met none_there,
-            behind_ruled plan to from network met second first too up (apart_turned from.0 to.0 apart) (met_turned plan network met from.0 to.0 is_met) none_here,
+            behind_ruled plan to from network met second first too up (apart_back from.0 to.0 apart) (met_turned plan network met from.0 to.0 is_met) none_here,
           );
     };
     keeps = λ k. split {P = Carries (network.edges k) (after.edges k)} (nat_eq k to.0)
@@ -533,7 +523,7 @@ module _ (plan : Plan) (checked : IsChecked plan) (types : HasTypes plan) where
       let have : HasMet plan network both from.0 to.0 = have_met plan network from to apart ordered ruled here there in
       connecting_ruled from to network both _ _ have apart none_here none_there ruled
       (up_connected plan checked types both from.0 to.0 from to network own other have (met_from plan network from to apart ordered ruled here there) apart is too)
-      (up_connected plan checked types both from.0 to.0 to from network other own have (met_to plan network from to apart ordered ruled here there) (apart_turned from.0 to.0 apart) too is)
+      (up_connected plan checked types both from.0 to.0 to from network other own have (met_to plan network from to apart ordered ruled here there) (apart_back from.0 to.0 apart) too is)
   rows_ruled from to network (Some own) None is too apart none_here none_there ordered ruled = still from to network apart none_here none_there ruled
   rows_ruled from to network None (Some other) is too apart none_here none_there ordered ruled = still from to network apart none_here none_there ruled
   rows_ruled from to network None None is too apart none_here none_there ordered ruled = still from to network apart none_here none_there ruled

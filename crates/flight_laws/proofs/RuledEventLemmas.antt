@@ -2,6 +2,7 @@
 use Rattle.std.proofs.Common.{◌≡◌, ◌≤◌, ◌<◌, ◌++◌, ◌&&◌, ◌∙◌, ◌+◌, ℕ, zero, suc, Bool, true, false, cond, not, nat_eq, length, List, [], Option, Some, None, refl, sym, subst, inl, arith}
 use Rattle.std.proofs.lemmas.Bool.{eqb-true, ne_eqb}
 use Rattle.std.proofs.lemmas.Bool.Decides.{nat_tests}
+use Rattle.net_values.proofs.NumberLemmas.{apart_back}
 use Rattle.net_base.specs.declared.plan.Plan.{Plan}
 use Rattle.net_base.specs.declared.plan.circuit_plan.CircuitPlan.{CircuitPlan}
 use Rattle.net_base.specs.declared.plan.places.CircuitId.{CircuitId}
@@ -44,9 +45,8 @@ use Rattle.flight_laws.proofs.NameLemmas.{KeepsNames, counted_carried, counted_n
 use Rattle.flight_laws.proofs.RuledInputLemmas.{circuit_ruled, idle_ruled, lost_ruled, packet_ruled, priority_ruled, received_ruled, status_ruled, tick_ruled, wire_ruled, ping_ruled}
 use Rattle.flight_laws.proofs.RuledLemmas.{IsRuledEdge, WorksRuled, steps_keep}
 use Rattle.flight_laws.proofs.RuledNetworkLemmas.{Carries, IsRuledNetwork, IsSettledIn, OutRules, RulesTo, StaysRuled, carries_same, held_again, held_at, ruled_answer, ruled_begin, ruled_in, ruled_settle, ruled_work, rules_mentioned, stays_ruled, stays_then}
-use Rattle.flight_laws.proofs.SettleLemmas.{apart_turned}
 use Rattle.flight_laws.proofs.ToldLemmas.{fresh_tells}
-use Rattle.flight_laws.proofs.WorkLemmas.{same_place}
+use Rattle.flight_laws.proofs.EventLemmas.{same_edges, none_left, away_from}
 
 -- ---- a tick passes at one edge, and at those from a place on
 
@@ -133,7 +133,7 @@ module _ (plan : Plan) (checked : IsChecked plan) (types : HasTypes plan) where
       messages = [];
       octets = refl;
       ruled = tt;
-      bound = (ruled.two me.0 place (apart_turned place me.0 away)).1.bound;
+      bound = (ruled.two me.0 place (apart_back place me.0 away)).1.bound;
       inward = inl (refl, refl);
     };
   }
@@ -148,10 +148,10 @@ module _ (plan : Plan) (checked : IsChecked plan) (types : HasTypes plan) where
       let settled : IsSettledIn plan network (tick_at plan me network).state me.0 work.edge =
       ruled_in plan network me 0 0 first (held_at network me.0) work (λ a b apart away gone. ruled.two a b apart) (λ a away. ruled.edges a) (is.0 ∙ (ruled.edges me.0).place) works
       (λ place away. rules_mentioned plan me.0 place (network.edges me.0) first (network.edges place) (network.edges place) (flight network me.0 place) is.0 refl refl
-      (counted_mentions place (network.edges me.0)) (λ wire label may. may) (ruled.two me.0 place (apart_turned place me.0 away)).0)
+      (counted_mentions place (network.edges me.0)) (λ wire label may. may) (ruled.two me.0 place (apart_back place me.0 away)).0)
       (λ place away. subst (λ (l : List ℕ). RulesTo plan place me.0 (network.edges place) first (l ++ network.pipes place me.0)) (held_again ((network.edges me.0).peering place))
       (rules_mentioned plan place me.0 (network.edges place) (network.edges place) (network.edges me.0) first (flight network place me.0) refl is.0 is.1
-      (λ wire label may. may) (counted_mentions place (network.edges me.0)) (ruled.two me.0 place (apart_turned place me.0 away)).1)) in
+      (λ wire label may. may) (counted_mentions place (network.edges me.0)) (ruled.two me.0 place (apart_back place me.0 away)).1)) in
       record {
         ruled = settled.ruled;
         own = subst (Grows (network.edges me.0)) (sym settled.own)
@@ -331,18 +331,6 @@ module _ (plan : Plan) (checked : IsChecked plan) (types : HasTypes plan) where
 
   -- ---- an edge restarts
 
-  same_edges : (me : EdgeId) (network : NetworkState) → (without_octets_to me network).edges ≡ network.edges
-  unfolding without_octets_to
-  same_edges me network = refl
-
-  away_from : (me : EdgeId) (network : NetworkState) (a b : ℕ) → nat_eq b me.0 ≡ false → (without_octets_to me network).pipes a b ≡ network.pipes a b
-  unfolding without_octets_to
-  away_from me network a b away = rw away refl
-
-  none_left : (me : EdgeId) (network : NetworkState) (a : ℕ) → (without_octets_to me network).pipes a me.0 ≡ []
-  unfolding without_octets_to
-  none_left me network a = rw (same_place me.0) refl
-
   restart_work_ruled : (me : EdgeId) (network : NetworkState) → IsRuledNetwork plan network → WorksRuled plan network.edges me.0 (network.edges me.0) (λ place. None) (restart_input (begin_at network me))
   unfolding changes with_learned without_peerings without_ends with_kept
   restart_work_ruled me network ruled =
@@ -374,8 +362,8 @@ module _ (plan : Plan) (checked : IsChecked plan) (types : HasTypes plan) where
       (ruled.edges me.0).place
       (subst (λ (f : ℕ → EdgeState). WorksRuled plan f me.0 (network.edges me.0) (λ place. None) (restart_input (begin_at network me))) (sym (same_edges me network)) (restart_work_ruled me network ruled))
       (λ place away. subst (λ (f : ℕ → EdgeState). RulesTo plan me.0 place (network.edges me.0) (f place) (flight (without_octets_to me network) me.0 place)) (sym (same_edges me network))
-      (subst (RulesTo plan me.0 place (network.edges me.0) (network.edges place)) (sym (restart_out me place network away)) (ruled.two me.0 place (apart_turned place me.0 away)).0))
+      (subst (RulesTo plan me.0 place (network.edges me.0) (network.edges place)) (sym (restart_out me place network away)) (ruled.two me.0 place (apart_back place me.0 away)).0))
       (λ place away. subst (λ (f : ℕ → EdgeState). RulesTo plan place me.0 (f place) (network.edges me.0) ([] ++ (without_octets_to me network).pipes place me.0)) (sym (same_edges me network))
       (subst (λ (l : List ℕ). RulesTo plan place me.0 (network.edges place) (network.edges me.0) ([] ++ l)) (sym (none_left me network place))
-      (record { messages = []; octets = refl; ruled = tt; bound = (ruled.two me.0 place (apart_turned place me.0 away)).1.bound })))
+      (record { messages = []; octets = refl; ruled = tt; bound = (ruled.two me.0 place (apart_back place me.0 away)).1.bound })))
       (subst (λ (f : ℕ → EdgeState). KeepsNames (f me.0) (network.edges me.0)) (sym (same_edges me network)) (names_same (network.edges me.0))))

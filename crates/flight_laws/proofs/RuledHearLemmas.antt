@@ -3,6 +3,7 @@ use Rattle.std.proofs.Common.{◌≡◌, ◌≤◌, ◌<◌, ◌^◌, ◌==◌, 
 use Rattle.std.specs.Prelude.{nat_le}
 use Rattle.std.specs.Option.{option_and_then}
 use Rattle.std.proofs.lemmas.Bool.Decides.{nat_tests}
+use Rattle.net_values.proofs.BoolLemmas.{clash}
 use Rattle.net_base.specs.declared.plan.Plan.{Plan}
 use Rattle.net_base.specs.declared.plan.places.EdgeId.{EdgeId}
 use Rattle.net_base.specs.declared.plan.places.WireId.{WireId}
@@ -11,6 +12,7 @@ use Rattle.net_base.specs.plan.Accepted.{IsChecked}
 use Rattle.net_base.specs.plan.Paths.{expected, joins}
 use Rattle.net_base.specs.plan.Places.{wire_row}
 use Rattle.net_base.proofs.PathLemmas.{joins_turned}
+use Rattle.net_base.proofs.CommonLemmas.{same_row}
 use Rattle.pw_tlvs.specs.declared.point.Point.{Point}
 use Rattle.pw_tlvs.specs.declared.pw_fec.PwFec.{PwFec}
 use Rattle.pw_tlvs.specs.declared.pw_status.PwStatus.{PwStatus}
@@ -43,7 +45,6 @@ use Rattle.flight_laws.proofs.NameLemmas.{end_fact, names_end, names_releasing, 
 use Rattle.flight_laws.proofs.OfferLemmas.{IsOfWires, release_is}
 use Rattle.flight_laws.proofs.PlaceLemmas.{NamedEnd, end_of}
 use Rattle.flight_laws.proofs.RuledLemmas.{ChangesEnds, FitsIf, IsFitEnd, IsRuled, WorksRuled, changes_keep}
-use Rattle.flight_laws.proofs.RowLemmas.{clash}
 use Rattle.flight_laws.proofs.RuledMendLemmas.{rows_ruled}
 use Rattle.flight_laws.proofs.RuledSessionLemmas.{event_ruled, says_ruled}
 use Rattle.flight_laws.proofs.SaidLemmas.{ready}
@@ -85,10 +86,6 @@ module _ (plan : Plan) (checked : IsChecked plan) (types : HasTypes plan) (other
 
   abbrev Ruled : Message → Type 0
   Ruled m = IsRuled plan peer.0 me.0 (others peer.0) first m
-
-  changed : (change : EdgeState → EdgeState) (work : Work) → (changes change work).edge ≡ change work.edge
-  unfolding changes
-  changed change work = refl
 
   same_changes : (work : Work) → At work → ChangesEnds plan others me.0 work.edge work.edge
   same_changes work works = record {
@@ -172,10 +169,7 @@ module _ (plan : Plan) (checked : IsChecked plan) (types : HasTypes plan) (other
   turned row joined = sym (joins_turned row.path peer.0 me.0) ∙ joined
 
   row_of : (wire other : WireId) (one row : WirePlan) → other ≡ wire → wire_row plan wire ≡ Some one → wire_row plan other ≡ Some row → one ≡ row
-  row_of wire other one row same is too = equal (sym is ∙ (ap (λ (w : WireId). wire_row plan w) (sym same) ∙ too))
-    where
-      equal : {a b : WirePlan} → Some a ≡ Some b → a ≡ b
-      equal e = cc
+  row_of wire other one row same is too = same_row (sym is ∙ (ap (λ (w : WireId). wire_row plan w) (sym same) ∙ too))
 
   mapping_heard : (id : ℕ) (fec : PwFec) (label : ℕ) (status : Option PwStatus) (points : List Point) (work : Work) → Ruled (LabelMapping id fec label status points) → At work
       → At (maps_to plan taken_all peer fec (binding_in fec label status points) (end_of_fec plan work.edge peer fec) work)

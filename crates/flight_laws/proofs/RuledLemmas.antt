@@ -1,7 +1,8 @@
 -- An edge at work keeps the rules of labels and of told contents, whatever it says and hears.
-use Rattle.std.proofs.Common.{◌≡◌, ◌≤◌, ◌<◌, ◌^◌, ◌+◌, ◌-◌, ◌==◌, ◌++◌, ◌∙◌, ◌⊎◌, ℕ, true, false, nat_eq, List, [], ◌∷◌, Option, Some, None, refl, sym, ap, subst, inl, inr, ⊎_elim, arith}
+use Rattle.std.proofs.Common.{◌≡◌, ◌≤◌, ◌<◌, ◌^◌, ◌+◌, ◌-◌, ◌++◌, ◌∙◌, ◌⊎◌, ℕ, true, false, nat_eq, List, [], ◌∷◌, Option, Some, None, refl, sym, ap, subst, inl, inr, ⊎_elim}
 use Rattle.std.proofs.lemmas.Bool.{eqb-true}
-use Rattle.std.proofs.lemmas.Bool.Decides.{nat_tests}
+use Rattle.net_values.proofs.BoolLemmas.{or_false}
+use Rattle.net_values.proofs.NumberLemmas.{same_number}
 use Rattle.net_base.specs.declared.plan.Plan.{Plan}
 use Rattle.net_base.specs.declared.plan.places.EdgeId.{EdgeId}
 use Rattle.label_space.specs.Labels.{numbers_end}
@@ -9,7 +10,8 @@ use Rattle.ldp_grammar.specs.declared.message.Message.{Message}
 use Rattle.ldp_grammar.specs.Written.{written}
 use Rattle.pw_signalling.specs.End.{EndState}
 use Rattle.session_core.specs.declared.peers.Peers.{Peers}
-use Rattle.pw_messages.specs.Sender.{following, platform_of}
+use Rattle.pw_messages.specs.Sender.{platform_of}
+use Rattle.pw_messages.proofs.CommonLemmas.{following_small}
 use Rattle.edge_model.specs.declared.effect.Effect.TheVariants as effect
 use Rattle.edge_model.specs.Put.{having_spoken}
 use Rattle.edge_model.specs.State.{EdgeState, Peering, with_peering}
@@ -24,7 +26,7 @@ use Rattle.flight_laws.proofs.NameLemmas.{HasKept, HasLeast, KeepsNames, names_s
 use Rattle.flight_laws.proofs.OutcomeLemmas.{IsFitSession}
 use Rattle.flight_laws.proofs.SaidLemmas.{IsReady, all_joined}
 use Rattle.flight_laws.proofs.ToldLemmas.{TellsFirm, TellsOwn}
-use Rattle.flight_laws.proofs.WorkLemmas.{closes-append, or_false, said-append, same_end, same_place}
+use Rattle.flight_laws.proofs.WorkLemmas.{closes-append, said-append, same_end}
 
 -- ---- what holds of one edge
 
@@ -261,14 +263,8 @@ pub spoken_fits : (own : Peers) (kept : Peering) → IsFitEnd own kept → IsFit
 spoken_fits own kept fit = record {
   session = record { peers = fit.session.peers; least = fit.session.least; most = fit.session.most };
   fit = fit.fit;
-  numbered = next_fits kept.next_id fit.numbered;
+  numbered = following_small kept.next_id fit.numbered;
 }
-  where
-    next_fits : (id : ℕ) → id < 2 ^ 32 → following id < 2 ^ 32
-    next_fits id low = split {P = following id < 2 ^ 32} (id == 2 ^ 32 - 1) (λ b. rw b (omega arith)) (λ b. rw b (less id low b))
-      where
-        less : (id : ℕ) → id < 2 ^ 32 → (id == 2 ^ 32 - 1) ≡ false → id + 1 < 2 ^ 32
-        less id low other = grind (arith, nat_tests)
 
 -- a message is said
 pub says_octets : (plan : Plan) (others : ℕ → EdgeState) (me : ℕ) (first : EdgeState) (held : ℕ → Option (List ℕ)) (peer : EdgeId) (m : Message) (work : Work)
@@ -302,7 +298,7 @@ says_octets plan others me first held peer m work ruled works = steps_keep plan 
     to_peer : nat_eq peer.0 me ≡ false → StepsFor plan me peer.0 (others peer.0) (held peer.0) work said
     to_peer away = record {
       messages = m ∷ [];
-      octets = said-append peer.0 work.effects (effect.Said peer bytes ∷ []) ∙ rw (same_place peer.0) refl;
+      octets = said-append peer.0 work.effects (effect.Said peer bytes ∷ []) ∙ rw (same_number peer.0) refl;
       ruled = (ruled away, tt);
       bound = λ wire. (works.left peer.0 away).bound wire;
       inward = inward_moved peer.0 (held peer.0) work said refl (closes-append peer.0 work.effects (effect.Said peer bytes ∷ []) ∙ or_false (closes peer.0 work.effects)) (works.left peer.0 away).inward;

@@ -13,19 +13,22 @@ use Rattle.net_base.specs.plan.Accepted.{IsChecked, IsOffer, IsWireOf}
 use Rattle.net_base.specs.plan.Paths.{edge_address, expected, follows, joins, mate_on, offer_of, points_on, way_from}
 use Rattle.net_base.proofs.PathLemmas.{joins_turned, mate_back, mate_joined, place_of}
 use Rattle.net_base.specs.plan.Places.{wire_row}
+use Rattle.net_base.proofs.CommonLemmas.{same_row}
 use Rattle.net_values.specs.Label.{IsLabel}
+use Rattle.net_values.proofs.NumberLemmas.{same_number, below_32_bits}
+use Rattle.net_values.proofs.RowLemmas.{row_holds}
 use Rattle.label_space.specs.Labels.{next_after, numbers_end}
+use Rattle.label_space.proofs.LawLemmas.{after_within}
 use Rattle.pw_tlvs.specs.declared.pw_status.PwStatus.{PwStatus}
 use Rattle.pw_tlvs.specs.Written.{IsPointInRange}
 use Rattle.ldp_grammar.specs.Written.{IsState, point_tlvs}
-use Rattle.pw_status.proofs.StatusLemmas.{combined_most}
-use Rattle.pw_status.specs.Status.{combined, method_by}
+use Rattle.pw_status.specs.Status.{method_by}
 use Rattle.pw_signalling.specs.declared.binding.Binding.{Binding}
 use Rattle.pw_signalling.specs.declared.told.Told.{Told}
 use Rattle.pw_signalling.specs.End.{EndState, Idle, Advertised}
 use Rattle.pw_signalling.specs.Rows.{advertised, telling, withdrawn}
 use Rattle.pw_messages.specs.Content.{content_of, mac_withdrawal, mapping, status_notification, withdrawal}
-use Rattle.pw_stitch.specs.Passing.{own_point, passed_status, stated_or_clear, wanted}
+use Rattle.pw_stitch.specs.Passing.{own_point, passed_status, wanted}
 use Rattle.spoke_redundancy.specs.Telling.{is_not_chosen}
 use Rattle.edge_model.specs.Across.{held_from, held_of, mate_of}
 use Rattle.edge_model.specs.declared.effect.Effect.TheVariants.{Wire}
@@ -48,36 +51,25 @@ use Rattle.flight_laws.proofs.AcceptLemmas.{wanted_tells}
 use Rattle.flight_laws.proofs.KeepLemmas.{KeepsEnds}
 use Rattle.flight_laws.proofs.MendingLemmas.{KeptByRows}
 use Rattle.flight_laws.proofs.MentionLemmas.{clearance_far, clearance_own, mapping_far, mapping_names, status_far, status_own, withdrawal_far, withdrawal_names}
-use Rattle.flight_laws.proofs.NameLemmas.{IsToGive, advertised_next, end_fact, given_below, given_least, is_same, names_advertising, names_new, names_telling, names_withdrawing, to_give}
+use Rattle.flight_laws.proofs.NameLemmas.{IsToGive, advertised_next, end_fact, given_below, given_least, names_advertising, names_new, names_telling, names_withdrawing, to_give}
 use Rattle.flight_laws.proofs.OfferLemmas.{IsOfWires, clearance_is, content_can, mapping_sound, offer_sound, own_in_range, own_octets, status_is, withdrawal_is}
 use Rattle.flight_laws.proofs.PieceLemmas.{IsPiece}
 use Rattle.flight_laws.proofs.PlaceLemmas.{IsEndOf, NamedEnd, end_of}
-use Rattle.flight_laws.proofs.PlanLemmas.{row_holds}
 use Rattle.flight_laws.proofs.RuledLemmas.{ChangesEnds, IsQuietStep, IsRuled, WorksRuled, changes_keep, quiet_keeps}
 use Rattle.flight_laws.proofs.RuledSessionLemmas.{SaysNothing, gives_quiet, says_ruled}
 use Rattle.flight_laws.proofs.SaidLemmas.{ready}
-use Rattle.flight_laws.proofs.SteadyLemmas.{edge_address_is}
-use Rattle.flight_laws.proofs.SoundLemmas.{after_most}
+use Rattle.flight_laws.proofs.SteadyLemmas.{edge_address_is, stated_small, small_status}
 use Rattle.flight_laws.proofs.TellLemmas.{TellsOwnOffer, tells_own_offer}
 use Rattle.flight_laws.proofs.ToldLemmas.{HeldFits, TellsAt, TellsOwn, clearance_tells, has_status, local_tells, mapping_tells, near_advertised, near_told, near_withdrawn, notification_tells, offer_tells, withdrawal_tells}
-
-clash : {P : Type 0} → false ≡ true → P
-clash e = absurd (cc)
+use Rattle.flight_laws.proofs.WorksLemmas.{changed_edge}
 
 -- ---- what an end should tell
 
 pub status_small : (plan : Plan) (edge : EdgeState) (me : ℕ) (place : EndPlace) → edge.bits place.wire.0 ≤ 31 → TellsOwn plan me edge → (status_to_tell plan edge place).0 < 2 ^ 32
-status_small plan edge me place low tells = by_side place.terminal (own (edge.bits place.wire.0) (is_not_chosen (role_at plan edge place)) low) (across (mate_of edge.me place (wire_row plan place.wire))) where
-  own : (bits : ℕ) (standby : Bool) → bits ≤ 31 → (combined bits standby).0 < 2 ^ 32
-  own bits standby low = omega (arith, low, combined_most bits standby)
-
-  stated : (status : Option PwStatus) → IsState status → (stated_or_clear status).0 < 2 ^ 32
-  stated None small = omega arith
-  stated (Some status) small = small
-
+status_small plan edge me place low tells = by_side place.terminal (small_status (edge.bits place.wire.0) (is_not_chosen (role_at plan edge place)) low) (across (mate_of edge.me place (wire_row plan place.wire))) where
   of_held : (held : Option Binding) → HeldFits held → (passed_status held).0 < 2 ^ 32
   of_held None fits = omega arith
-  of_held (Some binding) fits = stated binding.told.status fits.1
+  of_held (Some binding) fits = stated_small binding.told.status fits.1
 
   across : (from : Option EdgeId) → (passed_status (held_from (held_of edge place.wire) from)).0 < 2 ^ 32
   across None = omega arith
@@ -100,10 +92,7 @@ pub wire_fits : (plan : Plan) (wire : WireId) (row : WirePlan) → IsChecked pla
 wire_fits plan wire row checked is = row_holds (IsWireOf plan) plan.wires wire.0 row is checked.wires
 
 pub pw_id_fits : (plan : Plan) (wire : WireId) (row : WirePlan) → IsChecked plan → wire_row plan wire ≡ Some row → row.pw_id < 2 ^ 32
-pw_id_fits plan wire row checked is = below row.pw_id (wire_fits plan wire row checked is).pw_id.1
-  where
-    below : (n : ℕ) → n ≤ 4294967295 → n < 2 ^ 32
-    below n low = omega (arith, low)
+pw_id_fits plan wire row checked is = below_32_bits row.pw_id (wire_fits plan wire row checked is).pw_id.1
 
 -- what the plan has an edge tell can be told
 pub told_can : (plan : Plan) (wire : WireId) (row : WirePlan) (from to label : ℕ) (told : Told) → HasTypes plan → wire_row plan wire ≡ Some row → TellsExpected plan row from to told → IsLabel label → CanBeTold label told
@@ -152,7 +141,7 @@ told_sound plan wire row from to told checked types is joined tells state =
 label_below : (n : ℕ) → n < numbers_end → n ≤ 1048575
 label_below n low = omega (arith, low)
 
-label_below_next : (label next : ℕ) → label < next → next ≤ numbers_end → label ≤ 1048575
+pub label_below_next : (label next : ℕ) → label < next → next ≤ numbers_end → label ≤ 1048575
 label_below_next label next low most = omega (arith, low, most)
 
 given_label : (label next : ℕ) → 16 ≤ label → label < next → next ≤ numbers_end → IsLabel label
@@ -162,10 +151,7 @@ given_label label next least low most = record { above = least; below = label_be
 
 -- a row is the one of the wire
 row_is : (plan : Plan) (wire : WireId) (one other : WirePlan) → wire_row plan wire ≡ Some one → wire_row plan wire ≡ Some other → other ≡ one
-row_is plan wire one other is too = same (sym too ∙ is)
-  where
-    same : {a b : WirePlan} → Some a ≡ Some b → a ≡ b
-    same e = cc
+row_is plan wire one other is too = same_row (sym too ∙ is)
 
 module _ (plan : Plan) (checked : IsChecked plan) (types : HasTypes plan) (others : ℕ → EdgeState) (me : EdgeId) (first : EdgeState) (held : ℕ → Option (List ℕ)) where
   abbrev At : Work → Type 0
@@ -179,10 +165,6 @@ module _ (plan : Plan) (checked : IsChecked plan) (types : HasTypes plan) (other
   name_is : (place : EndPlace) (edge : EdgeState) → edge.me ≡ me → (end_is : IsEndOf plan me place) → (named : NamedEnd plan me place.peer place.wire end_is.row)
       → end_named plan edge.me (record { 0 = place.peer.0 }) place.pw_id ≡ Some named.place
   name_is place edge at end_is named = ap (λ (k : EdgeId). end_named plan k place.peer place.pw_id) at ∙ (ap (λ (n : ℕ). end_named plan me place.peer n) end_is.pw_id ∙ named.named)
-
-  changed : (change : EdgeState → EdgeState) (work : Work) → (changes change work).edge ≡ change work.edge
-  unfolding changes
-  changed change work = refl
 
   -- an end tells what it wishes: a terminal end its own offer, and another one what it holds on its other side
   abbrev WishTells : EndPlace → WirePlan → Told → Type 0
@@ -267,7 +249,7 @@ module _ (plan : Plan) (checked : IsChecked plan) (types : HasTypes plan) (other
     place = refl;
     peering = refl;
     keeps = names_advertising place label content work.edge false idle works.edge.owned works.edge.rests (to_give work.edge label works.edge.rests given);
-    most = subst (λ (n : ℕ). n ≤ numbers_end) (sym (advertised_next place label content work.edge)) (after_most work.edge.next_label works.edge.most);
+    most = subst (λ (n : ℕ). n ≤ numbers_end) (sym (advertised_next place label content work.edge)) (after_within work.edge.next_label works.edge.most);
     bits = works.edge.bits;
     tells = λ wire peer. end_fact (λ w k e. TellsAt plan me.0 w k e) place (advertised label content (end_at work.edge place)) work.edge wire peer
         (local_tells plan me.0 place.wire.0 place.peer.0 (end_at work.edge place) (advertised label content (end_at work.edge place)).local
@@ -289,10 +271,10 @@ module _ (plan : Plan) (checked : IsChecked plan) (types : HasTypes plan) (other
       let give : IsToGive work.edge label = to_give work.edge label works.edge.rests given in
       let new : ChangesEnds plan others me.0 work.edge next = advertising_changes place label content work end_is idle given tells works in
       let after : Work = changes (advertising place label content) work in
-      let after_is : after.edge ≡ next = changed (advertising place label content) work in
+      let after_is : after.edge ≡ next = changed_edge (advertising place label content) work in
       let named : NamedEnd plan me place.peer place.wire end_is.row = end_of plan me place.peer place.wire end_is.row checked end_is.is end_is.joined in
       let label_is : IsLabel label =
-      given_label label (next_after work.edge.next_label) (given_least 16 work.edge label works.edge.least give) (given_below work.edge label works.edge.rests give) (after_most work.edge.next_label works.edge.most) in
+      given_label label (next_after work.edge.next_label) (given_least 16 work.edge label works.edge.least give) (given_below work.edge label works.edge.rests give) (after_within work.edge.next_label works.edge.most) in
       let row_small : place.pw_id < 2 ^ 32 = subst (λ (n : ℕ). n < 2 ^ 32) (sym end_is.pw_id) (pw_id_fits plan place.wire end_is.row checked end_is.is) in
       let sayable : IsOfWires (mapping place.pw_id label content) =
       mapping_sound place.pw_id label content row_small label_is (told_sound plan place.wire end_is.row me.0 place.peer.0 content checked types end_is.is end_is.joined tells told.1) in
@@ -313,7 +295,7 @@ module _ (plan : Plan) (checked : IsChecked plan) (types : HasTypes plan) (other
 
   -- its label is its own, and one
   owned_is : (place : EndPlace) (label : ℕ) (content : Told) (work : Work) → (end_at work.edge place).local ≡ Advertised label content → part_owns (end_at work.edge place).local label ≡ true
-  owned_is place label content work at = rw at (is_same label)
+  owned_is place label content work at = rw at (same_number label)
 
   label_is : (place : EndPlace) (label : ℕ) (content : Told) (work : Work) → (end_at work.edge place).local ≡ Advertised label content → At work → IsLabel label
   label_is place label content work at works =
@@ -355,7 +337,7 @@ module _ (plan : Plan) (checked : IsChecked plan) (types : HasTypes plan) (other
       let sayable : IsOfWires (withdrawal place.pw_id label content) =
       withdrawal_is place.pw_id label content row_small (told_can plan place.wire end_is.row me.0 place.peer.0 label content types end_is.is tells (label_is place label content work at works)) in
       says_ruled plan others me.0 first held place.peer (withdrawal place.pw_id label content) after
-      (λ id low fit away. subst (λ (e : EdgeState). IsRuled plan me.0 place.peer.0 e (others place.peer.0) (withdrawal place.pw_id label content id)) (sym (changed (withdrawing place) work)) (record {
+      (λ id low fit away. subst (λ (e : EdgeState). IsRuled plan me.0 place.peer.0 e (others place.peer.0) (withdrawal place.pw_id label content id)) (sym (changed_edge (withdrawing place) work)) (record {
         fit = fit;
         ready = ready (ends_at plan me.0 place.peer.0) (withdrawal place.pw_id label content id) fit (sayable.said (ends_at plan me.0 place.peer.0) id low);
         own = withdrawal_names plan (withdrawing place work.edge) place.peer.0 named.place place.pw_id label content id (name_is place (withdrawing place work.edge) (new.place ∙ works.edge.place) end_is named)

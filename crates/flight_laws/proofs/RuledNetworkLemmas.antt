@@ -1,6 +1,7 @@
 -- What an edge has done goes into the network, and the rules of labels and of told contents hold there again.
 use Rattle.std.proofs.Common.{◌≡◌, ◌++◌, ◌∙◌, ℕ, Bool, true, false, cond, nat_eq, List, [], Option, Some, None, refl, sym, ap, subst, inl, ⊎_elim}
 use Rattle.std.proofs.lemmas.Bool.{eqb-true}
+use Rattle.net_values.proofs.NumberLemmas.{apart_back}
 use Rattle.net_base.specs.declared.plan.Plan.{Plan}
 use Rattle.net_base.specs.declared.plan.places.EdgeId.{EdgeId}
 use Rattle.ldp_grammar.specs.declared.message.Message.{Message}
@@ -20,7 +21,7 @@ use Rattle.flight_laws.proofs.NameLemmas.{KeepsNames, names_same, names_then, sp
 use Rattle.flight_laws.proofs.PipeLemmas.{all_edges}
 use Rattle.flight_laws.proofs.RuledLemmas.{IsRuled, IsRuledEdge, IsRuledFor, WorksRuled, holds_of, ruled_kept}
 use Rattle.flight_laws.proofs.SaidLemmas.{all_joined}
-use Rattle.flight_laws.proofs.SettleLemmas.{apart_turned, both_turn, edge_else, edge_there, settle}
+use Rattle.flight_laws.proofs.SettleLemmas.{both_turn, edge_else, edge_there, settle}
 
 -- ---- two edges
 
@@ -194,7 +195,7 @@ ruled_begin plan network me ruled = record {
     messages = [];
     octets = refl;
     ruled = tt;
-    bound = (ruled.two me.0 place (apart_turned place me.0 away)).1.bound;
+    bound = (ruled.two me.0 place (apart_back place me.0 away)).1.bound;
     inward = inl (refl, refl);
   };
 }
@@ -207,8 +208,8 @@ pub ruled_work : (plan : Plan) (network : NetworkState) (me : EdgeId) (origin ho
     → StaysRuled plan network (absorb me origin hops work network).state
 ruled_work plan network me origin hops work ruled works =
     ruled_settle plan network me origin hops (network.edges me.0) (held_at network me.0) work (λ a b apart away gone. ruled.two a b apart) (λ a away. ruled.edges a) (ruled.edges me.0).place works
-    (λ place away. (ruled.two me.0 place (apart_turned place me.0 away)).0)
-    (λ place away. subst (λ (l : List ℕ). RulesTo plan place me.0 (network.edges place) (network.edges me.0) (l ++ network.pipes place me.0)) (held_again ((network.edges me.0).peering place)) (ruled.two me.0 place (apart_turned place me.0 away)).1)
+    (λ place away. (ruled.two me.0 place (apart_back place me.0 away)).0)
+    (λ place away. subst (λ (l : List ℕ). RulesTo plan place me.0 (network.edges place) (network.edges me.0) (l ++ network.pipes place me.0)) (held_again ((network.edges me.0).peering place)) (ruled.two me.0 place (apart_back place me.0 away)).1)
     (names_same (network.edges me.0))
 
 pub ruled_answer : (plan : Plan) (network : NetworkState) (me : EdgeId) (origin hops : ℕ) (work : Work) → IsRuledNetwork plan network → WorksRuled plan network.edges me.0 (network.edges me.0) (held_at network me.0) work

@@ -1,16 +1,14 @@
 -- Every run keeps the rules of labels and of told contents.
-use Rattle.std.proofs.Common.{◌≡◌, ◌≤◌, ◌∙◌, ℕ, Bool, false, true, nat_eq, List, [], ◌∷◌, Option, Some, None, slice_get, refl, sym, arith}
+use Rattle.std.proofs.Common.{◌≡◌, ◌∙◌, ℕ, Bool, false, true, nat_eq, List, [], ◌∷◌, slice_get, refl, sym, arith}
 use Rattle.std.proofs.lemmas.List.Elements.{All-head, All-tail}
 use Rattle.std.specs.List.{All}
+use Rattle.net_values.proofs.BoolLemmas.{clash}
 use Rattle.net_base.specs.declared.plan.Plan.{Plan}
-use Rattle.net_base.specs.declared.plan.edge_plan.EdgePlan.{EdgePlan}
 use Rattle.net_base.specs.declared.trace.event.Event.{Event}
 use Rattle.net_base.specs.declared.trace.event.Event.TheVariants.{Connect, Deliver, Lose, Restart, Tick, Frame, Arrive, Discard, Again, Wire, Circuit, Status, Priority, Ping}
-use Rattle.net_base.specs.plan.Accepted.{IsChecked, IsEdgePlan}
+use Rattle.net_base.specs.plan.Accepted.{IsChecked}
 use Rattle.net_base.specs.plan.Places.{circuit_row}
 use Rattle.net_base.specs.plan.Planned.{IsEventOf}
-use Rattle.label_space.specs.Labels.{numbers_end}
-use Rattle.edge_model.specs.State.{label_of}
 use Rattle.network_model.specs.Packet.{packet_at}
 use Rattle.network_model.specs.Run.{state_after}
 use Rattle.network_model.specs.State.{NetworkState, empty_network}
@@ -19,12 +17,11 @@ use Rattle.flight_laws.specs.Ends.{HasTypes, IsOrdered}
 use Rattle.flight_laws.specs.Laws.{AreOnWay, IsRun, KeepsLabelRule, KeepsToldRule, RunsKeepLabelRule, RunsKeepToldRule, network_after}
 use Rattle.flight_laws.specs.Rules.{NamesFar, NamesOwn, TellsPlan}
 use Rattle.flight_laws.proofs.MentionLemmas.{all_kept}
-use Rattle.flight_laws.proofs.PlanLemmas.{row_holds}
 use Rattle.flight_laws.proofs.RuledDeliverLemmas.{connect_event_ruled, deliver_event_ruled, ruled_said}
 use Rattle.flight_laws.proofs.RuledEventLemmas.{again_event_ruled, arrive_event_ruled, circuit_event_ruled, discard_event_ruled, frame_event_ruled, lose_ruled, priority_event_ruled, restart_event_ruled, status_event_ruled, tick_event_ruled, wire_event_ruled, ping_event_ruled}
 use Rattle.flight_laws.proofs.RuledLemmas.{IsRuled}
 use Rattle.flight_laws.proofs.RuledNetworkLemmas.{IsRuledNetwork, RulesTo, StaysRuled}
-use Rattle.flight_laws.proofs.RunLemmas.{empty_ordered, run_ordered, step_keeps}
+use Rattle.flight_laws.proofs.RunLemmas.{empty_ordered, run_ordered, step_keeps, first_fits}
 use Rattle.flight_laws.proofs.ToldLemmas.{fresh_tells, tells_plan}
 
 -- ---- events
@@ -57,27 +54,14 @@ brings_ruled plan event network checked types planned ordered ruled = (brings_st
 
 -- ---- runs
 
--- before the first event
-label_least : (plan : Plan) (row : Option EdgePlan) (place : ℕ) → slice_get plan.edges place ≡ row → IsChecked plan → (16 ≤ label_of row) × (label_of row ≤ numbers_end)
-label_least plan None place is checked = (omega arith, omega arith)
-label_least plan (Some row) place is checked =
-    let edge : IsEdgePlan row = row_holds IsEdgePlan plan.edges place row is checked.edges in
-    (edge.first_label.0, below row.first_label edge.first_label.1)
-  where
-    below : (n : ℕ) → n ≤ 1048575 → n ≤ numbers_end
-    below n low = omega (arith, low)
-
-nothing_owned : {P : Type 0} → false ≡ true → P
-nothing_owned e = absurd (cc)
-
 pub empty_ruled : (plan : Plan) → IsChecked plan → IsRuledNetwork plan (empty_network plan)
 empty_ruled plan checked = record {
   edges = λ a. record {
     place = refl;
-    owned = λ wire peer label owned. nothing_owned owned;
+    owned = λ wire peer label owned. clash owned;
     rests = record { rising = tt; below = λ label there. absurd (there refl); unowned = λ label there wire peer. refl };
-    least = record { next = (label_least plan (slice_get plan.edges a) a refl checked).0; owned = λ wire peer label owned. nothing_owned owned; kept = λ label there. absurd (there refl) };
-    most = (label_least plan (slice_get plan.edges a) a refl checked).1;
+    least = record { next = (first_fits plan (slice_get plan.edges a) a refl checked).0; owned = λ wire peer label owned. clash owned; kept = λ label there. absurd (there refl) };
+    most = (first_fits plan (slice_get plan.edges a) a refl checked).1;
     bits = λ wire. omega arith;
     tells = λ wire peer. fresh_tells plan a wire peer;
     sessions = λ peer. tt;

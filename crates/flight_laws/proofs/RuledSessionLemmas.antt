@@ -1,6 +1,8 @@
 -- What happens to a session of an edge at work, and what the edge says in it, keeps the rules of labels and of told contents.
 use Rattle.std.proofs.Common.{◌≡◌, ◌<◌, ◌^◌, ◌++◌, ◌||◌, ◌∙◌, ℕ, Bool, true, false, cond, nat_eq, List, [], ◌∷◌, Option, Some, None, refl, sym, ap, subst, inr}
 use Rattle.std.specs.List.{AllByRecursion}
+use Rattle.net_values.proofs.BoolLemmas.{or_false, or_true}
+use Rattle.net_values.proofs.NumberLemmas.{same_number}
 use Rattle.net_base.specs.declared.plan.Plan.{Plan}
 use Rattle.net_base.specs.declared.plan.places.EdgeId.{EdgeId}
 use Rattle.net_base.specs.declared.trace.state_name.Reason.{Reason}
@@ -34,7 +36,8 @@ use Rattle.flight_laws.proofs.OutcomeLemmas.{FitEvent, FitOutcome, IsFitReply, o
 use Rattle.flight_laws.proofs.RuledLemmas.{ChangesEnds, FitsIf, IsFitEnd, IsInward, IsQuietStep, IsRuled, SameEnds, WorksRuled, changes_keep, quiet_keeps, ruled_kept, says_octets, spoken_fits, steps_keep, still_stands}
 use Rattle.flight_laws.proofs.SaidLemmas.{IsReady, ready, ready_reply}
 use Rattle.flight_laws.proofs.ToldLemmas.{TellsAt, fresh_tells, reply_tells}
-use Rattle.flight_laws.proofs.WorkLemmas.{closes-append, or_false, said-append, same_end, same_place}
+use Rattle.flight_laws.proofs.WorkLemmas.{closes-append, said-append, same_end}
+use Rattle.flight_laws.proofs.WorksLemmas.{given_edge}
 
 -- ---- replies
 
@@ -100,11 +103,7 @@ module _ (plan : Plan) (others : ℕ → EdgeState) (me : ℕ) (first : EdgeStat
 
   now_kept : (peer : EdgeId) (now : Peering) (work : Work) → (changes (with_peering peer (Some now)) work).edge.peering peer.0 ≡ Some now
   unfolding changes with_peering
-  now_kept peer now work = rw (same_place peer.0) refl
-
-  given_edge : (e : Effect) (work : Work) → (gives e work).edge ≡ work.edge
-  unfolding gives
-  given_edge e work = refl
+  now_kept peer now work = rw (same_number peer.0) refl
 
   moved_me : (peer : EdgeId) (now : Peering) (work : Work) → (changes (with_peering peer (Some now)) work).edge.me ≡ work.edge.me
   unfolding changes with_peering
@@ -182,10 +181,6 @@ module _ (plan : Plan) (others : ℕ → EdgeState) (me : ℕ) (first : EdgeStat
               rw (apart, closed) before.inward);
         };
   }) works
-    where
-      or_true : (b : Bool) → b || true ≡ true
-      or_true true = refl
-      or_true false = refl
 
   -- ---- an event happens
 

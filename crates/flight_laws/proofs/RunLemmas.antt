@@ -3,6 +3,8 @@ use Rattle.std.proofs.Common.{◌≡◌, ◌≤◌, ◌∙◌, arith, slice_get,
 use Rattle.std.proofs.lemmas.Bool.{cases_Bool, eqb-true}
 use Rattle.net_base.specs.declared.plan.Plan.{Plan}
 use Rattle.net_values.specs.declared.addr.Addr.{Addr}
+use Rattle.net_values.proofs.BoolLemmas.{clash}
+use Rattle.net_values.proofs.RowLemmas.{row_holds}
 use Rattle.net_base.specs.declared.trace.event.Event.{Event}
 use Rattle.net_base.specs.declared.trace.event.Event.TheVariants.{Connect, Deliver, Lose, Restart, Tick, Frame, Arrive, Discard, Again, Wire, Circuit, Status, Priority, Ping}
 use Rattle.std.proofs.lemmas.List.Elements.{All-head, All-tail}
@@ -31,8 +33,7 @@ use Rattle.flight_laws.proofs.CircuitLemmas.{again_keeps, arrive_keeps, circuit_
 use Rattle.flight_laws.proofs.ConnectLemmas.{connect_keeps}
 use Rattle.flight_laws.proofs.EventLemmas.{deliver_keeps, lose_keeps, restart_keeps, tick_keeps}
 use Rattle.flight_laws.proofs.PipeLemmas.{good-append}
-use Rattle.flight_laws.proofs.PlanLemmas.{row_holds}
-use Rattle.flight_laws.proofs.RowLemmas.{clash, quiet}
+use Rattle.flight_laws.proofs.RowLemmas.{quiet}
 
 -- ---- order
 
@@ -70,7 +71,7 @@ along_good plan (e ∷ es) network checked types planned ordered =
     (along_good plan es (step plan network e).state checked types (All-tail (IsEventOf plan) e es planned) kept.ordered)
 
 -- the first label of an edge is one
-first_fits : (plan : Plan) (row : Option EdgePlan) (place : ℕ) → slice_get plan.edges place ≡ row → IsChecked plan → (16 ≤ label_of row) × (label_of row ≤ numbers_end)
+pub first_fits : (plan : Plan) (row : Option EdgePlan) (place : ℕ) → slice_get plan.edges place ≡ row → IsChecked plan → (16 ≤ label_of row) × (label_of row ≤ numbers_end)
 first_fits plan None place at checked = (omega arith, omega arith)
 first_fits plan (Some row) place at checked =
     let edge : IsEdgePlan row = row_holds IsEdgePlan plan.edges place row at checked.edges in

@@ -4,6 +4,7 @@ use Rattle.std.specs.List.{AllByRecursion}
 use Rattle.net_base.specs.declared.trace.state_name.Reason.TheVariants as reason
 use Rattle.net_values.specs.declared.addr.Addr.{Addr}
 use Rattle.net_values.specs.declared.mac.Mac.{Mac}
+use Rattle.net_values.proofs.BoolLemmas.{clash}
 use Rattle.pw_tlvs.specs.declared.pw_fec.PwFec.{PwFec}
 use Rattle.pw_messages.specs.Sender.{platform_of}
 use Rattle.mac_withdraw.specs.Pieces.{most_in_piece}
@@ -32,7 +33,6 @@ use Rattle.flight_laws.specs.Flight.{is_initialization}
 use Rattle.flight_laws.specs.Messages.{IsLeaving, IsSaid, IsSound, IsStatusNotice, AreSaid, expiry, octets_of_all}
 use Rattle.flight_laws.specs.Pair.{AreFit}
 use Rattle.flight_laws.proofs.PieceLemmas.{withdraw_is_short}
-use Rattle.flight_laws.proofs.RowLemmas.{clash}
 
 -- ---- outcomes
 

@@ -10,6 +10,7 @@ use Rattle.edge_model.specs.Put.{having_spoken, message_octets_of}
 use Rattle.edge_model.specs.Session.{clears_ends, says, losing_ends}
 use Rattle.edge_model.specs.State.{Peering, has_end, is_there, with_ends_beside, with_kept}
 use Rattle.edge_model.specs.Work.{Work, changes}
+use Rattle.edge_model.proofs.MendLemmas.{clears_not}
 use Rattle.network_model.specs.Absorb.{taken_all}
 use Rattle.flight_laws.specs.Coming.{and_more}
 use Rattle.flight_laws.specs.Ends.{IsLeft}
@@ -19,7 +20,6 @@ use Rattle.flight_laws.specs.Pair.{ArePaired, AreTalking}
 use Rattle.flight_laws.proofs.MeetLemmas.{meets_shown, more_octets}
 use Rattle.flight_laws.proofs.OfferLemmas.{IsOfWires}
 use Rattle.flight_laws.proofs.ReactLemmas.{says_in_step}
-use Rattle.flight_laws.proofs.RowLemmas.{clash}
 use Rattle.flight_laws.proofs.WorkLemmas.{same_end, wrote, wrote_fine, wrote_shows, wrote_spares}
 
 -- ---- ends that are lost touch neither neighbours nor what was said
@@ -40,12 +40,6 @@ clears_fine me peer work fine = by_end (has_end work.edge peer) where
 
 -- ---- what is said
 
-stays_there : (peer : EdgeId) (work : Work) → has_end work.edge peer ≡ true → clears_ends peer work ≡ work
-stays_there peer work there = by_end (has_end work.edge peer) there where
-  by_end : (b : Bool) → b ≡ true → cond b work (changes (losing_ends peer) work) ≡ work
-  by_end true e = refl
-  by_end false e = clash e
-
 wrote_there : (peer : EdgeId) (kept : Peering) (bytes : List ℕ) (work : Work) → work.edge.peering peer.0 ≡ Some kept → has_end (wrote peer bytes work).edge peer ≡ true
 wrote_there peer kept bytes work at =
     ap is_there (wrote_shows peer kept bytes work (said_to peer.0 work.effects) (closes peer.0 work.effects) (record { keeps = at; says = refl; ended = refl })).keeps
@@ -53,7 +47,7 @@ wrote_there peer kept bytes work at =
 -- the message is put, with the Message ID that is next
 pub says_is : (peer : EdgeId) (message : ℕ → Message) (kept : Peering) (work : Work) → work.edge.peering peer.0 ≡ Some kept → (says taken_all peer message work).work ≡ wrote peer (message_octets_of kept message) work
 unfolding wrote
-says_is peer message kept work at = rw at (stays_there peer (wrote peer (message_octets_of kept message) work) (wrote_there peer kept (message_octets_of kept message) work at))
+says_is peer message kept work at = rw at (clears_not peer (wrote peer (message_octets_of kept message) work) (wrote_there peer kept (message_octets_of kept message) work at))
 
 -- nothing is where no session stands
 pub says_none : (peer : EdgeId) (message : ℕ → Message) (work : Work) → work.edge.peering peer.0 ≡ None → (says taken_all peer message work).work ≡ work
@@ -79,7 +73,7 @@ says_shows peer message kept work said closed shows =
 
 -- ---- the peer
 
-one_octets : (own : Peers) (message : ℕ → Message) (kept : Peering) → kept.session.peers ≡ own → message_octets_of kept message ≡ octets_of_all own.me (message kept.next_id ∷ [])
+pub one_octets : (own : Peers) (message : ℕ → Message) (kept : Peering) → kept.session.peers ≡ own → message_octets_of kept message ≡ octets_of_all own.me (message kept.next_id ∷ [])
 one_octets own message kept peers = ap (λ (p : Peers). written (message kept.next_id) (platform_of p.me)) peers ∙ sym (same_end (written (message kept.next_id) (platform_of own.me)))
 
 pub left_says : (own other : Peers) (peer : EdgeId) (kept : Peering) (far : Option Peering) (out more : List ℕ) (message : ℕ → Message) (work : Work) → work.edge.peering peer.0 ≡ Some kept → kept.session.phase ≡ phase.Operational

@@ -1,7 +1,7 @@
 -- What an edge has done goes into the network, and a fact of two edges holds again: once for every fact.
-use Rattle.std.proofs.Common.{◌≡◌, ◌++◌, ◌∙◌, ℕ, false, cond, nat_eq, List, [], Option, Some, None, refl, sym, ap, subst, append_assoc, inl, inr, arith}
+use Rattle.std.proofs.Common.{◌≡◌, ◌++◌, ◌∙◌, ℕ, false, cond, nat_eq, List, [], Option, Some, None, refl, sym, ap, subst, append_assoc, inl, inr}
 use Rattle.std.proofs.lemmas.Bool.{cases_Bool, eqb-true}
-use Rattle.std.proofs.lemmas.Bool.Decides.{nat_tests}
+use Rattle.net_values.proofs.NumberLemmas.{same_number, apart_back}
 use Rattle.net_base.specs.declared.plan.places.EdgeId.{EdgeId}
 use Rattle.edge_model.specs.State.{EdgeState, Peering, is_there}
 use Rattle.edge_model.specs.Work.{Work}
@@ -11,10 +11,7 @@ use Rattle.flight_laws.specs.Coming.{and_more}
 use Rattle.flight_laws.specs.Facts.{Fact, FromBoth, HoldsAt, HoldsBut, HoldsOfTwo, LeavesFor, Owes, Turns, flight}
 use Rattle.flight_laws.specs.Meeting.{closes, said_to}
 use Rattle.flight_laws.proofs.PipeLemmas.{all_apart, all_edges, all_from, all_to}
-use Rattle.flight_laws.proofs.WorkLemmas.{same_end, same_place}
-
-pub apart_turned : (a b : ℕ) → nat_eq a b ≡ false → nat_eq b a ≡ false
-apart_turned a b apart = grind (arith, nat_tests)
+use Rattle.flight_laws.proofs.CommonLemmas.{no_more}
 
 -- a fact is known by its six parts
 pub moved : (P : Fact) (a b : ℕ) {x x2 y y2 : EdgeState} {out out2 back back2 : List ℕ} → P a b x y out back → x2 ≡ x → y2 ≡ y → out2 ≡ out → back2 ≡ back → P a b x2 y2 out2 back2
@@ -22,7 +19,7 @@ moved P a b fact i j k l = rw (i, j, k, l) fact
 
 pub edge_there : (me : EdgeId) (edge : EdgeState) (network : NetworkState) → (with_edge me edge network).edges me.0 ≡ edge
 unfolding with_edge
-edge_there me edge network = rw (same_place me.0) refl
+edge_there me edge network = rw (same_number me.0) refl
 
 pub edge_else : (me : EdgeId) (edge : EdgeState) (network : NetworkState) (place : ℕ) → nat_eq place me.0 ≡ false → (with_edge me edge network).edges place ≡ network.edges place
 unfolding with_edge
@@ -40,7 +37,7 @@ said_behind (Some kept) pipe said = sym (append_assoc kept.held pipe said)
 pub settle : (P : Fact) (network : NetworkState) (me : EdgeId) (origin hops : ℕ) (work : Work) → Turns P → HoldsBut P me.0 network → ((place : ℕ) → nat_eq place me.0 ≡ false → LeavesFor P network me work place)
     → HoldsOfTwo P (absorb me origin hops work network).state
 settle P network me origin hops work turns others own a b apart = elim (cases_Bool (nat_eq a me.0)) [
-  | inl first ↦ subst (λ (k : ℕ). HoldsAt P after k b) (sym (eqb-true a me.0 first)) (from_me b (apart_turned me.0 b (subst (λ (k : ℕ). nat_eq k b ≡ false) (eqb-true a me.0 first) apart)))
+  | inl first ↦ subst (λ (k : ℕ). HoldsAt P after k b) (sym (eqb-true a me.0 first)) (from_me b (apart_back me.0 b (subst (λ (k : ℕ). nat_eq k b ≡ false) (eqb-true a me.0 first) apart)))
   | inr away ↦ elim (cases_Bool (nat_eq b me.0)) [
     | inl second ↦ turns b a _ _ _ _ (subst (λ (k : ℕ). HoldsAt P after k a) (sym (eqb-true b me.0 second)) (from_me a away))
     | inr gone ↦ moved P a b (others a b apart away gone) (other_edge a away) (other_edge b gone) (other_flight a b away gone) (other_flight b a gone away)
@@ -91,7 +88,3 @@ owes_then P me place a b c one next = record { pays = λ far out more fact. next
 -- the fact holds when an edge begins
 pub begins : (P : Fact) (network : NetworkState) (me : EdgeId) (place : ℕ) → HoldsAt P network me.0 place → LeavesFor P network me (begin_at network me) place
 begins P network me place fact = rw (no_more ((network.edges place).peering me.0) (flight network me.0 place)) fact
-  where
-    no_more : (far : Option Peering) (out : List ℕ) → and_more far out [] ≡ out
-    no_more None out = refl
-    no_more (Some kept) out = same_end out

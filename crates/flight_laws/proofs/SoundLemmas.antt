@@ -1,13 +1,14 @@
 -- An edge keeps what it tells sound through each thing that it does.
 use Rattle.std.proofs.Common.{◌≡◌, ◌≢◌, ◌≤◌, ◌+◌, ◌==◌, ◌∙◌, ℕ, Bool, true, false, cond, nat_eq, List, Option, Some, None, refl, sym, ap, subst, inl, inr, ⊎_elim, arith}
 use Rattle.std.proofs.lemmas.Bool.{cases_Bool, eqb-true}
-use Rattle.std.proofs.lemmas.Bool.Decides.{nat_tests}
 use Rattle.net_base.specs.declared.plan.places.EdgeId.{EdgeId}
 use Rattle.label_space.specs.declared.kept.Kept.{Kept}
 use Rattle.label_space.specs.Kept.{kept_at, without}
 use Rattle.label_space.specs.Labels.{numbers_end, next_after}
 use Rattle.label_space.proofs.KeptLemmas.{kept_without}
+use Rattle.label_space.proofs.LawLemmas.{after_within}
 use Rattle.net_values.specs.Label.{IsLabel}
+use Rattle.net_values.proofs.BoolLemmas.{clash}
 use Rattle.pw_signalling.specs.declared.binding.Binding.{Binding}
 use Rattle.pw_signalling.specs.End.{EndState, LocalPart, Idle, Advertised, Withdrawing, fresh}
 use Rattle.pw_signalling.specs.Rows.{released, renew_part, renewed}
@@ -23,9 +24,9 @@ use Rattle.edge_model.specs.Work.{Work, changes}
 use Rattle.flight_laws.specs.Binding.{is_idle}
 use Rattle.flight_laws.specs.Sound.{IsSoundEnd, IsSoundHeld, IsSoundPart, TellsSoundly}
 use Rattle.flight_laws.proofs.KeepLemmas.{IsInPhase, KeepsEnds, happens_keeps, happens_phase, phase_after, up_after}
-use Rattle.flight_laws.proofs.RowLemmas.{clash}
 use Rattle.flight_laws.proofs.WorkLemmas.{happens_spares}
 use Rattle.edge_model.specs.Labels.{giving, keeps_one, left_label, releasing}
+use Rattle.edge_model.proofs.HeldLemmas.{clears_keep}
 use Rattle.flight_laws.specs.Rules.{part_owns}
 use Rattle.flight_laws.proofs.FreedLemmas.{IsOwnedBeside, kept_from, left_is, lost_from, owns_own}
 use Rattle.flight_laws.proofs.NameLemmas.{IsRekept}
@@ -115,16 +116,6 @@ sound_beside {limit} peer change edge keeps sound = sound_ends edge (with_ends_b
   | inr apart ↦ rw apart before
 ]) sound
 
--- a label is given
-pub after_most : (n : ℕ) → n ≤ numbers_end → next_after n ≤ numbers_end
-after_most n most = by (n == numbers_end) refl where
-  one_more : (m : ℕ) → m ≤ numbers_end → (m == numbers_end) ≡ false → m + 1 ≤ numbers_end
-  one_more m low some = grind (arith, nat_tests)
-
-  by : (last : Bool) → (n == numbers_end) ≡ last → cond last n (n + 1) ≤ numbers_end
-  by true last = most
-  by false some = one_more n most some
-
 one_above : (n : ℕ) → 16 ≤ n → 16 ≤ next_after n
 one_above n least = by (n == numbers_end) where
   by : (last : Bool) → 16 ≤ cond last n (n + 1)
@@ -133,7 +124,7 @@ one_above n least = by (n == numbers_end) where
 
 pub sound_giving : {limit : ℕ → ℕ} → (label : ℕ) (edge : EdgeState) → TellsSoundly limit edge → TellsSoundly limit (giving label edge)
 unfolding with_next_label with_kept
-sound_giving label edge sound = record { least = one_above edge.next_label sound.least; most = after_most edge.next_label sound.most; kept = λ number there. sound.kept number (before number there); bits = sound.bits; ends = sound.ends }
+sound_giving label edge sound = record { least = one_above edge.next_label sound.least; most = after_within edge.next_label sound.most; kept = λ number there. sound.kept number (before number there); bits = sound.bits; ends = sound.ends }
   where
     before : (number : ℕ) → kept_at number (without label edge.kept) ≢ None → kept_at number edge.kept ≢ None
     before number there none = there (kept_without label number edge.kept ∙ by (nat_eq label number)) where
@@ -218,13 +209,6 @@ cleared_ends peer work wire k = by_end (has_end work.edge peer) where
   by_end true = refl
   by_end false = refl
 
-pub cleared_peering : (peer : EdgeId) (work : Work) → (clears_ends peer work).edge.peering ≡ work.edge.peering
-unfolding changes with_ends_beside with_kept
-cleared_peering peer work = by_end (has_end work.edge peer) where
-  by_end : (b : Bool) → (cond b work (changes (losing_ends peer) work)).edge.peering ≡ work.edge.peering
-  by_end true = refl
-  by_end false = refl
-
 pub cleared_rest : (peer : EdgeId) (work : Work) → ((clears_ends peer work).edge.next_label ≡ work.edge.next_label) × ((clears_ends peer work).edge.bits ≡ work.edge.bits)
 unfolding changes with_ends_beside with_kept
 cleared_rest peer work = by_end (has_end work.edge peer) where
@@ -240,7 +224,7 @@ happens_sound {limit} told peer event work sound = record {
       (λ wire k owned. end_label (limit wire) (is_up_with (work.edge.peering k)) (work.edge.ends wire k) label (sound.ends wire k) (subst (λ (f : ℕ → ℕ → EndState). part_owns (f wire k).local label ≡ true) kept.ends owned))
       (λ before. sound.kept label (subst (λ (ks : List Kept). kept_at label ks ≢ None) kept.kept before)) there;
   bits = λ wire. rw ((cleared_rest peer after).1 ∙ kept.bits) (sound.bits wire);
-  ends = λ wire k. rw (cleared_peering peer after, cleared_ends peer after wire k, kept.ends) (elim (cases_Bool (nat_eq k peer.0)) [
+  ends = λ wire k. rw (clears_keep peer after, cleared_ends peer after wire k, kept.ends) (elim (cases_Bool (nat_eq k peer.0)) [
     | inl same ↦ rw same (subst (λ (p : ℕ). IsSoundEnd (limit wire) (is_up_with (after.edge.peering p)) (cond (has_end after.edge peer) (work.edge.ends wire p) fresh)) (sym (eqb-true k peer.0 same)) (beside wire (has_end after.edge peer) refl))
     | inr apart ↦ rw (apart, (happens_spares told k peer event work apart).kept) (either (limit wire) (has_end after.edge peer) (work.edge.ends wire k) (is_up_with (work.edge.peering k)) (sound.ends wire k))
   ]);

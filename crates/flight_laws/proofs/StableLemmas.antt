@@ -1,5 +1,5 @@
 -- What stays of labels whatever happens, and what the end of a wire holds and tells, in each state of a run.
-use Rattle.std.proofs.Common.{◌≡◌, ◌<◌, ◌≤◌, ◌+◌, ◌∙◌, nat_eq, ℕ, Bool, refl, true, false, Some, sym, subst, arith}
+use Rattle.std.proofs.Common.{◌≡◌, ◌<◌, ◌+◌, ◌∙◌, nat_eq, ℕ, Bool, refl, true, false, Some, sym, subst}
 use Rattle.net_base.specs.declared.plan.Plan.{Plan}
 use Rattle.net_base.specs.declared.plan.places.EdgeId.{EdgeId}
 use Rattle.net_base.specs.declared.plan.places.WireId.{WireId}
@@ -11,8 +11,8 @@ use Rattle.net_base.specs.plan.Paths.{joins}
 use Rattle.net_base.specs.plan.Places.{wire_row}
 use Rattle.net_base.specs.plan.Planned.{IsEventOf}
 use Rattle.net_values.specs.Label.{IsLabel}
+use Rattle.net_values.proofs.NumberLemmas.{same_number}
 use Rattle.net_base.proofs.PathLemmas.{joins_turned}
-use Rattle.label_space.specs.Labels.{numbers_end}
 use Rattle.pw_signalling.specs.declared.binding.Binding.{Binding}
 use Rattle.pw_signalling.specs.declared.told.Told.{Told}
 use Rattle.pw_signalling.specs.End.{Advertised}
@@ -22,10 +22,9 @@ use Rattle.network_model.specs.Step.{brings}
 use Rattle.flight_laws.specs.Ends.{HasTypes, IsOrdered}
 use Rattle.label_space.specs.Kept.{rest_ticks}
 use Rattle.flight_laws.specs.Rules.{BindsGiven, FarTells, MayCarry, MayName, NearTells, TellsExpected, part_owns}
-use Rattle.flight_laws.proofs.NameLemmas.{is_same}
 use Rattle.flight_laws.proofs.PlaceLemmas.{wire_apart}
 use Rattle.flight_laws.proofs.RuledLemmas.{IsRuledEdge}
-use Rattle.flight_laws.proofs.RuledMendLemmas.{wire_fits}
+use Rattle.flight_laws.proofs.RuledMendLemmas.{wire_fits, label_below_next}
 use Rattle.flight_laws.proofs.RuledNetworkLemmas.{IsRuledNetwork}
 use Rattle.flight_laws.proofs.RuledEventLemmas.{tick_event_ruled}
 use Rattle.flight_laws.proofs.RuledRunLemmas.{brings_stays, is_tick}
@@ -64,9 +63,6 @@ pub record IsPlannedEnd (plan : Plan) (network : NetworkState) (me peer : ℕ) (
   pub holds : (binding : Binding) → ((network.edges me).ends wire.0 peer).remote ≡ Some binding → IsPlannedBinding plan network me peer wire row binding
   pub advertises : (label : ℕ) (told : Told) → ((network.edges me).ends wire.0 peer).local ≡ Advertised label told → IsPlannedAdvertisement plan network me peer wire row label told
 
-below_next : (label next : ℕ) → label < next → next ≤ numbers_end → label ≤ 1048575
-below_next label next low most = omega (arith, low, most)
-
 pub end_is_planned : (plan : Plan) (network : NetworkState) → IsChecked plan → IsRuledNetwork plan network → (me peer : ℕ) (wire : WireId) (row : WirePlan) → wire_row plan wire ≡ Some row → joins me peer row.path ≡ true
     → IsPlannedEnd plan network me peer wire row
 end_is_planned plan network checked ruled me peer wire row is joined = record {
@@ -76,11 +72,11 @@ end_is_planned plan network checked ruled me peer wire row is joined = record {
     tells = subst (FarTells plan row peer me) at (tells.far row is (sym (joins_turned row.path me peer) ∙ joined));
   };
   advertises = λ label told at.
-      let own : part_owns ((network.edges me).ends wire.0 peer).local label ≡ true = rw at (is_same label) in
+      let own : part_owns ((network.edges me).ends wire.0 peer).local label ≡ true = rw at (same_number label) in
       let may : MayName (network.edges me) wire.0 peer label = edge.owned wire.0 peer label own in
       record {
         may = may;
-        is_label = record { above = edge.least.owned wire.0 peer label own; below = below_next label (network.edges me).next_label may.below edge.most };
+        is_label = record { above = edge.least.owned wire.0 peer label own; below = label_below_next label (network.edges me).next_label may.below edge.most };
         tells = subst (NearTells plan row me peer) at (tells.near row is joined);
       };
 }

@@ -7,6 +7,7 @@ use Rattle.std.specs.List.{find}
 use Rattle.std.specs.Prelude.{option_map, slice_index}
 use Rattle.std.specs.List.{AllByRecursion}
 use Rattle.std.proofs.lemmas.Bool.Decides.{nat_tests}
+use Rattle.std.proofs.lemmas.Option.{same_Some}
 use Rattle.label_space.specs.declared.kept.Kept.{Kept}
 use Rattle.label_space.specs.declared.kept.KeptState.{KeptState}
 use Rattle.label_space.specs.Kept.{is_free, kept_at, label_of, least_free}
@@ -20,6 +21,10 @@ use Rattle.net_base.specs.plan.Accepted.{IsChecked, IsOffer, IsWireOf}
 use Rattle.net_base.specs.plan.Paths.{edge_address, is_first, mate, offer_of}
 use Rattle.net_base.specs.plan.Places.{wire_row}
 use Rattle.net_values.specs.Label.{IsLabel}
+use Rattle.net_values.proofs.BoolLemmas.{clash, second_holds}
+use Rattle.net_values.proofs.NumberLemmas.{below_32_bits}
+use Rattle.net_values.proofs.OptionLemmas.{same_number_held, none_some}
+use Rattle.net_values.proofs.RowLemmas.{row_holds}
 use Rattle.ldp_grammar.specs.declared.message.Message.{Message}
 use Rattle.ldp_grammar.specs.Written.{IsState}
 use Rattle.ldp_grammar.proofs.OctetLemmas.{octet_front}
@@ -54,8 +59,6 @@ use Rattle.flight_laws.proofs.MendingLemmas.{KeptByRows}
 use Rattle.flight_laws.proofs.OfferLemmas.{IsOfWires, IsPointAddress, clearance_is, mapping_sound, offer_sound, own_in_range, own_octets, past_sound, sound_can, status_is, withdrawal_is}
 use Rattle.flight_laws.proofs.PieceLemmas.{IsPiece}
 use Rattle.flight_laws.proofs.PlaceLemmas.{IsEndOf}
-use Rattle.flight_laws.proofs.PlanLemmas.{row_holds}
-use Rattle.flight_laws.proofs.RowLemmas.{clash}
 use Rattle.flight_laws.proofs.SoundLemmas.{sound_giving, sound_same, sound_with_end}
 use Rattle.edge_model.specs.Labels.{label_to_give}
 
@@ -74,21 +77,7 @@ pub record IsSteady (plan : Plan) (me : EdgeId) (I : Work → Type 0) : Type 0 w
   pub gives : (e : Effect) (work : Work) → IsSilent e → I work → I (gives e work)
   pub says : (peer : EdgeId) (message : ℕ → Message) (work : Work) → is_up_with (work.edge.peering peer.0) ≡ true → IsOfWires message → I work → I (says taken_all peer message work).work
 
-left : (a b : Bool) → a && b ≡ true → a ≡ true
-left true b h = refl
-left false b h = clash h
-
-right : (a b : Bool) → a && b ≡ true → b ≡ true
-right true b h = h
-right false b h = clash h
-
 -- ---- what a switching point holds
-
-some_same : {A : Type 0} (x y : A) → Some x ≡ Some y → x ≡ y
-some_same x y e = cc
-
-none_some : {A : Type 0} {P : Type 0} (x : A) → None ≡ Some x → P
-none_some x e = absurd (cc)
 
 -- what an end that is sound holds
 held_sound : (limit : ℕ) (up : Bool) (e : EndState) (binding : Binding) → IsSoundEnd limit up e → e.remote ≡ Some binding → IsSoundTold limit binding.told
@@ -100,10 +89,10 @@ bound_sound {limit} edge wire peer binding sound is = held_sound (limit wire) (i
 
 -- ---- the status that an end should tell
 
-small_status : (bits : ℕ) (standby : Bool) → bits ≤ 31 → (combined bits standby).0 < 2 ^ 32
+pub small_status : (bits : ℕ) (standby : Bool) → bits ≤ 31 → (combined bits standby).0 < 2 ^ 32
 small_status bits standby few = omega (arith, few, combined_most bits standby)
 
-stated_small : (status : Option PwStatus) → IsState status → (stated_or_clear status).0 < 2 ^ 32
+pub stated_small : (status : Option PwStatus) → IsState status → (stated_or_clear status).0 < 2 ^ 32
 stated_small None small = omega arith
 stated_small (Some status) small = small
 
@@ -125,13 +114,10 @@ status_small {limit} plan edge place sound = by_side place.terminal (small_statu
 
 -- ---- rows of the plan
 
-small_pw_id : (n : ℕ) → n ≤ 4294967295 → n < 2 ^ 32
-small_pw_id n few = omega (arith, few)
-
 pub end_small : (plan : Plan) (me : EdgeId) (place : EndPlace) → IsChecked plan → IsEndOf plan me place → place.pw_id < 2 ^ 32
 end_small plan me place checked is =
     let wire : IsWireOf plan is.row = row_holds (IsWireOf plan) plan.wires place.wire.0 is.row is.is checked.wires in
-    rw is.pw_id (small_pw_id is.row.pw_id wire.pw_id.1)
+    rw is.pw_id (below_32_bits is.row.pw_id wire.pw_id.1)
 
 pub offer_field : (plan : Plan) (me : EdgeId) (place : EndPlace) (k : ℕ) → HasTypes plan → (is : IsEndOf plan me place) → IsFieldOffer (offer_of is.row k)
 offer_field plan me place k types is = by_side (is_first k is.row.path) where
@@ -177,7 +163,7 @@ module _ (plan : Plan) (me : EdgeId) (checked : IsChecked plan) (types : HasType
     told_status false = tt
 
     by_test : (b : Bool) → cond b (Some (content_of (offer_of is.row edge.me.0) (status_offered plan edge place (offer_of is.row edge.me.0)))) None ≡ Some content → IsSoundTold 3 content
-    by_test true e = subst (IsSoundTold 3) (some_same (content_of (offer_of is.row edge.me.0) (status_offered plan edge place (offer_of is.row edge.me.0))) content e)
+    by_test true e = subst (IsSoundTold 3) (same_Some (content_of (offer_of is.row edge.me.0) (status_offered plan edge place (offer_of is.row edge.me.0))) content e)
         (offer_sound 3 (offer_of is.row edge.me.0) (status_offered plan edge place (offer_of is.row edge.me.0)) (told_status (offer_of is.row edge.me.0).status) (offer_field plan me place edge.me.0 types is) (offer_fits plan me place edge.me.0 checked is))
     by_test false e = none_some content e
 
@@ -195,7 +181,7 @@ module _ (plan : Plan) (me : EdgeId) (checked : IsChecked plan) (types : HasType
 
     by_held : (held : Option Binding) → (edge.ends place.wire.0 from.0).remote ≡ held → wanted (own_point is.row.pw_id (edge_address plan edge.me) (edge_address plan from)) held ≡ Some content → IsSoundTold 3 content
     by_held None there e = none_some content e
-    by_held (Some binding) there e = subst (IsSoundTold 3) (some_same (past_point (own_point is.row.pw_id (edge_address plan edge.me) (edge_address plan from)) binding.told) content e)
+    by_held (Some binding) there e = subst (IsSoundTold 3) (same_Some (past_point (own_point is.row.pw_id (edge_address plan edge.me) (edge_address plan from)) binding.told) content e)
         (past_sound 2 (own_point is.row.pw_id (edge_address plan edge.me) (edge_address plan from)) binding.told
         (own_in_range is.row.pw_id (edge_address plan edge.me) (edge_address plan from) small (edge_address_is plan edge.me types) (edge_address_is plan from types))
         (own_octets is.row.pw_id (edge_address plan edge.me) (edge_address plan from) (edge_address_is plan edge.me types) (edge_address_is plan from types))
@@ -209,7 +195,7 @@ module _ (plan : Plan) (me : EdgeId) (checked : IsChecked plan) (types : HasType
   wishes wished = by_test (edge.wire_on place.wire.0 && is_up_with (edge.peering place.peer.0)) refl (ap (wish_of plan edge place) (sym is.is) ∙ wished) where
     by_test : (b : Bool) → edge.wire_on place.wire.0 && is_up_with (edge.peering place.peer.0) ≡ b → cond b (wish_by plan edge place is.row) None ≡ Some content → WishesSoundly edge place content
     by_test true holds e = record {
-      up = right (edge.wire_on place.wire.0) (is_up_with (edge.peering place.peer.0)) holds;
+      up = second_holds (edge.wire_on place.wire.0) (is_up_with (edge.peering place.peer.0)) holds;
       sound = by_terminal place.terminal refl e;
     }
     by_test false holds e = none_some content e
@@ -232,9 +218,6 @@ least_there label (k ∷ ks) found = by (is_free k) found (λ rest. least_there 
   some : (s : KeptState) → Some s ≡ None → ⊥
   some s e = cc
 
-  one : (a b : ℕ) → Some a ≡ Some b → a ≡ b
-  one a b e = cc
-
   else : (here : Bool) → (kept_at label ks ≢ None) → cond here (Some k.state) (kept_at label ks) ≢ None
   else true there none = some k.state none
   else false there none = there none
@@ -244,19 +227,16 @@ least_there label (k ∷ ks) found = by (is_free k) found (λ rest. least_there 
   at false is none = clash is
 
   by : (free : Bool) → option_map label_of (cond free (Some k) (find is_free ks)) ≡ Some label → (least_free ks ≡ Some label → kept_at label ks ≢ None) → cond (nat_eq k.label label) (Some k.state) (kept_at label ks) ≢ None
-  by true found rest = at (nat_eq k.label label) (eq-eqb k.label label (one k.label label found))
+  by true found rest = at (nat_eq k.label label) (eq-eqb k.label label (same_number_held k.label label found))
   by false found rest = else (nat_eq k.label label) (rest found)
 
 -- what is given is a label: the next number, or one that was given before
 pub next_is_label : {limit : ℕ → ℕ} → (edge : EdgeState) (label : ℕ) → TellsSoundly limit edge → label_to_give edge ≡ Some label → IsLabel label
 next_is_label edge label sound given = by (edge.next_label == numbers_end) refl where
-  one : (a b : ℕ) → Some a ≡ Some b → a ≡ b
-  one a b e = cc
-
   by : (last : Bool) → (edge.next_label == numbers_end) ≡ last → IsLabel label
   by true last = sound.kept label (least_there label edge.kept (rw last at given))
   by false some =
-      let same : edge.next_label ≡ label = one edge.next_label label (rw some at given) in
+      let same : edge.next_label ≡ label = same_number_held edge.next_label label (rw some at given) in
       subst (λ (l : ℕ). IsLabel l) same (record { above = sound.least; below = below_end edge.next_label sound.most some })
 
 -- what an end tells is another part, and what it holds is the same
@@ -272,11 +252,11 @@ advertising_sound {limit} place label content edge up at can sound =
     (sound_with_end place (advertised label content (end_at edge place)) edge
     (local_sound (limit place.wire.0) (is_up_with (edge.peering place.peer.0)) (end_at edge place) (advertised label content (end_at edge place)).local up (rw at can) (sound.ends place.wire.0 place.peer.0)) sound)
 
-advertising_rest : (place : EndPlace) (content : Told) (label : ℕ) (edge : EdgeState) → ((advertising place label content edge).peering ≡ edge.peering) × ((advertising place label content edge).me ≡ edge.me)
+pub advertising_rest : (place : EndPlace) (content : Told) (label : ℕ) (edge : EdgeState) → ((advertising place label content edge).peering ≡ edge.peering) × ((advertising place label content edge).me ≡ edge.me)
 unfolding with_end with_next_label with_kept
 advertising_rest place content label edge = (refl, refl)
 
-with_end_rest : (place : EndPlace) (end : EndState) (edge : EdgeState) → ((with_end place end edge).peering ≡ edge.peering) × ((with_end place end edge).me ≡ edge.me)
+pub with_end_rest : (place : EndPlace) (end : EndState) (edge : EdgeState) → ((with_end place end edge).peering ≡ edge.peering) × ((with_end place end edge).me ≡ edge.me)
 unfolding with_end with_kept
 with_end_rest place end edge = (refl, refl)
 

@@ -5,7 +5,7 @@ use Rattle.session_core.specs.Phase.{Phase, Initialized, OpenSent, OpenRec, Oper
 use Rattle.session_core.specs.Reasons.{is_fatal, is_keep_alive}
 use Rattle.flight_laws.specs.Coming.{and_more, is_row_for, is_talk, is_talk_without}
 use Rattle.flight_laws.specs.Flight.{is_initialization}
-use Rattle.flight_laws.proofs.RowLemmas.{active_hears, active_keeps, active_opens, active_rises, active_says, comes_back, comes_out, leaves, no_passive, passive_hears, passive_keeps, passive_opens, passive_rises, passive_says}
+use Rattle.flight_laws.proofs.RowLemmas.{active_hears, active_keeps, active_opens, active_rises, active_says, comes_back, comes_out, leaves, no_passive, passive_hears, passive_keeps, passive_opens, passive_rises, passive_says, keep_is_plain}
 
 -- ---- an Initialization comes
 
@@ -37,9 +37,6 @@ goes_on false (Some q) out back m h = passive_hears q back out m h
 
 -- ---- a KeepAlive is said
 
-keep_is_none : (m : Message) → is_keep_alive m ≡ true → not (is_initialization m) ≡ true
-keep_is_none m e = grind arith
-
 pub keeps_rec : (active : Bool) (far : Option Phase) (out back : List Message) (k : Message) → is_keep_alive k ≡ true → is_talk active OpenRec far out back ≡ true → is_talk active OpenRec far (and_more far out (k ∷ [])) back ≡ true
 keeps_rec active None out back k is h = h
 keeps_rec true (Some q) out back k is h = active_keeps q out back k is h
@@ -47,8 +44,8 @@ keeps_rec false (Some q) out back k is h = passive_keeps q back out k is h
 
 pub keeps_up : (active : Bool) (far : Option Phase) (out back : List Message) (k : Message) → is_keep_alive k ≡ true → is_talk active Operational far out back ≡ true → is_talk active Operational far (and_more far out (k ∷ [])) back ≡ true
 keeps_up active None out back k is h = h
-keeps_up true (Some q) out back k is h = active_says q out back k (keep_is_none k is) h
-keeps_up false (Some q) out back k is h = passive_says q back out k (keep_is_none k is) h
+keeps_up true (Some q) out back k is h = active_says q out back k (keep_is_plain k is) h
+keeps_up false (Some q) out back k is h = passive_says q back out k (keep_is_plain k is) h
 
 -- ---- anything but an Initialization is said in a session that is up
 

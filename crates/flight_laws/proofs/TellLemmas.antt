@@ -1,18 +1,19 @@
 -- What is told of a pseudowire is what the plan has an edge tell, but for its status.
-use Rattle.std.proofs.Common.{◌≡◌, ◌==◌, ◌&&◌, ◌||◌, ◌++◌, ◌∙◌, ℕ, Bool, true, false, List, [], ◌∷◌, reverse, refl, sym, ap, subst, arith}
+use Rattle.std.proofs.Common.{◌≡◌, ◌==◌, ◌&&◌, ◌||◌, ◌++◌, ◌∙◌, ℕ, Bool, true, false, List, [], ◌∷◌, reverse, refl, sym, subst, arith}
 use Rattle.std.specs.List.{list_any}
 use Rattle.std.proofs.lemmas.Bool.{or_parts}
 use Rattle.std.proofs.lemmas.Bool.Decides.{nat_tests}
 use Rattle.std.proofs.lemmas.List.{reverse-append}
+use Rattle.net_values.proofs.BoolLemmas.{clash, or_later}
+use Rattle.net_values.proofs.NumberLemmas.{apart_back, equal_back}
 use Rattle.net_base.specs.declared.plan.Plan.{Plan}
 use Rattle.net_base.specs.declared.plan.places.EdgeId.{EdgeId}
 use Rattle.net_base.specs.declared.plan.wire_plan.WirePlan.{WirePlan}
 use Rattle.net_base.specs.plan.Paths.{expected, follows, has_repeat, is_first, is_last, joins, offer_of, points_on, up_to}
 use Rattle.edge_model.specs.EndPlaces.{is_terminal}
 use Rattle.flight_laws.proofs.NameLemmas.{split}
-
-clash : {P : Type 0} → false ≡ true → P
-clash e = absurd (cc)
+use Rattle.flight_laws.proofs.PlaceLemmas.{joined_there, not_there}
+use Rattle.network_model.proofs.GoalLemmas.{ends_last}
 
 -- ---- a terminal edge is expected to tell its own offer
 
@@ -23,49 +24,7 @@ last_there (last ∷ []) edge is = here edge last.0 is
   where
     here : (a b : ℕ) → (a == b) ≡ true → (b == a) || false ≡ true
     here a b is = grind (arith, nat_tests)
-last_there (first ∷ next ∷ rest) edge is = later (first.0 == edge) (last_there (next ∷ rest) edge is)
-  where
-    later : (p : Bool) {q : Bool} → q ≡ true → p || q ≡ true
-    later true h = refl
-    later false h = h
-
--- two edges that are joined are on the path
-joined_there : (path : List EdgeId) (a b : ℕ) → joins a b path ≡ true → list_any (λ (e : EdgeId). e.0 == a) path ≡ true
-joined_there [] a b joined = clash joined
-joined_there (last ∷ []) a b joined = clash joined
-joined_there (first ∷ next ∷ rest) a b joined = split {P = list_any (λ (e : EdgeId). e.0 == a) (first ∷ next ∷ rest) ≡ true} (joins a b (next ∷ rest))
-    (λ later. beyond (first.0 == a) (joined_there (next ∷ rest) a b later))
-    (λ none. here a b first.0 next.0 (list_any (λ (e : EdgeId). e.0 == a) rest) (rw none at joined))
-  where
-    beyond : (p : Bool) {q : Bool} → q ≡ true → p || q ≡ true
-    beyond true h = refl
-    beyond false h = h
-
-    here : (a b f n : ℕ) (later : Bool) → ((a == f && b == n) || (b == f && a == n)) || false ≡ true → (f == a) || ((n == a) || later) ≡ true
-    here a b f n later joined = grind (arith, nat_tests)
-
-not_there : (path : List EdgeId) (a b : ℕ) → list_any (λ (e : EdgeId). e.0 == a) path ≡ false → list_any (λ (e : EdgeId). e.0 == b) path ≡ true → (a == b) ≡ false
-not_there path a b none some = split {P = (a == b) ≡ false} (a == b)
-    (λ same. clash (sym none ∙ (ap (λ (n : ℕ). list_any (λ (e : EdgeId). e.0 == n) path) (same_place a b same) ∙ some)))
-    (λ other. other)
-  where
-    same_place : (a b : ℕ) → (a == b) ≡ true → a ≡ b
-    same_place a b is = grind (arith, nat_tests)
-
--- nothing follows the last edge of a path without a repeat
-none_follows : (path : List EdgeId) (edge to : ℕ) → has_repeat path ≡ false → is_last edge path ≡ true → follows path edge to ≡ false
-none_follows [] edge to once is = refl
-none_follows (last ∷ []) edge to once is = refl
-none_follows (first ∷ next ∷ rest) edge to once is =
-    let parts = or_parts (list_any (λ (e : EdgeId). e.0 == first.0) (next ∷ rest)) (has_repeat (next ∷ rest)) once in
-    both (edge == first.0) (to == next.0) (turned first.0 edge (not_there (next ∷ rest) first.0 edge parts.0 (last_there (next ∷ rest) edge is))) (none_follows (next ∷ rest) edge to parts.1 is)
-  where
-    both : (p q : Bool) {r : Bool} → p ≡ false → r ≡ false → (p && q) || r ≡ false
-    both true q is none = clash (sym is)
-    both false q is none = none
-
-    turned : (a b : ℕ) → (a == b) ≡ false → (b == a) ≡ false
-    turned a b is = grind (arith, nat_tests)
+last_there (first ∷ next ∷ rest) edge is = or_later (first.0 == edge) (last_there (next ∷ rest) edge is)
 
 -- the second edge of a path without a repeat follows the first one, which is joined to no other
 first_follows : (path : List EdgeId) (edge to : ℕ) → has_repeat path ≡ false → is_first edge path ≡ true → joins edge to path ≡ true → follows path edge to ≡ true
@@ -74,12 +33,9 @@ first_follows (last ∷ []) edge to once is joined = clash joined
 first_follows (first ∷ next ∷ rest) edge to once is joined =
     let parts = or_parts (list_any (λ (e : EdgeId). e.0 == first.0) (next ∷ rest)) (has_repeat (next ∷ rest)) once in
     split {P = follows (first ∷ next ∷ rest) edge to ≡ true} (joins edge to (next ∷ rest))
-    (λ later. clash (sym (not_there (next ∷ rest) first.0 edge parts.0 (joined_there (next ∷ rest) edge to later)) ∙ turned edge first.0 is))
+    (λ later. clash (sym (not_there (next ∷ rest) first.0 edge parts.0 (joined_there (next ∷ rest) edge to later)) ∙ equal_back edge first.0 is))
     (λ none. here edge to first.0 next.0 (follows (next ∷ rest) edge to) is (or_parts (next.0 == first.0) (list_any (λ (e : EdgeId). e.0 == first.0) rest) parts.0).0 (rw none at joined))
   where
-    turned : (a b : ℕ) → (a == b) ≡ true → (b == a) ≡ true
-    turned a b is = grind (arith, nat_tests)
-
     here : (a b f n : ℕ) (later : Bool) → (a == f) ≡ true → (n == f) ≡ false → ((a == f && b == n) || (b == f && a == n)) || false ≡ true → (a == f && b == n) || later ≡ true
     here a b f n later is apart joined = grind (arith, nat_tests)
 
@@ -105,10 +61,7 @@ first_not_last [] edge to once joined is = clash joined
 first_not_last (last ∷ []) edge to once joined is = clash joined
 first_not_last (first ∷ next ∷ rest) edge to once joined is =
     let parts = or_parts (list_any (λ (e : EdgeId). e.0 == first.0) (next ∷ rest)) (has_repeat (next ∷ rest)) once in
-    turned first.0 edge (not_there (next ∷ rest) first.0 edge parts.0 (last_there (next ∷ rest) edge is))
-  where
-    turned : (a b : ℕ) → (a == b) ≡ false → (b == a) ≡ false
-    turned a b is = grind (arith, nat_tests)
+    apart_back first.0 edge (not_there (next ∷ rest) first.0 edge parts.0 (last_there (next ∷ rest) edge is))
 
 -- a terminal edge of a wire tells its own offer, which no point has passed on
 pub record TellsOwnOffer (plan : Plan) (row : WirePlan) (from to : ℕ) : Type 0 where
@@ -122,7 +75,7 @@ terminal_first plan row from to once joined first =
 
 terminal_last : (plan : Plan) (row : WirePlan) (from to : ℕ) → has_repeat row.path ≡ false → joins from to row.path ≡ true → is_last from row.path ≡ true → TellsOwnOffer plan row from to
 terminal_last plan row from to once joined last =
-    let none : follows row.path from to ≡ false = none_follows row.path from to once last in
+    let none : follows row.path from to ≡ false = ends_last row.path from to once last in
     let other : is_first from row.path ≡ false = first_not_last row.path from to once joined last in
     record { offer = rw (none, other) refl; points = rw none (alone plan row (reverse row.path) from (last_first row.path from last)) }
 

@@ -1,8 +1,11 @@
 -- A tick keeps what is left of the ends of wires: a number whose rest ends is named by no message and owned by no end.
 use Rattle.std.proofs.Common.{◌≡◌, ◌≤◌, ◌<◌, ◌+◌, ◌==◌, ◌&&◌, ◌||◌, ◌∙◌, not, nat_eq, nat_lt, length, ℕ, zero, suc, Bool, true, false, cond, List, [], ◌∷◌, Option, Some, None, refl, sym, ap, subst, arith}
-use Rattle.std.proofs.lemmas.Bool.{eqb-true}
+use Rattle.std.proofs.lemmas.Bool.{eqb-true, and_from, lt-ltb}
 use Rattle.std.proofs.lemmas.Bool.Decides.{nat_tests}
 use Rattle.std.specs.List.{list_any}
+use Rattle.net_values.proofs.BoolLemmas.{first_holds, clash, second_holds}
+use Rattle.net_values.proofs.NumberLemmas.{same_number, apart_back}
+use Rattle.net_values.proofs.OptionLemmas.{same_number_held}
 use Rattle.net_base.specs.declared.plan.Plan.{Plan}
 use Rattle.net_base.specs.declared.plan.places.EdgeId.{EdgeId}
 use Rattle.net_base.specs.plan.Accepted.{IsChecked}
@@ -31,31 +34,16 @@ use Rattle.flight_laws.specs.Rules.{AllMessages, MayBeKept, MayName, MayNameAt, 
 use Rattle.flight_laws.proofs.BoundEventLemmas.{Bounds, Starts, begins_bound, held_now, starts, work_bounds}
 use Rattle.flight_laws.proofs.EventLemmas.{older_ordered}
 use Rattle.flight_laws.proofs.MentionLemmas.{all_kept}
-use Rattle.flight_laws.proofs.NameLemmas.{HasKept, is_same}
+use Rattle.flight_laws.proofs.NameLemmas.{HasKept}
 use Rattle.flight_laws.proofs.RuledEventLemmas.{older_ruled, tick_at_ruled}
 use Rattle.flight_laws.proofs.RuledLemmas.{IsRuled}
 use Rattle.flight_laws.proofs.RuledNetworkLemmas.{IsRuledNetwork, RulesTo}
 use Rattle.flight_laws.proofs.RuledRunLemmas.{messages_said}
-use Rattle.flight_laws.proofs.SettleLemmas.{apart_turned}
 use Rattle.flight_laws.proofs.UniqueLemmas.{said_once}
 use Rattle.flight_laws.proofs.WorkBindingLemmas.{WorksBound, bound_work_kept}
 use Rattle.flight_laws.proofs.WorkingLemmas.{tick_kept}
-use Rattle.flight_laws.proofs.WorksLemmas.{no_more, work_keeps, works_begin, works_counted, works_kept}
-
-clash : {P : Type 0} → false ≡ true → P
-clash e = absurd (cc)
-
-both : (a b : Bool) → a ≡ true → b ≡ true → a && b ≡ true
-both true b one other = other
-both false b one other = clash one
-
-one_of : (a b : Bool) → a && b ≡ true → a ≡ true
-one_of true b is = refl
-one_of false b is = clash is
-
-other_of : (a b : Bool) → a && b ≡ true → b ≡ true
-other_of true b is = is
-other_of false b is = clash is
+use Rattle.flight_laws.proofs.WorksLemmas.{work_keeps, works_begin, works_counted, works_kept}
+use Rattle.flight_laws.proofs.CommonLemmas.{no_more}
 
 -- ---- a number that may be named is not free after a tick
 
@@ -87,12 +75,9 @@ counted_rest edge = (refl, refl)
 pub named_given : (edge : EdgeState) (wire peer label : ℕ) → HasKept edge → MayName edge wire peer label → given_of (counted edge) label ≡ true
 named_given edge wire peer label has may =
     let rest = counted_rest edge in
-    both (nat_lt label (counted edge).next_label) (not (list_any (is_free_one label) (counted edge).kept))
-    (subst (λ (n : ℕ). nat_lt label n ≡ true) (sym rest.0) (less label edge.next_label may.below))
+    and_from (nat_lt label (counted edge).next_label) (not (list_any (is_free_one label) (counted edge).kept))
+    (subst (λ (n : ℕ). nat_lt label n ≡ true) (sym rest.0) (lt-ltb label edge.next_label may.below))
     (subst (λ (ks : List Kept). not (list_any (is_free_one label) ks) ≡ true) (sym rest.1) (ap (λ (b : Bool). not b) (may_not_free label peer 0 edge.kept has.rising may.kept)))
-  where
-    less : (a b : ℕ) → a < b → nat_lt a b ≡ true
-    less a b below = grind (arith, nat_tests)
 
 -- ---- what is said of old labels
 
@@ -101,11 +86,8 @@ old_on pw_id next next2 near None label given old = clash old
 old_on pw_id next next2 near (Some other) None given old = clash old
 old_on pw_id next next2 near (Some other) (Some own) given old = either (other == pw_id) old where
   either : (same : Bool) → not same || is_old next near own ≡ true → not same || is_old next2 near own ≡ true
-  either true old = both (next2 own) (not (has_advertised near own)) (given own refl) (other_of (next own) (not (has_advertised near own)) old)
+  either true old = and_from (next2 own) (not (has_advertised near own)) (given own refl) (second_holds (next own) (not (has_advertised near own)) old)
   either false old = refl
-
-some_is : (a b : ℕ) → Some a ≡ Some b → a ≡ b
-some_is a b e = cc
 
 given_at : (edge : EdgeState) (peer label : ℕ) (place : Option EndPlace) → HasKept edge → MayNameAt edge peer place label → given_of (counted edge) label ≡ true
 given_at edge peer label None has may = absurd may
@@ -117,7 +99,7 @@ withdraws_on plan edge peer pw_id near (LabelWithdraw id fec None) has may old =
   nothing own e = absurd (cc)
 withdraws_on plan edge peer pw_id near (LabelWithdraw id fec (Some label)) has may old =
     old_on pw_id (given_of edge) (given_of (counted edge)) near fec.pw_id (Some label)
-    (λ own is. subst (λ (l : ℕ). given_of (counted edge) l ≡ true) (some_is label own is) (given_at edge peer label (end_of_fec plan edge (record { 0 = peer }) fec) has may)) old
+    (λ own is. subst (λ (l : ℕ). given_of (counted edge) l ≡ true) (same_number_held label own is) (given_at edge peer label (end_of_fec plan edge (record { 0 = peer }) fec) has may)) old
 withdraws_on plan edge peer pw_id near (Notification id code status None) has may old = refl
 withdraws_on plan edge peer pw_id near (Notification id code status (Some fec)) has may old = old
 withdraws_on plan edge peer pw_id near m has may old = old
@@ -128,21 +110,21 @@ releases_on plan edge peer pw_id near (LabelRelease id fec None) has may old = o
   nothing own e = absurd (cc)
 releases_on plan edge peer pw_id near (LabelRelease id fec (Some label)) has may old =
     old_on pw_id (given_of edge) (given_of (counted edge)) near fec.pw_id (Some label)
-    (λ own is. subst (λ (l : ℕ). given_of (counted edge) l ≡ true) (some_is label own is) (given_at edge peer label (end_of_fec plan edge (record { 0 = peer }) fec) has may)) old
+    (λ own is. subst (λ (l : ℕ). given_of (counted edge) l ≡ true) (same_number_held label own is) (given_at edge peer label (end_of_fec plan edge (record { 0 = peer }) fec) has may)) old
 releases_on plan edge peer pw_id near m has may old = old
 
 all_on : (test test2 : Message → Bool) (P : Message → Type 0) (ms : List Message) → ((m : Message) → P m → test m ≡ true → test2 m ≡ true) → AllMessages P ms → all_messages test ms ≡ true → all_messages test2 ms ≡ true
 all_on test test2 P [] next are all = refl
 all_on test test2 P (m ∷ ms) next are all =
-    both (test2 m) (all_messages test2 ms) (next m are.0 (one_of (test m) (all_messages test ms) all)) (all_on test test2 P ms next are.1 (other_of (test m) (all_messages test ms) all))
+    and_from (test2 m) (all_messages test2 ms) (next m are.0 (first_holds (test m) (all_messages test ms) all)) (all_on test test2 P ms next are.1 (second_holds (test m) (all_messages test ms) all))
 
 waits_on : (edge : EdgeState) (wire peer pw_id : ℕ) (near : LocalPart) (out back : List Message) → HasKept edge → ((label : ℕ) → part_owns near label ≡ true → MayName edge wire peer label)
     → is_waited_for pw_id (given_of edge) near out back ≡ true → is_waited_for pw_id (given_of (counted edge)) near out back ≡ true
 waits_on edge wire peer pw_id (Idle declined) out back has own waits = refl
-waits_on edge wire peer pw_id (Advertised label told) out back has own waits = named_given edge wire peer label has (own label (is_same label))
+waits_on edge wire peer pw_id (Advertised label told) out back has own waits = named_given edge wire peer label has (own label (same_number label))
 waits_on edge wire peer pw_id (Withdrawing label) out back has own waits =
-    both (given_of (counted edge) label) (some_message (is_withdrawal_of pw_id label) out || some_message (is_release_of pw_id label) back) (named_given edge wire peer label has (own label (is_same label)))
-    (other_of (given_of edge label) (some_message (is_withdrawal_of pw_id label) out || some_message (is_release_of pw_id label) back) waits)
+    and_from (given_of (counted edge) label) (some_message (is_withdrawal_of pw_id label) out || some_message (is_release_of pw_id label) back) (named_given edge wire peer label has (own label (same_number label)))
+    (second_holds (given_of edge label) (some_message (is_withdrawal_of pw_id label) out || some_message (is_release_of pw_id label) back) waits)
 
 -- ---- the ends between two edges
 
@@ -182,7 +164,7 @@ counted_leaves : (plan : Plan) (network : NetworkState) (me : EdgeId) (place : �
 unfolding changes with_ticks with_kept
 counted_leaves plan network me place ordered ruled bounds start away = record {
   bound = λ messages said out_is near far.
-      let apart : nat_eq me.0 place ≡ false = apart_turned place me.0 away in
+      let apart : nat_eq me.0 place ≡ false = apart_back place me.0 away in
       let fit = fit_there (ends_at plan me.0 place) (ends_at plan place me.0) ((network.edges me.0).peering place) near (ordered.two me.0 place apart).talk.here in
       let out : RulesTo plan me.0 place (network.edges me.0) (network.edges place) (flight network me.0 place) = (ruled.two me.0 place apart).0 in
       let back : RulesTo plan place me.0 (network.edges place) (network.edges me.0) (flight network place me.0) = (ruled.two place me.0 away).0 in

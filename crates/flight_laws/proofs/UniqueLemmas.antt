@@ -5,11 +5,13 @@ use Rattle.ldp_grammar.specs.declared.message.Message.{Message}
 use Rattle.ldp_grammar.specs.declared.pdu.Pdu.{Pdu}
 use Rattle.ldp_stream.specs.FrontOf.{More, Got, front_of}
 use Rattle.ldp_stream.proofs.FrontOfLemmas.{front_is_read}
+use Rattle.ldp_stream.proofs.CommonLemmas.{none_front}
 use Rattle.session_core.specs.declared.peers.Peers.{Peers}
 use Rattle.pw_messages.specs.Sender.{platform_of}
 use Rattle.flight_laws.specs.Messages.{AreSaid, IsSaid, octets_of_all}
 use Rattle.flight_laws.specs.Pair.{AreFit}
 use Rattle.flight_laws.proofs.SaidLemmas.{IsReady, all_octets, ready}
+use Rattle.flight_laws.proofs.ReadyLemmas.{joined_same}
 
 -- the first of some messages stands in front of their octets
 front_said : (ends : Peers) (m : Message) (ms : List Message) → AreFit ends → IsSaid ends m → AreSaid ends ms
@@ -20,10 +22,6 @@ front_said ends m ms fit said others =
   where
     is_ready : IsReady m ends.me
     is_ready = ready ends m fit said
-
-none_front : front_of 4096 [] ≡ More
-unfolding front_of
-none_front = refl
 
 no_more : {pdu : Pdu} {rest : List ℕ} → More ≡ Got pdu rest → ⊥
 no_more e = cc
@@ -40,14 +38,11 @@ same_message router x y xs ys e = head (ap (λ (p : Pdu). p.messages) (pdu _ _ e
 same_rest : (router : Addr) (x y : Message) (xs ys : List ℕ) → Got (record { id = platform_of router; messages = x ∷ [] }) xs ≡ Got (record { id = platform_of router; messages = y ∷ [] }) ys → xs ≡ ys
 same_rest router x y xs ys e = cc
 
-both_same : (x y : Message) (xs ys : List Message) → x ≡ y → xs ≡ ys → x ∷ xs ≡ y ∷ ys
-both_same x y xs ys p q = cc
-
 pub said_once : (ends : Peers) (xs ys : List Message) → AreFit ends → AreSaid ends xs → AreSaid ends ys → octets_of_all ends.me xs ≡ octets_of_all ends.me ys → xs ≡ ys
 said_once ends [] [] fit one other e = refl
 said_once ends [] (y ∷ ys) fit one other e = absurd (no_more (sym none_front ∙ (ap (front_of 4096) e ∙ front_said ends y ys fit other.0 other.1)))
 said_once ends (x ∷ xs) [] fit one other e = absurd (no_more (sym none_front ∙ (ap (front_of 4096) (sym e) ∙ front_said ends x xs fit one.0 one.1)))
 said_once ends (x ∷ xs) (y ∷ ys) fit one other e =
     let fronts = sym (front_said ends x xs fit one.0 one.1) ∙ (ap (front_of 4096) e ∙ front_said ends y ys fit other.0 other.1) in
-    both_same x y xs ys (same_message ends.me x y (octets_of_all ends.me xs) (octets_of_all ends.me ys) fronts)
+    joined_same x y xs ys (same_message ends.me x y (octets_of_all ends.me xs) (octets_of_all ends.me ys) fronts)
     (said_once ends xs ys fit one.1 other.1 (same_rest ends.me x y (octets_of_all ends.me xs) (octets_of_all ends.me ys) fronts))

@@ -5,6 +5,7 @@ use Rattle.std.specs.Prelude.{nat_le, nat_lt, if◌then◌else◌}
 use Rattle.std.specs.Str.{bytes_eq}
 use Rattle.std.proofs.lemmas.Bool.Decides.{nat_tests}
 use Rattle.std.proofs.lemmas.Slice.Eq.{bytes_eq-Decides}
+use Rattle.std.proofs.lemmas.Bool.{eqb-true, leb-true}
 use Rattle.net_base.specs.declared.plan.Plan.{Plan}
 use Rattle.net_base.specs.declared.plan.circuit_plan.CircuitPlan.{CircuitPlan}
 use Rattle.net_base.specs.declared.plan.places.CircuitId.{CircuitId}
@@ -15,6 +16,7 @@ use Rattle.net_base.specs.declared.trace.event.Event.{Event}
 use Rattle.net_base.specs.declared.trace.event.Event.TheVariants.{Arrive, Connect, Deliver, Frame, Priority}
 use Rattle.net_base.specs.plan.Places.{circuit_row}
 use Rattle.net_values.specs.declared.addr.Addr.{Addr}
+use Rattle.net_values.proofs.BoolLemmas.{first_holds, clash, second_holds}
 use Rattle.ldp_grammar.specs.declared.ldp_id.LdpId.{LdpId}
 use Rattle.ldp_grammar.specs.declared.message.Message.{Message}
 use Rattle.ldp_grammar.specs.Reading.{are_octets}
@@ -30,7 +32,7 @@ use Rattle.edge_model.specs.Mend.{mends}
 use Rattle.edge_model.specs.State.{EdgeState, Peering, put_at}
 use Rattle.edge_model.specs.Wire.{priority_input}
 use Rattle.edge_model.specs.Work.{Work}
-use Rattle.edge_model.proofs.LocalLemmas.{and_left, and_right}
+use Rattle.edge_model.proofs.CommonLemmas.{put_away}
 use Rattle.network_model.specs.Absorb.{Stepped, absorb, absorb_all, begin_at, idle, taken_all}
 use Rattle.network_model.specs.Connection.{can_connect, connected_work, connecting, delivering, is_deliverable, is_drained_pipe, losing}
 use Rattle.network_model.specs.declared.packet.Packet.{Packet}
@@ -41,8 +43,6 @@ use Rattle.network_model.specs.State.{NetworkState, edge_at, with_edge, with_fra
 use Rattle.network_model.specs.Step.{step}
 use Rattle.network_model.proofs.AbsorbLemmas.{all_keep}
 use Rattle.flight_laws.specs.Messages.{octets_of_all}
-use Rattle.flight_laws.proofs.NameLemmas.{same_number}
-use Rattle.flight_laws.proofs.RowLemmas.{clash}
 
 -- ---- what an edge makes of messages, each in a PDU of its own from a router
 
@@ -70,9 +70,6 @@ StandEach router [] = Unit {0}
 StandEach router (message ∷ messages) =
     (front_of 4096 (octets_of_all router (message ∷ messages)) ≡ Got (record { id = platform_of router; messages = message ∷ [] }) (octets_of_all router messages)) × StandEach router messages
 
-at_most : (n m : ℕ) → nat_le n m ≡ true → n ≤ m
-at_most n m e = grind (arith, nat_tests)
-
 same_octets : (xs ys : List ℕ) → bytes_eq xs ys ≡ true → xs ≡ ys
 same_octets xs ys e = (bytes_eq-Decides xs ys).0 e
 
@@ -92,7 +89,7 @@ few_each plan peer router [] n work stand wide few = nothing (work.edge.peering 
   nothing (Some kept) = refl
 few_each plan peer router (m ∷ ms) zero work stand wide few = absurd (omega (arith, few))
 few_each plan peer router (m ∷ ms) (suc n) work stand wide few =
-    next (few_each plan peer router ms n heard stand.1 (and_right _ _ wide) (omega (arith, few))) (work.edge.peering peer.0) (and_left _ _ wide) where
+    next (few_each plan peer router ms n heard stand.1 (second_holds _ _ wide) (omega (arith, few))) (work.edge.peering peer.0) (first_holds _ _ wide) where
       id : LdpId
       id = platform_of router
 
@@ -104,7 +101,7 @@ few_each plan peer router (m ∷ ms) (suc n) work stand wide few =
       next again None wide = refl
       next again (Some kept) wide =
           ap (λ (f : Front). hears_front plan taken_all peer (hears_few plan taken_all peer (suc n)) kept (octets_of_all router (m ∷ ms)) f work)
-          (ap (λ (max : ℕ). front_of max (octets_of_all router (m ∷ ms))) (same_number kept.session.max_pdu 4096 wide) ∙ stand.0)
+          (ap (λ (max : ℕ). front_of max (octets_of_all router (m ∷ ms))) (eqb-true kept.session.max_pdu 4096 wide) ∙ stand.0)
           ∙ again
 
 -- ---- what the network makes of their delivery
@@ -145,14 +142,14 @@ if_not true one other e = clash e
 delivered_each : (plan : Plan) (count : ℕ) (from to : EdgeId) (router : Addr) (messages : List Message) (network : NetworkState) → StandEach router messages → are_next plan count from to router messages network ≡ true
     → (step plan network (Deliver from to count)) ≡ record { state = (hands_over plan from to (platform_of router) messages network).state; entries = Did (Deliver from to count) ∷ (hands_over plan from to (platform_of router) messages network).entries }
 delivered_each plan count from to router messages network stand next =
-    let ends = and_left _ _ next in
-    let rest = and_right _ _ next in
-    let octets = and_left _ _ rest in
-    let last = and_right _ _ rest in
+    let ends = first_holds _ _ next in
+    let rest = second_holds _ _ next in
+    let octets = first_holds _ _ rest in
+    let last = second_holds _ _ rest in
     ap (λ (s : Stepped). told s)
-    (if_true (is_deliverable network from.0 to.0) _ _ (and_left _ _ (and_right _ _ ends))
-    ∙ (if_not (is_drained_pipe network from.0 to.0) (losing plan to from network) (delivering plan from to count network) (and_right _ _ (and_right _ _ ends))
-    ∙ given (same_octets _ _ (and_left _ _ octets)) (same_octets _ _ (and_right _ _ octets)) (and_left _ _ ends) (at_most _ _ (and_left _ _ last)) (and_right _ _ last))) where
+    (if_true (is_deliverable network from.0 to.0) _ _ (first_holds _ _ (second_holds _ _ ends))
+    ∙ (if_not (is_drained_pipe network from.0 to.0) (losing plan to from network) (delivering plan from to count network) (second_holds _ _ (second_holds _ _ ends))
+    ∙ given (same_octets _ _ (first_holds _ _ octets)) (same_octets _ _ (second_holds _ _ octets)) (first_holds _ _ ends) (leb-true _ _ (first_holds _ _ last)) (second_holds _ _ last))) where
       told : Stepped → Stepped
       told s = record { state = s.state; entries = Did (Deliver from to count) ∷ s.entries }
 
@@ -227,14 +224,14 @@ step_told plan network (Hears from to router messages) stand right = delivered_e
 pub after_is : (plan : Plan) (network : NetworkState) (moments : List Moment) → StandAll moments → are_right plan network moments ≡ true → state_after plan network (events_of moments) ≡ told_after plan network moments
 after_is plan network [] stand right = refl
 after_is plan network (moment ∷ moments) stand right =
-    ap (λ (s : Stepped). state_after plan s.state (events_of moments)) (step_told plan network moment stand.0 (and_left _ _ right))
-    ∙ after_is plan (told_step plan network moment).state moments stand.1 (and_right _ _ right)
+    ap (λ (s : Stepped). state_after plan s.state (events_of moments)) (step_told plan network moment stand.0 (first_holds _ _ right))
+    ∙ after_is plan (told_step plan network moment).state moments stand.1 (second_holds _ _ right)
 
 pub along_is : (plan : Plan) (network : NetworkState) (moments : List Moment) → StandAll moments → are_right plan network moments ≡ true → entries_along plan network (events_of moments) ≡ told_along plan network moments
 along_is plan network [] stand right = refl
 along_is plan network (moment ∷ moments) stand right =
-    ap (λ (s : Stepped). s.entries ++ entries_along plan s.state (events_of moments)) (step_told plan network moment stand.0 (and_left _ _ right))
-    ∙ ap (λ (l : List Entry). (told_step plan network moment).entries ++ l) (along_is plan (told_step plan network moment).state moments stand.1 (and_right _ _ right))
+    ap (λ (s : Stepped). s.entries ++ entries_along plan s.state (events_of moments)) (step_told plan network moment stand.0 (first_holds _ _ right))
+    ∙ ap (λ (l : List Entry). (told_step plan network moment).entries ++ l) (along_is plan (told_step plan network moment).state moments stand.1 (second_holds _ _ right))
 
 -- ---- edges at which nothing happens
 
@@ -261,9 +258,6 @@ are_within plan size network (moment ∷ moments) = is_within plan size network 
 
 other_place : (size k place : ℕ) → size ≤ k → nat_lt place size ≡ true → (k == place) ≡ false
 other_place size k place beyond within = grind (arith, nat_tests)
-
-put_away : {X : Type 0} (map : ℕ → X) (place : ℕ) (x : X) (k : ℕ) → (k == place) ≡ false → put_at map place x k ≡ map k
-put_away map place x k apart = rw apart refl
 
 absorbed_away : (me : EdgeId) (origin hops : ℕ) (work : Work) (network : NetworkState) (k : ℕ) → (k == me.0) ≡ false → (absorb me origin hops work network).state.edges k ≡ network.edges k
 unfolding with_edge
@@ -306,7 +300,7 @@ module _ (plan : Plan) (size k : ℕ) (beyond : size ≤ k) where
   unfolding with_pipe
   told_away (Happens (Connect from to)) network within =
       connected_away from to (connected_work plan network from to) (connected_work plan network to from) network k
-      (other_place size k from.0 beyond (and_left _ _ within)) (other_place size k to.0 beyond (and_right _ _ within)) (can_connect plan network from.0 to.0)
+      (other_place size k from.0 beyond (first_holds _ _ within)) (other_place size k to.0 beyond (second_holds _ _ within)) (can_connect plan network from.0 to.0)
   told_away (Happens (Frame circuit octets)) network within = frame_away circuit octets (circuit_row plan circuit) network within
   told_away (Happens (Arrive number)) network within = arrive_away (packet_at network number) network within
   told_away (Happens (Priority me wire priority)) network within =
@@ -320,7 +314,7 @@ module _ (plan : Plan) (size k : ℕ) (beyond : size ≤ k) where
   pub stays_away : (moments : List Moment) (network : NetworkState) → are_within plan size network moments ≡ true → (told_after plan network moments).edges k ≡ network.edges k
   stays_away [] network within = refl
   stays_away (moment ∷ moments) network within =
-      stays_away moments (told_step plan network moment).state (and_right _ _ within) ∙ told_away moment network (and_left _ _ within)
+      stays_away moments (told_step plan network moment).state (second_holds _ _ within) ∙ told_away moment network (first_holds _ _ within)
 
 -- ---- messages that are written are read
 
@@ -336,7 +330,7 @@ AreReadable (m ∷ ms) = IsReadable m × AreReadable ms
 each_stands : (router : Addr) (ms : List Message) → length router.0 ≡ 4 → AreOctets (octets_of_all router ms) → AreReadable ms → StandEach router ms
 each_stands router [] four octets readable = tt
 each_stands router (m ∷ ms) four octets readable = (
-  front_is_read.written_first 4096 m (platform_of router) (octets_of_all router ms) octets (omega arith) readable.0.can readable.0.fits (record { router = four; space = omega arith }) (at_most _ _ readable.0.short),
+  front_is_read.written_first 4096 m (platform_of router) (octets_of_all router ms) octets (omega arith) readable.0.can readable.0.fits (record { router = four; space = omega arith }) (leb-true _ _ readable.0.short),
   each_stands router ms four (octets_behind (written m (platform_of router)) (octets_of_all router ms) octets) readable.1,
 )
 

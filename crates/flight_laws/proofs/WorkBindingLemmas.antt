@@ -1,10 +1,10 @@
 -- An edge at work keeps what it leaves of the ends of wires, and what it holds of octets.
-use Rattle.std.proofs.Common.{◌≡◌, ◌⊎◌, ◌++◌, ◌∙◌, ℕ, Bool, true, false, cond, nat_eq, List, [], ◌∷◌, Option, Some, None, refl, sym, ap, subst, inl, inr}
+use Rattle.std.proofs.Common.{◌≡◌, ◌⊎◌, ◌++◌, ◌∙◌, ℕ, Bool, true, false, cond, nat_eq, List, [], Option, Some, None, refl, sym, ap, subst, inl, inr}
 use Rattle.std.proofs.lemmas.Bool.{cases_Bool, eqb-true}
+use Rattle.net_values.proofs.BoolLemmas.{clash}
 use Rattle.net_base.specs.declared.plan.Plan.{Plan}
 use Rattle.net_base.specs.declared.plan.places.EdgeId.{EdgeId}
 use Rattle.net_base.specs.declared.plan.places.WireId.{WireId}
-use Rattle.net_base.specs.declared.trace.state_name.Reason.{Reason}
 use Rattle.net_base.specs.declared.trace.state_name.Reason.TheVariants as reason
 use Rattle.net_base.specs.plan.Accepted.{IsChecked}
 use Rattle.ldp_grammar.specs.declared.message.Message.{Message}
@@ -12,13 +12,14 @@ use Rattle.pw_signalling.specs.declared.binding.Binding.{Binding}
 use Rattle.pw_signalling.specs.End.{EndState, LocalPart, Idle, Advertised, Withdrawing}
 use Rattle.pw_signalling.specs.Rows.{renew_part, renewed}
 use Rattle.session_core.specs.declared.peers.Peers.{Peers}
-use Rattle.session_core.specs.declared.reply.Reply.{Reply}
 use Rattle.session_core.specs.Table.{SessionEvent, Outcome, Stay, Goes, Ends, Closed, Ticked, outcome_of}
-use Rattle.edge_model.specs.Put.{having_spoken, put_replies}
+use Rattle.edge_model.specs.Put.{put_replies}
 use Rattle.edge_model.specs.Session.{comes_of, ends, happens, happens_with_ends, says, with_session}
-use Rattle.edge_model.specs.State.{EdgeState, Peering, is_there, with_bits, with_peering, with_renewed, with_wire}
+use Rattle.edge_model.specs.State.{EdgeState, Peering, is_there, with_bits, with_renewed, with_wire}
 use Rattle.edge_model.specs.Wire.{turned_wire}
 use Rattle.edge_model.specs.Work.{Work, changes, gives}
+use Rattle.edge_model.proofs.FitLemmas.{turned_wire_keeps}
+use Rattle.edge_model.proofs.HeldLemmas.{ended_gone, clears_keep}
 use Rattle.network_model.specs.Absorb.{taken_all}
 use Rattle.network_model.specs.State.{NetworkState, held_by}
 use Rattle.flight_laws.specs.Bound.{AreAnswers, AreBound, AreBoundBy, given_of, HasSaid, IsBoundBy, LeavesBound}
@@ -27,24 +28,21 @@ use Rattle.flight_laws.specs.Ends.{HasTypes, WorksOn, ends_at}
 use Rattle.flight_laws.specs.Facts.{LeavesFor, flight}
 use Rattle.flight_laws.specs.Meeting.{IsFine, Shows, closes, said_to}
 use Rattle.flight_laws.specs.Messages.{AreSaid, octets_of_all}
-use Rattle.flight_laws.specs.Pair.{AreTalking, IsStanding, StayInStep, having_put_all}
+use Rattle.flight_laws.specs.Pair.{AreTalking, IsStanding, StayInStep}
 use Rattle.flight_laws.proofs.BindingLemmas.{binding_renews}
 use Rattle.flight_laws.proofs.ActBindingLemmas.{spared_leaves}
 use Rattle.flight_laws.proofs.GivenLemmas.{given_on}
-use Rattle.flight_laws.proofs.EdgeBindingLemmas.{clash}
 use Rattle.flight_laws.proofs.EventBindingLemmas.{event_spare, leaves_event, leaves_no_event}
 use Rattle.flight_laws.proofs.LeaveLemmas.{leaves_same}
 use Rattle.flight_laws.proofs.MeetLemmas.{goes_shows}
 use Rattle.flight_laws.proofs.ReactLemmas.{closed_in_step, ticked_in_step}
 use Rattle.flight_laws.proofs.RowBindingLemmas.{LeavesAll, SaysAll, rows_leave}
 use Rattle.flight_laws.proofs.SayLemmas.{says_none, says_spares}
-use Rattle.flight_laws.proofs.SoundLemmas.{cleared_peering}
 use Rattle.flight_laws.proofs.SpokenLemmas.{says_spoken}
 use Rattle.flight_laws.proofs.SteadyLemmas.{IsSteady, steady_rows}
 use Rattle.flight_laws.proofs.UniqueLemmas.{said_once}
 use Rattle.flight_laws.proofs.WorkingLemmas.{KeptByWork}
-use Rattle.flight_laws.proofs.WorkLemmas.{same_place}
-use Rattle.flight_laws.proofs.WorksLemmas.{changed_edge, gives_spares, works_kept, works_steady}
+use Rattle.flight_laws.proofs.WorksLemmas.{changed_edge, gives_spares, works_kept, works_steady, no_end, put_held}
 
 -- ---- octets that are held
 
@@ -81,25 +79,17 @@ held_steady plan me I besides held steady = record {
   says = λ peer message work up is i. (steady.says peer message work up is i.0, λ place here. says_holds place (held place) peer message work (i.1 place here));
 }
 
-put_held : (rs : List Reply) (kept : Peering) → (having_put_all rs kept).held ≡ kept.held
-put_held [] kept = refl
-put_held (r ∷ rs) kept = put_held rs (having_spoken kept)
-
-ended_none : (peer : EdgeId) (why : Reason) (work : Work) → (ends peer why work).edge.peering peer.0 ≡ None
-unfolding gives changes with_peering
-ended_none peer why work = rw (same_place peer.0) refl
-
 comes_holds : (me peer : EdgeId) (kept : Peering) (said : List ℕ) (work : Work) (o : Outcome) → Shows peer.0 work (Some kept) said false → IsFine me work → HoldsOctets kept.held ((comes_of taken_all peer kept o work).edge.peering peer.0)
 comes_holds me peer kept said work Stay shows fine = subst (HoldsOctets kept.held) (sym shows.keeps) refl
 comes_holds me peer kept said work (Goes next replies) shows fine = subst (HoldsOctets kept.held) (sym (goes_shows me peer kept next replies said work shows fine).0.keeps) (put_held replies (with_session next kept))
-comes_holds me peer kept said work (Ends why replies) shows fine = subst (HoldsOctets kept.held) (sym (ended_none peer why (put_replies taken_all peer replies work).work)) tt
+comes_holds me peer kept said work (Ends why replies) shows fine = subst (HoldsOctets kept.held) (sym (ended_gone peer why (put_replies taken_all peer replies work).work)) tt
 
 -- and so does an event of a session
 pub event_holds : (me peer : EdgeId) (place : ℕ) (held : List ℕ) (event : SessionEvent) (work : Work) → IsFine me work → ((kept : Peering) → work.edge.peering peer.0 ≡ Some kept → closes peer.0 work.effects ≡ false)
     → HoldsOctets held (work.edge.peering place) → HoldsOctets held ((happens_with_ends taken_all peer event work).edge.peering place)
 event_holds me peer place held event work fine unclosed holds = elim (cases_Bool (nat_eq place peer.0)) [
   | inl same ↦ subst (λ (k : ℕ). HoldsOctets held ((happens_with_ends taken_all peer event work).edge.peering k)) (sym (eqb-true place peer.0 same))
-      (subst (HoldsOctets held) (sym (ap (λ (f : ℕ → Option Peering). f peer.0) (cleared_peering peer (happens taken_all peer event work))))
+      (subst (HoldsOctets held) (sym (ap (λ (f : ℕ → Option Peering). f peer.0) (clears_keep peer (happens taken_all peer event work))))
       (here (work.edge.peering peer.0) refl (subst (λ (k : ℕ). HoldsOctets held (work.edge.peering k)) (eqb-true place peer.0 same) holds)))
   | inr apart ↦ subst (HoldsOctets held) (sym (event_spare place peer event work apart).spares.kept) holds
 ]
@@ -132,11 +122,6 @@ turned_label : (wire : WireId) (on : Bool) (edge : EdgeState) → given_of (turn
 unfolding with_renewed with_wire
 turned_label wire true edge = refl
 turned_label wire false edge = refl
-
-turned_peering : (wire : WireId) (on : Bool) (edge : EdgeState) → (turned_wire wire on edge).peering ≡ edge.peering
-unfolding with_renewed with_wire
-turned_peering wire true edge = refl
-turned_peering wire false edge = refl
 
 turned_bound : (plan : Plan) (a b : ℕ) (wire : WireId) (on : Bool) (edge other : EdgeState) (out back : List Message) → AreBound plan a b edge other out back → AreBound plan a b (turned_wire wire on edge) other out back
 turned_bound plan a b wire on edge other out back bound = record {
@@ -235,11 +220,8 @@ module _ (plan : Plan) (network : NetworkState) (me : EdgeId) (checked : IsCheck
   event_held peer event work works holds place here =
       event_holds me peer place (held place) event work works.fine (λ kept at. unclosed kept at (cases_Bool (nat_eq peer.0 me.0))) (holds place here)
     where
-      nothing : (kept : Peering) → None ≡ Some kept → ⊥
-      nothing kept e = cc
-
       unclosed : (kept : Peering) → work.edge.peering peer.0 ≡ Some kept → (nat_eq peer.0 me.0 ≡ true) ⊎ (nat_eq peer.0 me.0 ≡ false) → closes peer.0 work.effects ≡ false
-      unclosed kept at (inl same) = absurd (nothing kept (sym works.alone ∙ (ap work.edge.peering (sym (eqb-true peer.0 me.0 same)) ∙ at)))
+      unclosed kept at (inl same) = absurd (no_end kept (sym works.alone ∙ (ap work.edge.peering (sym (eqb-true peer.0 me.0 same)) ∙ at)))
       unclosed kept at (inr away) = (works.left peer.0 away).unclosed kept at
 
   pub bound_work_kept : KeptByWork plan me WorksBound
@@ -261,8 +243,8 @@ module _ (plan : Plan) (network : NetworkState) (me : EdgeId) (checked : IsCheck
               (record { label = given_on old.edge new.edge bridged.keeps.next_label bridged.keeps.kept; ends = λ wire. ap (λ (f : ℕ → ℕ → EndState). f wire place) bridged.keeps.ends }) (all.1 place away),
         );
         turned = λ wire on work all. (
-          (base.turned wire on work all.0.0, changed_held no_place held (turned_wire wire on) work (turned_peering wire on work.edge) all.0.1),
-          λ place away. changed_leaves plan me place (network.edges place) (flight network me.0 place) (answers place) (turned_wire wire on) work (turned_peering wire on work.edge)
+          (base.turned wire on work all.0.0, changed_held no_place held (turned_wire wire on) work (turned_wire_keeps wire on work.edge) all.0.1),
+          λ place away. changed_leaves plan me place (network.edges place) (flight network me.0 place) (answers place) (turned_wire wire on) work (turned_wire_keeps wire on work.edge)
               (λ ms bound. turned_bound plan me.0 place wire on work.edge (network.edges place) ms (answers place) bound) (all.1 place away),
         );
         bits = λ wire bits work few all. (

@@ -1,6 +1,7 @@
 -- What an edge's work is for one neighbour: what is kept for it, what was said to it, and whether the end was closed.
 use Rattle.std.proofs.Common.{◌≡◌, ◌++◌, ◌||◌, ◌∙◌, ℕ, Bool, true, false, cond, nat_eq, List, [], ◌∷◌, Option, Some, None, refl, sym, ap, append_assoc}
-use Rattle.std.proofs.lemmas.Bool.{eq-eqb}
+use Rattle.net_values.proofs.BoolLemmas.{or_false, or_true, or_append}
+use Rattle.net_values.proofs.NumberLemmas.{same_number}
 use Rattle.net_base.specs.declared.plan.places.EdgeId.{EdgeId}
 use Rattle.net_base.specs.declared.trace.state_name.Reason.{Reason}
 use Rattle.net_base.specs.declared.trace.state_name.Reason.TheVariants as reason
@@ -25,10 +26,6 @@ use Rattle.flight_laws.specs.Pair.{having_put_all, octets_put}
 cond_append : (b : Bool) (x y z : List ℕ) → cond b (x ++ (y ++ z)) (y ++ z) ≡ cond b (x ++ y) y ++ z
 cond_append true x y z = sym (append_assoc x y z)
 cond_append false x y z = refl
-
-or_append : (a b c : Bool) → a || (b || c) ≡ (a || b) || c
-or_append true b c = refl
-or_append false b c = refl
 
 pub said-append : (place : ℕ) (es fs : List Effect) → said_to place (es ++ fs) ≡ said_to place es ++ said_to place fs
 said-append place [] fs = refl
@@ -69,10 +66,6 @@ spares_then place a b c one next = record { kept = next.kept ∙ one.kept; said 
 pub same_end : (xs : List ℕ) → xs ++ [] ≡ xs
 same_end [] = refl
 same_end (x ∷ xs) = ap (λ (l : List ℕ). x ∷ l) (same_end xs)
-
-pub or_false : (b : Bool) → b || false ≡ b
-or_false true = refl
-or_false false = refl
 
 pub with_peering_spares : (place : ℕ) (peer : EdgeId) (kept : Option Peering) (work : Work) → nat_eq place peer.0 ≡ false → Spares place work (changes (with_peering peer kept) work)
 unfolding changes with_peering
@@ -168,9 +161,6 @@ happens_spares told place peer event work apart = happens_to_spares told place p
 
 -- ---- an event of a peer, where its link taken_all everything
 
-pub same_place : (n : ℕ) → nat_eq n n ≡ true
-same_place n = eq-eqb n n refl
-
 -- the work after octets were put
 unfoldable pub wrote : EdgeId → List ℕ → Work → Work
 wrote peer bytes work = gives (effect.Said peer bytes) (changes (with_spoken peer) (puts peer bytes true work))
@@ -183,8 +173,8 @@ pub wrote_shows : (peer : EdgeId) (kept : Peering) (bytes : List ℕ) (work : Wo
     → Shows peer.0 (wrote peer bytes work) (Some (having_spoken kept)) (said ++ bytes) closed
 unfolding wrote gives changes with_spoken with_peering puts
 wrote_shows peer kept bytes work said closed shows = record {
-  keeps = rw (same_place peer.0, shows.keeps) refl;
-  says = said-append peer.0 work.effects (effect.Said peer bytes ∷ []) ∙ rw (same_place peer.0, shows.says, same_end bytes) refl;
+  keeps = rw (same_number peer.0, shows.keeps) refl;
+  says = said-append peer.0 work.effects (effect.Said peer bytes ∷ []) ∙ rw (same_number peer.0, shows.says, same_end bytes) refl;
   ended = closes-append peer.0 work.effects (effect.Said peer bytes ∷ []) ∙ or_false (closes peer.0 work.effects) ∙ shows.ended;
 }
 
@@ -215,13 +205,9 @@ pub ends_shows : (me peer : EdgeId) (why : Reason) (kept : Option Peering) (work
 unfolding gives changes with_peering
 ends_shows me peer why kept work said closed well shows fine = (
   record {
-    keeps = rw (same_place peer.0) refl;
+    keeps = rw (same_number peer.0) refl;
     says = said-append peer.0 (work.effects ++ effect.Session peer (name.Ended why) ∷ []) (effect.Closed peer ∷ []) ∙ same_end _ ∙ said-append peer.0 work.effects (effect.Session peer (name.Ended why) ∷ []) ∙ same_end _ ∙ shows.says;
-    ended = closes-append peer.0 (work.effects ++ effect.Session peer (name.Ended why) ∷ []) (effect.Closed peer ∷ []) ∙ rw (same_place peer.0) (or_true (closes peer.0 (work.effects ++ effect.Session peer (name.Ended why) ∷ [])));
+    ended = closes-append peer.0 (work.effects ++ effect.Session peer (name.Ended why) ∷ []) (effect.Closed peer ∷ []) ∙ rw (same_number peer.0) (or_true (closes peer.0 (work.effects ++ effect.Session peer (name.Ended why) ∷ [])));
   },
   record { place = fine.place; idle = fine.idle; well = well-append (work.effects ++ effect.Session peer (name.Ended why) ∷ []) (effect.Closed peer) (well-append work.effects (effect.Session peer (name.Ended why)) fine.well well) tt },
 )
-  where
-    or_true : (b : Bool) → b || true ≡ true
-    or_true true = refl
-    or_true false = refl

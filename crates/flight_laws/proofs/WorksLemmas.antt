@@ -1,12 +1,13 @@
 -- An edge at work in a network whose edges are paired: it begins, its sessions have events, and its work goes into the network.
 use Rattle.std.proofs.Common.{◌≡◌, ◌++◌, ◌∙◌, ◌≤◌, ℕ, Bool, true, false, cond, not, nat_eq, List, [], ◌∷◌, Option, Some, None, refl, sym, ap, subst, inl, inr}
 use Rattle.std.proofs.lemmas.Bool.{cases_Bool, eqb-true}
+use Rattle.net_values.proofs.BoolLemmas.{clash, or_false}
+use Rattle.net_values.proofs.NumberLemmas.{apart_back}
 use Rattle.net_base.specs.declared.plan.Plan.{Plan}
 use Rattle.net_base.specs.declared.plan.places.EdgeId.{EdgeId}
 use Rattle.net_base.specs.declared.plan.places.WireId.{WireId}
 use Rattle.net_base.specs.plan.Accepted.{IsChecked}
 use Rattle.net_base.specs.declared.trace.state_name.Reason.TheVariants as reason
-use Rattle.net_base.specs.declared.trace.state_name.Reason.{Reason}
 use Rattle.ldp_grammar.specs.declared.message.Message.{Message}
 use Rattle.session_core.specs.declared.peers.Peers.{Peers}
 use Rattle.session_core.specs.declared.reply.Reply.{Reply}
@@ -37,17 +38,18 @@ use Rattle.flight_laws.proofs.BridgeLemmas.{bridged_fine, bridged_spares}
 use Rattle.flight_laws.proofs.MeetLemmas.{happens_meets, moved_shows}
 use Rattle.flight_laws.proofs.OfferLemmas.{IsOfWires}
 use Rattle.flight_laws.proofs.PipeLemmas.{all_edges, all_good}
-use Rattle.flight_laws.proofs.RowLemmas.{clash}
 use Rattle.flight_laws.proofs.SayLemmas.{clears_fine, clears_spares, left_says, says_fine, says_is, says_none, says_spares}
-use Rattle.flight_laws.proofs.SettleLemmas.{apart_turned, edge_else, edge_there, settle}
+use Rattle.flight_laws.proofs.SettleLemmas.{edge_else, edge_there, settle}
 use Rattle.flight_laws.proofs.ReactLemmas.{closed_in_step, ticked_in_step}
 use Rattle.flight_laws.proofs.SoundLemmas.{happens_sound, renewed_sound, sound_ends, sound_rekept, sound_same, up_is}
 use Rattle.flight_laws.proofs.NameLemmas.{counted_rekept}
 use Rattle.edge_model.specs.Tick.{counted}
+use Rattle.edge_model.proofs.HeldLemmas.{ended_gone}
 use Rattle.flight_laws.proofs.SteadyLemmas.{IsSilent, IsSteady, steady_rows}
 use Rattle.flight_laws.proofs.WorkingLemmas.{KeptByWork}
 use Rattle.flight_laws.proofs.TalkLemmas.{turned_none, turned_rows}
-use Rattle.flight_laws.proofs.WorkLemmas.{all_put, closes-append, happens_spares, or_false, said-append, same_end, same_place, spares_then, well-append, wrote}
+use Rattle.flight_laws.proofs.WorkLemmas.{all_put, closes-append, happens_spares, said-append, same_end, spares_then, well-append, wrote}
+use Rattle.flight_laws.proofs.CommonLemmas.{no_more}
 
 -- ---- a pair from its other side
 
@@ -121,17 +123,13 @@ work_keeps plan network me origin hops work ordered works = record {
 
 -- ---- an edge begins
 
-pub no_more : (far : Option Peering) (out : List ℕ) → and_more far out [] ≡ out
-no_more None out = refl
-no_more (Some y) out = same_end out
-
 pub works_begin : (plan : Plan) (network : NetworkState) (me : EdgeId) → IsOrdered plan network → WorksOn plan network me (begin_at network me)
 works_begin plan network me ordered = record {
   fine = record { place = ordered.placed me.0; idle = refl; well = tt };
   sound = ordered.sound me.0;
   alone = ordered.alone me.0;
   left = λ place away. record {
-    leaves = rw (no_more ((network.edges place).peering me.0) (flight network me.0 place)) (ordered.two me.0 place (apart_turned place me.0 away));
+    leaves = rw (no_more ((network.edges place).peering me.0) (flight network me.0 place)) (ordered.two me.0 place (apart_back place me.0 away));
     unclosed = λ kept is. refl;
   };
 }
@@ -164,7 +162,7 @@ abbrev KeepsHeld : List ℕ → Option Peering → Type 0
 KeepsHeld held None = Unit {0}
 KeepsHeld held (Some kept) = kept.held ≡ held
 
-put_held : (rs : List Reply) (kept : Peering) → (having_put_all rs kept).held ≡ kept.held
+pub put_held : (rs : List Reply) (kept : Peering) → (having_put_all rs kept).held ≡ kept.held
 put_held [] kept = refl
 put_held (r ∷ rs) kept = put_held rs (having_spoken kept)
 
@@ -172,10 +170,6 @@ told_edge : (peer : EdgeId) (same : Bool) (new : Phase) (work : Work) → (cond 
 unfolding gives
 told_edge peer true new work = refl
 told_edge peer false new work = refl
-
-ended_edge : (peer : EdgeId) (why : Reason) (work : Work) → (ends peer why work).edge.peering peer.0 ≡ None
-unfolding gives changes with_peering
-ended_edge peer why work = rw (same_place peer.0) refl
 
 comes_keeps : (me peer : EdgeId) (kept : Peering) (said : List ℕ) (work : Work) (o : Outcome) → Shows peer.0 work (Some kept) said false → IsFine me work
     → KeepsHeld kept.held ((comes_of taken_all peer kept o work).edge.peering peer.0)
@@ -187,7 +181,7 @@ comes_keeps me peer kept said work (Goes next replies) shows fine =
     let all = all_put me peer replies now (changes (with_peering peer (Some now)) work) said false begun.0 begun.1 in
     rw all.taken (subst (KeepsHeld kept.held)
     (sym (ap (λ (e : EdgeState). e.peering peer.0) (told_edge peer (is_same_phase kept.session.phase next.phase) next.phase put.work) ∙ all.shows.keeps)) (put_held replies now))
-comes_keeps me peer kept said work (Ends why replies) shows fine = subst (KeepsHeld kept.held) (sym (ended_edge peer why (put_replies taken_all peer replies work).work)) tt
+comes_keeps me peer kept said work (Ends why replies) shows fine = subst (KeepsHeld kept.held) (sym (ended_gone peer why (put_replies taken_all peer replies work).work)) tt
 
 pub no_end : (kept : Peering) → None ≡ Some kept → ⊥
 no_end kept e = cc
@@ -270,7 +264,7 @@ works_happens plan network me peer event work takes works = elim (cases_Bool (na
       record {
         fine = own.0;
         sound = sound;
-        alone = (event_spares me.0 peer event work (apart_turned peer.0 me.0 away)).kept ∙ works.alone;
+        alone = (event_spares me.0 peer event work (apart_back peer.0 me.0 away)).kept ∙ works.alone;
         left = λ place gone. elim (cases_Bool (nat_eq place peer.0)) [
           | inl this ↦ subst (LeftFor plan network me (happens_with_ends taken_all peer event work)) (sym (eqb-true place peer.0 this)) own.1
           | inr other ↦ left_spared (ends_at plan me.0 place) (ends_at plan place me.0) place ((network.edges place).peering me.0) (flight network me.0 place) (network.pipes place me.0) work (happens_with_ends taken_all peer event work)

@@ -1,8 +1,9 @@
 -- What comes of a packet that is carried where it arrives: a drop, or its frame is bridged, where the end of its wire forwards.
-use Rattle.std.proofs.Common.{reverse, ◌==◌, ◌≡◌, ◌≤◌, ◌&&◌, ◌||◌, ◌∙◌, ℕ, Bool, true, false, cond, List, [], ◌∷◌, Option, Some, None, Ok, length, nat_eq, nat_lt, position, slice_get, refl, sym, ap, arith}
-use Rattle.std.proofs.lemmas.Bool.{and_from, eq-eqb}
+use Rattle.std.proofs.Common.{◌==◌, ◌≡◌, ◌≤◌, ◌&&◌, ◌∙◌, ℕ, Bool, true, false, cond, List, [], ◌∷◌, Option, Some, None, Ok, length, nat_eq, nat_lt, position, slice_get, refl, sym, ap, arith}
+use Rattle.std.proofs.lemmas.Bool.{and_from, eq-eqb, eqb-true}
 use Rattle.std.proofs.lemmas.Bool.Decides.{nat_tests}
 use Rattle.std.specs.List.{find}
+use Rattle.net_values.proofs.BoolLemmas.{clash, and_false}
 use Rattle.net_base.specs.declared.plan.Plan.{Plan}
 use Rattle.net_base.specs.declared.plan.places.EdgeId.{EdgeId}
 use Rattle.net_base.specs.declared.plan.places.WireId.{WireId}
@@ -13,7 +14,7 @@ use Rattle.net_base.specs.declared.trace.drop_cause.DropCause.{DropCause}
 use Rattle.net_base.specs.declared.trace.drop_cause.DropCause.TheVariants as cause
 use Rattle.net_base.specs.declared.trace.entry.Entry.{Entry}
 use Rattle.net_base.specs.plan.Accepted.{IsChecked}
-use Rattle.net_base.specs.plan.Paths.{follows, has_repeat, is_first, is_last, joins, offer_of}
+use Rattle.net_base.specs.plan.Paths.{follows, has_repeat, joins, offer_of}
 use Rattle.net_base.specs.plan.Places.{mtu_of, wire_row}
 use Rattle.net_base.proofs.PathLemmas.{joins_turned}
 use Rattle.hvpls_spokes.specs.Port.{is_wire_port, ports_of}
@@ -37,27 +38,24 @@ use Rattle.edge_model.specs.Role.{down_at, role_at, role_in}
 use Rattle.edge_model.specs.Send.{drops}
 use Rattle.edge_model.specs.State.{EdgeState, end_at}
 use Rattle.edge_model.specs.Work.{Work}
-use Rattle.edge_model.proofs.CopyLemmas.{IsWireEnd, found_end}
-use Rattle.edge_model.proofs.PacketLemmas.{packet_is, picked_is, wire_found}
+use Rattle.edge_model.proofs.CopyLemmas.{IsWireEnd, found_end, up_is_none}
+use Rattle.edge_model.proofs.PacketLemmas.{packet_is, picked_is, wire_found, wire_end_is}
 use Rattle.edge_model.proofs.PlaceLemmas.{IsEndOf}
+use Rattle.edge_model.proofs.OneEndLemmas.{one_neighbour}
 use Rattle.network_model.specs.declared.packet.Packet.{Packet}
 use Rattle.network_model.specs.Absorb.{begin_at, taken_all}
 use Rattle.network_model.specs.Packet.{packet_work}
 use Rattle.network_model.specs.State.{NetworkState}
 use Rattle.network_model.specs.Window.{carried, carried_by}
 use Rattle.flight_laws.proofs.RuledNetworkLemmas.{IsRuledNetwork}
+use Rattle.flight_laws.proofs.PlaceLemmas.{same_row}
+use Rattle.flight_laws.proofs.RuledMendLemmas.{wire_fits}
 use Rattle.packet_laws.specs.Carried.{IsCarried}
 use Rattle.packet_laws.proofs.ArriveLemmas.{IsOwner, IsSized, come_sized, owner_is}
 use Rattle.packet_laws.proofs.EchoArriveLemmas.{frame_ttl, not_in_channel}
-use Rattle.packet_laws.proofs.PackLemmas.{wire_checked}
-use Rattle.packet_laws.proofs.SendLemmas.{come_of, same_row, wire_end_is}
-use Rattle.network_model.proofs.WayLemmas.{behind_first, earlier_stands, either_here, joins_is, once_behind, same_number}
-use Rattle.network_model.proofs.ReversedLemmas.{follows_reversed, once_reversed}
-use Rattle.network_model.proofs.GoalLemmas.{begins_first, ends_last}
+use Rattle.packet_laws.proofs.SendLemmas.{come_of}
+use Rattle.network_model.proofs.WayLemmas.{behind_first, earlier_stands, either_here, once_behind}
 use Rattle.flood_laws.proofs.CarryLemmas.{packed_carried, packed_entry}
-
-clash : {P : Type 0} → false ≡ true → P
-clash e = absurd (cc)
 
 -- ---- a terminal edge has one neighbour
 
@@ -67,30 +65,11 @@ next_one (last ∷ []) a b c once one other = clash one
 next_one (first ∷ next ∷ rest) a b c once one other =
     either_here (a == first.0) (b == next.0) (follows (next ∷ rest) a b) one
     (λ p q. either_here (a == first.0) (c == next.0) (follows (next ∷ rest) a c) other
-    (λ r s. same_number b next.0 q ∙ sym (same_number c next.0 s))
+    (λ r s. eqb-true b next.0 q ∙ sym (eqb-true c next.0 s))
     (λ t. clash (sym (behind_first first (next ∷ rest) a once (earlier_stands (next ∷ rest) a c t)) ∙ p)))
     (λ t. either_here (a == first.0) (c == next.0) (follows (next ∷ rest) a c) other
     (λ r s. clash (sym (behind_first first (next ∷ rest) a once (earlier_stands (next ∷ rest) a b t)) ∙ r))
     (λ u. next_one (next ∷ rest) a b c (once_behind first (next ∷ rest) once) t u))
-
-one_beside : (path : List EdgeId) (a b c : ℕ) → has_repeat path ≡ false → is_first a path || is_last a path ≡ true → joins a b path ≡ true → joins a c path ≡ true → b ≡ c
-one_beside path a b c once ended one other = by (is_first a path) (is_last a path) refl refl ended where
-  onward : (k : ℕ) → is_first a path ≡ true → joins a k path ≡ true → follows path a k ≡ true
-  onward k first joined = left (follows path a k) (follows path k a) (begins_first path a k once first) (sym (joins_is path a k) ∙ joined) where
-    left : (p q : Bool) → q ≡ false → p || q ≡ true → p ≡ true
-    left true q none is = refl
-    left false q none is = clash (sym none ∙ is)
-
-  homeward : (k : ℕ) → is_last a path ≡ true → joins a k path ≡ true → follows (reverse path) a k ≡ true
-  homeward k last joined = follows_reversed path a k ∙ right (follows path a k) (follows path k a) (ends_last path a k once last) (sym (joins_is path a k) ∙ joined) where
-    right : (p q : Bool) → p ≡ false → p || q ≡ true → q ≡ true
-    right true q none is = clash (sym none)
-    right false q none is = is
-
-  by : (f l : Bool) → is_first a path ≡ f → is_last a path ≡ l → f || l ≡ true → b ≡ c
-  by true l first last is = next_one path a b c once (onward b first one) (onward c first other)
-  by false true first last is = next_one (reverse path) a b c (once_reversed path ∙ once) (homeward b last one) (homeward c last other)
-  by false false first last is = clash is
 
 -- ---- what is found by one test and passes another one: something is found by that too
 
@@ -105,14 +84,6 @@ found_too first other (y ∷ ys) x found passes = by (first y) (other y) refl fo
   by false false here found rest = rest found passes
 
 -- ---- what comes of a packet
-
-up_none : (why : Option Down) → is_up why ≡ true → why ≡ None
-up_none None up = refl
-up_none (Some why) up = absurd (cc (up))
-
-pub and_false : (b : Bool) → b && false ≡ false
-and_false true = refl
-and_false false = refl
 
 pub above_reserved : (label : ℕ) → 16 ≤ label → nat_lt label 16 ≡ false
 above_reserved label above = grind (arith, nat_tests)
@@ -210,7 +181,7 @@ module _ (plan : Plan) (network : NetworkState) (trace : List Entry) (packet : P
         ap (λ (r : WirePlan). joins packet.to.0 place.peer.0 r.path) (sym row) ∙ (ap (λ (k : EdgeId). joins k.0 place.peer.0 end.row.path) (sym at) ∙ end.joined) in
         record {
           wire = ends.of_wire;
-          peer = ap (λ (n : ℕ). record { 0 = n }) (one_beside rule.row.path packet.to.0 place.peer.0 packet.from.0 (wire_checked plan packet.wire rule.row checked rule.is).once ended joined back);
+          peer = ap (λ (n : ℕ). record { 0 = n }) (one_neighbour rule.row.path packet.to.0 place.peer.0 packet.from.0 (wire_fits plan packet.wire rule.row checked rule.is).once ended joined back);
           terminal = ends.terminal;
         }
 
@@ -336,4 +307,4 @@ module _ (plan : Plan) (network : NetworkState) (trace : List Entry) (packet : P
           ap (λ (w : WireId). (edge.ends w.0 place.peer.0).local) beside.wire ∙ (ap (λ (k : EdgeId). (edge.ends packet.wire.0 k.0).local) beside.peer ∙ advertised) in
           let passes : advertises_label rule.label (end_at edge place).local ≡ true = ap (advertises_label rule.label) local ∙ eq-eqb rule.label rule.label refl in
           let (other, owner) = found_too (is_end_of_wire packet.wire) (λ (p : EndPlace). advertises_label rule.label (end_at edge p).local) (end_places plan edge.me) place found passes in
-          bridged_at other owner (same_down other place (owner_beside other owner) beside ∙ up_none (down_at plan edge place) up)
+          bridged_at other owner (same_down other place (owner_beside other owner) beside ∙ up_is_none (down_at plan edge place) up)

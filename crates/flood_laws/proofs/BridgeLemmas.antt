@@ -1,6 +1,8 @@
 -- What the copies of a bridge that floods serve, at once or later.
 use Rattle.std.proofs.Common.{◌≡◌, ◌==◌, ◌&&◌, ◌+◌, ◌∙◌, ℕ, suc, Bool, true, false, List, [], ◌∷◌, Option, Some, None, cond, nat_eq, not, position, slice_get, refl, ap, sym, subst, arith, add-zero, zero-add}
 use Rattle.std.proofs.lemmas.Bool.{eq-eqb, ne_eqb}
+use Rattle.net_values.proofs.BoolLemmas.{first_holds, and_true}
+use Rattle.net_values.proofs.NumberLemmas.{next_place}
 use Rattle.net_base.specs.declared.plan.Plan.{Plan}
 use Rattle.net_base.specs.declared.plan.circuit_plan.CircuitPlan.{CircuitPlan}
 use Rattle.net_base.specs.declared.plan.wire_plan.WirePlan.{WirePlan}
@@ -28,7 +30,6 @@ use Rattle.edge_model.specs.Frame.{copies, copy_by, destination, forwarded, forw
 use Rattle.edge_model.specs.State.{EdgeState, addresses_of, with_addresses, with_learned}
 use Rattle.edge_model.specs.Work.{Work, beginning, changes, gives}
 use Rattle.edge_model.proofs.CopyLemmas.{wire_class}
-use Rattle.edge_model.proofs.LocalLemmas.{and_left}
 use Rattle.network_model.specs.Absorb.{taken_all}
 use Rattle.network_model.specs.Reach.{far_of, is_row_at, is_row_of}
 use Rattle.network_model.specs.State.{NetworkState}
@@ -56,9 +57,9 @@ goes_by plan edge others from (port.Mesh wire) = end_forwards plan edge wire && 
 goes_by plan edge others from (port.Spoke wire) = end_forwards plan edge wire && class_may plan from wire.0 false
 
 pub goes_forward : (plan : Plan) (edge : EdgeState) (others : ℕ → Bool) (from : Option ℕ) (x : Port) → goes_by plan edge others from x ≡ true → forwards plan edge (Some x) ≡ true
-goes_forward plan edge others from (port.Circuit at) goes = and_left (edge.circuit_on at.0) (others at.0) goes
-goes_forward plan edge others from (port.Mesh wire) goes = and_left (end_forwards plan edge wire) (class_may plan from wire.0 true) goes
-goes_forward plan edge others from (port.Spoke wire) goes = and_left (end_forwards plan edge wire) (class_may plan from wire.0 false) goes
+goes_forward plan edge others from (port.Circuit at) goes = first_holds (edge.circuit_on at.0) (others at.0) goes
+goes_forward plan edge others from (port.Mesh wire) goes = first_holds (end_forwards plan edge wire) (class_may plan from wire.0 true) goes
+goes_forward plan edge others from (port.Spoke wire) goes = first_holds (end_forwards plan edge wire) (class_may plan from wire.0 false) goes
 
 -- ---- copies by ports
 
@@ -98,11 +99,8 @@ module _ (plan : Plan) (came : Arrival) (calm : NetworkState) (service : Service
       let next : Work = cond (targets p) (copy_by plan taken_all came frame x work) work in
       let here = copy_serves x (targets p) work same (λ goes. up x (sym first ∙ goes)) in
       let count : cond (targets p) (port_serves x) 0 ≡ serves_if test x = ap (λ (b : Bool). cond b (port_serves x) 0) first in
-      let later = copies_serve targets test up (p + 1) ports next (here.edge ∙ same) (λ q y at. ap targets (one_more p q) ∙ are (suc q) y at) in
+      let later = copies_serve targets test up (p + 1) ports next (here.edge ∙ same) (λ q y at. ap targets (next_place p q) ∙ are (suc q) y at) in
       record { edge = later.edge ∙ here.edge; meet = omega (arith, here.meet, count, later.meet) }
-    where
-      one_more : (p q : ℕ) → (p + 1) + q ≡ p + suc q
-      one_more p q = omega arith
 
 -- ---- what they serve
 
@@ -300,10 +298,6 @@ frame_meets plan came calm edge at circuit frame row checked is me still unknown
     (λ p x to. circuit_targets plan row.service edge.me after (known_port (addresses_of after row.service) (destination frame)) arrival at.0 p x (unknown arrival) from to)
     ∙ ap (λ (e : EdgeId). cond (serves_here plan row.service edge circuit && not (nat_eq circuit.0 at.0)) 1 0 + wires_due plan calm row.service circuit e.0 None) me)
 
-and_all : (b : Bool) → b && true ≡ b
-and_all true = refl
-and_all false = refl
-
 -- a frame that came by a wire that forwards
 pub packet_meets : (plan : Plan) (came : Arrival) (calm : NetworkState) (edge : EdgeState) (service : ServiceId) (wire : WireId) (w : WirePlan) (circuit : CircuitId) (frame : List ℕ)
     → IsChecked plan → wire_row plan wire ≡ Some w → wire_ends_at service edge.me.0 w ≡ true → IsStillEdge (calm.edges edge.me.0) edge
@@ -318,4 +312,4 @@ packet_meets plan came calm edge service wire w circuit frame checked is ends st
     ap (λ (o : Option ℕ). meets plan calm service circuit edge.me (forwarded plan taken_all came service frame o (beginning edge [])).effects) found
     ∙ (flood_serves plan came calm service circuit frame edge arrival (λ c. true) (Some wire.0) checked still
     (λ p x to. wire_targets plan service edge.me after (known_port (addresses_of after service) (destination frame)) arrival wire w p x (unknown arrival) is from to)
-    ∙ ap (λ (b : Bool). cond b 1 0 + wires_due plan calm service circuit edge.me.0 (Some wire.0)) (and_all (serves_here plan service edge circuit)))
+    ∙ ap (λ (b : Bool). cond b 1 0 + wires_due plan calm service circuit edge.me.0 (Some wire.0)) (and_true (serves_here plan service edge circuit)))

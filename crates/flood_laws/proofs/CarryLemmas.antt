@@ -21,9 +21,10 @@ use Rattle.network_model.specs.State.{NetworkState}
 use Rattle.network_model.specs.Window.{carried, carried_by}
 use Rattle.network_model.proofs.PacketListLemmas.{packet_from}
 use Rattle.flight_laws.proofs.RuledNetworkLemmas.{IsRuledNetwork}
+use Rattle.flight_laws.proofs.RuledMendLemmas.{wire_fits}
 use Rattle.packet_laws.specs.Carried.{IsPacked}
 use Rattle.packet_laws.proofs.ArriveLemmas.{IsAlive, IsSized, read_again}
-use Rattle.packet_laws.proofs.PackLemmas.{few_points, wire_checked}
+use Rattle.packet_laws.proofs.PackLemmas.{few_points}
 use Rattle.packet_laws.proofs.SendLemmas.{IsSender, copy_sender, sender_packs}
 use Rattle.flood_laws.proofs.OfferLemmas.{offers_same}
 
@@ -31,7 +32,7 @@ use Rattle.flood_laws.proofs.OfferLemmas.{offers_same}
 
 module _ (plan : Plan) (packet : Packet) (row : WirePlan) (label : ℕ) (frame : List ℕ) (checked : IsChecked plan) (is : wire_row plan packet.wire ≡ Some row) (pack : IsPacked plan row packet label frame) where
   wire_is : IsWireOf plan row
-  wire_is = wire_checked plan packet.wire row checked is
+  wire_is = wire_fits plan packet.wire row checked is
 
   alive : IsAlive pack.ttl
   alive = few (length (expected plan row packet.from.0 packet.to.0).points) (few_points plan row packet.from.0 packet.to.0 wire_is) pack.left where

@@ -1,5 +1,8 @@
 -- In a quiet service what is told along a wire is one chain from terminal edge to terminal edge.
 use Rattle.std.proofs.Common.{◌≡◌, ◌+◌, ◌++◌, ◌&&◌, ◌||◌, ◌∙◌, ℕ, zero, suc, Bool, true, false, not, List, [], ◌∷◌, Option, Some, None, length, refl, sym, ap, arith, length-append}
+use Rattle.std.proofs.lemmas.Option.{same_Some}
+use Rattle.net_values.proofs.BoolLemmas.{clash, second_fails, first_fails}
+use Rattle.net_values.proofs.OptionLemmas.{none_some}
 use Rattle.net_base.specs.declared.plan.Plan.{Plan}
 use Rattle.net_base.specs.declared.plan.places.EdgeId.{EdgeId}
 use Rattle.net_base.specs.declared.plan.places.ServiceId.{ServiceId}
@@ -25,27 +28,10 @@ use Rattle.flight_laws.specs.Binding.{advertised_by, is_idle, is_withdrawing}
 use Rattle.flight_laws.specs.Laws.{AreSettled, BothStand, network_after}
 use Rattle.flight_laws.proofs.AcrossLemmas.{runs_tell_across}
 use Rattle.flight_laws.proofs.BoundRunLemmas.{runs_settle}
-use Rattle.packet_laws.proofs.PackLemmas.{wire_checked}
+use Rattle.flight_laws.proofs.RuledMendLemmas.{wire_fits}
 use Rattle.flood_laws.specs.Chain.{Advertises, BeginsAt, GoesOnAt, HasNoLabel, IsChain, Tells, TellsInChains, TellsOn, WasDeclined, told_on}
 use Rattle.flood_laws.specs.Laws.{RunsTellInChains}
 use Rattle.flood_laws.proofs.FarLemmas.{are_settled, far_advertises, joined_by}
-
-clash : {P : Type 0} → false ≡ true → P
-clash e = absurd (cc)
-
-none_some : {A : Type 0} {P : Type 0} (x : A) → None ≡ Some x → P
-none_some x e = absurd (cc)
-
-some_same : {A : Type 0} (x y : A) → Some x ≡ Some y → x ≡ y
-some_same x y e = cc
-
-left_not : (a b : Bool) → a || b ≡ false → a ≡ false
-left_not true b e = clash (sym e)
-left_not false b e = refl
-
-right_not : (a b : Bool) → a || b ≡ false → b ≡ false
-right_not true b e = clash (sym e)
-right_not false b e = e
 
 none_before : {P : Type 0} (n : ℕ) → suc n ≡ zero → P
 none_before n e = absurd (cc (e))
@@ -57,7 +43,7 @@ one_less n m e = omega (arith, e)
 one_more : (points : List Point) (point : Point) → suc (length points) ≡ length (points ++ point ∷ [])
 one_more points point = omega (arith, length-append points (point ∷ []))
 
-has_end : (kept : Option Peering) → is_up_with kept ≡ true → is_there kept ≡ true
+pub has_end : (kept : Option Peering) → is_up_with kept ≡ true → is_there kept ≡ true
 has_end None up = clash up
 has_end (Some kept) up = refl
 
@@ -67,7 +53,7 @@ module _ (plan : Plan) (network : NetworkState) (service : ServiceId) (wire : Wi
     (settled : (a b : ℕ) → are_joined_by plan service a b ≡ true → AreSettled plan network a b) (is : wire_row plan wire ≡ Some row) (ours : is_wire_of service row ≡ true)
     (across : (me from to : EdgeId) → mate row me.0 from.0 ≡ Some to → TellsAcross plan me from to wire row (network.edges me.0)) where
   row_is : IsWireOf plan row
-  row_is = wire_checked plan wire row checked is
+  row_is = wire_fits plan wire row checked is
 
   -- of two edges that the wire joins both ends stand, or neither does
   module _ (a b : ℕ) (joined : joins a b row.path ≡ true) where
@@ -99,7 +85,7 @@ module _ (plan : Plan) (network : NetworkState) (service : ServiceId) (wire : Wi
   mate_from me from to mated = by (mate_on row.path me.0 from.0) (mate_back row.path me.0 to.0 from row_is.once mated) where
     by : (o : Option EdgeId) → place_of o ≡ Some to.0 → o ≡ Some to
     by None e = none_some to.0 e
-    by (Some other) e = ap (λ (n : ℕ). Some (record { 0 = n })) (some_same other.0 to.0 e)
+    by (Some other) e = ap (λ (n : ℕ). Some (record { 0 = n })) (same_Some other.0 to.0 e)
 
   -- ---- each content ends a chain
 
@@ -121,7 +107,7 @@ module _ (plan : Plan) (network : NetworkState) (service : ServiceId) (wire : Wi
     by_side : (b : Bool) → is_terminal row me ≡ b → IsChain plan network wire row me to content
     by_side true ends = BeginsAt me to content ends told
     by_side false inside =
-        let other = has_mate row.path to me row_is.once (sym (joins_turned row.path me.0 to.0) ∙ joined) (left_not (is_first me.0 row.path) (is_last me.0 row.path) inside) (right_not (is_first me.0 row.path) (is_last me.0 row.path) inside) in
+        let other = has_mate row.path to me row_is.once (sym (joins_turned row.path me.0 to.0) ∙ joined) (first_fails (is_first me.0 row.path) (is_last me.0 row.path) inside) (second_fails (is_first me.0 row.path) (is_last me.0 row.path) inside) in
         inner other.0 (mate_from me other.0 to other.1) (mate_joined row.path me.0 to.0 other.0 other.1)
 
   chain : (n : ℕ) (me to : EdgeId) (content : Told) → length content.points ≡ n → joins me.0 to.0 row.path ≡ true → Advertises network wire me to content → IsChain plan network wire row me to content
@@ -144,7 +130,7 @@ module _ (plan : Plan) (network : NetworkState) (service : ServiceId) (wire : Wi
     held = near_holds me.0 from.0 beside binding told.is
 
     same : (content' : Told) (passes : PassesOn plan me from to wire row (network.edges me.0) content') → content' ≡ told_on plan row me from content
-    same content' passes = passes.content_is ∙ ap (λ (b : Binding). told_on plan row me from b.told) (some_same passes.binding binding (sym passes.held ∙ held))
+    same content' passes = passes.content_is ∙ ap (λ (b : Binding). told_on plan row me from b.told) (same_Some passes.binding binding (sym passes.held ∙ held))
 
     by : (local : LocalPart) → ((network.edges me.0).ends wire.0 to.0).local ≡ local → TellsOn (network.edges me.0) wire to (told_on plan row me from content)
     by (Idle true) at = WasDeclined at

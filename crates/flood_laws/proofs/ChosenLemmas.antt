@@ -1,13 +1,12 @@
 -- A spoke edge's end of a spoke forwards only where the edge has chosen the spoke, so no two spokes of one service do.
-use Rattle.std.proofs.Common.{◌≡◌, ◌∙◌, ℕ, zero, suc, Bool, true, false, List, [], ◌∷◌, Option, Some, None, cond, slice_get, refl, ap, sym, inl, inr}
+use Rattle.std.proofs.Common.{◌≡◌, ◌∙◌, ℕ, Bool, true, false, Option, Some, None, cond, refl, ap, sym, inl, inr}
 use Rattle.std.proofs.lemmas.Bool.{cases_Bool, eqb-true}
-use Rattle.std.specs.List.{find}
+use Rattle.net_values.proofs.RowLemmas.{none_passes}
 use Rattle.net_base.specs.declared.plan.Plan.{Plan}
 use Rattle.net_base.specs.declared.plan.wire_plan.WirePlan.{WirePlan}
 use Rattle.net_base.specs.declared.plan.places.EdgeId.{EdgeId}
 use Rattle.net_base.specs.declared.plan.places.ServiceId.{ServiceId}
 use Rattle.net_base.specs.declared.plan.places.WireId.{WireId}
-use Rattle.net_base.specs.declared.trace.down.Down.{Down}
 use Rattle.net_base.specs.declared.trace.down.Down.TheVariants as cause
 use Rattle.net_base.specs.plan.Paths.{is_last}
 use Rattle.net_base.specs.plan.Places.{is_mesh_class, wire_row}
@@ -19,32 +18,19 @@ use Rattle.pw_signalling.specs.Down.{causes, down, far_told, holds_cause, of_bot
 use Rattle.pw_signalling.specs.End.{EndState}
 use Rattle.pw_signalling.specs.Laws.{BothAgree}
 use Rattle.edge_model.specs.declared.end_place.EndPlace.{EndPlace}
-use Rattle.edge_model.specs.Ends.{end_forwards, forwards_at, is_up, wire_end}
+use Rattle.edge_model.specs.Ends.{end_forwards, forwards_at, wire_end}
 use Rattle.edge_model.specs.Role.{down_at, is_chosen, is_chosen_wire, role_at, role_in}
 use Rattle.edge_model.specs.State.{EdgeState, end_at}
-use Rattle.edge_model.proofs.CopyLemmas.{found_end}
-
--- what is not found passes the test nowhere
-none_passes : {A : Type 0} (test : A → Bool) (xs : List A) (i : ℕ) (x : A) → find test xs ≡ None → slice_get xs i ≡ Some x → test x ≡ false
-none_passes test [] i x none at = absurd (cc (at))
-none_passes test (y ∷ ys) i x none at = by (test y) refl i at (λ j later rest. none_passes test ys j x rest later) where
-  by : (b : Bool) → test y ≡ b → (i : ℕ) → slice_get (y ∷ ys) i ≡ Some x → ((j : ℕ) → slice_get ys j ≡ Some x → find test ys ≡ None → test x ≡ false) → test x ≡ false
-  by true here i at more = absurd (cc (rw here at none))
-  by false away zero at more = (let same : y ≡ x = cc (at) in ap test (sym same) ∙ away)
-  by false away (suc j) at more = more j at (rw away at none)
+use Rattle.edge_model.proofs.CopyLemmas.{found_end, up_is_none}
 
 -- an end of a spoke that was not chosen does not forward
-not_chosen_down : {P : Type 0} (bits : ℕ) (e : EndState) → down role.NotChosen bits e ≡ None → P
+pub not_chosen_down : {P : Type 0} (bits : ℕ) (e : EndState) → down role.NotChosen bits e ≡ None → P
 unfolding down
 not_chosen_down {P} bits e up =
     both (forwards_where_both_agree role.NotChosen bits e up) (none_passes (holds_cause role.NotChosen bits (own_told e.local) (far_told e.remote)) causes 7 cause.Standby up refl)
   where
     both : BothAgree e → of_both (λ a b. true) (own_told e.local) (far_told e.remote) ≡ false → P
     both agree none = (let wrong : true ≡ false = rw (agree.advertises, agree.bound) at none in absurd (cc (wrong)))
-
-up_is_none : (o : Option Down) → is_up o ≡ true → o ≡ None
-up_is_none None up = refl
-up_is_none (Some why) up = absurd (cc (up))
 
 some_wire : (wire : WireId) (o : Option WireId) → is_chosen_wire wire o ≡ true → o ≡ Some wire
 some_wire wire None is = absurd (cc (is))

@@ -1,7 +1,8 @@
 -- Copies of a frame in a window: the packets of a bridge's copies, and what comes of them where they arrive.
-use Rattle.std.proofs.Common.{Bool, ◌||◌, ◌-◌, ◌≡◌, ◌+◌, ◌∙◌, ℕ, true, false, List, [], ◌∷◌, Option, Some, None, Result, Ok, position, refl, sym, ap}
+use Rattle.std.proofs.Common.{Bool, ◌||◌, ◌-◌, ◌≡◌, ◌+◌, ◌∙◌, ℕ, true, false, List, [], ◌∷◌, Option, Some, None, Ok, position, refl, sym, ap}
 use Rattle.std.specs.List.{AllByRecursion}
 use Rattle.std.proofs.lemmas.Bool.{eq-eqb, eqb-true}
+use Rattle.net_values.proofs.BoolLemmas.{clash}
 use Rattle.net_base.specs.declared.plan.Plan.{Plan}
 use Rattle.net_base.specs.declared.plan.wire_plan.WirePlan.{WirePlan}
 use Rattle.net_base.specs.declared.plan.places.EdgeId.{EdgeId}
@@ -15,7 +16,6 @@ use Rattle.net_base.specs.plan.Accepted.{IsChecked}
 use Rattle.net_base.specs.plan.Places.{mtu_of, wire_row}
 use Rattle.net_base.specs.plan.Roles.{are_joined_by}
 use Rattle.hvpls_spokes.specs.Port.{is_wire_port, ports_of}
-use Rattle.eth_encap.specs.declared.stack_entry.StackEntry.{StackEntry}
 use Rattle.eth_encap.specs.Packet.{entry_of}
 use Rattle.pw_signalling.specs.End.{EndState, Advertised}
 use Rattle.pw_stitch.specs.Relabelling.{relabelled}
@@ -37,9 +37,11 @@ use Rattle.network_model.proofs.PacketListLemmas.{packet_from, packets_of}
 use Rattle.flight_laws.specs.Laws.{AreSettled}
 use Rattle.flight_laws.proofs.RuledNetworkLemmas.{IsRuledNetwork}
 use Rattle.flight_laws.proofs.StableLemmas.{IsPlannedBinding, end_is_planned}
+use Rattle.flight_laws.proofs.PlaceLemmas.{same_row}
+use Rattle.flight_laws.proofs.RuledMendLemmas.{wire_fits}
 use Rattle.packet_laws.specs.Carried.{IsCarried, IsPacked}
-use Rattle.packet_laws.proofs.ArriveLemmas.{IsSized}
-use Rattle.packet_laws.proofs.SendLemmas.{IsSender, same_row}
+use Rattle.packet_laws.proofs.ArriveLemmas.{IsSized, same_frame, same_entry}
+use Rattle.packet_laws.proofs.SendLemmas.{IsSender}
 use Rattle.flood_laws.specs.Copy.{CarriesCopy, IsLabelled, IsStill, IsStillEdge}
 use Rattle.network_model.specs.Goal.{start}
 use Rattle.network_model.proofs.GoalLemmas.{goal_reached}
@@ -48,15 +50,11 @@ use Rattle.net_base.proofs.PathLemmas.{joins_turned}
 use Rattle.edge_model.specs.EndPlaces.{is_terminal}
 use Rattle.edge_model.proofs.CopyLemmas.{found_end}
 use Rattle.edge_model.proofs.PlaceLemmas.{IsEndOf}
-use Rattle.packet_laws.proofs.PackLemmas.{wire_checked}
-use Rattle.packet_laws.proofs.SendLemmas.{wire_end_is}
+use Rattle.edge_model.proofs.PacketLemmas.{wire_end_is}
 use Rattle.flood_laws.proofs.PassingLemmas.{IsNotPassed, IsPassedOn, Passed, passed, passed_carries}
 use Rattle.flood_laws.proofs.ArrivalLemmas.{Arrived, NotTaken, Taken, arrived, arrives_sized, arrives_under, arrives_with, taken_where}
 use Rattle.flood_laws.proofs.CarryLemmas.{copy_carried, copy_from, copy_joined, copy_packed, packed_entry}
 use Rattle.flood_laws.proofs.FarLemmas.{far_advertises}
-
-clash : {P : Type 0} → false ≡ true → P
-clash e = absurd (cc)
 
 -- ---- nothing but addresses has changed
 
@@ -119,7 +117,7 @@ copy_carries plan calm network me origin hops sent came service frame arrival pe
     ∙ (ap (λ (k : EdgeId). ((network.edges me.0).ends copy.place.wire.0 k.0).remote) copy.same_peer ∙ from.bound)) in
     let ended : is_first me.0 copy.row.path || is_last me.0 copy.row.path ≡ true = sent_ended plan network me came service frame arrival peer wire of_arrival bytes checked ruled copy in
     let start_here : start copy.row.path me peer ≡ me =
-    goal_reached copy.row.path peer me (wire_checked plan wire copy.row checked copy.is).once (sym (joins_turned copy.row.path me.0 peer.0) ∙ joined) ended in
+    goal_reached copy.row.path peer me (wire_fits plan wire copy.row checked copy.is).once (sym (joins_turned copy.row.path me.0 peer.0) ∙ joined) ended in
     record {
       row = copy.row;
       is = copy.is;
@@ -177,13 +175,6 @@ sent_carry plan network me origin hops sent came service frame arrival (e ∷ es
 
 -- ---- what comes of a copy where it arrives
 
--- what was read twice is the same
-pub same_label : (read : Result StackEntry DropCause) (one other : StackEntry) → read ≡ Ok one → read ≡ Ok other → one.label ≡ other.label
-same_label read one other first second = cc
-
-same_frame : (read : Result (List ℕ) DropCause) (one other : List ℕ) → read ≡ Ok one → read ≡ Ok other → one ≡ other
-same_frame read one other first second = cc
-
 -- a copy arrives where its wire's end forwards
 pub copy_arrives : (plan : Plan) (calm network : NetworkState) (trace : List Entry) (service : ServiceId) (frame : List ℕ) (packet : Packet)
     → IsChecked plan → IsRuledNetwork plan network → IsStill calm network → (rule : IsCarried plan network trace packet) → CarriesCopy plan calm service frame packet → is_terminal rule.row packet.to ≡ true
@@ -196,7 +187,7 @@ copy_arrives plan calm network trace service frame packet checked ruled still ru
     let labelled : IsLabelled calm packet = copy.labelled in
     let label : labelled.label ≡ rule.label =
     sym labelled.same
-    ∙ same_label (entry_of packet.bytes) labelled.entry (record { label = rule.label; bottom = true; ttl = rule.packed.ttl }) labelled.read (arrives_under plan network trace packet checked ruled rule) in
+    ∙ same_entry (entry_of packet.bytes) labelled.entry (record { label = rule.label; bottom = true; ttl = rule.packed.ttl }) labelled.read (arrives_under plan network trace packet checked ruled rule) in
     let advertised : (edge.ends packet.wire.0 packet.from.0).local ≡ Advertised rule.label labelled.told =
     ap (λ (f : ℕ → ℕ → EndState). (f packet.wire.0 packet.from.0).local) (still_ends (calm.edges packet.to.0) edge is_still) ∙ (labelled.advertised ∙ ap (λ (n : ℕ). Advertised n labelled.told) label) in
     let same_service : rule.row.service ≡ service =

@@ -1,7 +1,8 @@
 -- What is due to a circuit by one wire of a bridge that floods, at a core edge and at a spoke edge of a calm service.
 use Rattle.std.proofs.Common.{◌≡◌, ◌+◌, ◌&&◌, ◌||◌, ◌∙◌, not, ℕ, Bool, true, false, List, [], ◌∷◌, Option, Some, None, cond, slice_get, nat_eq, refl, ap, sym, subst, arith, inl, inr}
 use Rattle.std.proofs.lemmas.Bool.{cases_Bool, eq-eqb, eqb-true}
-use Rattle.std.proofs.lemmas.Bool.Decides.{nat_tests}
+use Rattle.net_values.proofs.BoolLemmas.{first_holds, second_holds}
+use Rattle.net_values.proofs.NumberLemmas.{apart_back}
 use Rattle.net_base.specs.declared.plan.Plan.{Plan}
 use Rattle.net_base.specs.declared.plan.circuit_plan.CircuitPlan.{CircuitPlan}
 use Rattle.net_base.specs.declared.plan.wire_plan.WirePlan.{WirePlan}
@@ -13,7 +14,6 @@ use Rattle.net_base.specs.plan.Accepted.{IsChecked}
 use Rattle.net_base.specs.plan.Places.{circuit_row, is_mesh_class, is_mesh_wire}
 use Rattle.net_base.specs.plan.Roles.{is_spoke_edge, is_spoke_from, is_wire_of}
 use Rattle.edge_model.specs.Ends.{end_forwards}
-use Rattle.edge_model.proofs.LocalLemmas.{and_left, and_right}
 use Rattle.network_model.specs.Calm.{carries, inner_stitched, is_calm, is_live_spoke, last_forwards}
 use Rattle.network_model.specs.Reach.{home_of, is_home}
 use Rattle.network_model.specs.State.{NetworkState}
@@ -52,9 +52,6 @@ pub carries_by : (plan : Plan) (calm : NetworkState) (k : ℕ) (w : WirePlan) (l
     → carries plan calm k w ≡ (forwards plan calm link.near.0 k && forwards plan calm link.far.0 k) && stitches calm k link
 carries_by plan calm k w link = rw (link.path, last_sends plan calm k w link) refl
 
-turned : (m n : ℕ) → nat_eq m n ≡ false → nat_eq n m ≡ false
-turned m n apart = grind (arith, nat_tests)
-
 -- what has a copy still to serve that arrives at an edge by a wire
 module _ (plan : Plan) (calm : NetworkState) (service : ServiceId) (circuit : CircuitId) (site : CircuitPlan) (site_is : circuit_row plan circuit ≡ Some site) (of_service : nat_eq site.service.0 service.0 ≡ true) where
   -- by a mesh wire: what is beside its core edge
@@ -70,7 +67,7 @@ module _ (plan : Plan) (calm : NetworkState) (service : ServiceId) (circuit : Ci
   -- and at its core edge: what is not at its spoke edge
   pub awaits_far : (k : ℕ) (w : WirePlan) (link : IsLink plan w) → slice_get plan.wires k ≡ Some w → is_mesh_class w.class ≡ false
       → awaits plan calm service circuit link.far (record { 0 = k }) ≡ is_live_spoke plan calm service link.near.0 k w && not (nat_eq site.edge.0 link.near.0)
-  awaits_far k w link is spoke = rw (is, spoke, link.path, turned link.near.0 link.far.0 link.apart, eq-eqb link.near.0 link.near.0 refl, site_is, of_service) (rw spoke refl)
+  awaits_far k w link is spoke = rw (is, spoke, link.path, apart_back link.near.0 link.far.0 link.apart, eq-eqb link.near.0 link.near.0 refl, site_is, of_service) (rw spoke refl)
 
 -- what is due by a wire at one of its ends, or at another edge
 module _ (plan : Plan) (calm : NetworkState) (service : ServiceId) (circuit : CircuitId) (k : ℕ) (w : WirePlan) (link : IsLink plan w) where
@@ -86,7 +83,7 @@ module _ (plan : Plan) (calm : NetworkState) (service : ServiceId) (circuit : Ci
   pub due_far : due_by plan calm service circuit link.far.0 None k w
       ≡ cond (is_wire_of service w && forwards plan calm link.far.0 k) (one (awaits plan calm service circuit link.near (record { 0 = k }))) 0
   due_far =
-      rw (link.path, link.last link.far.0, turned link.near.0 link.far.0 link.apart, eq-eqb link.far.0 link.far.0 refl)
+      rw (link.path, link.last link.far.0, apart_back link.near.0 link.far.0 link.apart, eq-eqb link.far.0 link.far.0 refl)
       (ap (λ (t : Bool). cond t (one (awaits plan calm service circuit link.near (record { 0 = k }))) 0) (trims (is_wire_of service w) (forwards plan calm link.far.0 k)))
 
   due_away : (e : ℕ) → nat_eq e link.near.0 ≡ false → nat_eq e link.far.0 ≡ false → due_by plan calm service circuit e None k w ≡ 0
@@ -103,7 +100,7 @@ module _ (plan : Plan) (calm : NetworkState) (service : ServiceId) (circuit : Ci
     by_near_mesh : is_mesh_class w.class ≡ true → due_by plan calm service circuit link.near.0 None k w ≡ by_spoke plan calm service site.edge.0 link.near.0 k w + by_mesh service home.home link.near.0 k w
     by_near_mesh mesh =
         let live = sym (carries_by plan calm k w link) ∙ mesh_carries plan calm service k w checked calmed is (rw (ours, mesh) refl) in
-        let sends = and_left (forwards plan calm link.near.0 k) (forwards plan calm link.far.0 k) (and_left (forwards plan calm link.near.0 k && forwards plan calm link.far.0 k) (stitches calm k link) live) in
+        let sends = first_holds (forwards plan calm link.near.0 k) (forwards plan calm link.far.0 k) (first_holds (forwards plan calm link.near.0 k && forwards plan calm link.far.0 k) (stitches calm k link) live) in
         let serves = awaits_mesh plan calm service circuit site site_is of_service link.far.0 k w is mesh ∙ home.beside link.far.0 (far_core plan service k w link checked is ours) in
         due_near plan calm service circuit k w link ∙ (rw (ours, sends, serves) (rw (mesh, link.path, link.last link.near.0, link.last home.home, eq-eqb link.near.0 link.near.0 refl, link.apart) (only (nat_eq home.home link.near.0) (nat_eq home.home link.far.0))))
       where
@@ -116,9 +113,9 @@ module _ (plan : Plan) (calm : NetworkState) (service : ServiceId) (circuit : Ci
     by_far_mesh : is_mesh_class w.class ≡ true → due_by plan calm service circuit link.far.0 None k w ≡ by_spoke plan calm service site.edge.0 link.far.0 k w + by_mesh service home.home link.far.0 k w
     by_far_mesh mesh =
         let live = sym (carries_by plan calm k w link) ∙ mesh_carries plan calm service k w checked calmed is (rw (ours, mesh) refl) in
-        let sends = and_right (forwards plan calm link.near.0 k) (forwards plan calm link.far.0 k) (and_left (forwards plan calm link.near.0 k && forwards plan calm link.far.0 k) (stitches calm k link) live) in
+        let sends = second_holds (forwards plan calm link.near.0 k) (forwards plan calm link.far.0 k) (first_holds (forwards plan calm link.near.0 k && forwards plan calm link.far.0 k) (stitches calm k link) live) in
         let serves = awaits_mesh plan calm service circuit site site_is of_service link.near.0 k w is mesh ∙ home.beside link.near.0 (mesh_near plan service k w link checked is (rw (ours, mesh) refl)) in
-        due_far plan calm service circuit k w link ∙ (rw (ours, sends, serves) (rw (mesh, link.path, link.last link.far.0, eq-eqb link.far.0 link.far.0 refl, turned link.near.0 link.far.0 link.apart) (only (nat_eq home.home link.near.0))))
+        due_far plan calm service circuit k w link ∙ (rw (ours, sends, serves) (rw (mesh, link.path, link.last link.far.0, eq-eqb link.far.0 link.far.0 refl, apart_back link.near.0 link.far.0 link.apart) (only (nat_eq home.home link.near.0))))
       where
         only : (a : Bool) → one a ≡ 0 + one ((a && true) || false)
         only true = refl

@@ -1,10 +1,10 @@
 -- The frame of a window that is flooded: it goes to a group, or no bridge of its service has learned its destination, nothing teaches
 -- it later, and no bridge that hears the frame knows a port for it.
-use Rattle.std.proofs.Common.{◌≡◌, ◌<◌, ◌&&◌, ◌||◌, ◌⊎◌, ◌∙◌, ℕ, Bool, true, false, List, [], ◌∷◌, Option, Some, None, Ok, length, refl, ap, sym, nat_eq, nat_lt, not, option_map, inl, inr, arith}
-use Rattle.std.proofs.lemmas.Bool.{cases_Bool, eq-eqb, eqb-true}
-use Rattle.std.proofs.lemmas.Bool.Decides.{nat_tests}
+use Rattle.std.proofs.Common.{◌≡◌, ◌<◌, ◌&&◌, ◌||◌, ◌⊎◌, ◌∙◌, ℕ, Bool, true, false, List, [], ◌∷◌, Option, Some, None, Ok, length, refl, ap, sym, nat_eq, nat_lt, not, option_map, inl, inr}
+use Rattle.std.proofs.lemmas.Bool.{cases_Bool, eq-eqb, eqb-true, not-true, ltb-true}
 use Rattle.std.specs.List.{list_all, list_any}
 use Rattle.std.specs.Str.{bytes_eq}
+use Rattle.net_values.proofs.BoolLemmas.{first_holds, second_holds, second_fails, first_fails}
 use Rattle.net_base.specs.declared.plan.Plan.{Plan}
 use Rattle.net_base.specs.declared.plan.circuit_plan.CircuitPlan.{CircuitPlan}
 use Rattle.net_base.specs.declared.plan.places.CircuitId.{CircuitId}
@@ -23,17 +23,16 @@ use Rattle.mac_table.specs.Addresses.{has_address}
 use Rattle.vsi_bridge.specs.Targets.{known_port}
 use Rattle.edge_model.specs.Frame.{destination, hearing}
 use Rattle.edge_model.specs.State.{addresses_of}
-use Rattle.edge_model.proofs.LocalLemmas.{and_left, and_right, is_not}
 use Rattle.network_model.specs.declared.packet.Packet.{Packet}
 use Rattle.network_model.specs.Reach.{is_circuit_on, is_row_of}
 use Rattle.network_model.specs.State.{NetworkState}
 use Rattle.network_model.specs.Step.{step}
 use Rattle.network_model.specs.Window.{is_flooded_frame, is_sourced, is_unlearned, packet_teaches, some_teach, teaches}
-use Rattle.network_model.proofs.CalmLemmas.{below_holds, none_first, none_later}
+use Rattle.network_model.proofs.CalmLemmas.{below_holds}
 use Rattle.network_model.proofs.FloodLemmas.{group_hearing, unknown_hearing}
 use Rattle.packet_laws.specs.Carried.{IsCarried}
-use Rattle.packet_laws.proofs.PackLemmas.{wire_checked}
 use Rattle.flood_laws.proofs.StillLemmas.{IsUnlearned}
+use Rattle.flight_laws.proofs.RuledMendLemmas.{wire_fits}
 
 -- ---- what is said of the frame as it enters
 
@@ -54,18 +53,18 @@ flooded_unlearned plan network service frame at octets during floods = elim (cas
       let packets : Bool = list_any (packet_teaches plan service (destination_of frame)) network.under_way in
       let taught : Bool = some_teach plan network service (destination_of frame) (Frame at octets ∷ during) in
       let both : (unlearned && not packets) && not taught ≡ true = rw single at floods in
-      let tables = and_left unlearned (not packets) (and_left (unlearned && not packets) (not taught) both) in
-      let none : taught ≡ false = is_not taught (and_right (unlearned && not packets) (not taught) both) in
+      let tables = first_holds unlearned (not packets) (first_holds (unlearned && not packets) (not taught) both) in
+      let none : taught ≡ false = not-true taught (second_holds (unlearned && not packets) (not taught) both) in
       let entering : Bool = teaches plan network service (destination_of frame) (Frame at octets) in
       let during_it : Bool = some_teach plan (step plan network (Frame at octets)).state service (destination_of frame) during in
       inr (record {
         now = record {
-          tables = λ k within. is_not (has_address ((network.edges k).learned service.0) (record { 0 = destination_of frame }))
+          tables = λ k within. not-true (has_address ((network.edges k).learned service.0) (record { 0 = destination_of frame }))
               (below_holds (length plan.edges) k (λ edge. not (has_address ((network.edges edge).learned service.0) (record { 0 = destination_of frame }))) tables within);
-          packets = is_not packets (and_right unlearned (not packets) (and_left (unlearned && not packets) (not taught) both));
+          packets = not-true packets (second_holds unlearned (not packets) (first_holds (unlearned && not packets) (not taught) both));
         };
-        first = none_first entering during_it none;
-        later = none_later entering during_it none;
+        first = first_fails entering during_it none;
+        later = second_fails entering during_it none;
       }))
 ]
 
@@ -105,22 +104,19 @@ joined_within plan (first ∷ next ∷ rest) a b all joined =
     by (nat_eq a first.0 && nat_eq b next.0) (nat_eq b first.0 && nat_eq a next.0) refl refl (λ later. joined_within plan (next ∷ rest) a b behind later) joined
   where
     here : nat_lt first.0 (length plan.edges) ≡ true
-    here = and_left (is_edge_of plan first) (list_all (is_edge_of plan) (next ∷ rest)) all
+    here = first_holds (is_edge_of plan first) (list_all (is_edge_of plan) (next ∷ rest)) all
 
     behind : list_all (is_edge_of plan) (next ∷ rest) ≡ true
-    behind = and_right (is_edge_of plan first) (list_all (is_edge_of plan) (next ∷ rest)) all
+    behind = second_holds (is_edge_of plan first) (list_all (is_edge_of plan) (next ∷ rest)) all
 
     by : (one other : Bool) → nat_eq a first.0 && nat_eq b next.0 ≡ one → nat_eq b first.0 && nat_eq a next.0 ≡ other
         → (joins a b (next ∷ rest) ≡ true → nat_lt b (length plan.edges) ≡ true) → (one || other) || joins a b (next ∷ rest) ≡ true → nat_lt b (length plan.edges) ≡ true
     by true other is also later some =
-        ap (λ (n : ℕ). nat_lt n (length plan.edges)) (eqb-true b next.0 (and_right (nat_eq a first.0) (nat_eq b next.0) is)) ∙ and_left (is_edge_of plan next) (list_all (is_edge_of plan) rest) behind
-    by false true is also later some = ap (λ (n : ℕ). nat_lt n (length plan.edges)) (eqb-true b first.0 (and_left (nat_eq b first.0) (nat_eq a next.0) also)) ∙ here
+        ap (λ (n : ℕ). nat_lt n (length plan.edges)) (eqb-true b next.0 (second_holds (nat_eq a first.0) (nat_eq b next.0) is)) ∙ first_holds (is_edge_of plan next) (list_all (is_edge_of plan) rest) behind
+    by false true is also later some = ap (λ (n : ℕ). nat_lt n (length plan.edges)) (eqb-true b first.0 (first_holds (nat_eq b first.0) (nat_eq a next.0) also)) ∙ here
     by false false is also later some = later some
 
 -- a packet that is carried goes to an edge of the plan
 pub carried_within : (plan : Plan) (network : NetworkState) (trace : List Entry) (packet : Packet) → IsChecked plan → IsCarried plan network trace packet → packet.to.0 < length plan.edges
 carried_within plan network trace packet checked rule =
-    is_below packet.to.0 (length plan.edges) (joined_within plan rule.row.path packet.from.0 packet.to.0 (wire_checked plan packet.wire rule.row checked rule.is).edges rule.joined)
-  where
-    is_below : (a n : ℕ) → nat_lt a n ≡ true → a < n
-    is_below a n less = grind (arith, nat_tests)
+    ltb-true packet.to.0 (length plan.edges) (joined_within plan rule.row.path packet.from.0 packet.to.0 (wire_fits plan packet.wire rule.row checked rule.is).edges rule.joined)

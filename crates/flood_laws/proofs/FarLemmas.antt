@@ -3,6 +3,8 @@ use Rattle.std.proofs.Common.{◌≡◌, ◌<◌, ◌==◌, ◌&&◌, ◌||◌, 
 use Rattle.std.specs.List.{list_all}
 use Rattle.std.proofs.lemmas.Bool.{and_from, and_parts}
 use Rattle.std.proofs.lemmas.Bool.Decides.{nat_tests}
+use Rattle.std.proofs.lemmas.Map.Keys.{any_passes_from_place}
+use Rattle.net_values.proofs.BoolLemmas.{clash}
 use Rattle.net_base.specs.declared.plan.Plan.{Plan}
 use Rattle.net_base.specs.declared.plan.places.EdgeId.{EdgeId}
 use Rattle.net_base.specs.declared.plan.places.ServiceId.{ServiceId}
@@ -17,14 +19,11 @@ use Rattle.pw_signalling.specs.declared.binding.Binding.{Binding}
 use Rattle.pw_signalling.specs.End.{LocalPart, Idle, Advertised, Withdrawing}
 use Rattle.network_model.specs.Calm.{is_drained, is_quiet, is_settled}
 use Rattle.network_model.specs.State.{NetworkState, stands}
-use Rattle.network_model.proofs.CalmLemmas.{any_at, below_holds}
+use Rattle.network_model.proofs.CalmLemmas.{below_holds}
 use Rattle.flight_laws.specs.Binding.{advertised_by}
 use Rattle.flight_laws.specs.Laws.{AreSettled}
 use Rattle.flight_laws.proofs.NameLemmas.{split}
-use Rattle.packet_laws.proofs.PackLemmas.{wire_checked}
-
-clash : {P : Type 0} → false ≡ true → P
-clash e = absurd (cc)
+use Rattle.flight_laws.proofs.RuledMendLemmas.{wire_fits}
 
 -- two edges that a path joins are in the plan
 within : (plan : Plan) (path : List EdgeId) (a b : ℕ) → list_all (is_edge_of plan) path ≡ true → joins a b path ≡ true → (a < length plan.edges) × (b < length plan.edges)
@@ -46,12 +45,12 @@ module _ (plan : Plan) (calm : NetworkState) (service : ServiceId) (a b : ℕ) (
     (is : wire_row plan wire ≡ Some row) (of_service : is_wire_of service row ≡ true) (joined : joins a b row.path ≡ true) where
   -- the service joins them
   pub joined_by : are_joined_by plan service a b ≡ true
-  joined_by = any_at (λ (r : WirePlan). is_wire_of service r && joins a b r.path) plan.wires wire.0 row is (and_from (is_wire_of service row) (joins a b row.path) of_service joined)
+  joined_by = any_passes_from_place (λ (r : WirePlan). is_wire_of service r && joins a b r.path) plan.wires wire.0 row is (and_from (is_wire_of service row) (joins a b row.path) of_service joined)
 
   -- and they are settled where it is quiet
   pub are_settled : is_quiet plan calm service ≡ true → is_settled calm a b ≡ true
   are_settled quiet =
-      let inside = within plan row.path a b (wire_checked plan wire row checked is).edges joined in
+      let inside = within plan row.path a b (wire_fits plan wire row checked is).edges joined in
       let all : all_below (length plan.edges) (λ k. not (are_joined_by plan service a k) || is_settled calm a k) ≡ true =
       below_holds (length plan.edges) a (λ m. all_below (length plan.edges) (λ k. not (are_joined_by plan service m k) || is_settled calm m k)) quiet inside.0 in
       let here : not (are_joined_by plan service a b) || is_settled calm a b ≡ true =

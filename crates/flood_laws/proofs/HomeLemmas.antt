@@ -1,7 +1,8 @@
 -- The home of an edge of a calm service: the core edge of its spoke that carries frames, or the edge itself.
 use Rattle.std.proofs.Common.{◌≡◌, ◌<◌, ◌+◌, ◌==◌, ◌&&◌, ◌||◌, ◌∙◌, not, ℕ, suc, Bool, true, false, List, [], ◌∷◌, Some, cond, option_map, length, slice_get, nat_eq, refl, ap, sym, subst, zero-add, add-zero, arith, inl, inr}
 use Rattle.std.proofs.lemmas.Bool.{cases_Bool, eqb-true}
-use Rattle.std.proofs.lemmas.Bool.Decides.{nat_tests}
+use Rattle.net_values.proofs.BoolLemmas.{first_holds, second_holds, or_false, implied}
+use Rattle.net_values.proofs.NumberLemmas.{equal_turned, next_place, add_none}
 use Rattle.net_base.specs.declared.plan.Plan.{Plan}
 use Rattle.net_base.specs.declared.plan.wire_plan.WirePlan.{WirePlan}
 use Rattle.net_base.specs.declared.plan.places.EdgeId.{EdgeId}
@@ -10,7 +11,6 @@ use Rattle.net_base.specs.plan.Accepted.{IsChecked}
 use Rattle.net_base.specs.plan.Paths.{is_first, is_last}
 use Rattle.net_base.specs.plan.Places.{is_mesh_class}
 use Rattle.net_base.specs.plan.Roles.{count_wires, has_port, is_core_edge, is_spoke_edge, is_spoke_from, is_wire_of}
-use Rattle.edge_model.proofs.LocalLemmas.{and_left, and_right}
 use Rattle.network_model.specs.Calm.{carries, has_live_spokes, is_calm, is_full, is_live_spoke, is_quiet}
 use Rattle.network_model.specs.Reach.{home_among, home_of, is_home, last_place}
 use Rattle.network_model.specs.State.{NetworkState}
@@ -56,7 +56,7 @@ module _ (plan : Plan) (calm : NetworkState) (service : ServiceId) (edge : ℕ) 
           is = refl;
           live = subst (λ n. is_live_spoke plan calm service edge n row ≡ true) (sym (add-zero place)) here;
           home = rw here refl;
-          sum = λ to. rw here (alone (is_last to row.path) (none_live to (place + 1) rows (after (rw here at one))));
+          sum = λ to. rw here (add_none (is_last to row.path) (none_live to (place + 1) rows (after (rw here at one))));
         }
     | inr away ↦
         (let later = live_found (place + 1) rows (same (rw away at one)) in
@@ -64,15 +64,12 @@ module _ (plan : Plan) (calm : NetworkState) (service : ServiceId) (edge : ℕ) 
           k = suc later.k;
           row = later.row;
           is = later.is;
-          live = subst (λ n. is_live_spoke plan calm service edge n later.row ≡ true) (next place later.k) later.live;
+          live = subst (λ n. is_live_spoke plan calm service edge n later.row ≡ true) (next_place place later.k) later.live;
           home = rw away later.home;
           sum = λ to. rw away (rest (later.sum to));
         })
   ]
     where
-      next : (n k : ℕ) → (n + 1) + k ≡ n + suc k
-      next n k = omega arith
-
       after : {count : ℕ} → 1 + count ≡ 1 → count ≡ 0
       after e = omega arith
 
@@ -82,21 +79,13 @@ module _ (plan : Plan) (calm : NetworkState) (service : ServiceId) (edge : ℕ) 
       rest : {m n : ℕ} → m ≡ n → 0 + m ≡ n
       rest e = omega arith
 
-      alone : (last : Bool) {sum : ℕ} → sum ≡ 0 → cond last 1 0 + sum ≡ cond last 1 0
-      alone true e = omega arith
-      alone false e = omega arith
-
 -- a spoke edge of a calm service has one
 pub live_count : (plan : Plan) (calm : NetworkState) (service : ServiceId) (edge : ℕ) → is_calm plan calm service ≡ true → edge < length plan.edges → is_spoke_edge plan service edge ≡ true
     → count_wires (is_live_spoke plan calm service edge) 0 plan.wires ≡ 1
 live_count plan calm service edge calmed within spoke =
-    let live = and_right (is_quiet plan calm service && is_full plan calm service) (has_live_spokes plan calm service) calmed in
+    let live = second_holds (is_quiet plan calm service && is_full plan calm service) (has_live_spokes plan calm service) calmed in
     let here = below_holds (length plan.edges) edge (λ e. not (is_spoke_edge plan service e) || count_wires (is_live_spoke plan calm service e) 0 plan.wires == 1) live within in
-    eqb-true _ 1 (holds (is_spoke_edge plan service edge) spoke here)
-  where
-    holds : (is : Bool) {one : Bool} → is ≡ true → not is || one ≡ true → one ≡ true
-    holds true e h = h
-    holds false e h = absurd (cc (e))
+    eqb-true _ 1 (implied (is_spoke_edge plan service edge) spoke here)
 
 -- a core edge, beside which the edge is, and to which its spoke leads if it starts one
 pub record HasHome (plan : Plan) (calm : NetworkState) (service : ServiceId) (edge : ℕ) : Type 0 where
@@ -117,15 +106,6 @@ spoke_apart plan service edge d spoke none = elim (cases_Bool (nat_eq edge d)) [
   | inr apart ↦ apart
 ]
 
-turned : (m n : ℕ) → nat_eq m n ≡ nat_eq n m
-turned m n = elim (cases_Bool (nat_eq m n)) [
-  | inl same ↦ rw (eqb-true m n same) refl
-  | inr apart ↦ apart ∙ sym (other m n apart)
-]
-  where
-    other : (m n : ℕ) → nat_eq m n ≡ false → nat_eq n m ≡ false
-    other m n apart = grind (arith, nat_tests)
-
 -- each edge with a port of a calm service has a home
 pub has_home : (plan : Plan) (calm : NetworkState) (service : ServiceId) (edge : ℕ) → IsChecked plan → is_calm plan calm service ≡ true
     → edge < length plan.edges → has_port plan service edge ≡ true → HasHome plan calm service edge
@@ -135,19 +115,11 @@ has_home plan calm service edge checked calmed within port = elim (cases_Bool (i
     home = edge;
     within = within;
     core = core_edge plan service edge port none;
-    beside = λ d core. rw none (or_none (nat_eq edge d));
+    beside = λ d core. rw none (or_false (nat_eq edge d));
     spokes = λ d core. add_none (nat_eq edge d) (sum-none (by_spoke plan calm service edge d) plan.wires (λ k row is. not_live (carries plan calm k row) (is_last d row.path) (none_at (is_spoke_from service edge) plan.wires k row none is)));
   }
 ]
   where
-    or_none : (b : Bool) → b || false ≡ b
-    or_none true = refl
-    or_none false = refl
-
-    add_none : (b : Bool) {sum : ℕ} → sum ≡ 0 → cond b 1 0 + sum ≡ cond b 1 0
-    add_none true e = omega arith
-    add_none false e = omega arith
-
     not_live : {from : Bool} (live last : Bool) → from ≡ false → cond {A = ℕ} ((from && live) && last) 1 0 ≡ 0
     not_live live last e = rw e refl
 
@@ -157,7 +129,7 @@ has_home plan calm service edge checked calmed within port = elim (cases_Bool (i
       within = link.far_within;
       core = core_edge plan service link.far.0 (far_port plan service wire.k wire.row link wire.is ours) (far_core plan service wire.k wire.row link checked wire.is ours);
       beside = λ d core. rw (spoke, spoke_apart plan service edge d spoke core, home_is) refl;
-      spokes = λ d core. rw (spoke_apart plan service edge d spoke core) (count (wire.sum d) (ap (is_last d) link.path ∙ link.last d) (turned d link.far.0));
+      spokes = λ d core. rw (spoke_apart plan service edge d spoke core) (count (wire.sum d) (ap (is_last d) link.path ∙ link.last d) (equal_turned d link.far.0));
     }
       where
         link : IsLink plan wire.row
@@ -167,10 +139,10 @@ has_home plan calm service edge checked calmed within port = elim (cases_Bool (i
         home_is = wire.home ∙ (ap last_place link.path ∙ ap (option_map (λ (edge : EdgeId). edge.0)) link.ends)
 
         from : is_spoke_from service edge wire.row ≡ true
-        from = and_left (is_spoke_from service edge wire.row) (carries plan calm (0 + wire.k) wire.row) wire.live
+        from = first_holds (is_spoke_from service edge wire.row) (carries plan calm (0 + wire.k) wire.row) wire.live
 
         ours : is_wire_of service wire.row ≡ true
-        ours = and_left (is_wire_of service wire.row) (not (is_mesh_class wire.row.class)) (and_left (is_wire_of service wire.row && not (is_mesh_class wire.row.class)) (is_first edge wire.row.path) from)
+        ours = first_holds (is_wire_of service wire.row) (not (is_mesh_class wire.row.class)) (first_holds (is_wire_of service wire.row && not (is_mesh_class wire.row.class)) (is_first edge wire.row.path) from)
 
         count : {sum : ℕ} {p q r : Bool} → sum ≡ cond p 1 0 → p ≡ q → q ≡ r → 0 + sum ≡ cond r 1 0
         count e same also = zero-add _ ∙ (e ∙ ap (λ (t : Bool). cond {A = ℕ} t 1 0) (same ∙ also))

@@ -1,9 +1,12 @@
 -- The law of one copy: what it has still to serve is what its edge serves at once and what the copies that the edge sends have still
 -- to serve.
 use Rattle.std.proofs.Common.{◌≡◌, ◌<◌, ◌⊎◌, ◌&&◌, ◌||◌, ◌+◌, ◌*◌, ◌∙◌, not, ℕ, Bool, true, false, List, [], ◌∷◌, Some, None, cond, length, slice_get, nat_eq, nat_lt, refl, ap, sym, subst, zero-add, arith, inl, inr}
-use Rattle.std.proofs.lemmas.Bool.{cases_Bool, eq-eqb, eqb-true, or_left}
+use Rattle.std.proofs.lemmas.Bool.{cases_Bool, eq-eqb, eqb-true, or_left, and_from}
 use Rattle.std.proofs.lemmas.Bool.Decides.{nat_tests}
+use Rattle.std.proofs.lemmas.Map.Keys.{any_passes_from_place}
 use Rattle.std.specs.List.{list_all, list_any}
+use Rattle.net_values.proofs.BoolLemmas.{first_holds, second_holds, fails_within, not_not}
+use Rattle.net_values.proofs.RowLemmas.{row_holds}
 use Rattle.net_base.specs.declared.plan.Plan.{Plan}
 use Rattle.net_base.specs.declared.plan.circuit_plan.CircuitPlan.{CircuitPlan}
 use Rattle.net_base.specs.declared.plan.wire_plan.WirePlan.{WirePlan}
@@ -17,12 +20,9 @@ use Rattle.net_base.specs.plan.Places.{circuit_row, is_mesh_class, wire_row}
 use Rattle.net_base.specs.plan.Roles.{has_port, is_circuit_at, is_spoke_edge, is_spoke_from, is_wire_of, wire_ends_at}
 use Rattle.net_base.specs.plan.RowFaults.{is_edge_of}
 use Rattle.edge_model.specs.Ends.{end_forwards}
-use Rattle.edge_model.proofs.LocalLemmas.{and_left, and_right}
-use Rattle.flight_laws.proofs.PlanLemmas.{row_holds}
 use Rattle.network_model.specs.Calm.{carries, is_calm, is_live_spoke}
 use Rattle.network_model.specs.Reach.{far_of}
 use Rattle.network_model.specs.State.{NetworkState}
-use Rattle.network_model.proofs.CalmLemmas.{any_at}
 use Rattle.flood_laws.specs.Due.{awaits, due_by, wires_due}
 use Rattle.flood_laws.proofs.DueLemmas.{awaits_far, awaits_mesh, awaits_near, carries_by, core_due, due_after_mesh, due_after_spoke, due_far, due_near, forwards, one, spoke_due, stitches}
 use Rattle.flood_laws.proofs.HomeLemmas.{HasHome, by_spoke, has_home, live_count}
@@ -34,7 +34,7 @@ use Rattle.flood_laws.proofs.SumLemmas.{one_of_count, sum-add, sum-at, sum-same,
 pub circuit_port : (plan : Plan) (service : ServiceId) (at : CircuitId) (row : CircuitPlan) → circuit_row plan at ≡ Some row → nat_eq row.service.0 service.0 ≡ true → has_port plan service row.edge.0 ≡ true
 circuit_port plan service at row is of_service =
     or_left (list_any (is_circuit_at service row.edge.0) plan.circuits) (list_any (wire_ends_at service row.edge.0) plan.wires)
-    (any_at (is_circuit_at service row.edge.0) plan.circuits at.0 row is (rw (of_service, eq-eqb row.edge.0 row.edge.0 refl) refl))
+    (any_passes_from_place (is_circuit_at service row.edge.0) plan.circuits at.0 row is (rw (of_service, eq-eqb row.edge.0 row.edge.0 refl) refl))
 
 pub circuit_within : (plan : Plan) (at : CircuitId) (row : CircuitPlan) → IsChecked plan → circuit_row plan at ≡ Some row → row.edge.0 < length plan.edges
 circuit_within plan at row checked is = (row_holds (IsCircuitOf plan) plan.circuits at.0 row is checked.circuits).edge
@@ -142,12 +142,9 @@ sides plan service w to from link ends far = elim (cases_Bool (nat_eq to link.ne
   | inr away ↦
       (let other : Some link.near.0 ≡ Some from = rw (link.path, away) at far in
       let from_is : link.near.0 ≡ from = cc (other) in
-      let last : nat_eq to link.far.0 ≡ true = and_right (is_wire_of service w) (nat_eq to link.far.0) (rw (link.path, away, link.last to) at ends) in
+      let last : nat_eq to link.far.0 ≡ true = second_holds (is_wire_of service w) (nat_eq to link.far.0) (rw (link.path, away, link.last to) at ends) in
       inr (eqb-true to link.far.0 last, sym from_is))
 ]
-
-both : (a b : Bool) → a ≡ true → b ≡ true → a && b ≡ true
-both a b one_is other = rw (one_is, other) refl
 
 -- a spoke that carries frames, at either end
 module _ (plan : Plan) (calm : NetworkState) (service : ServiceId) (circuit : CircuitId) (site : CircuitPlan) (came : ℕ) (v : WirePlan) (link : IsLink plan v)
@@ -158,14 +155,14 @@ module _ (plan : Plan) (calm : NetworkState) (service : ServiceId) (circuit : Ci
   both_send = sym (carries_by plan calm came v link) ∙ live
 
   near_sends : forwards plan calm link.near.0 came ≡ true
-  near_sends = and_left (forwards plan calm link.near.0 came) (forwards plan calm link.far.0 came) (and_left (forwards plan calm link.near.0 came && forwards plan calm link.far.0 came) (stitches calm came link) both_send)
+  near_sends = first_holds (forwards plan calm link.near.0 came) (forwards plan calm link.far.0 came) (first_holds (forwards plan calm link.near.0 came && forwards plan calm link.far.0 came) (stitches calm came link) both_send)
 
   far_sends : forwards plan calm link.far.0 came ≡ true
-  far_sends = and_right (forwards plan calm link.near.0 came) (forwards plan calm link.far.0 came) (and_left (forwards plan calm link.near.0 came && forwards plan calm link.far.0 came) (stitches calm came link) both_send)
+  far_sends = second_holds (forwards plan calm link.near.0 came) (forwards plan calm link.far.0 came) (first_holds (forwards plan calm link.near.0 came && forwards plan calm link.far.0 came) (stitches calm came link) both_send)
 
   live_spoke : is_live_spoke plan calm service link.near.0 came v ≡ true
   live_spoke =
-      both (is_spoke_from service link.near.0 v) (carries plan calm came v)
+      and_from (is_spoke_from service link.near.0 v) (carries plan calm came v)
       (rw (ours, spoke, link.path, eq-eqb link.near.0 link.near.0 refl) refl)
       live
 
@@ -188,12 +185,8 @@ module _ (plan : Plan) (calm : NetworkState) (service : ServiceId) (circuit : Ci
   far_arrives port =
       ap one (awaits_far plan calm service circuit site site_is of_service came v link came_is spoke ∙ opened _ (not (nat_eq site.edge.0 link.near.0)) live_spoke)
       ∙ spoke_arrives plan calm service circuit site came v link.far.0 (not (nat_eq site.edge.0 link.near.0)) (nat_eq site.edge.0 link.near.0)
-      checked calmed site_is of_service came_is spoke link.far_within port (twice (nat_eq site.edge.0 link.near.0))
+      checked calmed site_is of_service came_is spoke link.far_within port (not_not (nat_eq site.edge.0 link.near.0))
       (due_far plan calm service circuit came v link ∙ gated _ _ _ _ ours far_sends (awaits_near plan calm service circuit site site_is of_service came v link came_is spoke ∙ opened _ _ live_spoke))
-    where
-      twice : (p : Bool) → p ≡ not (not p)
-      twice true = refl
-      twice false = refl
 
 -- a copy that arrives at an edge by a wire that carries frames
 pub arrival_law : (plan : Plan) (calm : NetworkState) (service : ServiceId) (circuit : CircuitId) (row : CircuitPlan) (wire : WireId) (w : WirePlan) (to from : ℕ)
@@ -206,7 +199,7 @@ arrival_law plan calm service circuit row wire w to from checked calmed is of_se
     at (link_at plan wire.0 w checked wire_is)
   where
     ours : is_wire_of service w ≡ true
-    ours = and_left (is_wire_of service w) (is_first to w.path || is_last to w.path) ends
+    ours = first_holds (is_wire_of service w) (is_first to w.path || is_last to w.path) ends
 
     port : has_port plan service to ≡ true
     port = port_at plan service to wire.0 w wire_is ends
@@ -214,7 +207,7 @@ arrival_law plan calm service circuit row wire w to from checked calmed is of_se
     at : (link : IsLink plan w) → cond {A = ℕ} (awaits plan calm service circuit (record { 0 = to }) wire) 1 0 ≡ cond (nat_eq row.edge.0 to) 1 0 + wires_due plan calm service circuit to (Some wire.0)
     at link = elim (cases_Bool (is_mesh_class w.class)) [
       | inl mesh ↦ mesh_arrives plan calm service circuit row wire.0 w to checked calmed is of_service wire_is mesh (elim (sides plan service w to from link ends far) [
-        | inl near ↦ ap (is_spoke_edge plan service) near.0 ∙ mesh_near plan service wire.0 w link checked wire_is (both (is_wire_of service w) (is_mesh_class w.class) ours mesh)
+        | inl near ↦ ap (is_spoke_edge plan service) near.0 ∙ mesh_near plan service wire.0 w link checked wire_is (and_from (is_wire_of service w) (is_mesh_class w.class) ours mesh)
         | inr last ↦ ap (is_spoke_edge plan service) last.0 ∙ far_core plan service wire.0 w link checked wire_is ours
       ])
       | inr spoke ↦ elim (sides plan service w to from link ends far) [
@@ -237,14 +230,10 @@ down_law plan calm service circuit wire w to from checked calmed wire_is ends fa
     at (link_at plan wire.0 w checked wire_is)
   where
     ours : is_wire_of service w ≡ true
-    ours = and_left (is_wire_of service w) (is_first to w.path || is_last to w.path) ends
+    ours = first_holds (is_wire_of service w) (is_first to w.path || is_last to w.path) ends
 
     down_near : (a b j : Bool) → a ≡ false → (a && b) && j ≡ false
     down_near a b j down = rw down refl
-
-    down_far : (a b j : Bool) → b ≡ false → (a && b) && j ≡ false
-    down_far true b j down = rw down refl
-    down_far false b j down = refl
 
     down_at : (m n : ℕ) → m ≡ n → end_forwards plan (calm.edges m) wire ≡ false → end_forwards plan (calm.edges n) wire ≡ false
     down_at m n same down = ap (λ k. end_forwards plan (calm.edges k) wire) (sym same) ∙ down
@@ -252,19 +241,15 @@ down_law plan calm service circuit wire w to from checked calmed wire_is ends fa
     dead : (link : IsLink plan w) → carries plan calm wire.0 w ≡ false
     dead link = carries_by plan calm wire.0 w link ∙ (elim (sides plan service w to from link ends far) [
       | inl near ↦ down_near _ (end_forwards plan (calm.edges link.far.0) wire) (stitches calm wire.0 link) (down_at to link.near.0 near.0 there)
-      | inr last ↦ down_far (end_forwards plan (calm.edges link.near.0) wire) _ (stitches calm wire.0 link) (down_at to link.far.0 last.0 there)
+      | inr last ↦ fails_within (end_forwards plan (calm.edges link.near.0) wire) _ (stitches calm wire.0 link) (down_at to link.far.0 last.0 there)
     ])
-
-    none : (a b c : Bool) → b ≡ false → (a && b) && c ≡ false
-    none true b c down = rw down refl
-    none false b c down = refl
 
     at : IsLink plan w → awaits plan calm service circuit (record { 0 = to }) wire ≡ false
     at link = elim (cases_Bool (is_mesh_class w.class)) [
       | inl mesh ↦
-          (let wrong : true ≡ false = sym (mesh_carries plan calm service wire.0 w checked calmed wire_is (both (is_wire_of service w) (is_mesh_class w.class) ours mesh)) ∙ dead link in
+          (let wrong : true ≡ false = sym (mesh_carries plan calm service wire.0 w checked calmed wire_is (and_from (is_wire_of service w) (is_mesh_class w.class) ours mesh)) ∙ dead link in
           absurd (cc (wrong)))
-      | inr spoke ↦ rw (wire_is, spoke) (none _ (carries plan calm wire.0 w) _ (dead link))
+      | inr spoke ↦ rw (wire_is, spoke) (fails_within _ (carries plan calm wire.0 w) _ (dead link))
     ]
 
 -- a spoke edge has one spoke that carries frames
@@ -278,17 +263,17 @@ one_live_spoke plan calm service edge wire other w v checked calmed wire_is spok
     wire_is (passes wire.0 w spoke live) other_is (passes other.0 v other_spoke other_live)
   where
     passes : (k : ℕ) (x : WirePlan) → is_spoke_from service edge x ≡ true → carries plan calm k x ≡ true → is_live_spoke plan calm service edge (0 + k) x ≡ true
-    passes k x from carried = subst (λ n. is_live_spoke plan calm service edge n x ≡ true) (sym (zero-add k)) (both (is_spoke_from service edge x) (carries plan calm k x) from carried)
+    passes k x from carried = subst (λ n. is_live_spoke plan calm service edge n x ≡ true) (sym (zero-add k)) (and_from (is_spoke_from service edge x) (carries plan calm k x) from carried)
 
     some : is_spoke_edge plan service edge ≡ true
-    some = any_at (is_spoke_from service edge) plan.wires wire.0 w wire_is spoke
+    some = any_passes_from_place (is_spoke_from service edge) plan.wires wire.0 w wire_is spoke
 
     below : (m n k : ℕ) → nat_eq m n ≡ true → nat_lt n k ≡ true → m < k
     below m n k same less = grind (arith, nat_tests)
 
     first_within : (path : List EdgeId) → list_all (is_edge_of plan) path ≡ true → is_first edge path ≡ true → edge < length plan.edges
     first_within [] all first = absurd (cc (first))
-    first_within (first_edge ∷ rest) all first = below edge first_edge.0 (length plan.edges) first (and_left (is_edge_of plan first_edge) (list_all (is_edge_of plan) rest) all)
+    first_within (first_edge ∷ rest) all first = below edge first_edge.0 (length plan.edges) first (first_holds (is_edge_of plan first_edge) (list_all (is_edge_of plan) rest) all)
 
     within : edge < length plan.edges
-    within = first_within w.path (row_holds (IsWireOf plan) plan.wires wire.0 w wire_is checked.wires).edges (and_right (is_wire_of service w && not (is_mesh_class w.class)) (is_first edge w.path) spoke)
+    within = first_within w.path (row_holds (IsWireOf plan) plan.wires wire.0 w wire_is checked.wires).edges (second_holds (is_wire_of service w && not (is_mesh_class w.class)) (is_first edge w.path) spoke)

@@ -1,9 +1,12 @@
 -- Wires of a checked plan: their terminal edges, which edges start no spoke, and which wires are one.
-use Rattle.std.proofs.Common.{◌≡◌, ◌≤◌, ◌<◌, ◌⊎◌, ◌&&◌, ◌||◌, ◌∙◌, not, ℕ, zero, suc, Bool, true, false, List, [], ◌∷◌, Some, length, slice_get, get_or, nat_eq, nat_lt, refl, ap, sym, subst, arith, inl, inr}
-use Rattle.std.proofs.lemmas.Bool.{cases_Bool, cases_lt, eqb-true, or_parts}
+use Rattle.std.proofs.Common.{◌≡◌, ◌≤◌, ◌<◌, ◌&&◌, ◌||◌, ◌∙◌, not, ℕ, zero, suc, Bool, true, false, List, [], ◌∷◌, Some, length, slice_get, get_or, nat_eq, refl, ap, sym, subst, arith, inl, inr}
+use Rattle.std.proofs.lemmas.Bool.{cases_Bool, eqb-true, or_parts, ltb-true}
 use Rattle.std.proofs.lemmas.Bool.Decides.{nat_tests}
 use Rattle.std.proofs.lemmas.Option.{get_or_from_slice_get, slice_get_within}
 use Rattle.std.specs.List.{list_all, list_any}
+use Rattle.net_values.proofs.BoolLemmas.{first_holds, second_holds, or_later}
+use Rattle.net_values.proofs.NumberLemmas.{same_number, equal_over, one_before}
+use Rattle.net_values.proofs.RowLemmas.{row_holds}
 use Rattle.net_base.specs.declared.plan.Plan.{Plan}
 use Rattle.net_base.specs.declared.plan.wire_plan.WirePlan.{WirePlan}
 use Rattle.net_base.specs.declared.plan.places.EdgeId.{EdgeId}
@@ -17,8 +20,6 @@ use Rattle.net_base.specs.plan.Places.{is_mesh_class}
 use Rattle.net_base.specs.plan.Roles.{is_mesh_of, is_spoke_edge, is_spoke_from, is_wire_of}
 use Rattle.net_base.specs.plan.RowFaults.{is_edge_of}
 use Rattle.net_base.specs.plan.WireFaults.{are_two_mesh_wires, is_spoke_in_mesh, starts_in_mesh}
-use Rattle.edge_model.proofs.LocalLemmas.{and_left, and_right}
-use Rattle.flight_laws.proofs.PlanLemmas.{row_holds}
 
 -- the path of a wire goes from its near terminal edge to its far one, between which there are switching points or none
 pub record IsLink (plan : Plan) (row : WirePlan) : Type 0 where
@@ -31,9 +32,6 @@ pub record IsLink (plan : Plan) (row : WirePlan) : Type 0 where
   pub apart : nat_eq near.0 far.0 ≡ false
   pub near_within : near.0 < length plan.edges
   pub far_within : far.0 < length plan.edges
-
-below : (m n : ℕ) → nat_lt m n ≡ true → m < n
-below m n is = grind (arith, nat_tests)
 
 last_is : (d : EdgeId) (path : List EdgeId) (e : ℕ) → is_last e (d ∷ path) ≡ nat_eq e (last_or d (d ∷ path)).0
 last_is d [] e = refl
@@ -48,17 +46,12 @@ last_ends d first (next ∷ rest) = last_ends d next rest
 
 -- the last edge stands behind the first one
 last_behind : (d : EdgeId) (first : EdgeId) (rest : List EdgeId) → list_any (λ (e : EdgeId). nat_eq e.0 (last_or d (first ∷ rest)).0) (first ∷ rest) ≡ true
-last_behind d first [] = rw (same first.0) refl where
-  same : (n : ℕ) → nat_eq n n ≡ true
-  same n = grind (arith, nat_tests)
-last_behind d first (next ∷ rest) = more (nat_eq first.0 (last_or d (next ∷ rest)).0) (last_behind d next rest) where
-  more : (p : Bool) {q : Bool} → q ≡ true → p || q ≡ true
-  more true h = refl
-  more false h = h
+last_behind d first [] = rw (same_number first.0) refl
+last_behind d first (next ∷ rest) = or_later (nat_eq first.0 (last_or d (next ∷ rest)).0) (last_behind d next rest)
 
 last_within : (plan : Plan) (d first : EdgeId) (rest : List EdgeId) → list_all (is_edge_of plan) (first ∷ rest) ≡ true → (last_or d (first ∷ rest)).0 < length plan.edges
-last_within plan d first [] all = below first.0 (length plan.edges) (and_left (is_edge_of plan first) true all)
-last_within plan d first (next ∷ rest) all = last_within plan d next rest (and_right (is_edge_of plan first) (list_all (is_edge_of plan) (next ∷ rest)) all)
+last_within plan d first [] all = ltb-true first.0 (length plan.edges) (first_holds (is_edge_of plan first) true all)
+last_within plan d first (next ∷ rest) all = last_within plan d next rest (second_holds (is_edge_of plan first) (list_all (is_edge_of plan) (next ∷ rest)) all)
 
 link_of : (plan : Plan) (row : WirePlan) → IsWireOf plan row → IsLink plan row
 link_of plan row wire = by row.path refl wire.edges wire.once wire.least where
@@ -73,8 +66,8 @@ link_of plan row wire = by row.path refl wire.edges wire.once wire.least where
     last = λ e. last_is a (b ∷ rest) e;
     ends = last_ends a b rest;
     apart = not_there (b ∷ rest) a.0 (last_or a (b ∷ rest)).0 (or_parts (list_any (λ (edge : EdgeId). nat_eq edge.0 a.0) (b ∷ rest)) (has_repeat (b ∷ rest)) once).0 (last_behind a b rest);
-    near_within = below a.0 (length plan.edges) (and_left (is_edge_of plan a) (list_all (is_edge_of plan) (b ∷ rest)) edges);
-    far_within = last_within plan a b rest (and_right (is_edge_of plan a) (list_all (is_edge_of plan) (b ∷ rest)) edges);
+    near_within = ltb-true a.0 (length plan.edges) (first_holds (is_edge_of plan a) (list_all (is_edge_of plan) (b ∷ rest)) edges);
+    far_within = last_within plan a b rest (second_holds (is_edge_of plan a) (list_all (is_edge_of plan) (b ∷ rest)) edges);
   }
 
 -- a test that holds of all rows holds of the row at a place
@@ -82,8 +75,8 @@ all_at : {A : Type 0} (test : A → Bool) (rows : List A) (k : ℕ) (row : A) �
 all_at test [] k row all is = absurd (cc (is))
 all_at test (x ∷ xs) zero row all is =
     let same : x ≡ row = cc (is) in
-    ap test (sym same) ∙ and_left (test x) (list_all test xs) all
-all_at test (x ∷ xs) (suc k) row all is = all_at test xs k row (and_right (test x) (list_all test xs) all) is
+    ap test (sym same) ∙ first_holds (test x) (list_all test xs) all
+all_at test (x ∷ xs) (suc k) row all is = all_at test xs k row (second_holds (test x) (list_all test xs) all) is
 
 -- a test that holds of no row fails at the row at a place
 pub none_at : {A : Type 0} (test : A → Bool) (rows : List A) (k : ℕ) (row : A) → list_any test rows ≡ false → slice_get rows k ≡ Some row → test row ≡ false
@@ -119,24 +112,15 @@ pair_apart test xs i j x y none first second before =
     subst (λ a. test a y ≡ false) (get_or_from_slice_get xs i x x first)
     (subst (λ b. test (get_or xs i x) b ≡ false) (get_or_from_slice_get xs j y x second) (none i j x before (slice_get_within xs j y second)))
 
-one_before : (a b : ℕ) → nat_eq a b ≡ false → (a < b) ⊎ (b < a)
-one_before a b apart = elim (cases_lt a b) [
-  | inl before ↦ inl before
-  | inr behind ↦ inr (grind (arith, nat_tests))
-]
-
-one_service : (m n s : ℕ) → nat_eq m s ≡ true → nat_eq n s ≡ true → nat_eq m n ≡ true
-one_service m n s first second = grind (arith, nat_tests)
-
 starts_apart : (plan : Plan) (service : ServiceId) (i j : ℕ) (spoke other : WirePlan) → IsChecked plan → slice_get plan.wires i ≡ Some spoke → slice_get plan.wires j ≡ Some other
     → nat_eq i j ≡ false → is_wire_of service spoke ≡ true → is_wire_of service other ≡ true → starts_in_mesh spoke other ≡ false
 starts_apart plan service i j spoke other checked first second apart ours also = elim (one_before i j apart) [
   | inl before ↦
       (or_parts (starts_in_mesh spoke other) (starts_in_mesh other spoke)
-      (of_one (nat_eq spoke.service.0 other.service.0) (one_service spoke.service.0 other.service.0 service.0 ours also) (pair_apart is_spoke_in_mesh plan.wires i j spoke other checked.spokes first second before))).0
+      (of_one (nat_eq spoke.service.0 other.service.0) (equal_over spoke.service.0 other.service.0 service.0 ours also) (pair_apart is_spoke_in_mesh plan.wires i j spoke other checked.spokes first second before))).0
   | inr behind ↦
       (or_parts (starts_in_mesh other spoke) (starts_in_mesh spoke other)
-      (of_one (nat_eq other.service.0 spoke.service.0) (one_service other.service.0 spoke.service.0 service.0 also ours) (pair_apart is_spoke_in_mesh plan.wires j i other spoke checked.spokes second first behind))).1
+      (of_one (nat_eq other.service.0 spoke.service.0) (equal_over other.service.0 spoke.service.0 service.0 also ours) (pair_apart is_spoke_in_mesh plan.wires j i other spoke checked.spokes second first behind))).1
 ]
   where
     of_one : (same : Bool) {clash : Bool} → same ≡ true → same && clash ≡ false → clash ≡ false
@@ -170,7 +154,7 @@ starts_none plan service k row link e checked is ours ends = elim (cases_Bool (i
       | inr apart ↦
           (let other = link_at plan spoke.k spoke.row checked spoke.is in
           let its : is_wire_of service spoke.row ≡ true =
-          and_left (is_wire_of service spoke.row) (not (is_mesh_class spoke.row.class)) (and_left (is_wire_of service spoke.row && not (is_mesh_class spoke.row.class)) (is_first e spoke.row.path) spoke.passes) in
+          first_holds (is_wire_of service spoke.row) (not (is_mesh_class spoke.row.class)) (first_holds (is_wire_of service spoke.row && not (is_mesh_class spoke.row.class)) (is_first e spoke.row.path) spoke.passes) in
           let away = starts_apart plan service spoke.k k spoke.row row checked spoke.is is apart its ours in
           let none =
           starts_away (is_wire_of service spoke.row) (is_mesh_class row.class) (is_mesh_class spoke.row.class) e link.near.0 link.far.0 other.near.0
@@ -209,8 +193,8 @@ one_between plan service i j a b w v checked first here second there = elim (cas
     two x y one other link also =
         let p = rw (link.path, link.last a, link.last b) at one in
         let q = rw (also.path, also.last a, also.last b) at other in
-        let ends = same_ends a b link.near.0 link.far.0 also.near.0 also.far.0 (and_right (is_mesh_of service x) _ p) (and_right (is_mesh_of service y) _ q) in
-        let mesh = and_left (is_mesh_of service x) _ one in
-        let mesh_too = and_left (is_mesh_of service y) _ other in
-        let service_same = one_service x.service.0 y.service.0 service.0 (and_left (is_wire_of service x) (is_mesh_class x.class) mesh) (and_left (is_wire_of service y) (is_mesh_class y.class) mesh_too) in
-        all_of _ _ _ _ service_same (and_right (is_wire_of service x) (is_mesh_class x.class) mesh) (and_right (is_wire_of service y) (is_mesh_class y.class) mesh_too) (rw (link.path, also.path, link.ends, also.ends) ends)
+        let ends = same_ends a b link.near.0 link.far.0 also.near.0 also.far.0 (second_holds (is_mesh_of service x) _ p) (second_holds (is_mesh_of service y) _ q) in
+        let mesh = first_holds (is_mesh_of service x) _ one in
+        let mesh_too = first_holds (is_mesh_of service y) _ other in
+        let service_same = equal_over x.service.0 y.service.0 service.0 (first_holds (is_wire_of service x) (is_mesh_class x.class) mesh) (first_holds (is_wire_of service y) (is_mesh_class y.class) mesh_too) in
+        all_of _ _ _ _ service_same (second_holds (is_wire_of service x) (is_mesh_class x.class) mesh) (second_holds (is_wire_of service y) (is_mesh_class y.class) mesh_too) (rw (link.path, also.path, link.ends, also.ends) ends)

@@ -2,17 +2,18 @@
 use Rattle.std.proofs.Common.{◌≡◌, ◌<◌, ◌==◌, ◌&&◌, ◌||◌, ◌∙◌, not, ℕ, Bool, true, false, Some, cond, length, slice_get, nat_eq, refl, ap, sym, subst, zero-add, arith, inl, inr}
 use Rattle.std.proofs.lemmas.Bool.{cases_Bool, eq-eqb, eqb-true, or_right}
 use Rattle.std.proofs.lemmas.Bool.Decides.{nat_tests}
+use Rattle.std.proofs.lemmas.Map.Keys.{any_passes_from_place}
 use Rattle.std.specs.List.{list_any}
+use Rattle.net_values.proofs.BoolLemmas.{first_holds, second_holds}
 use Rattle.net_base.specs.declared.plan.Plan.{Plan}
 use Rattle.net_base.specs.declared.plan.wire_plan.WirePlan.{WirePlan}
 use Rattle.net_base.specs.declared.plan.places.ServiceId.{ServiceId}
 use Rattle.net_base.specs.plan.Accepted.{IsChecked}
 use Rattle.net_base.specs.plan.Places.{is_mesh_class}
 use Rattle.net_base.specs.plan.Roles.{all_below, any_wire, has_port, is_circuit_at, is_core_edge, is_mesh_of, is_spoke_edge, is_wire_of, wire_ends_at}
-use Rattle.edge_model.proofs.LocalLemmas.{and_left, and_right}
 use Rattle.network_model.specs.Calm.{carries, has_live_spokes, is_calm, is_full, is_quiet, meshes}
 use Rattle.network_model.specs.State.{NetworkState}
-use Rattle.network_model.proofs.CalmLemmas.{any_at, below_holds}
+use Rattle.network_model.proofs.CalmLemmas.{below_holds}
 use Rattle.flood_laws.specs.Due.{sum_wires}
 use Rattle.flood_laws.proofs.LinkLemmas.{IsLink, is_between, link_at, one_between, starts_none}
 use Rattle.flood_laws.proofs.SumLemmas.{FoundWire, sum-at, sum-none, sum-same, wire_found}
@@ -23,7 +24,7 @@ core_edge plan service e port none = rw (port, none) refl
 
 -- a terminal edge of a wire of the service has a port of it
 pub port_at : (plan : Plan) (service : ServiceId) (e k : ℕ) (row : WirePlan) → slice_get plan.wires k ≡ Some row → wire_ends_at service e row ≡ true → has_port plan service e ≡ true
-port_at plan service e k row is ends = or_right (list_any (is_circuit_at service e) plan.circuits) (list_any (wire_ends_at service e) plan.wires) (any_at (wire_ends_at service e) plan.wires k row is ends)
+port_at plan service e k row is ends = or_right (list_any (is_circuit_at service e) plan.circuits) (list_any (wire_ends_at service e) plan.wires) (any_passes_from_place (wire_ends_at service e) plan.wires k row is ends)
 
 -- a mesh wire between two edges that carries frames
 pub record MeshWire (plan : Plan) (calm : NetworkState) (service : ServiceId) (a b : ℕ) : Type 0 where
@@ -36,7 +37,7 @@ pub record MeshWire (plan : Plan) (calm : NetworkState) (service : ServiceId) (a
 pub mesh_wire : (plan : Plan) (calm : NetworkState) (service : ServiceId) (a b : ℕ) → is_calm plan calm service ≡ true → a < length plan.edges → b < length plan.edges
     → is_core_edge plan service a ≡ true → is_core_edge plan service b ≡ true → nat_eq a b ≡ false → MeshWire plan calm service a b
 mesh_wire plan calm service a b calmed within within_too core core_too apart =
-    let full = and_right (is_quiet plan calm service) (is_full plan calm service) (and_left (is_quiet plan calm service && is_full plan calm service) (has_live_spokes plan calm service) calmed) in
+    let full = second_holds (is_quiet plan calm service) (is_full plan calm service) (first_holds (is_quiet plan calm service && is_full plan calm service) (has_live_spokes plan calm service) calmed) in
     let met : (c : ℕ) → (d : ℕ) → Bool = λ c d. not (is_core_edge plan service c && is_core_edge plan service d) || (c == d || any_wire (meshes plan calm service c d) 0 plan.wires) in
     let first = below_holds (length plan.edges) a (λ c. all_below (length plan.edges) (met c)) full within in
     let both = below_holds (length plan.edges) b (met a) first within_too in
@@ -56,16 +57,16 @@ mesh_wire plan calm service a b calmed within within_too core core_too apart =
           k = wire.k;
           row = wire.row;
           is = wire.is;
-          between = and_left (is_between service a b wire.row) (carries plan calm wire.k wire.row) passes;
-          live = and_right (is_between service a b wire.row) (carries plan calm wire.k wire.row) passes;
+          between = first_holds (is_between service a b wire.row) (carries plan calm wire.k wire.row) passes;
+          live = second_holds (is_between service a b wire.row) (carries plan calm wire.k wire.row) passes;
         }
 
 -- the terminal edges of a mesh wire of the service are core edges
 pub mesh_near : (plan : Plan) (service : ServiceId) (k : ℕ) (row : WirePlan) (link : IsLink plan row) → IsChecked plan → slice_get plan.wires k ≡ Some row
     → is_mesh_of service row ≡ true → is_spoke_edge plan service link.near.0 ≡ false
 mesh_near plan service k row link checked is mesh =
-    starts_none plan service k row link link.near.0 checked is (and_left (is_wire_of service row) (is_mesh_class row.class) mesh)
-    (starts (is_mesh_class row.class) link.near.0 link.far.0 (and_right (is_wire_of service row) (is_mesh_class row.class) mesh))
+    starts_none plan service k row link link.near.0 checked is (first_holds (is_wire_of service row) (is_mesh_class row.class) mesh)
+    (starts (is_mesh_class row.class) link.near.0 link.far.0 (second_holds (is_wire_of service row) (is_mesh_class row.class) mesh))
   where
     starts : (m : Bool) (a b : ℕ) → m ≡ true → nat_eq a b || (m && nat_eq a a) ≡ true
     starts m a b is = rw (is, eq-eqb a a refl) (or_right (nat_eq a b) true refl)
@@ -89,7 +90,7 @@ far_port plan service k row link is ours = port_at plan service link.far.0 k row
 pub mesh_carries : (plan : Plan) (calm : NetworkState) (service : ServiceId) (k : ℕ) (row : WirePlan) → IsChecked plan → is_calm plan calm service ≡ true
     → slice_get plan.wires k ≡ Some row → is_mesh_of service row ≡ true → carries plan calm k row ≡ true
 mesh_carries plan calm service k row checked calmed is mesh =
-    let ours = and_left (is_wire_of service row) (is_mesh_class row.class) mesh in
+    let ours = first_holds (is_wire_of service row) (is_mesh_class row.class) mesh in
     let near = core_edge plan service link.near.0 (near_port plan service k row link is ours) (mesh_near plan service k row link checked is mesh) in
     let far = core_edge plan service link.far.0 (far_port plan service k row link is ours) (far_core plan service k row link checked is ours) in
     same (mesh_wire plan calm service link.near.0 link.far.0 calmed link.near_within link.far_within near far link.apart)

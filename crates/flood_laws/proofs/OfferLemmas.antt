@@ -3,6 +3,7 @@ use Rattle.std.proofs.Common.{◌≡◌, ◌==◌, ◌&&◌, ◌||◌, ◌∙◌
 use Rattle.std.specs.List.{list_any}
 use Rattle.std.proofs.lemmas.Bool.{eqb-true, or_parts}
 use Rattle.std.proofs.lemmas.Bool.Decides.{nat_tests}
+use Rattle.net_values.proofs.BoolLemmas.{clash}
 use Rattle.net_base.specs.declared.plan.Plan.{Plan}
 use Rattle.net_base.specs.declared.plan.offer.Offer.{Offer}
 use Rattle.net_base.specs.declared.plan.places.EdgeId.{EdgeId}
@@ -10,9 +11,6 @@ use Rattle.net_base.specs.declared.plan.wire_plan.WirePlan.{WirePlan}
 use Rattle.net_base.specs.plan.Paths.{expected, follows, has_repeat, is_first, joins, offer_of}
 use Rattle.net_base.proofs.PathLemmas.{joins_turned}
 use Rattle.flight_laws.proofs.NameLemmas.{split}
-
-clash : {P : Type 0} → false ≡ true → P
-clash e = absurd (cc)
 
 -- ---- an edge that does not stand on a path
 

@@ -2,6 +2,7 @@
 use Rattle.std.proofs.Common.{◌≡◌, ◌+◌, ◌++◌, ◌&&◌, ◌∙◌, ℕ, Bool, true, false, List, [], ◌∷◌, Some, cond, nat_eq, refl, ap, subst, inl, inr, arith}
 use Rattle.std.proofs.lemmas.Bool.{cases_Bool}
 use Rattle.std.specs.List.{AllByRecursion, find, list_any}
+use Rattle.net_values.proofs.BoolLemmas.{second_fails, first_fails}
 use Rattle.net_base.specs.declared.plan.Plan.{Plan}
 use Rattle.net_base.specs.declared.plan.places.CircuitId.{CircuitId}
 use Rattle.net_base.specs.declared.plan.places.ServiceId.{ServiceId}
@@ -9,7 +10,6 @@ use Rattle.network_model.specs.declared.packet.Packet.{Packet}
 use Rattle.network_model.specs.State.{NetworkState, without_number}
 use Rattle.network_model.specs.Window.{is_copy}
 use Rattle.network_model.proofs.AbsorbLemmas.{of_origin}
-use Rattle.network_model.proofs.CalmLemmas.{none_first, none_later}
 use Rattle.network_model.proofs.OtherLemmas.{is_of}
 use Rattle.flood_laws.specs.Copy.{copy_awaits}
 use Rattle.flood_laws.proofs.CountLemmas.{awaited}
@@ -75,8 +75,8 @@ module _ (P : Packet → Type 0) (plan : Plan) (calm : NetworkState) (service : 
 pub not_named : (origin number : ℕ) (packets : List Packet) → list_any (is_copy origin number) packets ≡ false → is_of origin (find (has_number number) packets) ≡ false
 not_named origin number [] none = refl
 not_named origin number (p ∷ ps) none =
-    by (nat_eq p.number number) (nat_eq p.origin origin) refl (none_first (is_copy origin number p) (list_any (is_copy origin number) ps) none)
-    (not_named origin number ps (none_later (is_copy origin number p) (list_any (is_copy origin number) ps) none))
+    by (nat_eq p.number number) (nat_eq p.origin origin) refl (first_fails (is_copy origin number p) (list_any (is_copy origin number) ps) none)
+    (not_named origin number ps (second_fails (is_copy origin number p) (list_any (is_copy origin number) ps) none))
   where
     by : (here own : Bool) → nat_eq p.origin origin ≡ own → own && here ≡ false → is_of origin (find (has_number number) ps) ≡ false → is_of origin (cond here (Some p) (find (has_number number) ps)) ≡ false
     by true true is none rest = absurd (cc (none))
@@ -87,5 +87,5 @@ not_named origin number (p ∷ ps) none =
 pub none_of : (origin : ℕ) (packets : List Packet) → list_any (λ packet. nat_eq packet.origin origin) packets ≡ false → of_origin origin packets ≡ []
 none_of origin [] none = refl
 none_of origin (p ∷ ps) none =
-    let here : nat_eq p.origin origin ≡ false = none_first (nat_eq p.origin origin) (list_any (λ packet. nat_eq packet.origin origin) ps) none in
-    rw here (none_of origin ps (none_later (nat_eq p.origin origin) (list_any (λ packet. nat_eq packet.origin origin) ps) none))
+    let here : nat_eq p.origin origin ≡ false = first_fails (nat_eq p.origin origin) (list_any (λ packet. nat_eq packet.origin origin) ps) none in
+    rw here (none_of origin ps (second_fails (nat_eq p.origin origin) (list_any (λ packet. nat_eq packet.origin origin) ps) none))

@@ -1,6 +1,7 @@
 -- What comes of a packet that is carried at a switching point: it is passed on under the label of the other side, or dropped where that
 -- side is not bound or none advertises its label.
-use Rattle.std.proofs.Common.{◌⊎◌, inl, inr, ◌≡◌, ◌-◌, ◌||◌, ◌∙◌, ℕ, Bool, true, false, cond, List, [], ◌∷◌, Option, Some, None, Ok, Err, nat_eq, slice_get, refl, ap, sym}
+use Rattle.std.proofs.Common.{◌⊎◌, inl, inr, ◌≡◌, ◌-◌, ◌∙◌, ℕ, Bool, true, false, cond, List, [], ◌∷◌, Option, Some, None, Ok, Err, nat_eq, slice_get, refl, ap, sym}
+use Rattle.std.proofs.lemmas.Bool.{or_parts}
 use Rattle.net_base.specs.declared.plan.Plan.{Plan}
 use Rattle.net_base.specs.declared.plan.places.EdgeId.{EdgeId}
 use Rattle.net_base.specs.declared.plan.places.WireId.{WireId}
@@ -12,6 +13,7 @@ use Rattle.net_base.specs.declared.trace.entry.Entry.{Entry}
 use Rattle.net_base.specs.plan.Accepted.{IsChecked}
 use Rattle.net_base.specs.plan.Paths.{is_first, is_last, mate, mate_on}
 use Rattle.net_base.specs.plan.Places.{wire_row}
+use Rattle.net_base.proofs.CommonLemmas.{same_option}
 use Rattle.eth_encap.specs.declared.stack_entry.StackEntry.{StackEntry}
 use Rattle.pw_signalling.specs.declared.binding.Binding.{Binding}
 use Rattle.pw_stitch.specs.declared.swap_drop.SwapDrop.TheVariants.{Expired}
@@ -31,16 +33,14 @@ use Rattle.network_model.specs.State.{NetworkState}
 use Rattle.network_model.specs.Window.{carried}
 use Rattle.network_model.proofs.GoalLemmas.{has_mate}
 use Rattle.flight_laws.proofs.RuledNetworkLemmas.{IsRuledNetwork}
+use Rattle.flight_laws.proofs.PlaceLemmas.{same_row}
+use Rattle.flight_laws.proofs.RuledMendLemmas.{wire_fits}
 use Rattle.packet_laws.specs.Carried.{IsCarried}
 use Rattle.packet_laws.proofs.ArriveLemmas.{IsOwner, come_sized, owner_is}
-use Rattle.packet_laws.proofs.PackLemmas.{wire_checked}
-use Rattle.packet_laws.proofs.SendLemmas.{come_of, same_row}
+use Rattle.packet_laws.proofs.SendLemmas.{come_of}
 use Rattle.packet_laws.proofs.SwitchLemmas.{joined_on, relay_lives, relayed, relayed_packed}
 use Rattle.flood_laws.proofs.ArrivalLemmas.{arrives_with, opened}
 use Rattle.flood_laws.proofs.CarryLemmas.{packed_carried}
-
-clash : {P : Type 0} → false ≡ true → P
-clash e = absurd (cc)
 
 -- an end of the packet's wire, beside the edge that sent it, advertises its label
 pub record IsSwitchedBy (packet : Packet) (place : EndPlace) : Type 0 where
@@ -87,14 +87,10 @@ module _ (plan : Plan) (network : NetworkState) (trace : List Entry) (packet : P
       ∙ sym (arrives_with plan network trace packet checked ruled rule)
 
   module _ (between : is_terminal rule.row packet.to ≡ false) where
-    none_both : (a b : Bool) → a || b ≡ false → (a ≡ false) × (b ≡ false)
-    none_both true b h = clash (sym h)
-    none_both false b h = (refl, h)
-
     has : (to : EdgeId) × (mate_on rule.row.path packet.to.0 packet.from.0 ≡ Some to)
     has =
-        let apart = none_both (is_first packet.to.0 rule.row.path) (is_last packet.to.0 rule.row.path) between in
-        has_mate rule.row.path packet.from packet.to (wire_checked plan packet.wire rule.row checked rule.is).once rule.joined apart.0 apart.1
+        let apart = or_parts (is_first packet.to.0 rule.row.path) (is_last packet.to.0 rule.row.path) between in
+        has_mate rule.row.path packet.from packet.to (wire_fits plan packet.wire rule.row checked rule.is).once rule.joined apart.0 apart.1
 
     owner_beside : (place : EndPlace) → advertiser plan edge rule.label ≡ Some place → IsSwitchedBy packet place
     owner_beside place owner =
@@ -106,9 +102,6 @@ module _ (plan : Plan) (network : NetworkState) (trace : List Entry) (packet : P
           peer = ap (λ (n : ℕ). record { 0 = n }) places.1;
           passes = own.end.terminal ∙ (ap (λ (r : WirePlan). is_terminal r edge.me) row ∙ (ap (is_terminal rule.row) at ∙ between));
         }
-
-    same_option : (a b : EdgeId) → Some a ≡ Some b → a ≡ b
-    same_option a b e = cc
 
     by_side : (place : EndPlace) → IsSwitchedBy packet place → packet_work plan network packet ≡ switched plan taken_all packet.bytes entry place work → (remote : Option Binding) → (edge.ends packet.wire.0 has.0.0).remote ≡ remote → Passed
     unfolding gives posts

@@ -21,9 +21,10 @@ use Rattle.network_model.specs.Window.{carried}
 use Rattle.flight_laws.specs.Laws.{AreSettled}
 use Rattle.flight_laws.proofs.RuledNetworkLemmas.{IsRuledNetwork}
 use Rattle.flight_laws.proofs.StableLemmas.{IsPlannedBinding}
+use Rattle.flight_laws.proofs.PlaceLemmas.{same_row}
 use Rattle.packet_laws.specs.Carried.{IsCarried, IsPacked}
 use Rattle.packet_laws.proofs.ArriveLemmas.{IsSized, come_sized}
-use Rattle.packet_laws.proofs.SendLemmas.{come_of, same_row}
+use Rattle.packet_laws.proofs.SendLemmas.{come_of}
 use Rattle.packet_laws.proofs.SwitchLemmas as switch
 use Rattle.flood_laws.specs.Due.{awaits}
 use Rattle.flood_laws.proofs.CarryLemmas.{packed_carried, packed_entry}

@@ -1,8 +1,9 @@
 -- A copy of a flooded frame arrives: its edge serves the sites there and sends it on, or drops it where nothing is due by it.
 use Rattle.std.proofs.Common.{◌-◌, ◌||◌, ◌≡◌, ◌≤◌, ◌+◌, ◌&&◌, ◌∙◌, ◌⊎◌, ℕ, Bool, true, false, List, [], ◌∷◌, Option, Some, None, cond, nat_eq, position, refl, ap, sym, subst, inl, inr, arith, not}
-use Rattle.std.proofs.lemmas.Bool.{cases_Bool, eq-eqb, eqb-true}
+use Rattle.std.proofs.lemmas.Bool.{cases_Bool, eq-eqb, eqb-true, and_from, or_parts}
 use Rattle.std.specs.List.{AllByRecursion, find, list_any}
 use Rattle.std.specs.Str.{bytes_eq}
+use Rattle.net_values.proofs.BoolLemmas.{first_holds, second_fails, first_fails, second_fails_of_both}
 use Rattle.net_base.specs.declared.plan.Plan.{Plan}
 use Rattle.net_base.specs.declared.plan.wire_plan.WirePlan.{WirePlan}
 use Rattle.net_base.specs.declared.plan.places.CircuitId.{CircuitId}
@@ -25,8 +26,7 @@ use Rattle.pw_stitch.specs.Relabelling.{relabelled}
 use Rattle.edge_model.specs.declared.end_place.EndPlace.{EndPlace}
 use Rattle.edge_model.specs.EndPlaces.{end_places, is_named, is_terminal}
 use Rattle.edge_model.specs.Packet.{advertiser, advertises_label}
-use Rattle.flight_laws.proofs.PlaceLemmas.{NamedEnd, end_of}
-use Rattle.packet_laws.proofs.PackLemmas.{wire_checked}
+use Rattle.flight_laws.proofs.PlaceLemmas.{NamedEnd, end_of, same_row}
 use Rattle.net_base.specs.plan.Places.{is_mesh_class, mtu_of, wire_row}
 use Rattle.net_base.specs.plan.Roles.{are_joined_by, is_wire_of, wire_ends_at}
 use Rattle.net_base.specs.trace.Frame.{destination_of, goes_to_group, source_of}
@@ -42,7 +42,6 @@ use Rattle.edge_model.specs.Frame.{destination, forwarded, hearing}
 use Rattle.edge_model.specs.Send.{drops}
 use Rattle.edge_model.specs.State.{EdgeState, addresses_of, end_at}
 use Rattle.edge_model.specs.Work.{Work, gives}
-use Rattle.edge_model.proofs.LocalLemmas.{and_left}
 use Rattle.edge_model.proofs.PacketLemmas.{mesh_port}
 use Rattle.network_model.specs.declared.packet.Packet.{Packet}
 use Rattle.network_model.specs.Absorb.{absorb, all_entries_of, begin_at, taken_all}
@@ -53,20 +52,20 @@ use Rattle.network_model.specs.Reach.{far_of, is_site}
 use Rattle.network_model.specs.State.{NetworkState, without_number, without_packet}
 use Rattle.network_model.specs.Window.{carried, is_row_of_service, is_sourced, packet_teaches}
 use Rattle.network_model.proofs.AbsorbLemmas.{of_origin}
-use Rattle.network_model.proofs.CalmLemmas.{none_first, none_later}
 use Rattle.network_model.proofs.PacketListLemmas.{both_hold, packet_holds, packet_number, packets_of}
 use Rattle.flight_laws.specs.Laws.{AreSettled}
 use Rattle.flight_laws.proofs.RuledNetworkLemmas.{IsRuledNetwork}
+use Rattle.flight_laws.proofs.RuledMendLemmas.{wire_fits}
 use Rattle.packet_laws.specs.Carried.{IsCarried, KeepsPacketRule, FollowsPacketRule}
-use Rattle.packet_laws.proofs.ArriveLemmas.{IsSized}
-use Rattle.packet_laws.proofs.SendLemmas.{copy_sender, same_row}
+use Rattle.packet_laws.proofs.ArriveLemmas.{IsSized, same_entry}
+use Rattle.packet_laws.proofs.SendLemmas.{copy_sender}
 use Rattle.packet_laws.proofs.StepLemmas.{carried_of}
 use Rattle.flood_laws.specs.Copy.{CarriesCopy, IsStill, IsStillEdge, copy_awaits, heading_on}
 use Rattle.flood_laws.specs.Hops.{HasPassed, most_hops}
 use Rattle.flood_laws.specs.Due.{awaits, serves_here, wires_due}
 use Rattle.flood_laws.proofs.BridgeLemmas.{packet_meets}
 use Rattle.flood_laws.proofs.ArrivalLemmas.{arrives_under, found_too}
-use Rattle.flood_laws.proofs.CopyLemmas.{copies_carry, copy_arrives, copy_drops, copy_forwards, same_label, sent_ended, still_ends, still_placed}
+use Rattle.flood_laws.proofs.CopyLemmas.{copies_carry, copy_arrives, copy_drops, copy_forwards, sent_ended, still_ends, still_placed}
 use Rattle.flood_laws.proofs.LinkLemmas.{IsLink, last_ends, link_at}
 use Rattle.flood_laws.proofs.PassingLemmas.{IsNotPassed, IsPassedOn, Passed, passed}
 use Rattle.flood_laws.proofs.RelayLemmas.{relay_awaits, relay_copy, relay_passed}
@@ -85,16 +84,12 @@ use Rattle.flood_laws.proofs.StillLemmas.{IsUnlearned}
 -- a packet that is found among packets that teach nothing teaches nothing
 found_not : (test : Packet → Bool) (number : ℕ) (packets : List Packet) (packet : Packet) → list_any test packets ≡ false → find (has_number number) packets ≡ Some packet → test packet ≡ false
 found_not test number [] packet none found = absurd (cc (found))
-found_not test number (p ∷ ps) packet none found = by (nat_eq p.number number) found (found_not test number ps packet (none_later (test p) (list_any test ps) none)) where
+found_not test number (p ∷ ps) packet none found = by (nat_eq p.number number) found (found_not test number ps packet (second_fails (test p) (list_any test ps) none)) where
   by : (here : Bool) → cond here (Some p) (find (has_number number) ps) ≡ Some packet → (find (has_number number) ps ≡ Some packet → test packet ≡ false) → test packet ≡ false
   by true is rest =
       let same : packet ≡ p = cc (is) in
-      ap test same ∙ none_first (test p) (list_any test ps) none
+      ap test same ∙ first_fails (test p) (list_any test ps) none
   by false is rest = rest is
-
-none_second : (a b : Bool) → a ≡ true → a && b ≡ false → b ≡ false
-none_second true b of none = none
-none_second false b of none = absurd (cc (of))
 
 -- in a state of a window, where a copy of the frame is found by its number
 module _ (plan : Plan) (calm network : NetworkState) (trace : List Entry) (service : ServiceId) (frame : List ℕ) (origin number : ℕ) (packet : Packet)
@@ -113,7 +108,7 @@ module _ (plan : Plan) (calm network : NetworkState) (trace : List Entry) (servi
   rule_here = carried_of plan network trace packet (packet_holds (FollowsPacketRule plan network trace) network number packet rule found) framed
 
   once : has_repeat copy.row.path ≡ false
-  once = (wire_checked plan packet.wire copy.row checked copy.is).once
+  once = (wire_fits plan packet.wire copy.row checked copy.is).once
 
   rows : rule_here.row ≡ copy.row
   rows = same_row rule_here.row copy.row (sym rule_here.is ∙ copy.is)
@@ -193,7 +188,7 @@ module _ (plan : Plan) (calm network : NetworkState) (trace : List Entry) (servi
   placed = (ruled.edges packet.to.0).place
 
   quiet : is_quiet plan calm service ≡ true
-  quiet = and_left (is_quiet plan calm service) (is_full plan calm service) (and_left (is_quiet plan calm service && is_full plan calm service) (has_live_spokes plan calm service) calmed)
+  quiet = first_holds (is_quiet plan calm service) (is_full plan calm service) (first_holds (is_quiet plan calm service && is_full plan calm service) (has_live_spokes plan calm service) calmed)
 
   -- ---- it goes
 
@@ -280,8 +275,8 @@ module _ (plan : Plan) (calm network : NetworkState) (trace : List Entry) (servi
             let of_service : is_row_of_service service (wire_row plan packet.wire) ≡ true = ap (is_row_of_service service) copy.is ∙ copy.of_service in
             let is_some : not (nat_eq packet.origin 0) ≡ true = ap not framed in
             let second : is_sourced (destination_of frame) (carried plan packet) ≡ false =
-            none_second (is_row_of_service service (wire_row plan packet.wire)) (is_sourced (destination_of frame) (carried plan packet)) of_service
-            (none_second (not (nat_eq packet.origin 0)) (is_row_of_service service (wire_row plan packet.wire) && is_sourced (destination_of frame) (carried plan packet)) is_some untaught) in
+            second_fails_of_both (is_row_of_service service (wire_row plan packet.wire)) (is_sourced (destination_of frame) (carried plan packet)) of_service
+            (second_fails_of_both (not (nat_eq packet.origin 0)) (is_row_of_service service (wire_row plan packet.wire) && is_sourced (destination_of frame) (carried plan packet)) is_some untaught) in
             let other : bytes_eq (source_of frame) (destination_of frame) ≡ false = ap (is_sourced (destination_of frame)) (sym copy.carries) ∙ second in
             unlearned_unknown plan network service frame from packet.to.0 nowhere other (carried_within plan network trace packet checked rule_here))
       ]
@@ -310,9 +305,9 @@ module _ (plan : Plan) (calm network : NetworkState) (trace : List Entry) (servi
       bound from at peer wire of_arrival bytes sent row is =
           hop_on plan packet.wire wire copy.row row packet.from packet.to peer packet.hops checked copy.is is copy.joined reached joined next_ended
           (later_stage plan calm service packet.wire wire copy.row row packet.to.0 (goal row.path packet.to peer).0 checked (calm_placed packet.to.0) copy.is ends takes is
-          (both_true (is_wire_of service row) (is_first packet.to.0 row.path || is_last packet.to.0 row.path)
+          (and_from (is_wire_of service row) (is_first packet.to.0 row.path || is_last packet.to.0 row.path)
           (eq-eqb row.service.0 service.0 (ap (λ (r : WirePlan). r.service.0) (sym next_rows) ∙ ap (λ (s : ServiceId). s.0) sent.same_service)) next_ended)
-          (sent_far row.path packet.to peer (wire_checked plan wire row checked is).once joined next_ended)
+          (sent_far row.path packet.to peer (wire_fits plan wire row checked is).once joined next_ended)
           (copy_forwards plan calm network packet.to (arrival.Wire packet.wire) service frame from peer wire of_arrival bytes still sent) (sym (same_wire_port plan service (network.edges packet.to.0).me sent.p from wire.0 packet.wire.0 there here) ∙ sent.by.other) meshes)
           come
         where
@@ -321,10 +316,6 @@ module _ (plan : Plan) (calm network : NetworkState) (trace : List Entry) (servi
 
           next_ended : is_first packet.to.0 row.path || is_last packet.to.0 row.path ≡ true
           next_ended = ap (λ (r : WirePlan). is_first packet.to.0 r.path || is_last packet.to.0 r.path) (sym next_rows) ∙ sent_ended plan network packet.to (arrival.Wire packet.wire) service frame from peer wire of_arrival bytes checked ruled sent
-
-          both_true : (p q : Bool) → p ≡ true → q ≡ true → p && q ≡ true
-          both_true true q one other = other
-          both_true false q one other = absurd (cc (one))
 
           here : LeadsToWire (ports_of plan service (network.edges packet.to.0).me) from packet.wire.0
           here = found_wire_port packet.wire (ports_of plan service (network.edges packet.to.0).me) from (ap (λ (m : EdgeId). position (is_wire_port packet.wire) (ports_of plan service m)) placed ∙ at)
@@ -389,7 +380,7 @@ module _ (plan : Plan) (calm network : NetworkState) (trace : List Entry) (servi
     advertised =
         ap (λ (f : ℕ → ℕ → EndState). (f packet.wire.0 packet.from.0).local) (still_ends (calm.edges packet.to.0) here (still.edges packet.to.0))
         ∙ (copy.labelled.advertised ∙ ap (λ (n : ℕ). Advertised n copy.labelled.told) (sym copy.labelled.same
-        ∙ same_label (entry_of packet.bytes) copy.labelled.entry (record { label = rule_here.label; bottom = true; ttl = rule_here.packed.ttl }) copy.labelled.read (arrives_under plan network trace packet checked ruled rule_here)))
+        ∙ same_entry (entry_of packet.bytes) copy.labelled.entry (record { label = rule_here.label; bottom = true; ttl = rule_here.packed.ttl }) copy.labelled.read (arrives_under plan network trace packet checked ruled rule_here)))
 
     -- an end of the edge advertises its label
     advertises : {P : Type 0} → advertiser plan here rule_here.label ≡ None → P
@@ -407,7 +398,7 @@ module _ (plan : Plan) (calm network : NetworkState) (trace : List Entry) (servi
     -- where the wire carries frames the other side is bound
     holds : {P : Type 0} → carries plan calm packet.wire.0 copy.row ≡ true → ((to : EdgeId) → mate_on rule_here.row.path packet.to.0 packet.from.0 ≡ Some to → (here.ends packet.wire.0 to.0).remote ≡ None) → P
     holds live none =
-        let apart = none_both (is_first packet.to.0 copy.row.path) (is_last packet.to.0 copy.row.path) between in
+        let apart = or_parts (is_first packet.to.0 copy.row.path) (is_last packet.to.0 copy.row.path) between in
         let (to, mate_is) = has_mate copy.row.path packet.from packet.to once copy.joined apart.0 apart.1 in
         let side = relay_bound plan calm packet.wire copy.row packet.to packet.from to checked (calm_placed packet.to.0) copy.is live mate_is in
         let unbound : ((calm.edges packet.to.0).ends packet.wire.0 to.0).remote ≡ None =
@@ -415,10 +406,6 @@ module _ (plan : Plan) (calm network : NetworkState) (trace : List Entry) (servi
         ∙ none to (ap (λ (r : WirePlan). mate_on r.path packet.to.0 packet.from.0) rows ∙ mate_is) in
         let wrong : None ≡ Some side.binding = sym unbound ∙ side.bound in
         absurd (cc (wrong))
-      where
-        none_both : (a b : Bool) → a || b ≡ false → (a ≡ false) × (b ≡ false)
-        none_both true b h = absurd (cc (h))
-        none_both false b h = (refl, h)
 
     -- so where it is dropped it has nothing to serve
     nothing : (advertiser plan here rule_here.label ≡ None) ⊎ ((to : EdgeId) → mate_on rule_here.row.path packet.to.0 packet.from.0 ≡ Some to → (here.ends packet.wire.0 to.0).remote ≡ None)

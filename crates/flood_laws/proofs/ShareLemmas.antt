@@ -1,7 +1,8 @@
 -- At each moment of a window each other site was served, or is ahead of one copy under way.
 use Rattle.std.proofs.Common.{◌≡◌, ◌+◌, ◌++◌, ◌&&◌, ◌∙◌, ℕ, zero, suc, Bool, true, false, List, [], ◌∷◌, Option, Some, None, cond, nat_eq, not, option_map, refl, ap, sym, subst, inl, inr, arith}
-use Rattle.std.proofs.lemmas.Bool.{cases_Bool, eq-eqb}
+use Rattle.std.proofs.lemmas.Bool.{cases_Bool, eq-eqb, and_from}
 use Rattle.std.specs.List.{AllByRecursion}
+use Rattle.net_values.proofs.BoolLemmas.{clash_at}
 use Rattle.net_base.specs.declared.plan.Plan.{Plan}
 use Rattle.net_base.specs.declared.plan.circuit_plan.CircuitPlan.{CircuitPlan}
 use Rattle.net_base.specs.declared.plan.places.CircuitId.{CircuitId}
@@ -63,11 +64,8 @@ copies_passed plan calm service frame origin (p ∷ ps) all = elim (cases_Bool (
       (λ is. each.0.1, copies_passed plan calm service frame origin ps each.1))
   | inr other ↦
       (let rest : AllByRecursion (IsNearCopy plan calm service frame) (of_origin origin ps) = rw other at all in
-      (λ is. apart (nat_eq p.origin origin) (eq-eqb p.origin origin is) other, copies_passed plan calm service frame origin ps rest))
+      (λ is. clash_at (nat_eq p.origin origin) (eq-eqb p.origin origin is) other, copies_passed plan calm service frame origin ps rest))
 ]
-  where
-    apart : {P : Type 0} (b : Bool) → b ≡ true → b ≡ false → P
-    apart b so fails = absurd (cc (so, fails))
 
 -- ---- one of two numbers
 
@@ -134,9 +132,7 @@ module _ (plan : Plan) (events : List Event) (is_run : IsRun plan events) (befor
       eq-eqb row.service.0 service.0 (ap (λ (s : ServiceId). s.0) same)
 
   sends : is_site plan calm service at ≡ true
-  sends = both (is_row_of service (circuit_row plan at)) (is_circuit_on plan calm at) (of_service (circuit_row plan at) window.sender) window.on where
-    both : (a b : Bool) → a ≡ true → b ≡ true → a && b ≡ true
-    both a b one other = rw (one, other) refl
+  sends = and_from (is_row_of service (circuit_row plan at)) (is_circuit_on plan calm at) (of_service (circuit_row plan at) window.sender) window.on
 
   shares : SharesSites plan before at service (network_after plan so_far) (run plan so_far).entries
   shares = record {

@@ -1,6 +1,7 @@
 -- The sites of a service in a window: which of them an edge serves, and that copies leave at no other circuit.
 use Rattle.std.proofs.Common.{◌≡◌, ◌≤◌, ◌&&◌, ◌∙◌, ◌⊎◌, ℕ, Bool, true, false, List, [], ◌∷◌, Option, Some, None, cond, nat_eq, refl, ap, sym, inl, inr, arith}
-use Rattle.std.proofs.lemmas.Bool.{cases_Bool, eqb-true}
+use Rattle.std.proofs.lemmas.Bool.{cases_Bool, eqb-true, and_from}
+use Rattle.net_values.proofs.BoolLemmas.{first_holds, second_holds}
 use Rattle.net_base.specs.declared.plan.Plan.{Plan}
 use Rattle.net_base.specs.declared.plan.circuit_plan.CircuitPlan.{CircuitPlan}
 use Rattle.net_base.specs.declared.plan.places.CircuitId.{CircuitId}
@@ -15,7 +16,6 @@ use Rattle.edge_model.specs.declared.effect.Effect.{Effect}
 use Rattle.edge_model.specs.declared.effect.Effect.TheVariants as effect
 use Rattle.edge_model.specs.Frame.{forwards}
 use Rattle.edge_model.specs.State.{EdgeState, is_on, with_learned}
-use Rattle.edge_model.proofs.LocalLemmas.{and_left, and_right}
 use Rattle.network_model.specs.Absorb.{absorb_one, all_entries_of}
 use Rattle.network_model.specs.OnceEach.{LeftWithin, times_left}
 use Rattle.network_model.specs.Reach.{is_row_at, is_row_of, is_row_on, is_site}
@@ -40,16 +40,13 @@ site_of plan calm service circuit site = by (circuit_row plan circuit) refl site
   by (Some row) is both = record {
     row = row;
     is = is;
-    of_service = and_left (nat_eq row.service.0 service.0) (is_on (edge_at calm row.edge) circuit) both;
-    on = and_right (nat_eq row.service.0 service.0) (is_on (edge_at calm row.edge) circuit) both;
+    of_service = first_holds (nat_eq row.service.0 service.0) (is_on (edge_at calm row.edge) circuit) both;
+    on = second_holds (nat_eq row.service.0 service.0) (is_on (edge_at calm row.edge) circuit) both;
   }
 
 is_site_by : (plan : Plan) (calm : NetworkState) (service : ServiceId) (circuit : CircuitId) → IsSiteOf plan calm service circuit → is_site plan calm service circuit ≡ true
 is_site_by plan calm service circuit site =
-    ap (λ (row : Option CircuitPlan). is_row_of service row && is_row_on calm circuit row) site.is ∙ both (nat_eq site.row.service.0 service.0) (is_on (edge_at calm site.row.edge) circuit) site.of_service site.on
-  where
-    both : (a b : Bool) → a ≡ true → b ≡ true → a && b ≡ true
-    both a b one other = rw (one, other) refl
+    ap (λ (row : Option CircuitPlan). is_row_of service row && is_row_on calm circuit row) site.is ∙ and_from (nat_eq site.row.service.0 service.0) (is_on (edge_at calm site.row.edge) circuit) site.of_service site.on
 
 -- a circuit that was on when the frame entered is on still
 pub still_on : (calm edge : EdgeState) → IsStillEdge calm edge → edge.circuit_on ≡ calm.circuit_on
@@ -82,11 +79,11 @@ left_site plan calm network me service frame arrival at bytes placed still copy 
     let edge : EdgeState = network.edges me.0 in
     let served = served_at plan service edge.me copy.p (port.Circuit at) copy.by.at in
     let on : is_on edge at ≡ true = sym (ap (forwards plan edge) copy.by.at) ∙ copy.by.forwards in
-    let there : served.row.edge.0 ≡ me.0 = eqb-true served.row.edge.0 edge.me.0 (and_right (nat_eq served.row.service.0 service.0) (nat_eq served.row.edge.0 edge.me.0) served.serve) ∙ ap (λ (e : EdgeId). e.0) placed in
+    let there : served.row.edge.0 ≡ me.0 = eqb-true served.row.edge.0 edge.me.0 (second_holds (nat_eq served.row.service.0 service.0) (nat_eq served.row.edge.0 edge.me.0) served.serve) ∙ ap (λ (e : EdgeId). e.0) placed in
     is_site_by plan calm service at (record {
       row = served.row;
       is = served.is;
-      of_service = and_left (nat_eq served.row.service.0 service.0) (nat_eq served.row.edge.0 edge.me.0) served.serve;
+      of_service = first_holds (nat_eq served.row.service.0 service.0) (nat_eq served.row.edge.0 edge.me.0) served.serve;
       on = ap (λ (n : ℕ). is_on (calm.edges n) at) there ∙ (ap (λ (on : ℕ → Bool). on at.0) (sym (still_on (calm.edges me.0) edge still)) ∙ on);
     })
 

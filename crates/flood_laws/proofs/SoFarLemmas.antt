@@ -1,7 +1,10 @@
 -- A window up to some event of it: before the frame enters nothing is told of it, and from its entry on each copy that is due is served.
-use Rattle.std.proofs.Common.{◌≡◌, ◌+◌, ◌++◌, ◌&&◌, ◌||◌, ◌∙◌, ℕ, Bool, true, false, List, [], ◌∷◌, Option, Some, None, Ok, option_map, refl, ap, subst, inl, inr, arith}
-use Rattle.std.proofs.lemmas.List.Elements.{All-cons, All-head, All-nil, All-tail}
+use Rattle.std.proofs.Common.{◌≡◌, ◌+◌, ◌++◌, ◌&&◌, ◌∙◌, ℕ, true, false, List, [], ◌∷◌, Option, Some, None, Ok, option_map, refl, ap, subst, inl, inr, arith}
+use Rattle.std.proofs.lemmas.List.Elements.{All-head, All-tail}
+use Rattle.std.proofs.lemmas.Bool.{and_from, or_from}
 use Rattle.std.specs.List.{All}
+use Rattle.net_values.proofs.BoolLemmas.{first_holds, second_holds, second_fails, first_fails}
+use Rattle.net_values.proofs.RowLemmas.{front_all, back_all}
 use Rattle.net_base.specs.declared.plan.Plan.{Plan}
 use Rattle.net_base.specs.declared.plan.circuit_plan.CircuitPlan.{CircuitPlan}
 use Rattle.net_base.specs.declared.plan.places.CircuitId.{CircuitId}
@@ -16,7 +19,6 @@ use Rattle.net_base.specs.plan.Planned.{IsEventOf}
 use Rattle.net_base.specs.plan.Roles.{are_joined_by}
 use Rattle.net_base.specs.trace.Isolated.{inner_at}
 use Rattle.net_base.specs.trace.Frame.{destination_of}
-use Rattle.edge_model.proofs.LocalLemmas.{and_left, and_right}
 use Rattle.network_model.specs.Absorb.{Stepped}
 use Rattle.network_model.specs.Calm.{has_live_spokes, is_calm, is_full, is_quiet}
 use Rattle.network_model.specs.Frame.{frame_event, frame_work, next_origin}
@@ -26,7 +28,6 @@ use Rattle.network_model.specs.State.{NetworkState, empty_network}
 use Rattle.network_model.specs.Step.{step}
 use Rattle.network_model.specs.Window.{Window, all_spare, is_flooded_frame, some_teach, spares, teaches}
 use Rattle.network_model.proofs.AbsorbLemmas.{of_origin}
-use Rattle.network_model.proofs.CalmLemmas.{none_first, none_later}
 use Rattle.network_model.proofs.FloodLemmas.{unknown_heard}
 use Rattle.network_model.proofs.OtherLemmas.{IsApart, along, apart_before, entering_counts, some_number, numbered_from}
 use Rattle.flight_laws.specs.Laws.{AreSettled, IsRun}
@@ -43,14 +44,6 @@ use Rattle.flood_laws.proofs.StillLemmas.{step_still, step_unlearned}
 use Rattle.flood_laws.proofs.WindowLemmas.{IsAfter, IsReached, StaysUnknown, step_reached, window_serves}
 
 -- ---- the events before the frame, and from it on
-
-pub front_all : {X : Type 0} (P : X → Type 0) (xs ys : List X) → All P (xs ++ ys) → All P xs
-front_all P [] ys all = All-nil P
-front_all P (x ∷ xs) ys all = All-cons P x xs (All-head P x (xs ++ ys) all) (front_all P xs ys (All-tail P x (xs ++ ys) all))
-
-pub back_all : {X : Type 0} (P : X → Type 0) (xs ys : List X) → All P (xs ++ ys) → All P ys
-back_all P [] ys all = all
-back_all P (x ∷ xs) ys all = back_all P xs ys (All-tail P x (xs ++ ys) all)
 
 -- ---- the frame enters
 
@@ -87,22 +80,16 @@ starts plan calm at octets frame service during (Some row) checked calmed settle
 front_spare : (plan : Plan) (origin : ℕ) (network : NetworkState) (xs ys : List Event) → all_spare plan origin network (xs ++ ys) ≡ true → all_spare plan origin network xs ≡ true
 front_spare plan origin network [] ys all = refl
 front_spare plan origin network (e ∷ xs) ys all =
-    both (spares network origin e) (all_spare plan origin (step plan network e).state xs)
-    (and_left (spares network origin e) (all_spare plan origin (step plan network e).state (xs ++ ys)) all)
-    (front_spare plan origin (step plan network e).state xs ys (and_right (spares network origin e) (all_spare plan origin (step plan network e).state (xs ++ ys)) all))
-  where
-    both : (a b : Bool) → a ≡ true → b ≡ true → a && b ≡ true
-    both a b one other = rw (one, other) refl
+    and_from (spares network origin e) (all_spare plan origin (step plan network e).state xs)
+    (first_holds (spares network origin e) (all_spare plan origin (step plan network e).state (xs ++ ys)) all)
+    (front_spare plan origin (step plan network e).state xs ys (second_holds (spares network origin e) (all_spare plan origin (step plan network e).state (xs ++ ys)) all))
 
 front_untaught : (plan : Plan) (network : NetworkState) (service : ServiceId) (address : List ℕ) (xs ys : List Event) → some_teach plan network service address (xs ++ ys) ≡ false → some_teach plan network service address xs ≡ false
 front_untaught plan network service address [] ys none = refl
 front_untaught plan network service address (e ∷ xs) ys none =
-    neither (teaches plan network service address e) (some_teach plan (step plan network e).state service address xs)
-    (none_first (teaches plan network service address e) (some_teach plan (step plan network e).state service address (xs ++ ys)) none)
-    (front_untaught plan (step plan network e).state service address xs ys (none_later (teaches plan network service address e) (some_teach plan (step plan network e).state service address (xs ++ ys)) none))
-  where
-    neither : (a b : Bool) → a ≡ false → b ≡ false → a || b ≡ false
-    neither a b one other = rw (one, other) refl
+    or_from (teaches plan network service address e) (some_teach plan (step plan network e).state service address xs)
+    (first_fails (teaches plan network service address e) (some_teach plan (step plan network e).state service address (xs ++ ys)) none)
+    (front_untaught plan (step plan network e).state service address xs ys (second_fails (teaches plan network service address e) (some_teach plan (step plan network e).state service address (xs ++ ys)) none))
 
 -- ---- from the entry on
 
@@ -139,7 +126,7 @@ module _ (plan : Plan) (events : List Event) (run : IsRun plan events) (before :
   settled : (a b : ℕ) → are_joined_by plan service a b ≡ true → AreSettled plan calm a b
   settled a b joined =
       runs_settle plan before run_before service
-      (and_left (is_quiet plan calm service) (is_full plan calm service) (and_left (is_quiet plan calm service && is_full plan calm service) (has_live_spokes plan calm service) window.calm)) a b joined
+      (first_holds (is_quiet plan calm service) (is_full plan calm service) (first_holds (is_quiet plan calm service && is_full plan calm service) (has_live_spokes plan calm service) window.calm)) a b joined
 
   sized : IsSized (mtu_of plan service) frame
   sized = come_sized plan (In at origin octets ∷ []) service origin frame

@@ -2,6 +2,7 @@
 use Rattle.std.proofs.Common.{◌≡◌, ◌+◌, ◌&&◌, ◌∙◌, ℕ, Bool, true, false, List, [], Option, Some, None, Result, Ok, cond, nat_eq, not, refl, ap, sym, subst, arith}
 use Rattle.std.proofs.lemmas.Bool.{eq-eqb, eqb-true}
 use Rattle.std.specs.List.{AllByRecursion}
+use Rattle.net_values.proofs.BoolLemmas.{first_holds}
 use Rattle.net_base.specs.declared.plan.Plan.{Plan}
 use Rattle.net_base.specs.declared.plan.circuit_plan.CircuitPlan.{CircuitPlan}
 use Rattle.net_base.specs.declared.plan.places.CircuitId.{CircuitId}
@@ -18,7 +19,6 @@ use Rattle.edge_model.specs.Frame.{destination, forwarded, hearing, is_own, port
 use Rattle.edge_model.specs.State.{addresses_of, is_on, with_learned}
 use Rattle.edge_model.specs.Work.{Work, idles}
 use Rattle.edge_model.proofs.BridgeLemmas.{received_bridges}
-use Rattle.edge_model.proofs.LocalLemmas.{and_left}
 use Rattle.network_model.specs.Absorb.{absorb, all_entries_of, begin_at, idle, taken_all}
 use Rattle.network_model.specs.Calm.{has_live_spokes, is_calm, is_full, is_quiet}
 use Rattle.network_model.specs.Frame.{entering, frame_event, frame_work, next_origin}
@@ -73,7 +73,7 @@ module _ (plan : Plan) (calm : NetworkState) (at : CircuitId) (octets frame : Li
   port = port_at plan (edge_at calm row.edge) at row
 
   quiet : is_quiet plan calm row.service ≡ true
-  quiet = and_left (is_quiet plan calm row.service) (is_full plan calm row.service) (and_left (is_quiet plan calm row.service && is_full plan calm row.service) (has_live_spokes plan calm row.service) calmed)
+  quiet = first_holds (is_quiet plan calm row.service) (is_full plan calm row.service) (first_holds (is_quiet plan calm row.service && is_full plan calm row.service) (has_live_spokes plan calm row.service) calmed)
 
   placed : (edge_at calm row.edge).me ≡ row.edge
   placed = (ruled.edges row.edge.0).place

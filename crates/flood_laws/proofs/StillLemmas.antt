@@ -24,6 +24,7 @@ use Rattle.net_base.specs.plan.Places.{circuit_row, mtu_of, wire_row}
 use Rattle.net_base.specs.trace.Isolated.{inner_at}
 use Rattle.net_base.specs.trace.Frame.{source_of}
 use Rattle.net_values.specs.Mac.{is_group_address}
+use Rattle.net_values.proofs.BoolLemmas.{second_holds, and_false, second_fails, first_fails, and_true}
 use Rattle.mac_table.specs.Addresses.{AddressTable, has_address, is_of, learned}
 use Rattle.mac_table.specs.declared.mac_entry.MacEntry.{MacEntry}
 use Rattle.mac_table.proofs.AddressLemmas.{entry_of-absent, entry_of-held, entry_of-learned_other}
@@ -37,7 +38,6 @@ use Rattle.edge_model.specs.State.{EdgeState, addresses_of, is_on, with_addresse
 use Rattle.edge_model.specs.Work.{Work, gives, idles}
 use Rattle.edge_model.proofs.BridgeLemmas.{LearnsOnly, frame_bridges, learns_is, packet_bridges}
 use Rattle.edge_model.proofs.CopyLemmas.{forwards_copies}
-use Rattle.edge_model.proofs.LocalLemmas.{and_right}
 use Rattle.network_model.specs.declared.packet.Packet.{Packet}
 use Rattle.network_model.specs.Absorb.{absorb, begin_at, idle, taken_all}
 use Rattle.network_model.specs.Frame.{entering, frame_event, frame_work, next_origin}
@@ -47,7 +47,6 @@ use Rattle.network_model.specs.State.{NetworkState, edge_at, with_copy, with_edg
 use Rattle.network_model.specs.Step.{step}
 use Rattle.network_model.specs.Window.{carried, is_row_of_service, is_sourced, packet_teaches, spares, teaches}
 use Rattle.network_model.proofs.AbsorbLemmas.{all_keep}
-use Rattle.network_model.proofs.CalmLemmas.{none_first, none_later}
 use Rattle.network_model.proofs.EdgeLemmas.{HoldsOfEach}
 use Rattle.network_model.proofs.PacketListLemmas.{absorb_sends, copy_of, holds_by, packet_holds, packets_of, repeating_sends, without_hold, packet_from}
 use Rattle.flight_laws.proofs.RuledNetworkLemmas.{IsRuledNetwork}
@@ -88,7 +87,7 @@ repeated_each P packet network holds = holds
 -- ---- nothing but addresses and packets changes
 
 -- of an edge that only learns
-still_learns : (calm old new : EdgeState) → LearnsOnly old new → IsStillEdge calm old → IsStillEdge calm new
+pub still_learns : (calm old new : EdgeState) → LearnsOnly old new → IsStillEdge calm old → IsStillEdge calm new
 unfolding with_learned
 still_learns calm old new only still = record { learned = new.learned; is = learns_is old new only ∙ ap (with_learned new.learned) still.is }
 
@@ -175,8 +174,8 @@ none_teach plan service address (p ∷ ps) all = ap (λ (b : Bool). b || list_an
 each_unteaching : (plan : Plan) (service : ServiceId) (address : List ℕ) (packets : List Packet) → list_any (packet_teaches plan service address) packets ≡ false → AllByRecursion (Unteaching plan service address) packets
 each_unteaching plan service address [] none = tt
 each_unteaching plan service address (p ∷ ps) none = (
-  none_first (packet_teaches plan service address p) (list_any (packet_teaches plan service address) ps) none,
-  each_unteaching plan service address ps (none_later (packet_teaches plan service address p) (list_any (packet_teaches plan service address) ps) none),
+  first_fails (packet_teaches plan service address p) (list_any (packet_teaches plan service address) ps) none,
+  each_unteaching plan service address ps (second_fails (packet_teaches plan service address p) (list_any (packet_teaches plan service address) ps) none),
 )
 
 -- a packet on a wire of a service teaches what the frame does that it carries, where it has the number of a frame
@@ -186,10 +185,6 @@ teaches_as plan of service address frame packet row is same carries =
     let there : is_row_of_service service (wire_row plan packet.wire) ≡ nat_eq of.0 service.0 = ap (is_row_of_service service) is ∙ ap (λ (s : ServiceId). nat_eq s.0 service.0) same in
     ap (λ (b : Bool). not (nat_eq packet.origin 0) && (b && is_sourced address (carried plan packet))) there
     ∙ ap (λ (read : Result (List ℕ) DropCause). not (nat_eq packet.origin 0) && (nat_eq of.0 service.0 && is_sourced address read)) carries
-
-none_at_all : (b : Bool) → b && false ≡ false
-none_at_all true = refl
-none_at_all false = refl
 
 -- a packet without such a number teaches nothing
 unnumbered_teaches : (plan : Plan) (service : ServiceId) (address : List ℕ) (me : EdgeId) (origin hops sent : ℕ) (es : List Effect) → origin ≡ 0 → AllByRecursion (Unteaching plan service address) (packets_of me origin hops sent es)
@@ -247,7 +242,7 @@ module _ (plan : Plan) (network : NetworkState) (service : ServiceId) (address :
             (holds_by (CarriesIn plan of frame) (Unteaching plan service address) (packets_of me origin hops sent copied.more)
             (λ packet carries.
             teaches_as plan of service address frame packet carries.row carries.is carries.same carries.carries
-            ∙ (ap (λ (b : Bool). not (nat_eq packet.origin 0) && b) untaught ∙ none_at_all (not (nat_eq packet.origin 0))))
+            ∙ (ap (λ (b : Bool). not (nat_eq packet.origin 0) && b) untaught ∙ and_false (not (nat_eq packet.origin 0))))
             (sent_carry plan network me origin hops sent came of frame arrival copied.more checked ruled sized copied.all));
       }
 
@@ -262,10 +257,6 @@ frame_leaves : (plan : Plan) (network : NetworkState) (service : ServiceId) (add
     → IsChecked plan → IsRuledNetwork plan network → HasNot plan service address row.edge.0 (network.edges row.edge.0) → circuit_row plan circuit ≡ Some row → teaches plan network service address (Frame circuit octets) ≡ false
     → LeavesUnlearned plan service address row.edge origin (frame_work plan network circuit octets row)
 frame_leaves plan network service address origin circuit octets row checked ruled absent is untaught = by (is_own (edge_at network row.edge) row && is_on (edge_at network row.edge) circuit) refl where
-  and_true : (b : Bool) → b && true ≡ b
-  and_true true = refl
-  and_true false = refl
-
   site : is_on (edge_at network row.edge) circuit ≡ true → is_site plan network service circuit ≡ nat_eq row.service.0 service.0
   site on =
       ap (λ (r : Option CircuitPlan). is_row_of service r && is_row_on network circuit r) is
@@ -285,7 +276,7 @@ frame_leaves plan network service address origin circuit octets row checked rule
       → LeavesUnlearned plan service address row.edge origin
       (cond b (received plan taken_all (arrival.Circuit circuit) row.service (port_at plan (edge_at network row.edge) circuit row) (inner_at plan circuit octets) (begin_at network row.edge)) (idles (begin_at network row.edge)))
   by true applies =
-      let on : is_on (edge_at network row.edge) circuit ≡ true = and_right (is_own (edge_at network row.edge) row) (is_on (edge_at network row.edge) circuit) applies in
+      let on : is_on (edge_at network row.edge) circuit ≡ true = second_holds (is_own (edge_at network row.edge) row) (is_on (edge_at network row.edge) circuit) applies in
       leaves_received plan network service address row.edge origin checked ruled absent (arrival.Circuit circuit) row.service (port_at plan (edge_at network row.edge) circuit row) (inner_at plan circuit octets) sized
       (ap (λ (b : Bool). b && is_sourced address (inner_at plan circuit octets)) (sym (site on)) ∙ untaught)
   by false applies = leaves_idle plan network service address row.edge origin checked ruled absent

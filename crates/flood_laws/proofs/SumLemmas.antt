@@ -2,12 +2,11 @@
 use Rattle.std.proofs.Common.{◌≡◌, ◌+◌, ◌*◌, ◌∙◌, ℕ, zero, suc, Bool, true, false, List, [], ◌∷◌, Some, cond, slice_get, refl, ap, sym, subst, nat_eq, zero-add, add-zero, arith, inl, inr}
 use Rattle.std.proofs.lemmas.Bool.{cases_Bool}
 use Rattle.std.proofs.lemmas.Bool.Decides.{nat_tests}
+use Rattle.net_values.proofs.BoolLemmas.{clash_at}
+use Rattle.net_values.proofs.NumberLemmas.{step_into}
 use Rattle.net_base.specs.declared.plan.wire_plan.WirePlan.{WirePlan}
 use Rattle.net_base.specs.plan.Roles.{any_wire, count_wires}
 use Rattle.flood_laws.specs.Due.{sum_wires}
-
-next : (n k : ℕ) → n + suc k ≡ (n + 1) + k
-next n k = omega arith
 
 same_from : (f g : ℕ → WirePlan → ℕ) (place : ℕ) (rows : List WirePlan)
     → ((k : ℕ) (row : WirePlan) → slice_get rows k ≡ Some row → f (place + k) row ≡ g (place + k) row) → sum_wires f place rows ≡ sum_wires g place rows
@@ -16,7 +15,7 @@ same_from f g place (row ∷ rows) same =
     let none : place + 0 ≡ place = add-zero place in
     let here : f place row ≡ g place row = subst (λ n. f n row ≡ g n row) none (same 0 row refl) in
     let rest : sum_wires f (place + 1) rows ≡ sum_wires g (place + 1) rows =
-    same_from f g (place + 1) rows (λ k later is. subst (λ n. f n later ≡ g n later) (next place k) (same (suc k) later is)) in
+    same_from f g (place + 1) rows (λ k later is. subst (λ n. f n later ≡ g n later) (step_into place k) (same (suc k) later is)) in
     omega (arith, here, rest)
 
 -- two sums agree where they agree at each wire
@@ -92,7 +91,7 @@ wire_found test place (row ∷ rows) some = elim (cases_Bool (test place row)) [
   | inl here ↦ record { k = 0; row = row; is = refl; passes = subst (λ n. test n row ≡ true) (sym (add-zero place)) here }
   | inr away ↦
       (let found = wire_found test (place + 1) rows (rw away at some) in
-      record { k = suc found.k; row = found.row; is = found.is; passes = subst (λ n. test n found.row ≡ true) (sym (next place found.k)) found.passes })
+      record { k = suc found.k; row = found.row; is = found.is; passes = subst (λ n. test n found.row ≡ true) (sym (step_into place found.k)) found.passes })
 ]
 
 past_count : (test : ℕ → WirePlan → Bool) (place k : ℕ) (w : WirePlan) (rows : List WirePlan) → count_wires test place rows ≡ 0 → slice_get rows k ≡ Some w → test (place + k) w ≡ false
@@ -105,7 +104,7 @@ past_count test place zero w (row ∷ rows) count is =
     first true n none same = absurd (omega arith)
     first false n none same = sym same
 past_count test place (suc k) w (row ∷ rows) count is =
-    subst (λ n. test n w ≡ false) (sym (next place k)) (past_count test (place + 1) k w rows (rest (test place row) (count_wires test (place + 1) rows) count) is)
+    subst (λ n. test n w ≡ false) (sym (step_into place k)) (past_count test (place + 1) k w rows (rest (test place row) (count_wires test (place + 1) rows) count) is)
   where
     rest : (b : Bool) (n : ℕ) → cond b 1 0 + n ≡ 0 → n ≡ 0
     rest true n none = absurd (omega arith)
@@ -115,7 +114,7 @@ past_count test place (suc k) w (row ∷ rows) count is =
 none_after : (test : ℕ → WirePlan → Bool) (place j : ℕ) (w v : WirePlan) (row : WirePlan) (rows : List WirePlan) → count_wires test place (row ∷ rows) ≡ 1 → row ≡ w → test (place + 0) w ≡ true
     → slice_get rows j ≡ Some v → test (place + suc j) v ≡ false
 none_after test place j w v row rows count same passes is =
-    ap (λ n. test n v) (next place j) ∙ past_count test (place + 1) j v rows (rest (test place row) (count_wires test (place + 1) rows) count here) is
+    ap (λ n. test n v) (step_into place j) ∙ past_count test (place + 1) j v rows (rest (test place row) (count_wires test (place + 1) rows) count here) is
   where
     here : test place row ≡ true
     here = ap (test place) same ∙ (ap (λ n. test n w) (sym (add-zero place)) ∙ passes)
@@ -124,10 +123,6 @@ none_after test place j w v row rows count same passes is =
     rest true n one passes = omega arith
     rest false n one passes = absurd (cc (passes))
 
-clash : {P : Type 0} (b : Bool) → b ≡ true → b ≡ false → P
-clash true passes fails = absurd (cc (fails))
-clash false passes fails = absurd (cc (passes))
-
 -- two wires that pass a test have one place, where one wire passes it
 pub one_of_count : (test : ℕ → WirePlan → Bool) (place i j : ℕ) (w v : WirePlan) (rows : List WirePlan) → count_wires test place rows ≡ 1
     → slice_get rows i ≡ Some w → test (place + i) w ≡ true → slice_get rows j ≡ Some v → test (place + j) v ≡ true → i ≡ j
@@ -135,16 +130,16 @@ one_of_count test place i j w v [] count is passes other also = absurd (cc (is))
 one_of_count test place zero zero w v (row ∷ rows) count is passes other also = refl
 one_of_count test place zero (suc j) w v (row ∷ rows) count is passes other also =
     let same : row ≡ w = cc (is) in
-    clash (test (place + suc j) v) also (none_after test place j w v row rows count same passes other)
+    clash_at (test (place + suc j) v) also (none_after test place j w v row rows count same passes other)
 one_of_count test place (suc i) zero w v (row ∷ rows) count is passes other also =
     let same : row ≡ v = cc (other) in
-    clash (test (place + suc i) w) passes (none_after test place i v w row rows count same also is)
+    clash_at (test (place + suc i) w) passes (none_after test place i v w row rows count same also is)
 one_of_count test place (suc i) (suc j) w v (row ∷ rows) count is passes other also =
-    later (test place row) count refl (λ one. one_of_count test (place + 1) i j w v rows one is (ap (λ n. test n w) (sym (next place i)) ∙ passes) other (ap (λ n. test n v) (sym (next place j)) ∙ also))
+    later (test place row) count refl (λ one. one_of_count test (place + 1) i j w v rows one is (ap (λ n. test n w) (sym (step_into place i)) ∙ passes) other (ap (λ n. test n v) (sym (step_into place j)) ∙ also))
   where
     keeps : (n : ℕ) → 0 + n ≡ 1 → n ≡ 1
     keeps n one = omega arith
 
     later : (b : Bool) → cond b 1 0 + count_wires test (place + 1) rows ≡ 1 → test place row ≡ b → (count_wires test (place + 1) rows ≡ 1 → i ≡ j) → suc i ≡ suc j
-    later true one here same = clash (test (place + suc i) w) passes (none_after test place i row w row rows count refl (ap (λ n. test n row) (add-zero place) ∙ here) is)
+    later true one here same = clash_at (test (place + suc i) w) passes (none_after test place i row w row rows count refl (ap (λ n. test n row) (add-zero place) ∙ here) is)
     later false one here same = ap suc (same (keeps _ one))

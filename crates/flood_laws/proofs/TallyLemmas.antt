@@ -1,6 +1,7 @@
 -- Counts over the ports of a service at an edge: the one of a circuit counts once, and the ones of wires count as their rows do.
 use Rattle.std.proofs.Common.{◌≡◌, ◌<◌, ◌+◌, ◌++◌, ◌∙◌, ℕ, zero, suc, Bool, true, false, List, [], ◌∷◌, Option, Some, None, cond, slice_get, nat_eq, refl, ap, sym, arith}
 use Rattle.std.proofs.lemmas.Bool.{ne_eqb}
+use Rattle.net_values.proofs.NumberLemmas.{add_zero, step_into, from_none_back}
 use Rattle.net_base.specs.declared.plan.circuit_plan.CircuitPlan.{CircuitPlan}
 use Rattle.net_base.specs.declared.plan.wire_plan.WirePlan.{WirePlan}
 use Rattle.net_base.specs.declared.plan.places.EdgeId.{EdgeId}
@@ -80,18 +81,10 @@ module _ (f g : ℕ → WirePlan → ℕ) (all : List WirePlan) (each : (place :
   same_from : (k : ℕ) (rows : List WirePlan) → ((j : ℕ) → slice_get rows j ≡ slice_get all (k + j)) → sum_wires f k rows ≡ sum_wires g k rows
   same_from k [] same = refl
   same_from k (row ∷ rows) same =
-      let here : f k row ≡ g k row = each k row (ap (slice_get all) (none_more k) ∙ sym (same 0)) in
-      let later : sum_wires f (k + 1) rows ≡ sum_wires g (k + 1) rows = same_from (k + 1) rows (λ j. same (suc j) ∙ ap (slice_get all) (one_more k j)) in
+      let here : f k row ≡ g k row = each k row (ap (slice_get all) (add_zero k) ∙ sym (same 0)) in
+      let later : sum_wires f (k + 1) rows ≡ sum_wires g (k + 1) rows = same_from (k + 1) rows (λ j. same (suc j) ∙ ap (slice_get all) (step_into k j)) in
       omega (arith, here, later)
-    where
-      none_more : (k : ℕ) → k ≡ k + 0
-      none_more k = omega arith
-
-      one_more : (k j : ℕ) → k + suc j ≡ (k + 1) + j
-      one_more k j = omega arith
 
   -- the two sums over the rows are one
   pub same_sums : sum_wires f 0 all ≡ sum_wires g 0 all
-  same_sums = same_from 0 all (λ j. ap (slice_get all) (from_none j)) where
-    from_none : (j : ℕ) → j ≡ 0 + j
-    from_none j = omega arith
+  same_sums = same_from 0 all (λ j. ap (slice_get all) (from_none_back j))

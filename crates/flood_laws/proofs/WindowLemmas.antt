@@ -1,8 +1,9 @@
 -- The events of a window, one after another: what is due by the copies under way is served.
 use Rattle.std.proofs.Common.{◌≡◌, ◌≤◌, ◌+◌, ◌++◌, ◌⊎◌, ℕ, Bool, true, false, List, [], ◌∷◌, Option, Some, None, not, refl, inl, inr, arith, nat_eq}
-use Rattle.std.proofs.lemmas.Bool.{cases_Bool}
+use Rattle.std.proofs.lemmas.Bool.{cases_Bool, not-true}
 use Rattle.std.proofs.lemmas.List.Elements.{All-head, All-tail}
 use Rattle.std.specs.List.{All, AllByRecursion, list_any}
+use Rattle.net_values.proofs.BoolLemmas.{first_holds, second_holds, second_fails, first_fails}
 use Rattle.net_base.specs.declared.plan.Plan.{Plan}
 use Rattle.net_base.specs.declared.plan.places.CircuitId.{CircuitId}
 use Rattle.net_base.specs.declared.plan.places.ServiceId.{ServiceId}
@@ -14,7 +15,6 @@ use Rattle.net_base.specs.plan.Places.{mtu_of}
 use Rattle.net_base.specs.plan.Planned.{IsEventOf}
 use Rattle.net_base.specs.plan.Roles.{are_joined_by}
 use Rattle.net_base.specs.trace.Frame.{destination_of, goes_to_group}
-use Rattle.edge_model.proofs.LocalLemmas.{and_left, and_right, is_not}
 use Rattle.network_model.specs.declared.packet.Packet.{Packet}
 use Rattle.network_model.specs.Absorb.{Stepped}
 use Rattle.network_model.specs.Calm.{is_calm}
@@ -23,7 +23,6 @@ use Rattle.network_model.specs.State.{NetworkState}
 use Rattle.network_model.specs.Step.{step}
 use Rattle.network_model.specs.Window.{all_spare, is_copy, some_teach, spares, teaches}
 use Rattle.network_model.proofs.AbsorbLemmas.{of_origin}
-use Rattle.network_model.proofs.CalmLemmas.{none_first, none_later}
 use Rattle.network_model.proofs.OtherLemmas.{along, is_of, moves_copy, step_apart, step_counts, same_number}
 use Rattle.flight_laws.specs.Ends.{HasTypes, IsOrdered}
 use Rattle.flight_laws.specs.Laws.{AreSettled}
@@ -73,8 +72,8 @@ step_unknown plan network trace origin service frame event events checked reache
     let here : Bool = teaches plan network service (destination_of frame) event in
     let later : Bool = some_teach plan (step plan network event).state service (destination_of frame) events in
     inr (
-      step_unlearned plan network trace origin service (destination_of frame) event checked reached.ruled reached.rule spared (none_first here later unlearned.1) unlearned.0,
-      none_later here later unlearned.1,
+      step_unlearned plan network trace origin service (destination_of frame) event checked reached.ruled reached.rule spared (first_fails here later unlearned.1) unlearned.0,
+      second_fails here later unlearned.1,
     )
 
 -- ---- one event
@@ -115,7 +114,7 @@ module _ (plan : Plan) (calm : NetworkState) (service : ServiceId) (frame : List
   unlearned_now network events (inr unlearned) = inr unlearned.0
 
   unmoved : (network : NetworkState) (number : ℕ) → not (list_any (is_copy origin number) network.under_way) ≡ true → is_of origin (packet_at network number) ≡ false
-  unmoved network number spared = not_named origin number network.under_way (is_not (list_any (is_copy origin number) network.under_way) spared)
+  unmoved network number spared = not_named origin number network.under_way (not-true (list_any (is_copy origin number) network.under_way) spared)
 
   step_serves : (network : NetworkState) (trace : List Entry) (event : Event) (events : List Event) → IsReached plan network trace → IsAfter plan calm service frame origin network
       → StaysUnknown plan service frame network (event ∷ events) → spares network origin event ≡ true → Serves plan calm service frame origin (owes network) (step plan network event)
@@ -138,7 +137,7 @@ module _ (plan : Plan) (calm : NetworkState) (service : ServiceId) (frame : List
   window_serves network trace [] types planned reached after unknown spared = serves_none plan calm service frame origin network after.copies
   window_serves network trace (e ∷ es) types planned reached after unknown spared =
       let first : Stepped = step plan network e in
-      let here : spares network origin e ≡ true = and_left (spares network origin e) (all_spare plan origin first.state es) spared in
+      let here : spares network origin e ≡ true = first_holds (spares network origin e) (all_spare plan origin first.state es) spared in
       let serves : Serves plan calm service frame origin (owes network) first = step_serves network trace e es reached after unknown here in
       let next : IsAfter plan calm service frame origin first.state = record {
         still = step_still plan calm network trace origin e checked reached.ruled reached.rule here after.still;
@@ -150,4 +149,4 @@ module _ (plan : Plan) (calm : NetworkState) (service : ServiceId) (frame : List
       (window_serves first.state (trace ++ first.entries) es types (All-tail (IsEventOf plan) e es planned)
       (step_reached plan network trace e checked types (All-head (IsEventOf plan) e es planned) reached) next
       (step_unknown plan network trace origin service frame e es checked reached here unknown)
-      (and_right (spares network origin e) (all_spare plan origin first.state es) spared))
+      (second_holds (spares network origin e) (all_spare plan origin first.state es) spared))

@@ -1,6 +1,8 @@
 -- The two edges of a wire: which one an edge is, which one starts a spoke, and the other edge of a mesh wire.
-use Rattle.std.proofs.Common.{◌≡◌, ◌⊎◌, ◌&&◌, ◌||◌, ◌∙◌, ℕ, Bool, true, false, Some, nat_eq, slice_get, refl, sym, subst, inl, inr}
-use Rattle.std.proofs.lemmas.Bool.{cases_Bool, eq-eqb, eqb-true}
+use Rattle.std.proofs.Common.{◌≡◌, ◌⊎◌, ◌&&◌, ◌||◌, ℕ, true, false, Some, nat_eq, slice_get, refl, sym, subst, inl, inr}
+use Rattle.std.proofs.lemmas.Bool.{cases_Bool, eq-eqb, eqb-true, and_from}
+use Rattle.std.proofs.lemmas.Map.Keys.{any_passes_from_place}
+use Rattle.net_values.proofs.BoolLemmas.{first_holds, second_holds, clash_at}
 use Rattle.net_base.specs.declared.plan.Plan.{Plan}
 use Rattle.net_base.specs.declared.plan.wire_plan.WirePlan.{WirePlan}
 use Rattle.net_base.specs.declared.plan.places.ServiceId.{ServiceId}
@@ -8,21 +10,10 @@ use Rattle.net_base.specs.plan.Accepted.{IsChecked}
 use Rattle.net_base.specs.plan.Paths.{is_first, is_last}
 use Rattle.net_base.specs.plan.Places.{is_mesh_class}
 use Rattle.net_base.specs.plan.Roles.{is_spoke_edge, is_spoke_from, is_wire_of, wire_ends_at}
-use Rattle.edge_model.proofs.LocalLemmas.{and_left, and_right}
 use Rattle.network_model.specs.Reach.{far_of}
-use Rattle.network_model.proofs.CalmLemmas.{any_at}
 use Rattle.flood_laws.proofs.LawLemmas.{sides}
 use Rattle.flood_laws.proofs.LinkLemmas.{IsLink, link_at}
 use Rattle.flood_laws.proofs.MeshLemmas.{far_core, mesh_near}
-
--- no test passes and fails
-pub never : {P : Type 0} (b : Bool) → b ≡ true → b ≡ false → P
-never b passes fails =
-    let wrong : true ≡ false = sym passes ∙ fails in
-    absurd (cc (wrong))
-
-pub both : (a b : Bool) → a ≡ true → b ≡ true → a && b ≡ true
-both a b one other = rw (one, other) refl
 
 -- ---- which of them an edge is
 
@@ -41,7 +32,7 @@ sides_far plan service w link me peer ends far = elim (sides plan service w me p
 -- an edge where a wire ends is one of them
 pub sides_ended : (plan : Plan) (service : ServiceId) (w : WirePlan) (link : IsLink plan w) (me : ℕ) → wire_ends_at service me w ≡ true
     → (me ≡ link.near.0) ⊎ (me ≡ link.far.0)
-sides_ended plan service w link me ends = by link.near.0 link.far.0 (and_right _ _ (rw (link.path, link.last me) at ends)) where
+sides_ended plan service w link me ends = by link.near.0 link.far.0 (second_holds _ _ (rw (link.path, link.last me) at ends)) where
   by : (a b : ℕ) → nat_eq me a || nat_eq me b ≡ true → (me ≡ a) ⊎ (me ≡ b)
   by a b is = elim (cases_Bool (nat_eq me a)) [
     | inl near ↦ inl (eqb-true me a near)
@@ -58,7 +49,7 @@ starts_spoke plan service w link ours spoke = rw (ours, spoke, link.path, eq-eqb
 -- its edges differ
 pub far_apart : (plan : Plan) (w : WirePlan) (link : IsLink plan w) → nat_eq link.far.0 link.near.0 ≡ false
 far_apart plan w link = elim (cases_Bool (nat_eq link.far.0 link.near.0)) [
-  | inl same ↦ never (nat_eq link.near.0 link.far.0) (eq-eqb link.near.0 link.far.0 (sym (eqb-true link.far.0 link.near.0 same))) link.apart
+  | inl same ↦ clash_at (nat_eq link.near.0 link.far.0) (eq-eqb link.near.0 link.far.0 (sym (eqb-true link.far.0 link.near.0 same))) link.apart
   | inr away ↦ away
 ]
 
@@ -73,7 +64,7 @@ far_of_far plan w link = rw (link.path, far_apart plan w link) refl
 pub near_spoke : (plan : Plan) (service : ServiceId) (k : ℕ) (w : WirePlan) (link : IsLink plan w) → slice_get plan.wires k ≡ Some w → is_wire_of service w ≡ true
     → is_mesh_class w.class ≡ false
     → is_spoke_edge plan service link.near.0 ≡ true
-near_spoke plan service k w link is ours spoke = any_at (is_spoke_from service link.near.0) plan.wires k w is (starts_spoke plan service w link ours spoke)
+near_spoke plan service k w link is ours spoke = any_passes_from_place (is_spoke_from service link.near.0) plan.wires k w is (starts_spoke plan service w link ours spoke)
 
 -- the other edge of a mesh wire, which starts no spoke
 pub record HasMeshPeer (plan : Plan) (service : ServiceId) (v : WirePlan) (me : ℕ) : Type 0 where
@@ -106,7 +97,7 @@ mesh_peer plan service j v me checked is mesh ends = elim (sides_ended plan serv
     link = link_at plan j v checked is
 
     ours : is_wire_of service v ≡ true
-    ours = and_left (is_wire_of service v) (is_first me v.path || is_last me v.path) ends
+    ours = first_holds (is_wire_of service v) (is_first me v.path || is_last me v.path) ends
 
     mesh_ours : is_wire_of service v && is_mesh_class v.class ≡ true
-    mesh_ours = both (is_wire_of service v) (is_mesh_class v.class) ours mesh
+    mesh_ours = and_from (is_wire_of service v) (is_mesh_class v.class) ours mesh

@@ -8,7 +8,6 @@ use Rattle.net_base.specs.declared.plan.places.EdgeId.{EdgeId}
 use Rattle.net_base.specs.declared.plan.places.ServiceId.{ServiceId}
 use Rattle.net_base.specs.declared.plan.places.WireId.{WireId}
 use Rattle.net_base.specs.declared.trace.arrival.Arrival.{Arrival}
-use Rattle.net_base.specs.declared.trace.down.Down.{Down}
 use Rattle.net_base.specs.plan.Paths.{joins, offer_of}
 use Rattle.net_base.specs.plan.Places.{wire_row}
 use Rattle.pw_signalling.specs.declared.binding.Binding.{Binding}
@@ -17,34 +16,31 @@ use Rattle.pw_signalling.proofs.LawLemmas.{forwards_where_both_agree}
 use Rattle.edge_model.specs.declared.effect.Effect.{Effect}
 use Rattle.edge_model.specs.declared.effect.Effect.TheVariants as effect
 use Rattle.edge_model.specs.declared.end_place.EndPlace.{EndPlace}
-use Rattle.edge_model.specs.Ends.{forwards_at, is_up, wire_end}
+use Rattle.edge_model.specs.Ends.{forwards_at, wire_end}
 use Rattle.edge_model.specs.Role.{down_at, role_at}
 use Rattle.edge_model.specs.Send.{packet_of, sends_copy, sends_under}
 use Rattle.edge_model.specs.State.{EdgeState, end_at}
 use Rattle.edge_model.specs.Work.{Work, gives, posts}
-use Rattle.edge_model.proofs.CopyLemmas.{found_end}
+use Rattle.edge_model.proofs.CopyLemmas.{found_end, up_is_none}
 use Rattle.edge_model.proofs.PlaceLemmas.{IsEndOf}
 use Rattle.network_model.specs.Absorb.{taken_all}
 use Rattle.network_model.specs.Reach.{far_of}
 use Rattle.network_model.specs.State.{NetworkState}
-use Rattle.packet_laws.proofs.SendLemmas.{same_row, wire_end_is}
 use Rattle.flood_laws.specs.Due.{awaits, due_towards}
 use Rattle.flood_laws.specs.Copy.{heading_on}
 use Rattle.network_model.specs.Goal.{goal}
 use Rattle.flood_laws.proofs.HopLemmas.{sent_far}
-use Rattle.packet_laws.proofs.PackLemmas.{wire_checked}
 use Rattle.net_base.specs.plan.Accepted.{IsChecked}
 use Rattle.net_base.specs.plan.Paths.{is_first, is_last}
 use Rattle.edge_model.specs.EndPlaces.{is_terminal}
+use Rattle.edge_model.proofs.PacketLemmas.{wire_end_is}
 use Rattle.flood_laws.proofs.CountLemmas.{sent_awaits, meets, meets-append}
+use Rattle.flight_laws.proofs.PlaceLemmas.{same_row}
+use Rattle.flight_laws.proofs.RuledMendLemmas.{wire_fits}
 
 -- ---- a path of two edges
 
 -- ---- what an end sends
-
-up_is_none : (down : Option Down) → is_up down ≡ true → down ≡ None
-up_is_none None up = refl
-up_is_none (Some why) up = absurd (cc (up))
 
 -- one where a copy that the end sends has still to serve the circuit
 abbrev pub end_serves : Plan → NetworkState → ServiceId → CircuitId → EdgeId → Option EndPlace → ℕ
@@ -65,7 +61,7 @@ end_is_due plan calm service circuit edge wire row checked is up = by (wire_end 
       let rows : end.row ≡ row = same_row end.row row (sym end.is ∙ (ap (wire_row plan) of_wire ∙ is)) in
       let joined : joins edge.me.0 place.peer.0 row.path ≡ true = ap (λ (r : WirePlan). joins edge.me.0 place.peer.0 r.path) (sym rows) ∙ end.joined in
       let ended : is_first edge.me.0 row.path || is_last edge.me.0 row.path ≡ true = ap (λ (r : WirePlan). is_terminal r edge.me) (sym rows) ∙ (sym end.terminal ∙ (found_end plan edge.me wire place found).terminal) in
-      let far : far_of edge.me.0 row.path ≡ Some (goal row.path edge.me place.peer).0 = sent_far row.path edge.me place.peer (wire_checked plan wire row checked is).once joined ended in
+      let far : far_of edge.me.0 row.path ≡ Some (goal row.path edge.me place.peer).0 = sent_far row.path edge.me place.peer (wire_fits plan wire row checked is).once joined ended in
       ap (λ (w : WireId). cond {A = ℕ} (sent_awaits plan calm service circuit edge.me place.peer w) 1 0) of_wire
       ∙ (ap (λ (o : Option WirePlan). cond {A = ℕ} (awaits plan calm service circuit (heading_on o edge.me place.peer) wire) 1 0) is
       ∙ ap (due_towards plan calm service circuit wire.0) (sym far))

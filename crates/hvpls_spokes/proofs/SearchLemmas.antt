@@ -7,12 +7,10 @@ use Rattle.std.proofs.lemmas.Bool.Decides.{nat_tests}
 use Rattle.std.proofs.lemmas.List.Elements.{All-append, All-head, All-tail}
 use Rattle.std.proofs.lemmas.List.Kept.{AllPairs-cons}
 use Rattle.std.proofs.lemmas.Option.{slice_get-get_or, slice_get_past}
+use Rattle.net_values.proofs.NumberLemmas.{not_below_itself, zero_below}
 use Rattle.hvpls_spokes.specs.Search.{kept_if, place_if}
 
 -- ---- the first place at which a test passes
-
-not_below : (n : ℕ) → nat_lt n n ≡ false
-not_below n = grind (arith, nat_tests)
 
 module _ {X : Type 0} (test : X → Bool) where
   number_is : (xs : List X) (k : ℕ) (d : X) → k < length xs → test (get_or xs k d) ≡ true → ((i : ℕ) → i < k → test (get_or xs i d) ≡ false) → position_or_len test xs ≡ k
@@ -34,7 +32,7 @@ module _ {X : Type 0} (test : X → Bool) where
   position_is xs k d within here before = rw (number_is xs k d within here before, lt-ltb k (length xs) within) refl
 
   position_none : (xs : List X) (d : X) → ((i : ℕ) → i < length xs → test (get_or xs i d) ≡ false) → position test xs ≡ None
-  position_none xs d none = rw (number_none xs d none, not_below (length xs)) refl
+  position_none xs d none = rw (number_none xs d none, not_below_itself (length xs)) refl
 
   pub find_is : (xs : List X) (k : ℕ) (d : X) → k < length xs → test (get_or xs k d) ≡ true → ((i : ℕ) → i < k → test (get_or xs i d) ≡ false) → find test xs ≡ Some (get_or xs k d)
   find_is [] k d within here before = absurd (omega (arith, within))
@@ -90,11 +88,8 @@ module _ {X : Type 0} (test : X → Bool) where
       later : (n m : ℕ) → nat_lt (1 + n) (suc m) ≡ nat_lt n m
       later n m = grind (arith, nat_tests)
 
-      some : (m : ℕ) → nat_lt 0 (suc m) ≡ true
-      some m = grind (arith, nat_tests)
-
       by : (b : Bool) → nat_lt (position_or_len test xs) (length xs) ≡ list_any test xs → nat_lt (cond (not b) (1 + position_or_len test xs) 0) (suc (length xs)) ≡ (b || list_any test xs)
-      by true rest = some (length xs)
+      by true rest = zero_below (length xs)
       by false rest = later (position_or_len test xs) (length xs) ∙ rest
 
   -- there is a first place exactly where some element passes

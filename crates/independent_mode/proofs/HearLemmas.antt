@@ -29,6 +29,7 @@ use Rattle.independent_mode.specs.Heard.{HearsTo}
 use Rattle.independent_model.specs.State.{ConnectionState, Stopped, Receiver, IndepState, Receiving, Broken, receiver_set, with_connection, with_receiver, with_remote, without_remotes}
 use Rattle.independent_model.specs.Wires.{is_between, is_row_between}
 use Rattle.independent_model.specs.Work.{Comes, Goes, NeverRefused, Outcome, Stops, and_then}
+use Rattle.independent_model.proofs.CommonLemmas.{then_same}
 
 -- ---- messages in order
 
@@ -47,11 +48,6 @@ messages_end plan told me peer (x ∷ messages) zero edge calls past = absurd (o
 messages_end plan told me peer (x ∷ messages) (suc place) edge calls past = messages_end plan told me peer messages place edge calls (omega (arith, past))
 
 -- ---- octets
-
--- what follows may be told once it goes on
-then_same : (o : Outcome) (f g : IndepState → List LinkCall → Outcome) → ((e : IndepState) (c : List LinkCall) → f e c ≡ g e c) → and_then o f ≡ and_then o g
-then_same (Goes edge calls) f g same = same edge calls
-then_same (Stops why edge calls) f g same = refl
 
 module _ (plan : Plan) (told : Answers) (me : ℕ) (peer : EdgeId) where
   few_at : (n base : ℕ) (held : List ℕ) (front : Front) (edge : IndepState) (calls : List LinkCall) → front_of 4096 held ≡ front

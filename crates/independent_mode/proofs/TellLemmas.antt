@@ -1,6 +1,7 @@
 -- An edge tells what it calls its wires.
-use Rattle.std.proofs.Common.{◌≡◌, ◌<◌, ◌≤◌, ◌+◌, ◌-◌, ◌==◌, ◌++◌, ◌∙◌, ℕ, zero, suc, Bool, true, false, List, [], ◌∷◌, Option, Some, None, length, slice_get, slice_index_or, option_map, if◌then◌else◌, refl, ap, sym, subst, arith}
+use Rattle.std.proofs.Common.{◌≡◌, ◌<◌, ◌≤◌, ◌+◌, ◌-◌, ◌==◌, ◌++◌, ◌∙◌, ℕ, zero, suc, Bool, true, false, List, [], ◌∷◌, Option, Some, None, length, slice_get, option_map, if◌then◌else◌, refl, ap, sym, subst, arith}
 use Rattle.std.proofs.lemmas.Bool.Decides.{nat_tests}
+use Rattle.net_values.proofs.RowLemmas.{last_of}
 use Rattle.net_base.specs.declared.outside.link_call.LinkCall.{LinkCall}
 use Rattle.net_base.specs.declared.plan.Plan.{Plan}
 use Rattle.net_base.specs.declared.plan.places.EdgeId.{EdgeId}
@@ -25,10 +26,6 @@ goes_both a b c one two = record { longer = omega (arith, one.longer, two.longer
 
 pub agrees_before : (told : Answers) (old new : List LinkCall) → GoesOn old new → Agrees told new → Agrees told old
 agrees_before told old new goes agrees = record { each = λ k d within. ap (λ (c : LinkCall). c.taken) (sym (goes.same k d within)) ∙ agrees.each k d (omega (arith, within, goes.longer)) }
-
-last_of : {X : Type 0} (xs : List X) (x d : X) → slice_index_or (xs ++ x ∷ []) (length xs) d ≡ x
-last_of [] x d = refl
-last_of (y ∷ xs) x d = last_of xs x d
 
 -- what was told of the call that came last
 pub told_last : (told : Answers) (calls new : List LinkCall) (call : LinkCall) → new ≡ calls ++ call ∷ [] → Agrees told new → told (length calls) ≡ call.taken

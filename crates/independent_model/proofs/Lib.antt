@@ -1,3 +1,4 @@
+pub mod CommonLemmas
 pub mod ParsedLemmas
 pub mod StopLemmas
 pub mod WireLemmas

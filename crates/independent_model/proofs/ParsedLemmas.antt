@@ -16,6 +16,7 @@ use Rattle.ldp_stream.specs.Parsed.{Pending, Refused, IsParsedFrom}
 use Rattle.ldp_stream.specs.State.{place_behind}
 use Rattle.ldp_stream.proofs.FrontOfLemmas.{front_is_read}
 use Rattle.ldp_stream.proofs.ParsedLemmas.{one_parsing}
+use Rattle.ldp_stream.proofs.StreamLemmas.{within_places}
 use Rattle.pw_messages.specs.Content.{pw_status_code}
 use Rattle.pw_messages.specs.LinkAnswers.{Answers}
 use Rattle.status_exchange.specs.Wish.{is_told}
@@ -112,10 +113,6 @@ module _ (plan : Plan) (told : Answers) (me : ℕ) (peer : EdgeId) where
   then_parses base octets (Stops (stop.Refused answer) e c) f none more = absurd none
   then_parses base octets (Stops stop.NoMemory e c) f none more = none
 
-  counted : (base n : ℕ) → base + n < 2 ^ 64 → place_behind base n ≡ base + n
-  unfolding place_behind
-  counted base n less = omega (arith, less)
-
   few_parse : (n base : ℕ) (octets : List ℕ) (e : IndepState) (c : List LinkCall) → AreOctets octets → length octets < n → base + length octets < 2 ^ 64 → ParsesAs base octets (hears_few plan told me peer n base octets e c)
   few_parse zero base octets e c are few places = absurd (omega (arith, few))
   few_parse (suc n) base octets e c are few places = by (front_of 4096 octets) refl (λ b r e c a l p. few_parse n b r e c a l p)
@@ -135,7 +132,7 @@ module _ (plan : Plan) (told : Answers) (me : ℕ) (peer : EdgeId) where
           let front : HasFront 4096 octets pdu rest = subst (StandsInFront 4096 octets) is (front_is_read.stands 4096 octets are (omega arith)) in
           let less : length rest < length octets = front_is_read.shorter 4096 octets rest pdu are (omega arith) is in
           let behind : AreOctets rest = front_is_read.behind 4096 octets rest pdu are (omega arith) is in
-          let place : place_behind base (length octets - length rest) ≡ base + (length octets - length rest) = counted base (length octets - length rest) (omega (arith, places, less)) in
+          let place : place_behind base (length octets - length rest) ≡ base + (length octets - length rest) = within_places base (length octets - length rest) (omega (arith, places, less)) in
           let at = place_behind base (length octets - length rest) in
           then_parses base octets (hears_messages plan told me peer pdu.messages e c) (λ e c. hears_few plan told me peer n at rest e c) (messages_none pdu.messages e c)
           (λ e c. pdu_first base at octets rest pdu (hears_few plan told me peer n at rest e c) front place (again at rest e c behind (omega (arith, less, few)) (omega (arith, places, less, place))))

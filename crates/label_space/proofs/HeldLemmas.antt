@@ -1,10 +1,13 @@
 -- What always holds of a label space, before and after the calls.
-use Rattle.std.proofs.Common.{◌≡◌, ◌≢◌, ◌<◌, ◌≤◌, ◌+◌, ◌∙◌, ◌==◌, ℕ, false, not, List, [], ◌∷◌, Option, Some, None, length, drop, get_or, zero, suc, refl, ap, sym, subst, inl, inr, arith}
+use Rattle.std.proofs.Common.{◌≡◌, ◌≢◌, ◌<◌, ◌≤◌, ◌+◌, ◌∙◌, ◌==◌, ℕ, false, not, List, [], ◌∷◌, Option, Some, None, length, drop, get_or, refl, ap, sym, subst, inl, inr, arith}
 use Rattle.std.specs.Prelude.{IfSome, filter, option_map}
 use Rattle.std.specs.List.{find}
-use Rattle.std.proofs.lemmas.Bool.{cases_Bool}
+use Rattle.std.proofs.lemmas.Bool.{cases_Bool, eqb-true}
 use Rattle.std.proofs.lemmas.Bool.Decides.{nat_tests}
 use Rattle.std.proofs.lemmas.List.Elements.{All-head, All-tail}
+use Rattle.net_values.proofs.NumberLemmas.{same_number, below_apart}
+use Rattle.net_values.proofs.OptionLemmas.{something}
+use Rattle.net_values.proofs.RowLemmas.{drop_next}
 use Rattle.net_base.specs.declared.plan.places.EdgeId.{EdgeId}
 use Rattle.net_base.specs.declared.plan.places.SegKey.{SegKey}
 use Rattle.label_space.specs.declared.kept.Kept.{Kept}
@@ -14,13 +17,7 @@ use Rattle.label_space.specs.Kept.{kept_at, keeps, met, put_by, ticked, without,
 use Rattle.label_space.specs.Labels.{LabelNumbers, AreBelow, AreDistinctLabels, AreLeft, AreUnkept, IsHeldSpace, freed, freed_of, given_to, issued, keeps_each, number_to_give, numbers_end, owned_label, owner_of, owns, with_number_taken}
 use Rattle.label_space.proofs.KeptLemmas.{kept_without}
 use Rattle.label_space.proofs.LabelLemmas.{apart_owners, below_filtered, below_later, below_none, below_put, distinct_filtered, distinct_put, left_at, left_each, left_filtered, left_kept, left_later, left_met, left_none, left_owned, left_ticked, left_without, owner_of-find, owner_of-freed, owner_of-kept, owner_of-put, unkept_more, unkept_owned, without_next}
-use Rattle.label_space.proofs.OrderLemmas.{below_apart, is_same, long_filtered, long_put, rising_filtered, rising_put, same}
-
-something : {X : Type 0} (x : X) → Some x ≡ None → ⊥
-something x is = cc
-
-some_is : {X : Type 0} (a b : X) → Some a ≡ Some b → a ≡ b
-some_is a b is = cc
+use Rattle.label_space.proofs.OrderLemmas.{long_filtered, long_put, rising_filtered, rising_put}
 
 -- what is found owns the label
 pub found_owns : (label : ℕ) (owners : List Owner) (owner : Owner) → find (owns label) owners ≡ Some owner → owner_of label owners ≢ None
@@ -29,7 +26,7 @@ found_owns label owners owner found none = something (owner.key, owner.side) (sy
 pub found_below : (label number : ℕ) (owners : List Owner) (owner : Owner) → AreBelow number owners → find (owns label) owners ≡ Some owner → label < number
 found_below label number [] owner below found = absurd (something owner (sym found))
 found_below label number (o ∷ os) owner below found = elim (cases_Bool (owns label o)) [
-  | inl here ↦ subst (λ (l : ℕ). l < number) (is_same o.label label here) (All-head (λ x. x.label < number) o os below)
+  | inl here ↦ subst (λ (l : ℕ). l < number) (eqb-true o.label label here) (All-head (λ x. x.label < number) o os below)
   | inr other ↦ found_below label number os owner (All-tail (λ x. x.label < number) o os below) (rw other at found)
 ]
 
@@ -49,7 +46,7 @@ held_owned owner next room reserved now xs ys kept held more none unkept below i
 })
 
 pub owner_put : (owner : Owner) (xs ys : List Owner) → owner_of owner.label xs ≡ None → ys ≡ put_by owned_label owner xs → owner_of owner.label ys ≡ Some (owner.key, owner.side)
-owner_put owner xs ys none is = ap (owner_of owner.label) is ∙ owner_of-put owner xs none owner.label ∙ rw (same owner.label) refl
+owner_put owner xs ys none is = ap (owner_of owner.label) is ∙ owner_of-put owner xs none owner.label ∙ rw (same_number owner.label) refl
 
 -- ---- a number is taken
 
@@ -62,7 +59,7 @@ taken_unowned next room reserved owners kept None held free = free
 taken_unowned next room reserved owners kept (Some label) held free = (taken_owner next room reserved owners kept label held free).1
 
 pub taken_unkept : (label : ℕ) (kept : List Kept) → kept_at label (without label kept) ≡ None
-taken_unkept label kept = kept_without label label kept ∙ rw (same label) refl
+taken_unkept label kept = kept_without label label kept ∙ rw (same_number label) refl
 
 pub taken_out : (kept now : List Kept) (r : Option ℕ) → now ≡ without_one r kept → IfSome r (λ label. kept_at label kept ≡ Some Free) → IfSome r (λ label. kept_at label now ≡ None)
 taken_out kept now None is free = free
@@ -74,7 +71,7 @@ pub taken_next : (space : LabelNumbers) (label : ℕ) → space.next < numbers_e
 taken_next space label less is left =
     rw (is, below_apart space.next numbers_end less, without_next space.next space.owners space.kept left) refl
 
-not_last : (next : ℕ) → next ≤ numbers_end → (next == numbers_end) ≡ false → next < numbers_end
+pub not_last : (next : ℕ) → next ≤ numbers_end → (next == numbers_end) ≡ false → next < numbers_end
 not_last next within other = grind (arith, nat_tests)
 
 pub held_next : (next room reserved : ℕ) (owners : List Owner) (kept : List Kept) → IsHeldSpace next room reserved owners kept → next < numbers_end → IsHeldSpace (next + 1) room reserved owners kept
@@ -170,13 +167,6 @@ pub freed_by : (label : ℕ) (space : LabelNumbers) (r : Option Owner) → find 
 freed_by label space r is = ap (λ (o : Option Owner). freed_of label o space) is
 
 -- ---- all are kept, one after another
-
-drop_next : {X : Type 0} (xs : List X) (i : ℕ) (x : X) → i < length xs → x ≡ get_or xs i x → drop i xs ≡ x ∷ drop (i + 1) xs
-drop_next xs i x within is = let next : i + 1 ≡ suc i = omega arith in rw next (by xs i x within is) where
-  by : {X : Type 0} (xs : List X) (i : ℕ) (x : X) → i < length xs → x ≡ get_or xs i x → drop i xs ≡ x ∷ drop (suc i) xs
-  by [] i x within is = absurd (omega (arith, within))
-  by {X = X} (y ∷ ys) zero x within is = ap (λ (z : X). z ∷ ys) (sym is)
-  by (y ∷ ys) (suc i) x within is = by ys i x (omega (arith, within)) is
 
 pub each_step : (owners : List Owner) (i : ℕ) (o : Owner) (start kept more : List Kept) → i < length owners → o ≡ get_or owners i o
     → (keeps_each (drop i owners) kept ≡ keeps_each owners start) × AreDistinctLabels (drop i owners) × AreUnkept kept (drop i owners) → more ≡ keeps o.label o.peer kept

@@ -2,20 +2,15 @@
 use Rattle.std.proofs.Common.{◌≡◌, ◌<◌, ◌+◌, ◌∙◌, ◌==◌, ℕ, suc, Bool, true, false, List, [], ◌∷◌, Option, Some, None, length, cond, map, refl, ap, sym, subst, inl, inr, arith}
 use Rattle.std.specs.Prelude.{option_map, nat_lt}
 use Rattle.std.specs.List.{AllByRecursion}
-use Rattle.std.proofs.lemmas.Bool.{cases_Bool}
-use Rattle.std.proofs.lemmas.Bool.Decides.{nat_tests}
+use Rattle.std.proofs.lemmas.Bool.{cases_Bool, eqb-true}
+use Rattle.std.proofs.lemmas.Option.{same_Some}
+use Rattle.net_values.proofs.NumberLemmas.{same_number, equal_to_one, elsewhere, above_apart}
+use Rattle.net_values.proofs.OptionLemmas.{something}
 use Rattle.net_base.specs.declared.plan.places.EdgeId.{EdgeId}
 use Rattle.label_space.specs.declared.kept.Kept.{Kept}
 use Rattle.label_space.specs.declared.kept.KeptState.{KeptState}
 use Rattle.label_space.specs.declared.kept.KeptState.TheVariants.{Waits, Rests, Free}
 use Rattle.label_space.specs.Kept.{AreRisingBy, is_free, is_free_state, kept_at, keeps, label_of, least_free, most_kept, put_by, put_in, waiting, without}
-use Rattle.label_space.proofs.OrderLemmas.{above_apart, is_same, same}
-
-something : {X : Type 0} (x : X) → Some x ≡ None → ⊥
-something x is = cc
-
-some_is : {X : Type 0} (a b : X) → Some a ≡ Some b → a ≡ b
-some_is a b is = cc
 
 -- a number that is below all is not kept
 pub unkept_below : (label from : ℕ) (kept : List Kept) → label < from → AreRisingBy label_of from kept → kept_at label kept ≡ None
@@ -44,13 +39,10 @@ kept_put new (k ∷ ks) none label = elim (cases_Bool (k.label == new.label)) [
       ]
 ]
   where
-    differ : {P : Type 0} (a b c : ℕ) → (a == c) ≡ true → (b == c) ≡ true → (a == b) ≡ false → P
-    differ a b c one two other = grind (arith, nat_tests)
-
     by : (b : Bool) → (k.label == label) ≡ b → (k.label == new.label) ≡ false → kept_at label (put_in new ks) ≡ cond (new.label == label) (Some new.state) (kept_at label ks)
         → cond b (Some k.state) (kept_at label (put_in new ks)) ≡ cond (new.label == label) (Some new.state) (cond b (Some k.state) (kept_at label ks))
     by true is other rest = elim (cases_Bool (new.label == label)) [
-      | inl clash ↦ differ k.label new.label label is clash other
+      | inl clash ↦ equal_to_one k.label new.label label is clash other
       | inr unlike ↦ rw unlike refl
     ]
     by false is other rest = rest
@@ -88,17 +80,11 @@ kept_without at label (k ∷ ks) = elim (cases_Bool (k.label == at)) [
   where
     gone : (b : Bool) → (at == label) ≡ b → (k.label == at) ≡ true → cond b None (kept_at label ks) ≡ cond b None (cond (k.label == label) (Some k.state) (kept_at label ks))
     gone true is here = refl
-    gone false is here = rw (unlike k.label at label here is) refl
-      where
-        unlike : (a b c : ℕ) → (a == b) ≡ true → (b == c) ≡ false → (a == c) ≡ false
-        unlike a b c one two = grind (arith, nat_tests)
-
-    differ : {P : Type 0} (a b c : ℕ) → (a == c) ≡ true → (b == c) ≡ true → (a == b) ≡ false → P
-    differ a b c one two other = grind (arith, nat_tests)
+    gone false is here = rw (elsewhere k.label at label here is) refl
 
     by : (b : Bool) → (k.label == label) ≡ b → (k.label == at) ≡ false → kept_at label (without at ks) ≡ cond (at == label) None (kept_at label ks) → cond b (Some k.state) (kept_at label (without at ks)) ≡ cond (at == label) None (cond b (Some k.state) (kept_at label ks))
     by true is other rest = elim (cases_Bool (at == label)) [
-      | inl clash ↦ differ k.label at label is clash other
+      | inl clash ↦ equal_to_one k.label at label is clash other
       | inr apart ↦ rw apart refl
     ]
     by false is other rest = rest
@@ -110,8 +96,8 @@ pub least_is : (label from : ℕ) (kept : List Kept) → AreRisingBy label_of fr
 least_is label from [] rising found = absurd (something label (sym found))
 least_is label from (k ∷ ks) rising found = elim (cases_Bool (is_free k)) [
   | inl free ↦
-      (let one : k.label ≡ label = some_is k.label label (rw free at found) in
-      subst (λ (l : ℕ). cond (k.label == l) (Some k.state) (kept_at l ks) ≡ Some Free) one (rw (same k.label) (by k.state free)))
+      (let one : k.label ≡ label = same_Some k.label label (rw free at found) in
+      subst (λ (l : ℕ). cond (k.label == l) (Some k.state) (kept_at l ks) ≡ Some Free) one (rw (same_number k.label) (by k.state free)))
   | inr other ↦
       (let rest : kept_at label ks ≡ Some Free = least_is label (k.label + 1) ks rising.1 (rw other at found) in
       apart rest)
@@ -128,6 +114,6 @@ least_is label from (k ∷ ks) rising found = elim (cases_Bool (is_free k)) [
 
     apart : kept_at label ks ≡ Some Free → cond (k.label == label) (Some k.state) (kept_at label ks) ≡ Some Free
     apart rest = elim (cases_Bool (k.label == label)) [
-      | inl here ↦ absurd (something Free (sym rest ∙ unkept_below label (k.label + 1) ks (omega (arith, is_same k.label label here)) rising.1))
+      | inl here ↦ absurd (something Free (sym rest ∙ unkept_below label (k.label + 1) ks (omega (arith, eqb-true k.label label here)) rising.1))
       | inr unlike ↦ rw unlike rest
     ]

@@ -2,30 +2,10 @@
 use Rattle.std.proofs.Common.{◌≡◌, ◌<◌, ◌≤◌, ◌+◌, ◌==◌, ℕ, zero, suc, Bool, true, false, not, nat_lt, List, [], ◌∷◌, length, get_or, cond, map, refl, ap, inl, inr, arith}
 use Rattle.std.specs.Prelude.{filter, nat_lt}
 use Rattle.std.specs.List.{AllByRecursion, insert}
-use Rattle.std.proofs.lemmas.Bool.{cases_Bool}
+use Rattle.std.proofs.lemmas.Bool.{cases_Bool, ltb-true, lt-ltb, ltb-false}
 use Rattle.std.proofs.lemmas.Bool.Decides.{nat_tests}
+use Rattle.net_values.proofs.NumberLemmas.{above_apart}
 use Rattle.label_space.specs.Kept.{AreRisingBy, put_by}
-
-pub same : (a : ℕ) → (a == a) ≡ true
-same a = grind (arith, nat_tests)
-
-pub is_same : (a b : ℕ) → (a == b) ≡ true → a ≡ b
-is_same a b equal = grind (arith, nat_tests)
-
-pub above_apart : (a b : ℕ) → a < b → (b == a) ≡ false
-above_apart a b less = grind (arith, nat_tests)
-
-pub below_apart : (a b : ℕ) → a < b → (a == b) ≡ false
-below_apart a b less = grind (arith, nat_tests)
-
-is_less : (a b : ℕ) → nat_lt a b ≡ true → a < b
-is_less a b less = grind (arith, nat_tests)
-
-not_less : (a b : ℕ) → nat_lt a b ≡ false → b ≤ a
-not_less a b other = grind (arith, nat_tests)
-
-pub less_is : (a b : ℕ) → a < b → nat_lt a b ≡ true
-less_is a b less = grind (arith, nat_tests)
 
 module _ {X : Type 0} (number : X → ℕ) where
   -- what rises from a number rises from each one below
@@ -46,8 +26,8 @@ module _ {X : Type 0} (number : X → ℕ) where
   pub rising_put : (new : X) (from : ℕ) (xs : List X) → AllByRecursion (λ x. (number x == number new) ≡ false) xs → from ≤ number new → AreRisingBy number from xs → AreRisingBy number from (put_by number new xs)
   rising_put new from [] apart least rising = (least, tt)
   rising_put new from (x ∷ xs) apart least rising = elim (cases_Bool (nat_lt (number x) (number new))) [
-    | inl before ↦ rw before (rising.0, rising_put new (number x + 1) xs apart.1 (omega (arith, is_less (number x) (number new) before)) rising.1)
-    | inr behind ↦ rw behind (least, (past (number x) (number new) apart.0 (not_less (number x) (number new) behind), rising.1))
+    | inl before ↦ rw before (rising.0, rising_put new (number x + 1) xs apart.1 (omega (arith, ltb-true (number x) (number new) before)) rising.1)
+    | inr behind ↦ rw behind (least, (past (number x) (number new) apart.0 (ltb-false (number x) (number new) behind), rising.1))
   ]
     where
       past : (a b : ℕ) → (a == b) ≡ false → b ≤ a → b + 1 ≤ a
@@ -82,7 +62,7 @@ module _ {X : Type 0} (number : X → ℕ) where
   parted at from [] rising i j d order within is = absurd (omega (arith, within))
   parted at from (x ∷ xs) rising zero zero d order within is = is
   parted at from (x ∷ xs) rising zero (suc j) d order within is =
-      less_is (number x) at (omega (arith, is_less (number (get_or xs j d)) at is, least (number x + 1) xs j d rising.1 (omega (arith, within))))
+      lt-ltb (number x) at (omega (arith, ltb-true (number (get_or xs j d)) at is, least (number x + 1) xs j d rising.1 (omega (arith, within))))
     where
       least : (from : ℕ) (xs : List X) (j : ℕ) (d : X) → AreRisingBy number from xs → j < length xs → from ≤ number (get_or xs j d)
       least from [] j d rising within = absurd (omega (arith, within))

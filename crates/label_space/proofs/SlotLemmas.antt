@@ -4,8 +4,10 @@ use Rattle.std.specs.Prelude.{filter, IsSome, nat_lt, slice_index_or}
 use Rattle.std.specs.List.{find}
 use Rattle.std.specs.Map.{lookup}
 use Rattle.std.specs.Option.{option_and_then}
-use Rattle.std.proofs.lemmas.Bool.{cases_Bool}
-use Rattle.std.proofs.lemmas.Bool.Decides.{nat_tests}
+use Rattle.std.proofs.lemmas.Bool.{cases_Bool, eqb-true, cond-false, cond-true}
+use Rattle.std.proofs.lemmas.Option.{same_Some}
+use Rattle.net_values.proofs.NumberLemmas.{same_number, equal_turned, equal_to_one}
+use Rattle.net_values.proofs.OptionLemmas.{something}
 use Rattle.indexmap.specs.IndexMap as map
 use Rattle.slab.specs.Slab as slab
 use Rattle.label_space.specs.declared.owner.Owner.{Owner}
@@ -13,28 +15,13 @@ use Rattle.label_space.specs.Kept.{put_by}
 use Rattle.label_space.specs.Labels.{AreDistinctLabels, owned_label, owner_of, owns}
 use Rattle.label_space.specs.Slots.{AreSlotsOf, AreLabelSlots, IsLabelIndex}
 
-same : (a : ℕ) → nat_eq a a ≡ true
-same a = grind (arith, nat_tests)
-
-is_same : (a b : ℕ) → nat_eq a b ≡ true → a ≡ b
-is_same a b equal = grind (arith, nat_tests)
-
-swap_eq : (a b : ℕ) → nat_eq a b ≡ nat_eq b a
-swap_eq a b = grind (arith, nat_tests)
-
-something : {X : Type 0} (x : X) → Some x ≡ None → ⊥
-something x is = cc
-
-some_is : {X : Type 0} (a b : X) → Some a ≡ Some b → a ≡ b
-some_is a b is = cc
-
 -- what a search finds is of the label
 found_label : (label : ℕ) (xs : List Owner) (o : Owner) → find (owns label) xs ≡ Some o → o.label ≡ label
 found_label label [] o found = absurd (something o (sym found))
 found_label label (x ∷ xs) o found = elim (cases_Bool (owns label x)) [
   | inl here ↦
       (let one : Some x ≡ Some o = rw here at found in
-      sym (ap (λ (y : Owner). y.label) (some_is x o one)) ∙ is_same x.label label here)
+      sym (ap (λ (y : Owner). y.label) (same_Some x o one)) ∙ eqb-true x.label label here)
   | inr there ↦ found_label label xs o (rw there at found)
 ]
 
@@ -61,14 +48,14 @@ find-left_other label other [] differ = refl
 find-left_other label other (x ∷ xs) differ = elim (cases_Bool (owns label x)) [
   | inl here ↦
       (let unlike : owns other x ≡ false = elim (cases_Bool (owns other x)) [
-        | inl found ↦ absurd (differ (sym (is_same x.label other found) ∙ is_same x.label label here))
+        | inl found ↦ absurd (differ (sym (eqb-true x.label other found) ∙ eqb-true x.label label here))
         | inr absent ↦ absent
       ] in
       rw (here, unlike) (find-left_other label other xs differ))
   | inr there ↦ rw there (ap (λ (r : Option Owner). cond (owns other x) (Some x) r) (find-left_other label other xs differ))
 ]
 
-none_found : (label : ℕ) (xs : List Owner) → owner_of label xs ≡ None → find (owns label) xs ≡ None
+pub none_found : (label : ℕ) (xs : List Owner) → owner_of label xs ≡ None → find (owns label) xs ≡ None
 none_found label [] none = refl
 none_found label (x ∷ xs) none = elim (cases_Bool (owns label x)) [
   | inl here ↦ absurd (something (x.key, x.side) (rw here at none))
@@ -81,7 +68,7 @@ unlike_at : (xs : List Owner) (i label : ℕ) (x : Owner) → owner_of label xs 
 unlike_at [] i label x none within is = absurd (omega (arith, within))
 unlike_at (y ∷ ys) zero label x none within is = elim (cases_Bool (owns label y)) [
   | inl here ↦ absurd (something (y.key, y.side) (rw here at none))
-  | inr other ↦ subst (λ (o : Owner). nat_eq label o.label ≡ false) (sym is) (swap_eq label y.label ∙ other)
+  | inr other ↦ subst (λ (o : Owner). nat_eq label o.label ≡ false) (sym is) (equal_turned label y.label ∙ other)
 ]
 unlike_at (y ∷ ys) (suc i) label x none within is = elim (cases_Bool (owns label y)) [
   | inl here ↦ absurd (something (y.key, y.side) (rw here at none))
@@ -97,19 +84,13 @@ absent_before (y ∷ ys) (suc i) x distinct within is =
     let other : nat_eq y.label x.label ≡ false = unlike_at ys i y.label x distinct.0 less is in
     rw other (absent_before ys i x distinct.1 less is)
 
-chosen : {X : Type 0} (b : Bool) (w r : X) → b ≡ true → cond b w r ≡ w
-chosen b w r is = rw is refl
-
-left : {X : Type 0} (b : Bool) (w r : X) → b ≡ false → cond b w r ≡ r
-left b w r is = rw is refl
-
 module _ {S : Type 0} where
   -- the slots are those of the owners
   pub slots_are : (s : slab.Slab Owner) (m : map.IndexMap ℕ ℕ S) (xs : List Owner) → AreLabelSlots s m xs → AreSlotsOf s xs
   slots_are s m xs step = record {
     owned = λ slot owner at. sym (step.finds owner.label) ∙ ap (option_and_then (slab.get s)) (step.back slot owner at) ∙ at;
     kept = λ label owner found. by label owner (map.get nat_eq m label) refl (step.finds label ∙ found);
-    once = λ slot other owner at too. some_is slot other (sym (step.back slot owner at) ∙ step.back other owner too);
+    once = λ slot other owner at too. same_Some slot other (sym (step.back slot owner at) ∙ step.back other owner too);
   }
     where
       by : (label : ℕ) (owner : Owner) (r : Option ℕ) → map.get nat_eq m label ≡ r → option_and_then (slab.get s) (map.get nat_eq m label) ≡ Some owner → (slot : ℕ) × (slab.get s slot ≡ Some owner)
@@ -130,11 +111,11 @@ module _ {S : Type 0} where
       finds : (label : ℕ) → option_and_then (slab.get t) (map.get nat_eq n label) ≡ find (owns label) (xs ++ o ∷ [])
       finds label = elim (cases_Bool (nat_eq o.label label)) [
         | inl here ↦
-            (let is : o.label ≡ label = is_same o.label label here in
-            ap (option_and_then (slab.get t)) (mapped.0 label ∙ chosen _ _ _ here) ∙ put.changed
-            ∙ sym (find-pushed label xs o (none_found label xs (subst (λ (k : ℕ). owner_of k xs ≡ None) is absent)) ∙ chosen _ _ _ here))
+            (let is : o.label ≡ label = eqb-true o.label label here in
+            ap (option_and_then (slab.get t)) (mapped.0 label ∙ cond-true _ _ _ here) ∙ put.changed
+            ∙ sym (find-pushed label xs o (none_found label xs (subst (λ (k : ℕ). owner_of k xs ≡ None) is absent)) ∙ cond-true _ _ _ here))
         | inr other ↦
-            ap (option_and_then (slab.get t)) (mapped.0 label ∙ left _ _ _ other)
+            ap (option_and_then (slab.get t)) (mapped.0 label ∙ cond-false _ _ _ other)
             ∙ by label (map.get nat_eq m label) refl
             ∙ step.finds label ∙ sym (find-pushed_other label xs o other)
       ]
@@ -146,29 +127,29 @@ module _ {S : Type 0} where
       filled : (label other : ℕ) → map.get nat_eq n label ≡ Some other → IsSome (slab.get t other)
       filled label other at = elim (cases_Bool (nat_eq o.label label)) [
         | inl here ↦
-            (let is : slot ≡ other = some_is slot other (sym (mapped.0 label ∙ chosen _ _ _ here) ∙ at) in
+            (let is : slot ≡ other = same_Some slot other (sym (mapped.0 label ∙ cond-true _ _ _ here) ∙ at) in
             subst (λ (k : ℕ). IsSome (slab.get t k)) is (subst IsSome (sym put.changed) refl))
         | inr past ↦
-            (let was : map.get nat_eq m label ≡ Some other = sym (mapped.0 label ∙ left _ _ _ past) ∙ at in
+            (let was : map.get nat_eq m label ≡ Some other = sym (mapped.0 label ∙ cond-false _ _ _ past) ∙ at in
             subst IsSome (sym (put.others other (apart label other was))) (step.filled label other was))
       ]
 
       back : (k : ℕ) (x : Owner) → slab.get t k ≡ Some x → map.get nat_eq n x.label ≡ Some k
       back k x at = elim (cases_Bool (nat_eq k slot)) [
         | inl here ↦
-            (let is : k ≡ slot = is_same k slot here in
-            let one : o ≡ x = some_is o x (sym (subst (λ (j : ℕ). slab.get t j ≡ Some o) (sym is) put.changed) ∙ at) in
-            subst (λ (y : Owner). map.get nat_eq n y.label ≡ Some k) one (mapped.0 o.label ∙ chosen _ _ _ (same o.label) ∙ ap Some (sym is)))
+            (let is : k ≡ slot = eqb-true k slot here in
+            let one : o ≡ x = same_Some o x (sym (subst (λ (j : ℕ). slab.get t j ≡ Some o) (sym is) put.changed) ∙ at) in
+            subst (λ (y : Owner). map.get nat_eq n y.label ≡ Some k) one (mapped.0 o.label ∙ cond-true _ _ _ (same_number o.label) ∙ ap Some (sym is)))
         | inr other ↦
-            (let differ : k ≢ slot = (λ is. true≢false (sym (subst (λ (j : ℕ). nat_eq k j ≡ true) is (same k)) ∙ other)) in
+            (let differ : k ≢ slot = (λ is. true≢false (sym (subst (λ (j : ℕ). nat_eq k j ≡ true) is (same_number k)) ∙ other)) in
             let was : slab.get s k ≡ Some x = sym (put.others k differ) ∙ at in
             let old : map.get nat_eq m x.label ≡ Some k = step.back k x was in
             elim (cases_Bool (nat_eq o.label x.label)) [
               | inl clash ↦
-                  (let is : o.label ≡ x.label = is_same o.label x.label clash in
+                  (let is : o.label ≡ x.label = eqb-true o.label x.label clash in
                   let none : find (owns x.label) xs ≡ None = none_found x.label xs (subst (λ (j : ℕ). owner_of j xs ≡ None) is absent) in
                   absurd (something x (sym was ∙ sym (ap (option_and_then (slab.get s)) old) ∙ step.finds x.label ∙ none)))
-              | inr unlike ↦ mapped.0 x.label ∙ left _ _ _ unlike ∙ old
+              | inr unlike ↦ mapped.0 x.label ∙ cond-false _ _ _ unlike ∙ old
             ])
       ]
 
@@ -188,18 +169,18 @@ module _ {S : Type 0} where
       apart j k differ is equal =
           let a = value_at j k is in
           let b = value_at label slot at in
-          differ (sym a.2 ∙ ap (λ (y : Owner). y.label) (some_is a.0 b.0 (sym a.1 ∙ ap (slab.get s) equal ∙ b.1)) ∙ b.2)
+          differ (sym a.2 ∙ ap (λ (y : Owner). y.label) (same_Some a.0 b.0 (sym a.1 ∙ ap (slab.get s) equal ∙ b.1)) ∙ b.2)
 
       unlike : (j : ℕ) → nat_eq label j ≡ false → j ≢ label
-      unlike j other is = true≢false (sym (subst (λ (k : ℕ). nat_eq label k ≡ true) (sym is) (same label)) ∙ other)
+      unlike j other is = true≢false (sym (subst (λ (k : ℕ). nat_eq label k ≡ true) (sym is) (same_number label)) ∙ other)
 
       finds : (j : ℕ) → option_and_then (slab.get t) (map.get nat_eq n j) ≡ find (owns j) (filter (λ o. not (owns label o)) xs)
       finds j = elim (cases_Bool (nat_eq label j)) [
         | inl here ↦
-            (let is : label ≡ j = is_same label j here in
-            ap (option_and_then (slab.get t)) (unmapped.0 j ∙ chosen _ _ _ here) ∙ sym (subst (λ (k : ℕ). find (owns k) (filter (λ o. not (owns label o)) xs) ≡ None) is (find-left label xs)))
+            (let is : label ≡ j = eqb-true label j here in
+            ap (option_and_then (slab.get t)) (unmapped.0 j ∙ cond-true _ _ _ here) ∙ sym (subst (λ (k : ℕ). find (owns k) (filter (λ o. not (owns label o)) xs) ≡ None) is (find-left label xs)))
         | inr other ↦
-            ap (option_and_then (slab.get t)) (unmapped.0 j ∙ left _ _ _ other)
+            ap (option_and_then (slab.get t)) (unmapped.0 j ∙ cond-false _ _ _ other)
             ∙ by j (map.get nat_eq m j) refl (unlike j other)
             ∙ step.finds j ∙ sym (find-left_other label j xs (unlike j other))
       ]
@@ -210,22 +191,22 @@ module _ {S : Type 0} where
 
       filled : (j k : ℕ) → map.get nat_eq n j ≡ Some k → IsSome (slab.get t k)
       filled j k is = elim (cases_Bool (nat_eq label j)) [
-        | inl here ↦ absurd (something k (sym is ∙ unmapped.0 j ∙ chosen _ _ _ here))
+        | inl here ↦ absurd (something k (sym is ∙ unmapped.0 j ∙ cond-true _ _ _ here))
         | inr other ↦
-            (let was : map.get nat_eq m j ≡ Some k = sym (unmapped.0 j ∙ left _ _ _ other) ∙ is in
+            (let was : map.get nat_eq m j ≡ Some k = sym (unmapped.0 j ∙ cond-false _ _ _ other) ∙ is in
             subst IsSome (sym (took.others k (apart j k (unlike j other) was))) (step.filled j k was))
       ]
 
       back : (k : ℕ) (x : Owner) → slab.get t k ≡ Some x → map.get nat_eq n x.label ≡ Some k
       back k x is = elim (cases_Bool (nat_eq k slot)) [
-        | inl here ↦ absurd (something x (sym is ∙ subst (λ (j : ℕ). slab.get t j ≡ None) (sym (is_same k slot here)) took.changed))
+        | inl here ↦ absurd (something x (sym is ∙ subst (λ (j : ℕ). slab.get t j ≡ None) (sym (eqb-true k slot here)) took.changed))
         | inr other ↦
-            (let differ : k ≢ slot = (λ eq. true≢false (sym (subst (λ (j : ℕ). nat_eq k j ≡ true) eq (same k)) ∙ other)) in
+            (let differ : k ≢ slot = (λ eq. true≢false (sym (subst (λ (j : ℕ). nat_eq k j ≡ true) eq (same_number k)) ∙ other)) in
             let was : slab.get s k ≡ Some x = sym (took.others k differ) ∙ is in
             let old : map.get nat_eq m x.label ≡ Some k = step.back k x was in
             elim (cases_Bool (nat_eq label x.label)) [
-              | inl clash ↦ absurd (differ (some_is k slot (sym old ∙ sym (ap (map.get nat_eq m) (is_same label x.label clash)) ∙ at)))
-              | inr differs ↦ unmapped.0 x.label ∙ left _ _ _ differs ∙ old
+              | inl clash ↦ absurd (differ (same_Some k slot (sym old ∙ sym (ap (map.get nat_eq m) (eqb-true label x.label clash)) ∙ at)))
+              | inr differs ↦ unmapped.0 x.label ∙ cond-false _ _ _ differs ∙ old
             ])
       ]
 
@@ -243,11 +224,11 @@ module _ {S : Type 0} where
       finds : (j : ℕ) → option_and_then (slab.get s) (map.get nat_eq n j) ≡ find (owns j) (filter (λ o. not (owns label o)) xs)
       finds j = elim (cases_Bool (nat_eq label j)) [
         | inl here ↦
-            (let is : label ≡ j = is_same label j here in
+            (let is : label ≡ j = eqb-true label j here in
             ap (option_and_then (slab.get s)) (gets j ∙ sym (ap (map.get nat_eq m) is) ∙ at) ∙ sym (subst (λ (k : ℕ). find (owns k) (filter (λ o. not (owns label o)) xs) ≡ None) is (find-left label xs)))
         | inr other ↦
             ap (option_and_then (slab.get s)) (gets j) ∙ step.finds j
-            ∙ sym (find-left_other label j xs (λ is. true≢false (sym (subst (λ (k : ℕ). nat_eq label k ≡ true) (sym is) (same label)) ∙ other)))
+            ∙ sym (find-left_other label j xs (λ is. true≢false (sym (subst (λ (k : ℕ). nat_eq label k ≡ true) (sym is) (same_number label)) ∙ other)))
       ]
 
   -- nothing is owned
@@ -275,13 +256,10 @@ find-put label (x ∷ xs) o none = elim (cases_Bool (owns o.label x)) [
       ]
 ]
   where
-    differ : {P : Type 0} (a b c : ℕ) → nat_eq a c ≡ true → nat_eq b c ≡ true → nat_eq a b ≡ false → P
-    differ a b c one two other = grind (arith, nat_tests)
-
     by : (b : Bool) → owns label x ≡ b → owns o.label x ≡ false → find (owns label) (put_by owned_label o xs) ≡ cond (owns label o) (Some o) (find (owns label) xs)
         → cond b (Some x) (find (owns label) (put_by owned_label o xs)) ≡ cond (owns label o) (Some o) (cond b (Some x) (find (owns label) xs))
     by true is other rest = elim (cases_Bool (owns label o)) [
-      | inl clash ↦ differ x.label o.label label is clash other
+      | inl clash ↦ equal_to_one x.label o.label label is clash other
       | inr unlike ↦ rw unlike refl
     ]
     by false is other rest = rest
@@ -289,9 +267,9 @@ find-put label (x ∷ xs) o none = elim (cases_Bool (owns o.label x)) [
 find-end : (label : ℕ) (xs : List Owner) (o : Owner) → find (owns o.label) xs ≡ None → find (owns label) (xs ++ o ∷ []) ≡ cond (owns label o) (Some o) (find (owns label) xs)
 find-end label xs o none = elim (cases_Bool (owns label o)) [
   | inl here ↦
-      (let same_label : o.label ≡ label = is_same o.label label here in
-      find-pushed label xs o (subst (λ (l : ℕ). find (owns l) xs ≡ None) same_label none) ∙ chosen (owns label o) (Some o) None here ∙ sym (chosen (owns label o) (Some o) (find (owns label) xs) here))
-  | inr other ↦ find-pushed_other label xs o other ∙ sym (left (owns label o) (Some o) (find (owns label) xs) other)
+      (let same_label : o.label ≡ label = eqb-true o.label label here in
+      find-pushed label xs o (subst (λ (l : ℕ). find (owns l) xs ≡ None) same_label none) ∙ cond-true (owns label o) (Some o) None here ∙ sym (cond-true (owns label o) (Some o) (find (owns label) xs) here))
+  | inr other ↦ find-pushed_other label xs o other ∙ sym (cond-false (owns label o) (Some o) (find (owns label) xs) other)
 ]
 
 module _ {S : Type 0} where

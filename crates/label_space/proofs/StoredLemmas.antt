@@ -6,7 +6,7 @@ use Rattle.std.specs.List.Sorted.{IsPermutation}
 use Rattle.std.specs.BinaryHeap.{IsHeap, IsUpperBound}
 use Rattle.std.specs.Ordering.{nat_cmp, is_lt}
 use Rattle.std.specs.declared.cmp.Reverse.{Reverse}
-use Rattle.std.proofs.lemmas.Bool.{cases_Bool}
+use Rattle.std.proofs.lemmas.Bool.{cases_Bool, lt-ltb}
 use Rattle.std.proofs.lemmas.Bool.Decides.{nat_tests}
 use Rattle.std.proofs.lemmas.List.{append_assoc, append-nil, length-append, map-append, take_more}
 use Rattle.std.proofs.lemmas.List.Elements.{All-cons, All-head, All-nil, All-tail, All-weaker, filter-append}
@@ -14,13 +14,15 @@ use Rattle.std.proofs.lemmas.List.Sorted.{All-permutation, IsPermutation-append_
 use Rattle.std.proofs.lemmas.List.Sums.{sum_by-cons}
 use Rattle.net_base.specs.declared.plan.places.EdgeId.{EdgeId}
 use Rattle.net_values.specs.Label.{IsLabel}
+use Rattle.net_values.proofs.BoolLemmas.{not_not}
+use Rattle.net_values.proofs.NumberLemmas.{same_number, less_apart, above_apart}
 use Rattle.label_space.specs.declared.kept.Kept.{Kept}
 use Rattle.label_space.specs.declared.kept.KeptState.{KeptState}
 use Rattle.label_space.specs.declared.kept.KeptState.TheVariants.{Waits, Rests, Free}
 use Rattle.label_space.specs.Kept.{AreRisingBy, is_free, is_free_state, kept_at, keeps, label_of, least_free, met, met_one, met_state, most_kept, put_by, put_in, rest_ticks, rests, rests_state, ticked, ticked_one, ticked_state, waiting, without}
 use Rattle.label_space.specs.Stored.{IsHeldKept, freed_number, in_order, kept_of, stored, waits, waits_state}
 use Rattle.label_space.proofs.KeptLemmas.{apart_all, long_map}
-use Rattle.label_space.proofs.OrderLemmas.{above_apart, all_put, less_is, long_put, map_put, rising_filtered, rising_map, rising_put, same, unlike_below}
+use Rattle.label_space.proofs.OrderLemmas.{all_put, long_put, map_put, rising_filtered, rising_map, rising_put, unlike_below}
 
 -- ---- no number twice
 
@@ -72,7 +74,7 @@ map_in_order f keep (k ∷ ks) = map_put label_of f keep k (in_order ks) ∙ ap 
 rising_in_order : (ks : List Kept) → ((label : ℕ) → sum_by (has label) ks ≤ 1) → AreRisingBy label_of 0 (in_order ks)
 rising_in_order [] one = tt
 rising_in_order (k ∷ ks) one =
-    let here : has k.label k ≡ 1 = rw (same k.label) refl in
+    let here : has k.label k ≡ 1 = rw (same_number k.label) refl in
     rising_put label_of k 0 (in_order ks)
     (all_in_order (λ o. (o.label == k.label) ≡ false) ks (apart_none k.label ks (omega (arith, here, one k.label, sum_by-cons (has k.label) k ks))))
     (omega arith)
@@ -153,10 +155,7 @@ one_more new ws rs fs none rising =
 -- ---- each changed, and some moved
 
 both_ways : (p : Kept → Bool) (ks : List Kept) → IsPermutation ks (filter (λ k. not (p k)) ks ++ filter p ks)
-both_ways p ks = IsPermutation-filter_both (λ k. not (p k)) p (λ k. twice (p k)) ks where
-  twice : (b : Bool) → b ≡ not (not b)
-  twice true = refl
-  twice false = refl
+both_ways p ks = IsPermutation-filter_both (λ k. not (p k)) p (λ k. not_not (p k)) ks
 
 -- those that pass stand behind the others of another list
 some_move : (p : Kept → Bool) (ws rs fs : List Kept) → IsPermutation (ws ++ (rs ++ fs)) (filter (λ k. not (p k)) ws ++ ((rs ++ filter p ws) ++ fs))
@@ -339,26 +338,23 @@ least_none ws rs wait rest =
     ap (option_map label_of) (find_none (kept_of ws rs []) (all_in_order (λ k. is_free k ≡ false) (stored ws rs [])
     (all_append (λ k. is_free k ≡ false) ws (rs ++ []) (unfree_waits ws wait) (all_append (λ k. is_free k ≡ false) rs [] (unfree_rests rs rest) tt))))
 
-less_apart : (a b : ℕ) → nat_lt a b ≡ true → (a == b) ≡ false
-less_apart a b less = grind (arith, nat_tests)
-
 -- it stands for itself once, and is kept no longer
 pub without_put : (k : Kept) (ks : List Kept) (from : ℕ) → AreRisingBy label_of from (put_in k ks) → without k.label (put_in k ks) ≡ ks
-without_put k [] from rising = rw (same k.label) refl
+without_put k [] from rising = rw (same_number k.label) refl
 without_put k (x ∷ xs) from rising = elim (cases_Bool (nat_lt x.label k.label)) [
   | inl less ↦
       (let both : AreRisingBy label_of from (x ∷ put_in k xs) = rw less at rising in
       rw (less, less_apart x.label k.label less) (ap (λ (l : List Kept). x ∷ l) (without_put k xs (x.label + 1) both.1)))
   | inr behind ↦
       (let both : AreRisingBy label_of from (k ∷ x ∷ xs) = rw behind at rising in
-      rw (behind, same k.label) (unlike_below label_of (k.label + 1) k.label (x ∷ xs) (omega arith) both.1))
+      rw (behind, same_number k.label) (unlike_below label_of (k.label + 1) k.label (x ∷ xs) (omega arith) both.1))
 ]
 
 pub kept_here : (k : Kept) (ks : List Kept) → kept_at k.label (put_in k ks) ≡ Some k.state
-kept_here k [] = rw (same k.label) refl
+kept_here k [] = rw (same_number k.label) refl
 kept_here k (x ∷ xs) = elim (cases_Bool (nat_lt x.label k.label)) [
   | inl less ↦ rw (less, less_apart x.label k.label less) (kept_here k xs)
-  | inr behind ↦ rw (behind, same k.label) refl
+  | inr behind ↦ rw (behind, same_number k.label) refl
 ]
 
 pub rising_before : (k : Kept) (ks : List Kept) → AreRisingBy label_of 0 (put_in k ks) → AreRisingBy label_of 0 ks
@@ -506,7 +502,7 @@ freed_same old ks i k gs within is other so_far =
 pub kept_more : (label : ℕ) (peer : EdgeId) (ws vs rs : List Kept) (fs : List (Reverse ℕ)) (kept : List Kept) → AreRisingBy label_of 0 (kept_of ws rs fs) → vs ≡ ws ++ waiting label peer ∷ [] → kept_of ws rs fs ≡ kept → kept_at label kept ≡ None → length kept < most_kept
     → kept_of vs rs fs ≡ keeps label peer kept
 kept_more label peer ws vs rs fs kept rising is view none few =
-    let room : nat_lt (length kept) most_kept ≡ true = less_is (length kept) most_kept few in
+    let room : nat_lt (length kept) most_kept ≡ true = lt-ltb (length kept) most_kept few in
     ap (λ (l : List Kept). kept_of l rs fs) is ∙ one_more (waiting label peer) ws rs fs (ap (kept_at label) view ∙ none) rising ∙ ap (λ (l : List Kept). put_in (waiting label peer) l) view ∙ rw room refl
 
 -- what the top is as a label
@@ -514,5 +510,5 @@ pub number_of : (n : Reverse ℕ) (fs gs : List (Reverse ℕ)) → IsPermutation
 number_of n fs gs popped labels = All-head (λ m. IsLabel m.0) n gs (All-permutation (λ m. IsLabel m.0) fs (n ∷ gs) popped labels)
 
 pub label_of_some : (number : ℕ) (r : Option ℕ) → (IsSome r ↔ IsLabel number) → IfSome r (λ label. label ≡ number) → IsLabel number → r ≡ Some number
-label_of_some number None both same label = absurd (true≢false (sym (both.1 label)))
-label_of_some number (Some l) both same label = ap Some same
+label_of_some number None both same_number label = absurd (true≢false (sym (both.1 label)))
+label_of_some number (Some l) both same_number label = ap Some same_number

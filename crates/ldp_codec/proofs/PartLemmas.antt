@@ -1,14 +1,11 @@
 -- Octets that lie in two pieces.
-use Rattle.std.proofs.Common.{◌≡◌, ◌≤◌, ◌<◌, ◌+◌, ◌-◌, ◌++◌, ℕ, suc, List, [], ◌∷◌, length, take, drop, sym, ap, ◌∙◌, length-append, arith}
+use Rattle.std.proofs.Common.{◌≡◌, ◌≤◌, ◌<◌, ◌+◌, ◌-◌, ◌++◌, ℕ, suc, List, [], ◌∷◌, length, take, drop, sym, ap, ◌∙◌, arith}
 use Rattle.std.proofs.lemmas.List.{take-append-le, drop-append-le}
 use Rattle.std.proofs.Math.Seq.{take-append-add, drop-append-add, get_or-append_right}
 use Rattle.std.proofs.Math.ListN.{get_or-append}
 use Rattle.std.specs.Prelude.{slice_index}
 use Rattle.net_values.specs.Octets.{AreOctets}
 use Rattle.ldp_grammar.proofs.OctetLemmas.{octet_front}
-
-pub joined_length : (xs ys : List ℕ) → length (xs ++ ys) ≡ length xs + length ys
-joined_length xs ys = length-append xs ys
 
 -- an octet of the first piece, and one of the second
 pub at_front : (xs ys : List ℕ) (at : ℕ) → at < length xs → slice_index (xs ++ ys) at ≡ slice_index xs at

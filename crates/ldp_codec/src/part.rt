@@ -42,7 +42,7 @@ impl<'a> Part<'a> {
     }
 
     /// How many octets there are.
-    #[tactic(auto, unfolding(crate::specs::Part::joined), using(crate::proofs::PartLemmas::joined_length))]
+    #[tactic(auto, unfolding(crate::specs::Part::joined), using(net_values::proofs::RowLemmas::joined_length))]
     #[inline(always)]
     pub fn len(self) -> usize
         ensures { result ≡ length (joined self.entry) }
@@ -51,7 +51,7 @@ impl<'a> Part<'a> {
     }
 
     /// The octet at a place.
-    #[tactic(auto, unfolding(crate::specs::Part::joined), using(crate::proofs::PartLemmas::joined_length, crate::proofs::PartLemmas::at_front, crate::proofs::PartLemmas::at_back))]
+    #[tactic(auto, unfolding(crate::specs::Part::joined), using(net_values::proofs::RowLemmas::joined_length, crate::proofs::PartLemmas::at_front, crate::proofs::PartLemmas::at_back))]
     #[inline(always)]
     pub fn byte(self, at: usize) -> u8
         requires { at < length (joined self) }
@@ -89,7 +89,7 @@ impl<'a> Part<'a> {
     }
 
     /// The octets before a place, and those from there on.
-    #[tactic(auto, unfolding(crate::specs::Part::joined), using(crate::proofs::PartLemmas::joined_length, crate::proofs::PartLemmas::cut_front, crate::proofs::PartLemmas::cut_back))]
+    #[tactic(auto, unfolding(crate::specs::Part::joined), using(net_values::proofs::RowLemmas::joined_length, crate::proofs::PartLemmas::cut_front, crate::proofs::PartLemmas::cut_back))]
     #[inline(always)]
     pub fn split_at(self, at: usize) -> (Part<'a>, Part<'a>)
         requires { at ≤ length (joined self) }

@@ -3,6 +3,7 @@ use Rattle.std.proofs.Common.{◌≡◌, ◌≢◌, ◌<◌, ◌∙◌, ◌+◌,
 use Rattle.std.proofs.lemmas.Bool.{cases_Bool, eqb-true}
 use Rattle.std.proofs.lemmas.Bool.Decides.{nat_tests}
 use Rattle.std.proofs.lemmas.List.{get_or-set_same, get_or-set_other, length-set, length-map}
+use Rattle.net_values.proofs.RowLemmas.{edited_next, edited_length}
 use Rattle.ldp_discovery.specs.declared.adjacency.Adjacency.{Adjacency}
 use Rattle.ldp_discovery.specs.Adjacencies.{AdjacencyLists, DeedsAreKept, IsAfter, after, id_after, known_of}
 use Rattle.ldp_discovery.specs.Live.{Deed, said, heard, ticked, AreHolds, aged, is_live, live, proposed, refreshed, unknown}
@@ -10,28 +11,16 @@ use Rattle.ldp_discovery.proofs.LiveLemmas.{stands}
 
 -- ---- a list whose items are changed one by one
 
-aged_from : {X : Type 0} (f : X → X) (xs : List X) (i : ℕ) (d : X) → i < length xs
-    → set (map f (take i xs) ++ drop i xs) i (f (get_or (map f (take i xs) ++ drop i xs) i d)) ≡ map f (take (suc i) xs) ++ drop (suc i) xs
-aged_from f [] i d within = absurd (omega arith)
-aged_from f (x ∷ xs) zero d within = refl
-aged_from {X = X} f (x ∷ xs) (suc i) d within = ap (λ (l : List X). f x ∷ l) (aged_from f xs i d (omega arith))
-
-joined : {X : Type 0} (f : X → X) (xs : List X) (i : ℕ) → length (map f (take i xs) ++ drop i xs) ≡ length xs
-joined f [] zero = refl
-joined f [] (suc i) = refl
-joined f (x ∷ xs) zero = refl
-joined f (x ∷ xs) (suc i) = ap suc (joined f xs i)
-
 -- one item more
 pub each_next : {X : Type 0} (f : X → X) (xs now : List X) (i : ℕ) (d y : X) → now ≡ map f (take i xs) ++ drop i xs → i < length now → y ≡ f (get_or now i d)
     → set now i y ≡ map f (take (i + 1) xs) ++ drop (i + 1) xs
 each_next {X = X} f xs now i d y so_far within after =
-    let parts : length (map f (take i xs) ++ drop i xs) ≡ length xs = joined f xs i in
+    let parts : length (map f (take i xs) ++ drop i xs) ≡ length xs = edited_length f xs i in
     let below : i < length xs = omega (arith, ap length so_far) in
     let next : suc i ≡ i + 1 = omega arith in
     ap (λ (v : X). set now i v) after
     ∙ (ap (λ (l : List X). set l i (f (get_or l i d))) so_far
-    ∙ (aged_from f xs i d below
+    ∙ (edited_next f xs i d below
     ∙ ap (λ (n : ℕ). map f (take n xs) ++ drop n xs) next))
 
 -- ---- deeds

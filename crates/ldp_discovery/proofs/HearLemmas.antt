@@ -1,8 +1,7 @@
 -- What is read of octets is what they say.
-use Rattle.std.proofs.Common.{◌≡◌, ◌∙◌, List, [], ◌∷◌, ℕ, true, false, Result, Ok, Err, inl, inr, refl, sym, ap, arith}
-use Rattle.std.proofs.lemmas.Slice.Eq.{bytes_eq-Decides}
-use Rattle.std.specs.Str.{bytes_eq}
+use Rattle.std.proofs.Common.{◌≡◌, ◌∙◌, List, [], ◌∷◌, ℕ, false, Result, Ok, Err, inl, inr, refl, sym, ap, arith}
 use Rattle.net_values.specs.declared.addr.Addr.{Addr}
+use Rattle.net_values.proofs.RowLemmas.{same_octets}
 use Rattle.ldp_grammar.specs.declared.pdu.Pdu.{Pdu}
 use Rattle.ldp_grammar.specs.Spells.{Spells}
 use Rattle.ldp_codec.specs.declared.decode_fault.DecodeFault.{DecodeFault}
@@ -45,11 +44,8 @@ says_none address octets fault some accepts = record {
 
 -- ---- the Hello of an edge
 
-same_address : (octets : List ℕ) → bytes_eq octets octets ≡ true
-same_address octets = (bytes_eq-Decides octets octets).1 refl
-
 sent_by : (address : Addr) (id hold : ℕ) → hold_in address (record { id = identifier address; messages = hello_of address id hold ∷ [] }) ≡ Ok hold
-sent_by address id hold = rw (same_address address.0) refl
+sent_by address id hold = rw (same_octets address.0) refl
 
 pub hellos_heard : HellosAreHeard
 hellos_heard address id hold verdict four few short says =

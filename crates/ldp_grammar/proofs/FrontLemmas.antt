@@ -17,7 +17,7 @@ numbers_read (a ∷ b ∷ rest) octets long =
     ap (λ (l : List ℕ). two (two_at 0 (a ∷ b ∷ rest)) ++ l) back ∙ two_read (a ∷ b ∷ rest) octets (omega arith)
 
 -- a number of two octets, and of four
-two_below : (xs : List ℕ) → AreOctets xs → two_at 0 xs < 65536
+pub two_below : (xs : List ℕ) → AreOctets xs → two_at 0 xs < 65536
 two_below xs octets = omega (arith, octets 0, octets 1)
 
 four_below : (xs : List ℕ) → AreOctets xs → four_at 0 xs < 4294967296

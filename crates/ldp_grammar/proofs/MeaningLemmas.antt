@@ -1,6 +1,7 @@
 -- Octets stand for one message at most.
 use Rattle.std.proofs.Common.{◌≡◌, ◌<◌, ◌%◌, ◌^◌, ◌++◌, ℕ, Bool, List, [], ◌∷◌, Option, Some, None, flat_map, refl, sym, ap, subst, ◌∙◌, arith}
 use Rattle.net_values.specs.declared.addr.Addr.{Addr}
+use Rattle.net_values.proofs.RowLemmas.{same_front}
 use Rattle.pw_tlvs.specs.declared.fec_value.FecValue.{FecValue}
 use Rattle.pw_tlvs.specs.declared.point.Point.{Point}
 use Rattle.pw_tlvs.specs.Fec.{IsFecValue, IsPwFec}
@@ -26,7 +27,7 @@ use Rattle.ldp_grammar.specs.Values.{IsStatus, IsHello, IsSession, IsAddresses, 
 use Rattle.ldp_grammar.specs.Spells.{Spelling, spell_message, IsSpelling, OfValue, Means, Tells, StandsAs, StandInOrder, Spells}
 use Rattle.ldp_grammar.proofs.ItemLemmas.{one_list}
 use Rattle.ldp_grammar.proofs.OctetLemmas.{same_two}
-use Rattle.ldp_grammar.proofs.SpellingLemmas.{same_front, messages_apart}
+use Rattle.ldp_grammar.proofs.SpellingLemmas.{messages_apart}
 use Rattle.ldp_grammar.proofs.TlvLemmas.{joined_once}
 use Rattle.ldp_grammar.proofs.MessageLemmas.{octets_of}
 use Rattle.ldp_grammar.specs.FirstFault.{Names, OneReading}

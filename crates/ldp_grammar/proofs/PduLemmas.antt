@@ -3,6 +3,7 @@ use Rattle.std.proofs.Common.{◌≡◌, ◌≤◌, ◌<◌, ◌+◌, ◌-◌, �
 use Rattle.std.specs.Prelude.{if◌then◌else◌}
 use Rattle.std.proofs.lemmas.Bool.Decides.{nat_tests}
 use Rattle.net_values.specs.declared.field.Field.{Field}
+use Rattle.net_values.proofs.RowLemmas.{same_front}
 use Rattle.ldp_grammar.specs.declared.fault.Fault.{Fault}
 use Rattle.ldp_grammar.specs.declared.cause.Cause.{Cause}
 use Rattle.ldp_grammar.specs.declared.cause.Cause.TheVariants as cause
@@ -13,7 +14,6 @@ use Rattle.ldp_grammar.specs.FirstFault.{IsFirst, FirstFault, Names, HeaderFault
 use Rattle.pw_tlvs.specs.Faults.{field_rank}
 use Rattle.pw_tlvs.proofs.FaultLemmas.{field_again, field_at, field_rank_below}
 use Rattle.ldp_grammar.proofs.ItemLemmas.{moved_after}
-use Rattle.ldp_grammar.proofs.SpellingLemmas.{same_front}
 use Rattle.ldp_grammar.proofs.MessageLemmas.{messages_faultless}
 
 -- what a framed PDU begins with

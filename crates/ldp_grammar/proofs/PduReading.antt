@@ -20,7 +20,7 @@ use Rattle.ldp_grammar.proofs.OctetLemmas.{AreOctets, octets_drop}
 use Rattle.ldp_grammar.proofs.ItemLemmas.{items_more}
 use Rattle.ldp_grammar.proofs.MessageLemmas.{octets_of, cut_message, fault_within, first_of_messages, stand_more, spelled_more}
 use Rattle.ldp_grammar.proofs.PduLemmas.{length_of, count_of, first_inside}
-use Rattle.ldp_grammar.proofs.FrontLemmas.{cut, message, message_front, numbers_read}
+use Rattle.ldp_grammar.proofs.FrontLemmas.{cut, message, message_front, numbers_read, two_below}
 use Rattle.ldp_grammar.proofs.ReadingLemmas.{faultless, first_fault, tlvs_reading}
 use Rattle.ldp_grammar.proofs.TellingLemmas.{read_as}
 
@@ -156,9 +156,6 @@ framed_by bytes max octets version counted =
       most = omega (arith, size, counted.most);
     }
 
-space_below : (xs : List ℕ) → AreOctets xs → two_at 0 xs < 65536
-space_below xs octets = omega (arith, octets 0, octets 1)
-
 -- a right header stands in front
 counted_reading : (bytes : List ℕ) (max : ℕ) → AreOctets bytes → max ≤ 4096 → two_at 0 bytes ≡ 1 → IsCounted bytes max → Reading bytes max
 counted_reading bytes max octets small version counted =
@@ -171,7 +168,7 @@ counted_reading bytes max octets small version counted =
             spellings = ss;
             framed = subst (λ (l : List ℕ). IsFramed bytes max (take 4 (drop 4 bytes) ++ two (two_at 4 (drop 4 bytes))) l) e framed;
             router = omega (arith, length-take 4 (drop 4 bytes), length-drop 4 bytes, counted.least, counted.count);
-            space = space_below (drop 4 (drop 4 bytes)) (octets_drop 4 (drop 4 bytes) (octets_drop 4 bytes octets));
+            space = two_below (drop 4 (drop 4 bytes)) (octets_drop 4 (drop 4 bytes) (octets_drop 4 bytes octets));
             fit = items;
             stand = stand;
           })

@@ -2,7 +2,7 @@
 -- fault, with what shows it.
 use Rattle.std.proofs.Common.{◌≡◌, ◌≤◌, ◌<◌, ◌⊎◌, ℕ, suc, true, false, List, [], ◌∷◌, Option, Some, None, inl, inr, refl, arith}
 use Rattle.std.specs.Prelude.{IsSome}
-use Rattle.std.proofs.lemmas.Bool.{cases_Bool, cases_lt}
+use Rattle.std.proofs.lemmas.Bool.{cases_Bool, cases_lt, true≢false}
 use Rattle.std.proofs.lemmas.Bool.Decides.{nat_tests}
 use Rattle.ldp_grammar.specs.Reading.{Reading, are_octets}
 use Rattle.ldp_grammar.proofs.OctetLemmas.{AreOctets, octet_front}
@@ -32,13 +32,10 @@ reading_where bytes max (inr other) size = None
 abbrev pub reading_of : (bytes : List ℕ) (max : ℕ) → Option (Reading bytes max)
 reading_of bytes max = reading_where bytes max (cases_Bool (are_octets bytes)) (cases_lt 4096 max)
 
-differ : true ≡ false → ⊥
-differ e = cc (e)
-
 told_where : (bytes : List ℕ) (max : ℕ) (are : (are_octets bytes ≡ true) ⊎ (are_octets bytes ≡ false)) (size : (4096 < max) ⊎ (max ≤ 4096)) → are_octets bytes ≡ true → max ≤ 4096 → IsSome (reading_where bytes max are size)
 told_where bytes max (inl are) (inr small) passed within = refl
 told_where bytes max (inl are) (inl large) passed within = absurd (omega (arith, large, within))
-told_where bytes max (inr other) size passed within = absurd (differ (grind (arith, passed, other)))
+told_where bytes max (inr other) size passed within = absurd (true≢false (grind (arith, passed, other)))
 
 -- of all octets there is one
 pub reading_told : (bytes : List ℕ) (max : ℕ) → AreOctets bytes → max ≤ 4096 → IsSome (reading_of bytes max)

@@ -7,6 +7,7 @@ use Rattle.std.proofs.lemmas.Bool.Decides.{nat_tests}
 use Rattle.net_values.specs.declared.addr.Addr.{Addr}
 use Rattle.net_values.specs.Label.{IsLabel}
 use Rattle.net_values.specs.declared.mac.Mac.{Mac}
+use Rattle.net_values.proofs.RowLemmas.{empty_of_length}
 use Rattle.pw_tlvs.specs.declared.fec_value.FecValue.TheVariants.{Pw}
 use Rattle.pw_tlvs.specs.declared.point.Point.{Point}
 use Rattle.pw_tlvs.specs.declared.pw_fec.PwFec.{PwFec}
@@ -288,16 +289,12 @@ read_back max m id small can fits is size =
     spelled_alone max m id small is size t.spelling t.stands
 
 -- no spelling is the front of another
-same_length : (bytes more : List ℕ) → 4 ≤ length bytes → two_at 2 (bytes ++ more) ≡ two_at 2 bytes
+pub same_length : (bytes more : List ℕ) → 4 ≤ length bytes → two_at 2 (bytes ++ more) ≡ two_at 2 bytes
 same_length [] more long = absurd (omega arith)
 same_length (a ∷ []) more long = absurd (omega arith)
 same_length (a ∷ b ∷ []) more long = absurd (omega arith)
 same_length (a ∷ b ∷ c ∷ []) more long = absurd (omega arith)
 same_length (a ∷ b ∷ c ∷ d ∷ bytes) more long = refl
-
-none_left : (more : List ℕ) → length more ≡ 0 → more ≡ []
-none_left [] e = refl
-none_left (x ∷ more) e = absurd (omega (arith, e))
 
 no_front : (max : ℕ) (p q : Pdu) (bytes more : List ℕ) → max ≤ 4096 → Spells bytes max p → Spells (bytes ++ more) max q → more ≡ []
 no_front max p q bytes more small is_p is_q =
@@ -305,7 +302,7 @@ no_front max p q bytes more small is_p is_q =
     let told_p = length_of bytes _ _ max small is_p.framed in
     let count_q = size_of_pdu (bytes ++ more) _ _ max is_q.framed in
     let told_q = length_of (bytes ++ more) _ _ max small is_q.framed in
-    none_left more (omega (arith, count, told_p, count_q, told_q, same_length bytes more (omega (arith, count)), length-append bytes more))
+    empty_of_length more (omega (arith, count, told_p, count_q, told_q, same_length bytes more (omega (arith, count)), length-append bytes more))
 
 pub written_is_read : WrittenIsRead
 written_is_read = record { read = read_back; no_front = no_front }

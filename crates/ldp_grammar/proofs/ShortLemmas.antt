@@ -16,6 +16,7 @@ use Rattle.pw_tlvs.specs.SubTlvs.{spell}
 use Rattle.pw_tlvs.specs.Written.{IsFecInRange, IsPointInRange, description_value, information, pair_octets, told, written_fec, written_parameters, written_point}
 use Rattle.pw_tlvs.proofs.ParameterLemmas.{parameters_length}
 use Rattle.pw_tlvs.proofs.PointLemmas.{point_length}
+use Rattle.pw_tlvs.proofs.MacLemmas.{length_macs}
 use Rattle.ldp_grammar.specs.declared.address_list.AddressList.{AddressList}
 use Rattle.ldp_grammar.specs.declared.message.Message.TheVariants.{Notification, Hello, Initialization, KeepAlive, Address, AddressWithdraw, LabelMapping, LabelRequest, LabelWithdraw, LabelRelease, LabelAbort, Other, Unprocessed}
 use Rattle.ldp_grammar.specs.Rows.{fec, label, request_id, switching_point}
@@ -28,15 +29,15 @@ pair_short : (kind : ℕ) (number : Option ℕ) → length (flat_map (spell Inte
 pair_short kind None = omega arith
 pair_short kind (Some n) = omega arith
 
-vccv_short : (kind : ℕ) (types : Option (ℕ × ℕ)) → length (flat_map (spell InterfaceParameter) (told kind (option_map pair_octets types))) ≤ 4
+pub vccv_short : (kind : ℕ) (types : Option (ℕ × ℕ)) → length (flat_map (spell InterfaceParameter) (told kind (option_map pair_octets types))) ≤ 4
 vccv_short kind None = omega arith
 vccv_short kind (Some types) = omega arith
 
-description_short : (kind : ℕ) (text : List ℕ) → length text ≤ 80 → length (flat_map (spell InterfaceParameter) (told kind (description_value text))) ≤ 82
+pub description_short : (kind : ℕ) (text : List ℕ) → length text ≤ 80 → length (flat_map (spell InterfaceParameter) (told kind (description_value text))) ≤ 82
 description_short kind [] few = omega arith
 description_short kind (x ∷ xs) few = omega (arith, few, length-append xs [])
 
-parameters_short : (params : IfParams) → length params.description ≤ 80 → length (written_parameters params) ≤ 94
+pub parameters_short : (params : IfParams) → length params.description ≤ 80 → length (written_parameters params) ≤ 94
 parameters_short params few =
     omega (arith, parameters_length params, pair_short 0x01 params.mtu, description_short 0x03 params.description few, pair_short 0x06 params.vlan, vccv_short 0x0C params.vccv)
 
@@ -60,25 +61,21 @@ point_short : (point : Point) → IsPointInRange point → length (written_point
 point_short point range = omega (arith, point_length point, number_short 0x01 point.pw_id, address_short 0x03 point.local range.local, address_short 0x04 point.remote range.remote)
 
 -- TLVs one after another
-first_length : (t : Tlv) (ts : List Tlv) → length (flat_map spell_tlv (t ∷ ts)) ≡ 4 + length t.value + length (flat_map spell_tlv ts)
+pub first_length : (t : Tlv) (ts : List Tlv) → length (flat_map spell_tlv (t ∷ ts)) ≡ 4 + length t.value + length (flat_map spell_tlv ts)
 first_length t ts = omega (arith, length-append t.value (flat_map spell_tlv ts))
 
-both_length : (ts us : List Tlv) → length (flat_map spell_tlv (ts ++ us)) ≡ length (flat_map spell_tlv ts) + length (flat_map spell_tlv us)
+pub both_length : (ts us : List Tlv) → length (flat_map spell_tlv (ts ++ us)) ≡ length (flat_map spell_tlv ts) + length (flat_map spell_tlv us)
 both_length ts us = ap length (flat_map-append spell_tlv ts us) ∙ length-append (flat_map spell_tlv ts) (flat_map spell_tlv us)
 
 points_short : (points : List Point) → AllByRecursion IsPointInRange points → length (flat_map spell_tlv (point_tlvs points)) ≤ 22 * length points
 points_short [] all = omega arith
 points_short (point ∷ points) all = omega (arith, first_length (ignorable switching_point (written_point point)) (point_tlvs points), point_short point all.0, points_short points all.1)
 
-macs_short : (macs : List Mac) → AllByRecursion (λ mac. length mac.0 ≡ 6) macs → length (mac_octets macs) ≡ 6 * length macs
-macs_short [] all = omega arith
-macs_short (mac ∷ macs) all = omega (arith, all.0, macs_short macs all.1, length-append mac.0 (mac_octets macs))
-
 fecs_short : (pw : Option PwFec) → IfSome pw IsFecInRange → length (flat_map spell_tlv (fec_tlvs pw)) ≤ 110
 fecs_short None range = omega arith
 fecs_short (Some pw) range = omega (arith, first_length (tlv fec (written_fec pw)) [], fec_short pw range)
 
-states_short : (state : Option PwStatus) → length (flat_map spell_tlv (status_tlvs state)) ≤ 8
+pub states_short : (state : Option PwStatus) → length (flat_map spell_tlv (status_tlvs state)) ≤ 8
 states_short None = omega arith
 states_short (Some state) = omega arith
 
@@ -96,7 +93,7 @@ withdrawn_short (Some a) none = omega (arith, none, length-append a.octets [])
 
 lists_short : (macs : Option (List Mac)) → AreSixOctets macs → macs_length macs ≤ 16 → length (flat_map spell_tlv (mac_tlvs macs)) ≤ 100
 lists_short None six few = omega arith
-lists_short (Some macs) six few = omega (arith, few, macs_short macs six, length-append (mac_octets macs) [])
+lists_short (Some macs) six few = omega (arith, few, length_macs macs six, length-append (mac_octets macs) [])
 
 router_length : (router : List ℕ) (space : ℕ) → length ((router ++ two space) ++ []) ≡ length router + 2
 router_length router space = omega (arith, length-append (router ++ two space) [], length-append router (two space))

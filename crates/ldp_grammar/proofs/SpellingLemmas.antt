@@ -1,19 +1,10 @@
 -- Octets of TLVs and of messages.
-use Rattle.std.proofs.Common.{◌≡◌, ◌+◌, ◌++◌, ℕ, List, [], ◌∷◌, length, refl, arith}
+use Rattle.std.proofs.Common.{◌≡◌, ◌+◌, ◌++◌, length, arith}
+use Rattle.net_values.proofs.RowLemmas.{same_front}
 use Rattle.ldp_grammar.specs.Tlvs.{spell_tlv, IsTlv}
 use Rattle.ldp_grammar.specs.Spells.{spell_message, IsSpelling}
 use Rattle.ldp_grammar.proofs.OctetLemmas.{same_two, same_four}
 use Rattle.ldp_grammar.proofs.ItemLemmas.{ArePrefixFree}
-
-pub same_front : (xs ys more rest : List ℕ) → length xs ≡ length ys → xs ++ more ≡ ys ++ rest → (xs ≡ ys) × (more ≡ rest)
-same_front [] [] more rest len e = (refl, e)
-same_front [] (y ∷ ys) more rest len e = absurd (omega (arith, len))
-same_front (x ∷ xs) [] more rest len e = absurd (omega (arith, len))
-same_front (x ∷ xs) (y ∷ ys) more rest len e =
-    let head : x ≡ y = cc in
-    let tail : xs ++ more ≡ ys ++ rest = cc in
-    let (front, back) = same_front xs ys more rest (omega (arith, len)) tail in
-    ((λ i. head i ∷ front i), back)
 
 pub tlvs_apart : ArePrefixFree spell_tlv IsTlv
 tlvs_apart s t more rest is_s is_t e =

@@ -34,7 +34,7 @@ going_fault s f going (inl before) = absurd (none_some f (sym going ∙ before))
 going_fault s f going (inr stands) = stands.1
 
 -- a place that can be counted
-within_places : (base count : ℕ) → base + count < 2 ^ 64 → place_behind base count ≡ base + count
+pub within_places : (base count : ℕ) → base + count < 2 ^ 64 → place_behind base count ≡ base + count
 unfolding place_behind
 within_places base count few = omega arith
 

@@ -1,18 +1,15 @@
 -- What a table holds after an address came, and after entries were taken out.
 use Rattle.std.proofs.Common.{◌≡◌, ◌<◌, ◌+◌, ◌++◌, ◌||◌, ◌⊎◌, ◌∙◌, ℕ, Bool, true, false, List, [], ◌∷◌, Option, Some, None, length, set, suc, nat_lt, cond, refl, ap, sym, subst, inl, inr, add-one, arith, length-append, ◌≤◌}
 use Rattle.std.specs.Prelude.{filter, All, Contains, bytes_eq, option_map}
-use Rattle.std.proofs.lemmas.Bool.{cases_Bool}
+use Rattle.std.proofs.lemmas.Bool.{cases_Bool, ltb-true, or_parts, lt-ltb, le-ltb}
 use Rattle.std.proofs.lemmas.Map.Entries.{option_filter}
 use Rattle.std.proofs.lemmas.Bool.Decides.{nat_tests}
 use Rattle.std.proofs.lemmas.Slice.Eq.{bytes_eq-Decides}
 use Rattle.std.proofs.lemmas.List.Elements.{All-cons, All-head, All-tail, All-push, All-weaker, All-same, All-filter, All-contains_itself}
 use Rattle.net_values.specs.declared.mac.Mac.{Mac}
+use Rattle.net_values.proofs.NumberLemmas.{zero_below}
 use Rattle.mac_table.specs.declared.mac_entry.MacEntry.{MacEntry}
 use Rattle.mac_table.specs.Addresses.{AddressTable, is_of, has_address, has_room, port_of, mac_entry_of, entry_place, replaced, learned, AreDistinctAddresses, NoneAfter, IsHeld}
-
-pub neither : (a b : Bool) → (a || b) ≡ false → (a ≡ false) × (b ≡ false)
-neither true b e = absurd (cc)
-neither false b e = (refl, e)
 
 -- an entry of the address has that address
 pub address_of : (address : Mac) (e : MacEntry) → is_of address e ≡ true → e.address ≡ address
@@ -32,19 +29,19 @@ other_way a b differs = elim (cases_Bool (is_of b.address a)) [
 absent-push : (xs : List MacEntry) (e : MacEntry) (address : Mac) → has_address xs address ≡ false → is_of address e ≡ false → has_address (xs ++ e ∷ []) address ≡ false
 absent-push [] e address absent differs = rw differs refl
 absent-push (x ∷ xs) e address absent differs =
-    let both = neither (is_of address x) (has_address xs address) absent in
+    let both = or_parts (is_of address x) (has_address xs address) absent in
     rw (both.0) (absent-push xs e address both.1 differs)
 
 distinct-push : (xs : List MacEntry) (e : MacEntry) → AreDistinctAddresses xs → has_address xs e.address ≡ false → AreDistinctAddresses (xs ++ e ∷ [])
 distinct-push [] e distinct absent = (refl, tt)
 distinct-push (x ∷ xs) e distinct absent =
-    let both = neither (is_of e.address x) (has_address xs e.address) absent in
+    let both = or_parts (is_of e.address x) (has_address xs e.address) absent in
     (absent-push xs e x.address distinct.0 (other_way e x both.0), distinct-push xs e distinct.1 both.1)
 
-absent-filter : (p : MacEntry → Bool) (xs : List MacEntry) (address : Mac) → has_address xs address ≡ false → has_address (filter p xs) address ≡ false
+pub absent-filter : (p : MacEntry → Bool) (xs : List MacEntry) (address : Mac) → has_address xs address ≡ false → has_address (filter p xs) address ≡ false
 absent-filter p [] address absent = refl
 absent-filter p (x ∷ xs) address absent =
-    let both = neither (is_of address x) (has_address xs address) absent in
+    let both = or_parts (is_of address x) (has_address xs address) absent in
     elim (p x) as (λ v. has_address (cond v (x ∷ filter p xs) (filter p xs)) address ≡ false) [
       | true ↦ rw (both.0) (absent-filter p xs address both.1)
       | false ↦ absent-filter p xs address both.1
@@ -83,23 +80,11 @@ distinct-learned table entry distinct = elim (cases_Bool (has_address table.entr
   ])
 ]
 
-first_below : (n : ℕ) → nat_lt 0 (suc n) ≡ true
-first_below n = grind (arith, nat_tests)
-
 next_below : (a n : ℕ) → nat_lt (a + 1) (suc n) ≡ nat_lt a n
 next_below a n = grind (arith, nat_tests)
 
-below_is : (a n : ℕ) → a < n → nat_lt a n ≡ true
-below_is a n less = grind (arith, nat_tests)
-
-above_is : (a n : ℕ) → n ≤ a → nat_lt a n ≡ false
-above_is a n more = grind (arith, nat_tests)
-
-is_below : (a n : ℕ) → nat_lt a n ≡ true → a < n
-is_below a n less = grind (arith, nat_tests)
-
 one_more : (xs : List MacEntry) (e : MacEntry) (capacity : ℕ) → nat_lt (length xs) capacity ≡ true → length (xs ++ e ∷ []) ≤ capacity
-one_more xs e capacity room = omega (arith, length-append xs (e ∷ []), is_below (length xs) capacity room)
+one_more xs e capacity room = omega (arith, length-append xs (e ∷ []), ltb-true (length xs) capacity room)
 
 length-filter_le : (p : MacEntry → Bool) (xs : List MacEntry) → length (filter p xs) ≤ length xs
 length-filter_le p [] = omega arith
@@ -114,7 +99,7 @@ length-filter_le p (x ∷ xs) =
 pub place_held : (xs : List MacEntry) (address : Mac) → nat_lt (entry_place xs address) (length xs) ≡ has_address xs address
 place_held [] address = refl
 place_held (x ∷ xs) address = elim (cases_Bool (is_of address x)) [
-  | inl found ↦ rw found (first_below (length xs))
+  | inl found ↦ rw found (zero_below (length xs))
   | inr absent ↦ rw absent (next_below (entry_place xs address) (length xs) ∙ place_held xs address)
 ]
 
@@ -156,7 +141,7 @@ learned_from table entry =
 pub entry_of-absent : (xs : List MacEntry) (address : Mac) → has_address xs address ≡ false → mac_entry_of xs address ≡ None
 entry_of-absent [] address absent = refl
 entry_of-absent (x ∷ xs) address absent =
-    let both = neither (is_of address x) (has_address xs address) absent in
+    let both = or_parts (is_of address x) (has_address xs address) absent in
     rw (both.0) (entry_of-absent xs address both.1)
 
 -- an address that is held has an entry
@@ -189,7 +174,7 @@ entry_of-replaced_other entry (x ∷ xs) address other = elim (cases_Bool (is_of
 entry_of-push : (xs : List MacEntry) (entry : MacEntry) (address : Mac) → has_address xs address ≡ false → mac_entry_of (xs ++ entry ∷ []) address ≡ mac_entry_of (entry ∷ []) address
 entry_of-push [] entry address absent = refl
 entry_of-push (x ∷ xs) entry address absent =
-    let both = neither (is_of address x) (has_address xs address) absent in
+    let both = or_parts (is_of address x) (has_address xs address) absent in
     rw (both.0) (entry_of-push xs entry address both.1)
 
 entry_of-push_other : (xs : List MacEntry) (entry : MacEntry) (address : Mac) → is_of address entry ≡ false → mac_entry_of (xs ++ entry ∷ []) address ≡ mac_entry_of xs address
@@ -247,7 +232,7 @@ port_of-filter p xs address distinct = ap (λ (o : Option MacEntry). option_map 
 pub held_at : (xs : List MacEntry) (address : Mac) (place : ℕ) → place ≡ entry_place xs address → place < length xs → has_address xs address ≡ true
 held_at xs address place at within =
     let inside : entry_place xs address < length xs = subst (λ (n : ℕ). n < length xs) at within in
-    sym (place_held xs address) ∙ below_is _ _ inside
+    sym (place_held xs address) ∙ lt-ltb _ _ inside
 
 pub written_at : (entry : MacEntry) (xs : List MacEntry) (place : ℕ) → place ≡ entry_place xs entry.address → place < length xs → set xs place entry ≡ replaced entry xs
 written_at entry xs place at within =
@@ -257,9 +242,9 @@ written_at entry xs place at within =
 pub absent_past : (xs : List MacEntry) (address : Mac) (place : ℕ) → place ≡ entry_place xs address → length xs ≤ place → has_address xs address ≡ false
 absent_past xs address place at past =
     let outside : length xs ≤ entry_place xs address = subst (λ (n : ℕ). length xs ≤ n) at past in
-    sym (place_held xs address) ∙ above_is _ _ outside
+    sym (place_held xs address) ∙ le-ltb _ _ outside
 
-length-replaced : (entry : MacEntry) (xs : List MacEntry) → length (replaced entry xs) ≡ length xs
+pub length-replaced : (entry : MacEntry) (xs : List MacEntry) → length (replaced entry xs) ≡ length xs
 length-replaced entry [] = refl
 length-replaced entry (x ∷ xs) = elim (is_of entry.address x) as (λ v. length (cond v (entry ∷ xs) (x ∷ replaced entry xs)) ≡ length (x ∷ xs)) [
   | true ↦ refl

@@ -1,7 +1,7 @@
 -- What is left of an address after ticks.
 use Rattle.std.proofs.Common.{◌≡◌, ◌<◌, ◌≤◌, ◌+◌, ◌-◌, ◌∙◌, ℕ, zero, suc, Bool, true, false, List, Some, None, cond, nat_lt, ap, inl, inr, arith}
 use Rattle.std.specs.Prelude.{filter}
-use Rattle.std.proofs.lemmas.Bool.{cases_Bool}
+use Rattle.std.proofs.lemmas.Bool.{cases_Bool, ltb-true, ltb-false}
 use Rattle.std.proofs.lemmas.Bool.Decides.{nat_tests}
 use Rattle.std.proofs.lemmas.Map.Entries.{option_filter}
 use Rattle.net_values.specs.declared.mac.Mac.{Mac}
@@ -53,21 +53,15 @@ aging_goes : (limit now n : ℕ) (xs : List MacEntry) (address : Mac) (entry : M
 aging_goes limit now zero xs address entry distinct found after young_yet past = absurd (omega (arith, young_yet, past))
 aging_goes limit now (suc n) xs address entry distinct found after young_yet past = elim (cases_Bool (nat_lt (now + 1) (entry.tick + limit))) [
   | inl less ↦
-      (let within : now + 1 < entry.tick + limit = is_less (now + 1) (entry.tick + limit) less in
+      (let within : now + 1 < entry.tick + limit = ltb-true (now + 1) (entry.tick + limit) less in
       aging_goes limit (now + 1) n (filter (is_young (now + 1) limit) xs) address entry (distinct-filter (is_young (now + 1) limit) xs distinct)
       (stays_young (now + 1) limit xs address entry distinct found (young (now + 1) limit entry.tick (omega (arith, after)) within))
       (omega (arith, after)) within (omega (arith, past)))
   | inr more ↦
-      (let over : entry.tick + limit ≤ now + 1 = is_more (now + 1) (entry.tick + limit) more in
+      (let over : entry.tick + limit ≤ now + 1 = ltb-false (now + 1) (entry.tick + limit) more in
       aging_none limit (now + 1) n (filter (is_young (now + 1) limit) xs) address (distinct-filter (is_young (now + 1) limit) xs distinct)
       (goes_old (now + 1) limit xs address entry distinct found (old (now + 1) limit entry.tick over)))
 ]
-  where
-    is_less : (a b : ℕ) → nat_lt a b ≡ true → a < b
-    is_less a b less = grind (arith, nat_tests)
-
-    is_more : (a b : ℕ) → nat_lt a b ≡ false → b ≤ a
-    is_more a b more = grind (arith, nat_tests)
 
 pub lasts_its_age : LastsItsAge
 lasts_its_age = record {

@@ -1,27 +1,19 @@
 -- The map beside the entries, before and after the calls.
-use Rattle.std.proofs.Common.{◌≡◌, ◌<◌, ◌≤◌, ◌+◌, ◌++◌, ◌∙◌, ℕ, Bool, true, false, List, [], ◌∷◌, Option, Some, None, length, take, get_or, set, suc, zero, nat_lt, cond, refl, ap, sym, subst, inl, inr, arith, true≢false}
+use Rattle.std.proofs.Common.{◌≡◌, ◌<◌, ◌≤◌, ◌+◌, ◌++◌, ◌∙◌, ℕ, Bool, true, false, List, [], ◌∷◌, Option, Some, None, length, take, get_or, set, suc, zero, nat_lt, cond, refl, ap, sym, subst, inl, inr, arith}
 use Rattle.std.specs.Prelude.{filter, bytes_eq, option_map}
 use Rattle.std.specs.List.{position, position_or_len, remove}
 use Rattle.std.specs.Map.{keys_of, lookup}
 use Rattle.indexmap.specs.IndexMap.{insert_entry, set_value_at}
-use Rattle.std.proofs.lemmas.Bool.{cases_Bool}
+use Rattle.std.proofs.lemmas.Bool.{cases_Bool, or_parts}
 use Rattle.std.proofs.lemmas.Bool.Decides.{nat_tests}
-use Rattle.std.proofs.lemmas.Slice.Eq.{bytes_eq-Decides}
 use Rattle.net_values.specs.declared.mac.Mac.{Mac}
+use Rattle.net_values.proofs.NumberLemmas.{suc_is_add}
+use Rattle.net_values.proofs.OptionLemmas.{found_at}
+use Rattle.net_values.proofs.RowLemmas.{bytes_eq-sym}
 use Rattle.mac_table.specs.declared.mac_entry.MacEntry.{MacEntry}
 use Rattle.mac_table.specs.Addresses.{AreDistinctAddresses, is_of, has_address, entry_place, port_of}
-use Rattle.mac_table.proofs.AddressLemmas.{address_of, distinct-filter, neither, other_way}
+use Rattle.mac_table.proofs.AddressLemmas.{address_of, distinct-filter, other_way}
 use Rattle.mac_table.specs.Index.{IsAddressIndex, address_pair, address_pairs}
-
--- octets compare both ways
-bytes_eq-sym : (a b : List ℕ) → bytes_eq a b ≡ bytes_eq b a
-bytes_eq-sym a b = elim (cases_Bool (bytes_eq b a)) [
-  | inl same ↦ (bytes_eq-Decides a b).1 (sym ((bytes_eq-Decides b a).0 same)) ∙ sym same
-  | inr other ↦ elim (cases_Bool (bytes_eq a b)) [
-    | inl found ↦ absurd (true≢false (sym ((bytes_eq-Decides b a).1 (sym ((bytes_eq-Decides a b).0 found))) ∙ other))
-    | inr absent ↦ absent ∙ sym other
-  ]
-]
 
 key : (address : Mac) (e : MacEntry) → bytes_eq address.0 e.address.0 ≡ is_of address e
 key address e = bytes_eq-sym address.0 e.address.0
@@ -45,15 +37,6 @@ port_found address (e ∷ es) = elim (cases_Bool (is_of address e)) [
   | inl found ↦ rw (key address e, found) refl
   | inr other ↦ rw (key address e, other) (port_found address es)
 ]
-
--- what the map says of the place of an address
-found_at : (b : Bool) (p i : ℕ) → Some i ≡ cond b (Some p) None → i ≡ p
-found_at true p i is = (λ k. option_or i (is k))
-  where
-    option_or : ℕ → Option ℕ → ℕ
-    option_or d None = d
-    option_or d (Some v) = v
-found_at false p i is = absurd (cc)
 
 found_none : (p n : ℕ) → None ≡ cond (nat_lt p n) (Some p) None → n ≤ p
 found_none p n is = elim (cases_Bool (nat_lt p n)) [
@@ -101,7 +84,7 @@ set_past (f ∷ fs) (suc i) v past = ap (λ (l : List (Mac × (ℕ × ℕ))). f 
 inserted_last : (entry : MacEntry) (xs : List MacEntry) → has_address xs entry.address ≡ false → insert_entry (λ a b. bytes_eq a.0 b.0) (address_pairs xs) entry.address (entry.port, entry.tick) ≡ address_pairs (xs ++ entry ∷ [])
 inserted_last entry [] absent = refl
 inserted_last entry (x ∷ xs) absent =
-    let both = neither (is_of entry.address x) (has_address xs entry.address) absent in
+    let both = or_parts (is_of entry.address x) (has_address xs entry.address) absent in
     rw (key entry.address x, both.0) (ap (λ (l : List (Mac × (ℕ × ℕ))). address_pair x ∷ l) (inserted_last entry xs both.1))
 
 -- where it is as long as the list it is the list's
@@ -151,8 +134,8 @@ distinct_left p xs ys distinct same = subst AreDistinctAddresses (sym same) (dis
 -- an entry is of no address of the entries before it
 unlike_at : (xs : List MacEntry) (i : ℕ) (x d : MacEntry) → has_address xs x.address ≡ false → i < length xs → is_of x.address (get_or xs i d) ≡ false
 unlike_at [] i x d absent within = absurd (omega (arith, within))
-unlike_at (y ∷ ys) zero x d absent within = (neither (is_of x.address y) (has_address ys x.address) absent).0
-unlike_at (y ∷ ys) (suc i) x d absent within = unlike_at ys i x d (neither (is_of x.address y) (has_address ys x.address) absent).1 (omega (arith, within))
+unlike_at (y ∷ ys) zero x d absent within = (or_parts (is_of x.address y) (has_address ys x.address) absent).0
+unlike_at (y ∷ ys) (suc i) x d absent within = unlike_at ys i x d (or_parts (is_of x.address y) (has_address ys x.address) absent).1 (omega (arith, within))
 
 absent_before : (xs : List MacEntry) (i : ℕ) (d : MacEntry) → AreDistinctAddresses xs → i < length xs → has_address (take i xs) (get_or xs i d).address ≡ false
 absent_before [] i d distinct within = absurd (omega (arith, within))
@@ -172,10 +155,7 @@ pub index_refilled : (fs gs : List (Mac × (ℕ × ℕ))) (xs : List MacEntry) (
 index_refilled fs gs xs i next d distinct within after done put =
     let e : MacEntry = get_or xs i d in
     put ∙ ap (λ (l : List (Mac × (ℕ × ℕ))). insert_entry (λ a b. bytes_eq a.0 b.0) l e.address (e.port, e.tick)) done
-    ∙ inserted_last e (take i xs) (absent_before xs i d distinct within) ∙ ap address_pairs (take_next xs i d within ∙ ap (λ (n : ℕ). take n xs) (add-one' i ∙ sym after))
-  where
-    add-one' : (n : ℕ) → suc n ≡ n + 1
-    add-one' n = omega arith
+    ∙ inserted_last e (take i xs) (absent_before xs i d distinct within) ∙ ap address_pairs (take_next xs i d within ∙ ap (λ (n : ℕ). take n xs) (suc_is_add i ∙ sym after))
 
 length-take_next : (xs : List MacEntry) (i : ℕ) → i < length xs → length (take (suc i) xs) ≡ i + 1
 length-take_next [] i within = absurd (omega (arith, within))

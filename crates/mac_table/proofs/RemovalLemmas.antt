@@ -3,10 +3,11 @@ use Rattle.std.proofs.Common.{◌≡◌, ◌<◌, ◌≤◌, ◌+◌, ℕ, Bool,
 use Rattle.std.specs.Prelude.{filter, All}
 use Rattle.std.specs.List.{remove}
 use Rattle.std.proofs.lemmas.List.Elements.{All-push}
+use Rattle.std.proofs.lemmas.Bool.{or_parts}
 use Rattle.net_values.specs.declared.mac.Mac.{Mac}
+use Rattle.net_values.proofs.NumberLemmas.{suc_is_add}
 use Rattle.mac_table.specs.declared.mac_entry.MacEntry.{MacEntry}
 use Rattle.mac_table.specs.Addresses.{AreDistinctAddresses, IsHeld, has_address, is_of}
-use Rattle.mac_table.proofs.AddressLemmas.{neither}
 use Rattle.mac_table.proofs.IndexLemmas.{take_next}
 use Rattle.mac_table.proofs.TickLemmas.{filter_all}
 
@@ -30,9 +31,9 @@ front_removed (x ∷ xs) (suc i) within = ap (λ (l : List MacEntry). x ∷ l) (
 absent_removed : (xs : List MacEntry) (i : ℕ) (address : Mac) → has_address xs address ≡ false → has_address (remove xs i) address ≡ false
 absent_removed [] zero address absent = refl
 absent_removed [] (suc i) address absent = refl
-absent_removed (x ∷ xs) zero address absent = (neither (is_of address x) (has_address xs address) absent).1
+absent_removed (x ∷ xs) zero address absent = (or_parts (is_of address x) (has_address xs address) absent).1
 absent_removed (x ∷ xs) (suc i) address absent =
-    let both = neither (is_of address x) (has_address xs address) absent in
+    let both = or_parts (is_of address x) (has_address xs address) absent in
     rw (both.0) (absent_removed xs i address both.1)
 
 pub distinct_removed : (xs : List MacEntry) (i : ℕ) → AreDistinctAddresses xs → AreDistinctAddresses (remove xs i)
@@ -44,10 +45,7 @@ distinct_removed (x ∷ xs) (suc i) distinct = (absent_removed xs i x.address di
 -- one more entry stays
 pub front_stays : (p : MacEntry → Bool) (xs : List MacEntry) (i : ℕ) (d : MacEntry) → i < length xs → p (get_or xs i d) ≡ true → All (λ e. p e ≡ true) (take i xs) → All (λ e. p e ≡ true) (take (i + 1) xs)
 front_stays p xs i d within stays all =
-    subst (λ (n : ℕ). All (λ e. p e ≡ true) (take n xs)) (more i) (subst (All (λ (e : MacEntry). p e ≡ true)) (take_next xs i d within) (All-push (λ (e : MacEntry). p e ≡ true) (take i xs) (get_or xs i d) all stays))
-  where
-    more : (n : ℕ) → suc n ≡ n + 1
-    more n = omega arith
+    subst (λ (n : ℕ). All (λ e. p e ≡ true) (take n xs)) (suc_is_add i) (subst (All (λ (e : MacEntry). p e ≡ true)) (take_next xs i d within) (All-push (λ (e : MacEntry). p e ≡ true) (take i xs) (get_or xs i d) all stays))
 
 take_all : (xs : List MacEntry) (i : ℕ) → length xs ≤ i → take i xs ≡ xs
 take_all [] zero past = refl

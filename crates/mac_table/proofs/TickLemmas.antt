@@ -3,42 +3,29 @@ use Rattle.std.proofs.Common.{◌≡◌, ◌<◌, ◌≤◌, ◌+◌, ◌-◌, �
 use Rattle.std.specs.Prelude.{filter, All, if◌then◌else◌}
 use Rattle.std.specs.List.{remove}
 use Rattle.std.specs.Map.{lookup, remove_entry}
-use Rattle.std.proofs.lemmas.Bool.{cases_Bool}
+use Rattle.std.proofs.lemmas.Bool.{cases_Bool, eqb-true}
 use Rattle.std.proofs.lemmas.Bool.Decides.{nat_tests}
 use Rattle.std.proofs.lemmas.List.Elements.{All-cons, All-head, All-tail, All-filter}
+use Rattle.net_values.proofs.NumberLemmas.{same_number, equal_turned, difference_of, above_apart, is_none}
+use Rattle.net_values.proofs.OptionLemmas.{same_number_held}
 use Rattle.indexmap.specs.IndexMap.{insert_entry}
 use Rattle.mac_table.specs.declared.mac_entry.MacEntry.{MacEntry}
 use Rattle.mac_table.specs.Addresses.{NoneAfter, is_young}
 use Rattle.mac_table.specs.Ticks.{AreRisingTicks, AreTickNumbers, IsTickIndex, tick_count, tick_number}
 
-swap_eq : (a b : ℕ) → nat_eq a b ≡ nat_eq b a
-swap_eq a b = grind (arith, nat_tests)
-
-is_same : (a b : ℕ) → nat_eq a b ≡ true → a ≡ b
-is_same a b equal = grind (arith, nat_tests)
-
-same : (a : ℕ) → nat_eq a a ≡ true
-same a = grind (arith, nat_tests)
-
-apart : (a b : ℕ) → a < b → nat_eq b a ≡ false
-apart a b less = grind (arith, nat_tests)
-
 -- what a look at the tick finds
 pub number_found : (tick : ℕ) (ps : List (ℕ × ℕ)) (n : ℕ) → lookup (nat_eq tick) ps ≡ Some n → tick_number tick ps ≡ n
 number_found tick [] n found = absurd (cc)
 number_found tick (p ∷ ps) n found = elim (cases_Bool (nat_eq p.0 tick)) [
-  | inl here ↦ rw here (some_is p.1 n (rw (swap_eq tick p.0, here) at found))
-  | inr past ↦ rw past (number_found tick ps n (rw (swap_eq tick p.0, past) at found))
+  | inl here ↦ rw here (same_number_held p.1 n (rw (equal_turned tick p.0, here) at found))
+  | inr past ↦ rw past (number_found tick ps n (rw (equal_turned tick p.0, past) at found))
 ]
-  where
-    some_is : (a b : ℕ) → Some a ≡ Some b → a ≡ b
-    some_is a b is = cc
 
 pub number_none : (tick : ℕ) (ps : List (ℕ × ℕ)) → lookup (nat_eq tick) ps ≡ None → tick_number tick ps ≡ 0
 number_none tick [] none = refl
 number_none tick (p ∷ ps) none = elim (cases_Bool (nat_eq p.0 tick)) [
-  | inl here ↦ absurd (something p.1 (rw (swap_eq tick p.0, here) at none))
-  | inr past ↦ rw past (number_none tick ps (rw (swap_eq tick p.0, past) at none))
+  | inl here ↦ absurd (something p.1 (rw (equal_turned tick p.0, here) at none))
+  | inr past ↦ rw past (number_none tick ps (rw (equal_turned tick p.0, past) at none))
 ]
   where
     something : (a : ℕ) → Some a ≡ None → ⊥
@@ -46,17 +33,17 @@ number_none tick (p ∷ ps) none = elim (cases_Bool (nat_eq p.0 tick)) [
 
 -- a write beside a tick
 pub number_put : (at tick number : ℕ) (ps : List (ℕ × ℕ)) → tick_number at (insert_entry nat_eq ps tick number) ≡ (if nat_eq at tick then number else tick_number at ps)
-number_put at tick number [] = rw (swap_eq tick at) refl
+number_put at tick number [] = rw (equal_turned tick at) refl
 number_put at tick number (p ∷ ps) = elim (cases_Bool (nat_eq tick p.0)) [
   | inl here ↦
-      (let is : tick ≡ p.0 = is_same tick p.0 here in
-      rw (here, swap_eq p.0 at, is) (elim (nat_eq at p.0) as (λ v. cond v number (tick_number at ps) ≡ cond v number (cond v p.1 (tick_number at ps))) [
+      (let is : tick ≡ p.0 = eqb-true tick p.0 here in
+      rw (here, equal_turned p.0 at, is) (elim (nat_eq at p.0) as (λ v. cond v number (tick_number at ps) ≡ cond v number (cond v p.1 (tick_number at ps))) [
         | true ↦ refl
         | false ↦ refl
       ]))
   | inr past ↦ rw past (elim (cases_Bool (nat_eq p.0 at)) [
     | inl first ↦
-        (let other : nat_eq at tick ≡ false = rw (is_same p.0 at first) at (swap_eq p.0 tick ∙ past) in
+        (let other : nat_eq at tick ≡ false = rw (eqb-true p.0 at first) at (equal_turned p.0 tick ∙ past) in
         rw (first, other) refl)
     | inr later ↦ rw later (number_put at tick number ps)
   ])
@@ -87,7 +74,7 @@ key_above first tick n [] all found = absurd (none n (sym found))
     none : (a : ℕ) → Some a ≡ None → ⊥
     none a is = cc
 key_above first tick n (p ∷ ps) all found = elim (cases_Bool (nat_eq tick p.0)) [
-  | inl here ↦ rw (is_same tick p.0 here) (All-head (λ (q : ℕ × ℕ). first < q.0) p ps all)
+  | inl here ↦ rw (eqb-true tick p.0 here) (All-head (λ (q : ℕ × ℕ). first < q.0) p ps all)
   | inr past ↦ key_above first tick n ps (All-tail (λ (q : ℕ × ℕ). first < q.0) p ps all) (rw past at found)
 ]
 
@@ -113,7 +100,7 @@ positive_put tick number (p ∷ ps) all some = elim (nat_eq tick p.0) as (λ v. 
 number_below : (tick : ℕ) (ps : List (ℕ × ℕ)) → All (λ q. tick < q.0) ps → tick_number tick ps ≡ 0
 number_below tick [] all = refl
 number_below tick (p ∷ ps) all =
-    rw (apart tick p.0 (All-head (λ (q : ℕ × ℕ). tick < q.0) p ps all)) (number_below tick ps (All-tail (λ (q : ℕ × ℕ). tick < q.0) p ps all))
+    rw (above_apart tick p.0 (All-head (λ (q : ℕ × ℕ). tick < q.0) p ps all)) (number_below tick ps (All-tail (λ (q : ℕ × ℕ). tick < q.0) p ps all))
 
 -- a tick that is taken out
 pub number_taken : (at tick : ℕ) (ps : List (ℕ × ℕ)) → AreRisingTicks ps → tick_number at (remove_entry (nat_eq tick) ps) ≡ (if nat_eq at tick then 0 else tick_number at ps)
@@ -127,16 +114,16 @@ number_taken at tick [] rising = sym (either (nat_eq at tick))
     either false = refl
 number_taken at tick (p ∷ ps) rising = elim (cases_Bool (nat_eq tick p.0)) [
   | inl here ↦
-      (let is : tick ≡ p.0 = is_same tick p.0 here in
+      (let is : tick ≡ p.0 = eqb-true tick p.0 here in
       rw here (elim (cases_Bool (nat_eq at tick)) [
-        | inl found ↦ rw found (subst (λ (k : ℕ). tick_number k ps ≡ 0) (sym (is_same at tick found ∙ is)) (number_below p.0 ps rising.0))
+        | inl found ↦ rw found (subst (λ (k : ℕ). tick_number k ps ≡ 0) (sym (eqb-true at tick found ∙ is)) (number_below p.0 ps rising.0))
         | inr other ↦
-            (let unlike : nat_eq p.0 at ≡ false = swap_eq p.0 at ∙ subst (λ (k : ℕ). nat_eq at k ≡ false) is other in
+            (let unlike : nat_eq p.0 at ≡ false = equal_turned p.0 at ∙ subst (λ (k : ℕ). nat_eq at k ≡ false) is other in
             rw (other, unlike) refl)
       ]))
   | inr past ↦ rw past (elim (cases_Bool (nat_eq p.0 at)) [
     | inl first ↦
-        (let other : nat_eq at tick ≡ false = rw (is_same p.0 at first) at (swap_eq p.0 tick ∙ past) in
+        (let other : nat_eq at tick ≡ false = rw (eqb-true p.0 at first) at (equal_turned p.0 tick ∙ past) in
         rw (first, other) refl)
     | inr later ↦ rw later (number_taken at tick ps rising.1)
   ])
@@ -167,7 +154,7 @@ positive_taken tick (p ∷ ps) all = elim (nat_eq tick p.0) as (λ v. All (λ q.
 pub number_less : (at tick n number : ℕ) (ps : List (ℕ × ℕ)) → lookup (nat_eq tick) ps ≡ Some n → number ≡ n - 1 → (if nat_eq at tick then number else tick_number at ps) ≡ tick_number at ps - (if nat_eq at tick then 1 else 0)
 number_less at tick n number ps found less = elim (cases_Bool (nat_eq at tick)) [
   | inl here ↦
-      (let is : tick_number at ps ≡ n = subst (λ (k : ℕ). tick_number k ps ≡ n) (sym (is_same at tick here)) (number_found tick ps n found) in
+      (let is : tick_number at ps ≡ n = subst (λ (k : ℕ). tick_number k ps ≡ n) (sym (eqb-true at tick here)) (number_found tick ps n found) in
       rw (here, is) less)
   | inr other ↦ rw other (omega arith)
 ]
@@ -175,7 +162,7 @@ number_less at tick n number ps found less = elim (cases_Bool (nat_eq at tick)) 
 pub number_stays : (at tick : ℕ) (ps : List (ℕ × ℕ)) → lookup (nat_eq tick) ps ≡ None → tick_number at ps ≡ tick_number at ps - (if nat_eq at tick then 1 else 0)
 number_stays at tick ps none = elim (cases_Bool (nat_eq at tick)) [
   | inl here ↦
-      (let is : tick_number at ps ≡ 0 = subst (λ (k : ℕ). tick_number k ps ≡ 0) (sym (is_same at tick here)) (number_none tick ps none) in
+      (let is : tick_number at ps ≡ 0 = subst (λ (k : ℕ). tick_number k ps ≡ 0) (sym (eqb-true at tick here)) (number_none tick ps none) in
       rw (here, is) refl)
   | inr other ↦ rw other (omega arith)
 ]
@@ -186,16 +173,16 @@ keys_within now [] some within = λ k d less. absurd (omega (arith, less))
 keys_within now (p ∷ ps) some within =
     let first : 0 < p.1 = All-head (λ (q : ℕ × ℕ). 0 < q.1) p ps some in
     All-cons (λ (q : ℕ × ℕ). q.0 ≤ now) p ps
-    (within p.0 (rw (same p.0) first))
+    (within p.0 (rw (same_number p.0) first))
     (keys_within now ps (All-tail (λ (q : ℕ × ℕ). 0 < q.1) p ps some) (λ tick more. elim (cases_Bool (nat_eq p.0 tick)) [
-      | inl here ↦ subst (λ (k : ℕ). k ≤ now) (is_same p.0 tick here) (within p.0 (rw (same p.0) first))
+      | inl here ↦ subst (λ (k : ℕ). k ≤ now) (eqb-true p.0 tick here) (within p.0 (rw (same_number p.0) first))
       | inr past ↦ within tick (rw past more)
     ]))
 
 pub count_within : (now tick : ℕ) (es : List MacEntry) → NoneAfter now es → 0 < tick_count tick es → tick ≤ now
 count_within now tick [] none more = absurd (omega (arith, more))
 count_within now tick (e ∷ es) none more = elim (cases_Bool (nat_eq e.tick tick)) [
-  | inl here ↦ subst (λ (k : ℕ). k ≤ now) (is_same e.tick tick here) (All-head (λ (x : MacEntry). x.tick ≤ now) e es none)
+  | inl here ↦ subst (λ (k : ℕ). k ≤ now) (eqb-true e.tick tick here) (All-head (λ (x : MacEntry). x.tick ≤ now) e es none)
   | inr past ↦ count_within now tick es (All-tail (λ (x : MacEntry). x.tick ≤ now) e es none) (omega (arith, rw past at more))
 ]
 
@@ -216,9 +203,9 @@ ticks_pushed ps qs es e number ticks more (inl put) = inl (record { numbers = nu
       where
         by : ((nat_eq at e.tick ≡ true) ⊎ (nat_eq at e.tick ≡ false)) → (if nat_eq at e.tick then number else tick_number at ps) ≡ tick_count at es + (if nat_eq e.tick at then 1 else 0)
         by (inl here) =
-            let is : number ≡ tick_count at es + 1 = more ∙ ap (λ (k : ℕ). k + 1) (subst (λ (k : ℕ). tick_number k ps ≡ tick_count at es) (is_same at e.tick here) (ticks.numbers at)) in
-            rw (here, swap_eq e.tick at, here) is
-        by (inr other) = rw (other, swap_eq e.tick at, other) (ticks.numbers at ∙ omega arith)
+            let is : number ≡ tick_count at es + 1 = more ∙ ap (λ (k : ℕ). k + 1) (subst (λ (k : ℕ). tick_number k ps ≡ tick_count at es) (eqb-true at e.tick here) (ticks.numbers at)) in
+            rw (here, equal_turned e.tick at, here) is
+        by (inr other) = rw (other, equal_turned e.tick at, other) (ticks.numbers at ∙ omega arith)
 ticks_pushed ps qs es e number ticks more (inr none) = inr none
 
 -- the ticks are the entries' where there are any, or no entries
@@ -237,7 +224,7 @@ filter_all p [] all = refl
 filter_all p (e ∷ es) all = rw (All-head (λ (x : MacEntry). p x ≡ true) e es all) (ap (λ (l : List MacEntry). e ∷ l) (filter_all p es (All-tail (λ (x : MacEntry). p x ≡ true) e es all)))
 
 count_own : (e : MacEntry) (es : List MacEntry) → 0 < tick_count e.tick (e ∷ es)
-count_own e es = rw (same e.tick) (omega arith)
+count_own e es = rw (same_number e.tick) (omega arith)
 
 young_from : (first now limit : ℕ) (es : List MacEntry) → nat_lt (now - first) limit ≡ true → ((tick : ℕ) → 0 < tick_count tick es → first ≤ tick) → All (λ e. is_young now limit e ≡ true) es
 young_from first now limit [] young later = λ k d within. absurd (omega (arith, within))
@@ -252,7 +239,7 @@ young_from first now limit (e ∷ es) young later =
 number_from : (first tick : ℕ) (ps : List (ℕ × ℕ)) → All (λ q. first < q.0) ps → 0 < tick_number tick ps → first ≤ tick
 number_from first tick [] all more = absurd (omega (arith, more))
 number_from first tick (p ∷ ps) all more = elim (cases_Bool (nat_eq p.0 tick)) [
-  | inl here ↦ (let is : p.0 ≡ tick = is_same p.0 tick here in omega (arith, is, All-head (λ (q : ℕ × ℕ). first < q.0) p ps all))
+  | inl here ↦ (let is : p.0 ≡ tick = eqb-true p.0 tick here in omega (arith, is, All-head (λ (q : ℕ × ℕ). first < q.0) p ps all))
   | inr past ↦ number_from first tick ps (All-tail (λ (q : ℕ × ℕ). first < q.0) p ps all) (rw past at more)
 ]
 
@@ -274,7 +261,7 @@ young_all (p ∷ ps) es first n now limit (inl ticks) at young =
 
     by : p.0 ≡ first → (tick : ℕ) → 0 < tick_number tick (p ∷ ps) → first ≤ tick
     by is tick more = elim (cases_Bool (nat_eq p.0 tick)) [
-      | inl here ↦ (let found : p.0 ≡ tick = is_same p.0 tick here in omega (arith, is, found))
+      | inl here ↦ (let found : p.0 ≡ tick = eqb-true p.0 tick here in omega (arith, is, found))
       | inr past ↦ subst (λ (k : ℕ). k ≤ tick) is (number_from p.0 tick ps ticks.rising.0 (rw past at more))
     ]
 
@@ -305,13 +292,10 @@ ticks_moved ps qs es i e d within (inl ticks) less rising positive empty = inl (
   where
     numbers : (at : ℕ) → tick_number at qs ≡ tick_count at (set es i e)
     numbers at =
-        let swapped : (if nat_eq at (get_or es i d).tick then 1 else 0) ≡ hit at (get_or es i d) = ap (λ (b : Bool). if b then 1 else 0) (swap_eq at (get_or es i d).tick) in
+        let swapped : (if nat_eq at (get_or es i d).tick then 1 else 0) ≡ hit at (get_or es i d) = ap (λ (b : Bool). if b then 1 else 0) (equal_turned at (get_or es i d).tick) in
         let set_is : tick_count at (set es i e) + hit at (get_or es i d) ≡ tick_count at es + hit at e = count_set at i es e d within in
         let pushed : tick_number at ps ≡ tick_count at es + hit at e = ticks.numbers at ∙ count_pushed at es e in
-        less ticks.rising at ∙ rw (swapped, pushed) (sub_of _ _ _ set_is)
-      where
-        sub_of : (a b c : ℕ) → a + b ≡ c → c - b ≡ a
-        sub_of a b c is = omega (arith, is)
+        less ticks.rising at ∙ rw (swapped, pushed) (difference_of _ _ _ set_is)
 
 -- ---- entries are taken out
 
@@ -328,12 +312,9 @@ ticks_removed ps qs es i d within (inl ticks) less rising positive empty = inl (
   where
     numbers : (at : ℕ) → tick_number at qs ≡ tick_count at (remove es i)
     numbers at =
-        let swapped : (if nat_eq at (get_or es i d).tick then 1 else 0) ≡ hit at (get_or es i d) = ap (λ (b : Bool). if b then 1 else 0) (swap_eq at (get_or es i d).tick) in
+        let swapped : (if nat_eq at (get_or es i d).tick then 1 else 0) ≡ hit at (get_or es i d) = ap (λ (b : Bool). if b then 1 else 0) (equal_turned at (get_or es i d).tick) in
         let left : tick_count at (remove es i) + hit at (get_or es i d) ≡ tick_count at es = count_removed at i es d within in
-        less ticks.rising at ∙ rw (swapped, ticks.numbers at) (sub_of _ _ _ left)
-      where
-        sub_of : (a b c : ℕ) → a + b ≡ c → c - b ≡ a
-        sub_of a b c is = omega (arith, is)
+        less ticks.rising at ∙ rw (swapped, ticks.numbers at) (difference_of _ _ _ left)
 
 -- the ticks of the entries that stay and of those in the rest that do not
 abbrev pub IsLeaving : (MacEntry → Bool) → List (ℕ × ℕ) → List MacEntry → List MacEntry → Type 0
@@ -361,7 +342,7 @@ leaving_goes p ps qs es rest e goes less rising empty (inl leaving) = inl (numbe
   where
     numbers : (at : ℕ) → tick_number at qs ≡ tick_count at (filter p es) + tick_count at (filter (λ e. not (p e)) rest)
     numbers at =
-        let swapped : (if nat_eq at e.tick then 1 else 0) ≡ hit at e = ap (λ (b : Bool). if b then 1 else 0) (swap_eq at e.tick) in
+        let swapped : (if nat_eq at e.tick then 1 else 0) ≡ hit at e = ap (λ (b : Bool). if b then 1 else 0) (equal_turned at e.tick) in
         let was : tick_number at ps ≡ tick_count at (filter p es) + (hit at e + tick_count at (filter (λ e. not (p e)) rest)) = rw goes at (leaving.0 at) in
         less at ∙ rw (swapped, was) (sub_mid _ _ _)
       where
@@ -397,13 +378,10 @@ number_used tick (p ∷ ps) rising = elim (cases_Bool (nat_lt 0 p.1)) [
   | inr none ↦ rw none (elim (cases_Bool (nat_eq p.0 tick)) [
     | inl here ↦
         (let later : tick_number p.0 ps ≡ 0 = number_below p.0 ps rising.0 in
-        rw here (number_used tick ps rising.1 ∙ subst (λ (k : ℕ). tick_number k ps ≡ 0) (is_same p.0 tick here) later ∙ sym (is_none p.1 none)))
+        rw here (number_used tick ps rising.1 ∙ subst (λ (k : ℕ). tick_number k ps ≡ 0) (eqb-true p.0 tick here) later ∙ sym (is_none p.1 none)))
     | inr past ↦ rw past (number_used tick ps rising.1)
   ])
 ]
-  where
-    is_none : (a : ℕ) → nat_lt 0 a ≡ false → a ≡ 0
-    is_none a none = grind (arith, nat_tests)
 
 pub ticks_used : (ps qs : List (ℕ × ℕ)) (es : List MacEntry) → (((at : ℕ) → tick_number at ps ≡ tick_count at es) × AreRisingTicks ps) ⊎ (ps ≡ []) → qs ≡ filter (λ p. nat_lt 0 p.1) ps → IsTickIndex qs es
 ticks_used ps qs es (inl counted) left = rw left (inl (record {
@@ -428,12 +406,12 @@ number_filtered at tick (p ∷ ps) = elim (cases_Bool (nat_eq p.0 tick)) [
   | inl gone ↦ rw gone (elim (cases_Bool (nat_eq at tick)) [
     | inl here ↦ number_filtered at tick ps ∙ rw here refl
     | inr other ↦
-        (let unlike : nat_eq p.0 at ≡ false = rw (is_same p.0 tick gone) (swap_eq tick at ∙ other) in
+        (let unlike : nat_eq p.0 at ≡ false = rw (eqb-true p.0 tick gone) (equal_turned tick at ∙ other) in
         rw (other, unlike) (number_filtered at tick ps ∙ rw other refl))
   ])
   | inr stays ↦ rw stays (elim (cases_Bool (nat_eq p.0 at)) [
     | inl here ↦
-        (let other : nat_eq at tick ≡ false = rw (sym (is_same p.0 at here)) stays in
+        (let other : nat_eq at tick ≡ false = rw (sym (eqb-true p.0 at here)) stays in
         rw (here, other) refl)
     | inr past ↦ rw past (number_filtered at tick ps)
   ])

@@ -1,11 +1,12 @@
 -- Words with a blank before each, joined.
 use Rattle.std.proofs.Common.{suc, zero, ◌≡◌, ◌≢◌, ◌<◌, ◌≤◌, ◌+◌, ◌++◌, ℕ, List, [], ◌∷◌, Some, drop, get_or, refl, ap, sym, ◌∙◌, length, append_assoc, arith}
-use Rattle.std.specs.Prelude.{codes, slice_get, Option, Bool, true, false}
+use Rattle.std.specs.Prelude.{codes, slice_get, Bool, true, false}
 use Rattle.std.specs.Int.{from_bool}
 use Rattle.std.specs.Fmt.{decimal}
 use Rattle.std.proofs.lemmas.Fmt.{decimal_digit}
 use Rattle.std.proofs.lemmas.List.{append-nil, at_drop_more, drop_all}
 use Rattle.pw_tlvs.specs.declared.point.Point.{Point}
+use Rattle.pw_tlvs.proofs.CommonLemmas.{same_point}
 use Rattle.text_pieces.specs.Pieces.{hex, spaced}
 use Rattle.message_text.specs.Words.{description_words, flag, parted, point_word, point_words}
 
@@ -14,10 +15,7 @@ pub points_from : (points : List Point) (index : ℕ) (point : Point) → slice_
     → spaced (point_words (drop index points)) ≡ (codes " " ++ point_word point) ++ spaced (point_words (drop (index + 1) points))
 points_from [] index point is = absurd (cc)
 points_from (first ∷ points) zero point is =
-    ap (λ (p : Point). (codes " " ++ point_word p) ++ spaced (point_words points)) (unsome (Some first) first point refl is)
-  where
-    unsome : (o : Option Point) (a b : Point) → o ≡ Some a → o ≡ Some b → a ≡ b
-    unsome o a b is_a is_b = cc
+    ap (λ (p : Point). (codes " " ++ point_word p) ++ spaced (point_words points)) (same_point (Some first) first point refl is)
 points_from (first ∷ points) (suc index) point is =
     let next : suc (index + 1) ≡ suc index + 1 = omega arith in
     points_from points index point is ∙ ap (λ (k : ℕ). (codes " " ++ point_word point) ++ spaced (point_words (drop k (first ∷ points)))) next

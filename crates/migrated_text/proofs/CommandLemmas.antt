@@ -1,38 +1,22 @@
 -- Each command is read from its text.
-use Rattle.std.proofs.Common.{◌≡◌, ◌≤◌, ◌+◌, ◌∙◌, not, ℕ, Bool, true, false, List, [], ◌∷◌, length, Some, Ok, codes, lt-ltb, refl, ap, arith}
+use Rattle.std.proofs.Common.{◌≡◌, ◌≤◌, ◌+◌, ℕ, List, [], ◌∷◌, length, Some, Ok, codes, lt-ltb, refl, arith}
 use Rattle.std.specs.Fmt.{decimal}
-use Rattle.std.specs.List.{list_all}
 use Rattle.toml.specs.View.{items_of}
 use Rattle.net_base.specs.declared.plan.Plan.{Plan}
 use Rattle.net_base.specs.plan.NameFaults.{circuit_names}
 use Rattle.report_text.specs.Words.{circuit_name}
 use Rattle.command_text.specs.declared.command.Command.{Command}
 use Rattle.command_text.specs.declared.command.Command.TheVariants.{One, Settle, Flow, Ticks, Play}
-use Rattle.command_text.specs.declared.plan_names.PlanNames.{PlanNames}
 use Rattle.command_text.specs.Planned.{IsCount, names_of}
 use Rattle.command_text.specs.Events.{repeats_in, play_in, many_of, part_command, packet_command, command_of, command_in, commands_in, plays_after}
 use Rattle.command_text.specs.Names.{place_in}
-use Rattle.command_text.specs.Words.{is_space, decimal_from, some_word}
+use Rattle.command_text.specs.Words.{decimal_from, some_word}
 use Rattle.event_laws.specs.Law.{joined_words, HasNames}
-use Rattle.event_laws.proofs.WordLemmas.{IsWhole, AreWhole, first_of, word_is, said_is, ends_is}
-use Rattle.event_laws.proofs.ValueLemmas.{whole_by, decimal_whole, number_said, row_said, row_whole}
-use Rattle.event_laws.proofs.EventLemmas.{reads}
+use Rattle.event_laws.proofs.WordLemmas.{IsWhole, AreWhole, word_is, said_is, ends_is}
+use Rattle.event_laws.proofs.ValueLemmas.{decimal_whole, number_said, row_said, row_whole}
+use Rattle.event_laws.proofs.EventLemmas.{reads, by_word, literal}
 use Rattle.migrated_text.specs.Commands.{command_text, event_items}
 use Rattle.migrated_text.specs.Law.{HasNoBlank, IsSaidCommand, AreSaidCommands, ReadsMigratedCommands}
-
-not_true : (b : Bool) → not b ≡ true → b ≡ false
-not_true true e = cc e
-not_true false e = refl
-
--- the first word of a command has no blank
-literal : (word : List ℕ) → list_all (λ c. not (is_space c)) word ≡ true → IsWhole word
-literal word e = whole_by (λ c. not (is_space c)) (λ c none. not_true (is_space c) none) word e
-
--- a command by its first word
-by_word : (names : PlanNames) (number plays : ℕ) (word : List ℕ) (words : List (List ℕ)) (command : Command) → IsWhole word
-    → command_of names number plays word (joined_words (word ∷ words)) ≡ Ok command → command_in names number plays (joined_words (word ∷ words)) ≡ Ok command
-by_word names number plays word words command whole is =
-    ap (λ (first : List ℕ). command_of names number plays first (joined_words (word ∷ words))) (first_of word words whole) ∙ is
 
 -- a count of repetitions
 repeats_read : (number count : ℕ) (word : List ℕ) → IsWhole word → IsCount count → repeats_in number (joined_words (word ∷ decimal count ∷ [])) ≡ Ok count

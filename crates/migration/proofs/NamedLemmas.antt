@@ -1,12 +1,13 @@
 -- What rows name is found.
 use Rattle.std.proofs.Common.{◌≡◌, ◌<◌, ◌≤◌, ◌==◌, ◌+◌, ◌++◌, ◌||◌, ◌∙◌, ◌^◌, ℕ, zero, suc, Bool, true, false, List, [], ◌∷◌, length, map, get_or, slice_get, Option, Some, None, option_map, Ok, append-nil, refl, sym, ap, arith, inl, inr, if◌then◌else◌}
 use Rattle.std.proofs.lemmas.Bool.{cases_Bool, eqb-true, lt-ltb, false≢true}
-use Rattle.std.proofs.lemmas.Bool.Decides.{nat_tests}
 use Rattle.std.proofs.lemmas.List.{append_assoc, length-map}
 use Rattle.std.proofs.lemmas.Slice.Eq.{bytes_eq-Decides}
 use Rattle.std.specs.List.{All, list_any, position_or_len}
 use Rattle.std.specs.Str.{bytes_eq}
 use Rattle.net_values.specs.Name.{IsName}
+use Rattle.net_values.proofs.NumberLemmas.{same_number}
+use Rattle.net_values.proofs.RowLemmas.{same_octets, octets_apart_back}
 use Rattle.net_base.specs.plan.Accepted.{NonePair}
 use Rattle.net_base.specs.plan.Faults.{clash_after, first_clash}
 use Rattle.command_text.specs.declared.row_place.RowPlace.{RowPlace}
@@ -17,32 +18,19 @@ use Rattle.report_text.specs.Words.{name_or_empty}
 use Rattle.migration.proofs.GroupNameLemmas.{group_apart}
 use Rattle.migration.proofs.OfferLemmas.{use_of}
 use Rattle.migration.proofs.RowLemmas.{group_of}
-
-same_text : (a : List ℕ) → bytes_eq a a ≡ true
-same_text a = (bytes_eq-Decides a a).1 refl
-
-other_text : (a b : List ℕ) → bytes_eq a b ≡ false → bytes_eq b a ≡ false
-other_text a b apart = elim (cases_Bool (bytes_eq b a)) [
-  | inl same ↦ cc (sym apart ∙ (bytes_eq-Decides a b).1 (sym ((bytes_eq-Decides b a).0 same)))
-  | inr other ↦ other
-]
+use Rattle.event_laws.proofs.ValueLemmas.{row_name}
 
 first_at : (names : List (List ℕ)) (i : ℕ) → i < length names → ((j : ℕ) → j < i → bytes_eq (get_or names i []) (get_or names j []) ≡ false)
     → position_or_len (bytes_eq (get_or names i [])) names ≡ i
 first_at [] i lt apart = absurd (omega arith)
-first_at (name ∷ names) zero lt apart = rw (same_text name) refl
+first_at (name ∷ names) zero lt apart = rw (same_octets name) refl
 first_at (name ∷ names) (suc i) lt apart =
     rw (apart 0 (omega arith), first_at names i (omega arith) (λ j under. apart (suc j) (omega arith))) (omega arith)
 
 place_found : (names : List (List ℕ)) (i : ℕ) → NonePair bytes_eq names → i < length names → place_in names (get_or names i []) ≡ Some i
 place_found names i once lt =
-    let first : position_or_len (bytes_eq (get_or names i [])) names ≡ i = first_at names i lt (λ j under. other_text (get_or names j []) (get_or names i []) (once j i [] under lt)) in
+    let first : position_or_len (bytes_eq (get_or names i [])) names ≡ i = first_at names i lt (λ j under. octets_apart_back (get_or names j []) (get_or names i []) (once j i [] under lt)) in
     rw (first, lt-ltb i (length names) lt) refl
-
-row_name : {Y : Type 0} (f : Y → List ℕ) (rows : List Y) (i : ℕ) → i < length rows → name_or_empty (option_map f (slice_get rows i)) ≡ get_or (map f rows) i []
-row_name f [] i lt = absurd (omega arith)
-row_name f (row ∷ rows) zero lt = refl
-row_name f (row ∷ rows) (suc i) lt = row_name f rows i (omega arith)
 
 -- the name of a row is found at its place
 pub row_found : {Y : Type 0} (f : Y → List ℕ) (rows : List Y) (i : ℕ) → NonePair bytes_eq (map f rows) → i < length rows
@@ -57,18 +45,15 @@ abbrev pub AreNumbers : List ℕ → Type 0
 AreNumbers [] = Unit {0}
 AreNumbers (u ∷ us) = ((1 ≤ u) × (u < 2 ^ 32)) × AreNumbers us
 
-eqb_is : (a : ℕ) → (a == a) ≡ true
-eqb_is a = grind (arith, nat_tests)
-
 same_test : (a b : ℕ) → a < 2 ^ 32 → b < 2 ^ 32 → bytes_eq (group_name a) (group_name b) ≡ (a == b)
 same_test a b p q = elim (cases_Bool (a == b)) [
   | inl same ↦
       let e : a ≡ b = eqb-true a b same in
-      ap (λ n. bytes_eq (group_name a) (group_name n)) (sym e) ∙ same_text (group_name a) ∙ sym same
+      ap (λ n. bytes_eq (group_name a) (group_name n)) (sym e) ∙ same_octets (group_name a) ∙ sym same
   | inr other ↦ elim (cases_Bool (bytes_eq (group_name a) (group_name b))) [
     | inl same ↦
         let e : a ≡ b = group_apart a b p q ((bytes_eq-Decides (group_name a) (group_name b)).0 same) in
-        cc (sym other ∙ ap (λ n. a == n) (sym e) ∙ eqb_is a)
+        cc (sym other ∙ ap (λ n. a == n) (sym e) ∙ same_number a)
     | inr apart ↦ apart ∙ sym other
   ]
 ]
@@ -83,10 +68,10 @@ module _ (g : ℕ) (small : g < 2 ^ 32) where
   group_place (u ∷ us) are has = elim (cases_Bool (u == g)) [
     | inl same ↦
         let e : u ≡ g = eqb-true u g same in
-        let test : bytes_eq (group_name g) (group_name u) ≡ true = ap (λ n. bytes_eq (group_name g) (group_name n)) e ∙ same_text (group_name g) in
+        let test : bytes_eq (group_name g) (group_name u) ≡ true = ap (λ n. bytes_eq (group_name g) (group_name n)) e ∙ same_octets (group_name g) in
         (rw test (omega arith), rw test e)
     | inr other ↦
-        let test : bytes_eq (group_name g) (group_name u) ≡ false = other_text (group_name u) (group_name g) (same_test u g are.0.1 small ∙ other) in
+        let test : bytes_eq (group_name g) (group_name u) ≡ false = octets_apart_back (group_name u) (group_name g) (same_test u g are.0.1 small ∙ other) in
         let later = group_place us are.1 (rw other at has) in
         let more : place_of (u ∷ us) ≡ suc (place_of us) = rw test (omega arith) in
         (omega (arith, more, later.0), ap (λ n. number_at (map group_of (u ∷ us)) n) more ∙ later.1)

@@ -1,6 +1,6 @@
 -- The groups that wires use.
 use Rattle.std.proofs.Common.{◌≡◌, ◌<◌, ◌≤◌, ◌==◌, ◌+◌, ◌*◌, ◌++◌, ◌||◌, ◌^◌, ◌∙◌, ℕ, Bool, true, false, List, [], ◌∷◌, length, None, length-append, refl, arith, inl, inr, if◌then◌else◌}
-use Rattle.std.proofs.lemmas.Bool.{cases_Bool}
+use Rattle.std.proofs.lemmas.Bool.{cases_Bool, or_right, or_left, or_parts}
 use Rattle.std.proofs.lemmas.Bool.Decides.{nat_tests}
 use Rattle.std.specs.List.{list_any}
 use Rattle.net_base.specs.declared.plan.wire_plan.WirePlan.{WirePlan}
@@ -46,13 +46,9 @@ keeps_test : (test : Bool) (used : List ℕ) (x y : ℕ) → is_used used y ≡ 
 keeps_test true used x y is = is
 keeps_test false used x y is = of_zero (y == 0) is
   where
-    or_more : (a b : Bool) → a ≡ true → (a || b) ≡ true
-    or_more true b e = refl
-    or_more false b e = cc e
-
     of_zero : (zero_is : Bool) → (zero_is || list_any (λ old. old == y) used) ≡ true → (zero_is || list_any (λ old. old == y) (used ++ x ∷ [])) ≡ true
     of_zero true e = refl
-    of_zero false e = any_and used x y ∙ or_more (list_any (λ old. old == y) used) (x == y) e
+    of_zero false e = any_and used x y ∙ or_left (list_any (λ old. old == y) used) (x == y) e
 
 keeps : (used : List ℕ) (x y : ℕ) → is_used used y ≡ true → is_used (used_also used x) y ≡ true
 keeps used x y is = keeps_test (is_used used x) used x y is
@@ -66,13 +62,9 @@ used_now used x = elim (cases_Bool (is_used used x)) [
     same : (x == x) ≡ true
     same = grind (arith, nat_tests)
 
-    or_last : (a b : Bool) → b ≡ true → (a || b) ≡ true
-    or_last true b e = refl
-    or_last false b e = e
-
     of_zero : (zero_is : Bool) → (zero_is || list_any (λ old. old == x) (used ++ x ∷ [])) ≡ true
     of_zero true = refl
-    of_zero false = any_and used x x ∙ or_last (list_any (λ old. old == x) used) (x == x) same
+    of_zero false = any_and used x x ∙ or_right (list_any (λ old. old == x) used) (x == x) same
 
 stays : (used : List ℕ) (wires : List WirePlan) (y : ℕ) → is_used used y ≡ true → is_used (used_after used wires) y ≡ true
 stays used [] y is = is
@@ -86,16 +78,11 @@ all_used used (wire ∷ wires) =
     let far : List ℕ = used_also near wire.far.group in
     ((stays far wires wire.near.group (keeps near wire.far.group wire.near.group (used_now used wire.near.group)), stays far wires wire.far.group (used_now near wire.far.group)), all_used far wires)
 
--- one group more
-parts_false : (a b : Bool) → (a || b) ≡ false → (a ≡ false) × (b ≡ false)
-parts_false true b e = cc e
-parts_false false b e = (refl, e)
-
 one_more : (most : ℕ) (used : List ℕ) (x : ℕ) → x < 2 ^ 32 → AreGroups most used → AreGroups (most + 1) (used_also used x)
 one_more most used x small are = elim (cases_Bool (is_used used x)) [
   | inl is ↦ rw is (record { numbers = are.numbers; once = are.once; few = omega (arith, are.few) })
   | inr new ↦
-      let both = parts_false (x == 0) (list_any (λ old. old == x) used) new in
+      let both = or_parts (x == 0) (list_any (λ old. old == x) used) new in
       let some : 1 ≤ x = grind (arith, nat_tests, both.0) in
       rw new (record {
         numbers = and_number used x are.numbers (some, small);

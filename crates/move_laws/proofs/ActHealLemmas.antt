@@ -12,11 +12,10 @@ use Rattle.edge_model.specs.declared.end_place.EndPlace.{EndPlace}
 use Rattle.flight_laws.proofs.NameLemmas.{end_fact, split}
 use Rattle.flight_laws.proofs.OfferLemmas.{IsOfWires, release_is}
 use Rattle.flight_laws.proofs.PlaceLemmas.{named_is, not_named, wire_by_pw_id}
-use Rattle.flight_laws.proofs.RowLemmas.{clash}
 use Rattle.flight_laws.proofs.SoundLemmas.{sound_beside, sound_with_end}
-use Rattle.flight_laws.proofs.WorkLemmas.{same_place}
 use Rattle.flight_laws.specs.Messages.{IsSound}
-use Rattle.flight_laws.specs.Sound.{IsSoundEnd, IsSoundHeld, TellsSoundly, point_limit}
+use Rattle.flight_laws.specs.Sound.{IsSoundEnd, TellsSoundly, point_limit}
+use Rattle.flight_laws.proofs.ActLemmas.{held_unless}
 use Rattle.ldp_grammar.specs.declared.message.Message.TheVariants.{LabelMapping, LabelRelease, LabelWithdraw}
 use Rattle.ldp_grammar.specs.declared.message.Message.{Message}
 use Rattle.ldp_grammar.specs.declared.status_code.StatusCode.{StatusCode}
@@ -37,7 +36,7 @@ use Rattle.net_base.specs.plan.Roles.{are_joined_by, is_mesh_of, is_wire_of}
 use Rattle.network_model.specs.Absorb.{taken_all}
 use Rattle.network_model.specs.State.{NetworkState, stands}
 use Rattle.pw_signalling.specs.End.{EndState}
-use Rattle.pw_signalling.specs.Rows.{bound, group_stated, group_unbound, is_in_group, names, released, stated, unbound, unless_named}
+use Rattle.pw_signalling.specs.Rows.{bound, group_stated, group_unbound, is_in_group, released, stated, unbound}
 use Rattle.pw_signalling.specs.declared.binding.Binding.{Binding}
 use Rattle.pw_signalling.specs.declared.told.Told.{Told}
 use Rattle.pw_tlvs.specs.Written.{has_vlan, may_tell, writable_fec}
@@ -46,7 +45,9 @@ use Rattle.pw_tlvs.specs.declared.pw_fec.PwFec.{PwFec}
 use Rattle.pw_tlvs.specs.declared.pw_status.PwStatus.{PwStatus}
 use Rattle.std.proofs.Common.{Bool, List, None, Option, Some, ap, arith, cond, false, is_some, nat_eq, nat_le, not, option_and_then, refl, subst, sym, true, ℕ, ◌&&◌, ◌==◌, ◌∙◌, ◌≡◌, ◌≤◌, ◌||◌}
 use Rattle.std.proofs.lemmas.Bool.Decides.{nat_tests}
-use Rattle.std.proofs.lemmas.Bool.{eqb-true}
+use Rattle.std.proofs.lemmas.Bool.{eqb-true, not-true}
+use Rattle.net_values.proofs.BoolLemmas.{first_holds, clash, second_holds}
+use Rattle.net_values.proofs.NumberLemmas.{same_number}
 
 -- ---- ends beside the peer
 
@@ -85,7 +86,7 @@ end_beside place end edge = record {
   wires = refl;
   bits = refl;
   chosen = refl;
-  ends = λ wire k away. end_fact (λ w p e. nat_eq p place.peer.0 ≡ false → e ≡ edge.ends w p) place end edge wire k (λ other. clash (sym other ∙ same_place place.peer.0)) (λ other. refl) away;
+  ends = λ wire k away. end_fact (λ w p e. nat_eq p place.peer.0 ≡ false → e ≡ edge.ends w p) place end edge wire k (λ other. clash (sym other ∙ same_number place.peer.0)) (λ other. refl) away;
 }
 
 end_locals : (place : EndPlace) (end : EndState) (edge : EdgeState) → end.local ≡ (end_at edge place).local → KeepsLocals place.peer.0 edge (with_end place end edge)
@@ -99,7 +100,7 @@ end_locals place end edge same = record {
 other_end : (place : EndPlace) (end : EndState) (edge : EdgeState) (wire k : ℕ) → (place.wire.0 == wire) ≡ false → is_advertising (edge.ends wire k).local ≡ true → is_advertising ((with_end place end edge).ends wire k).local ≡ true
 unfolding with_end
 other_end place end edge wire k other told = end_fact (λ w p e. w ≡ wire → p ≡ k → is_advertising e.local ≡ true) place end edge wire k
-    (λ same also. clash (sym other ∙ (ap (λ (w : ℕ). w == wire) same ∙ same_place wire))) (λ same also. told) refl refl
+    (λ same also. clash (sym other ∙ (ap (λ (w : ℕ). w == wire) same ∙ same_number wire))) (λ same also. told) refl refl
 
 same_beside : (peer : ℕ) (edge : EdgeState) → KeepsLocals peer edge edge
 same_beside peer edge = record { changes = record { me = refl; peering = refl; wires = refl; bits = refl; chosen = refl; ends = λ wire k away. refl }; locals = λ wire k. refl }
@@ -153,13 +154,6 @@ group_stated_local group status end = by (is_in_group group end.remote) where
   by false = refl
 
 -- ---- what is unbound is sound
-
-held_unless : (limit : ℕ) (label : Option ℕ) (held : Option Binding) → IsSoundHeld limit held → IsSoundHeld limit (unless_named label held)
-held_unless limit label None sound = tt
-held_unless limit label (Some binding) sound = by (names label binding.label) where
-  by : (b : Bool) → IsSoundHeld limit (cond b None (Some binding))
-  by true = tt
-  by false = sound
 
 unbound_sound : (limit : ℕ) (up : Bool) (label : Option ℕ) (end : EndState) → IsSoundEnd limit up end → IsSoundEnd limit up (unbound label end)
 unbound_sound limit true label end sound = (sound.0, held_unless limit label end.remote sound.1)
@@ -226,24 +220,12 @@ module _ (plan : Plan) (service : ServiceId) (network : NetworkState) (me peer :
       → (id : ℕ) → IsMild plan service me.0 peer.0 (release fec label id)
   mild_release fec label others id = record { plain = refl; labels = λ wire row is of_mesh joined. ap not (others wire row is of_mesh joined) }
 
-  left_of : (a b : Bool) → a && b ≡ true → a ≡ true
-  left_of true b h = refl
-  left_of false b h = clash h
-
-  right_of : (a b : Bool) → a && b ≡ true → b ≡ true
-  right_of true b h = h
-  right_of false b h = clash h
-
-  not_true : (b : Bool) → not b ≡ true → b ≡ false
-  not_true true is = clash is
-  not_true false is = refl
-
   pub withdraw_acts : (base : Work) (id : ℕ) (fec : PwFec) (label : Option ℕ) (work : Work) → IsSound (LabelWithdraw id fec label) → LeavesMesh plan service me.0 peer.0 (LabelWithdraw id fec label) → At base work
       → Acted base work (hears_withdraw plan taken_all peer fec label work)
   withdraw_acts base id fec label work said leaves speaks =
       let change : EdgeState → EdgeState = with_named plan peer fec (unbound label) (group_unbound fec.group) fec.pw_id in
       says_acted base work (changes change work) (release fec label) (release_is fec label (kind_fits fec said.1) said.0.1.group said.0.1.pw_id said.0.2)
-      (λ joined there. mild_release fec label (λ wire row is of_mesh joins. not_true (names_wire row.pw_id fec.pw_id) (leaves wire row is of_mesh joins)))
+      (λ joined there. mild_release fec label (λ wire row is of_mesh joins. not-true (names_wire row.pw_id fec.pw_id) (leaves wire row is of_mesh joins)))
       (acted_locals base change work (named_locals plan peer fec (unbound label) (group_unbound fec.group) fec.pw_id work.edge (λ end. refl) (group_unbound_local fec.group)) (named_sound (point_limit plan me.0) work.edge speaks.sound plan peer fec label fec.pw_id) speaks)
 
   -- an end that does not take what it is told is none of a mesh wire
@@ -252,7 +234,7 @@ module _ (plan : Plan) (service : ServiceId) (network : NetworkState) (me peer :
   not_refused place content None found refused wire row is of_mesh joined = absurd (cc (found))
   not_refused place content (Some n) found refused wire row is of_mesh joined = by (n == row.pw_id) refl where
     end : IsLinkEnd plan me peer wire row
-    end = link_end plan service me peer wire row checked short (left_of (is_wire_of service row) (is_mesh_class row.class) of_mesh) is joined
+    end = link_end plan service me peer wire row checked short (first_holds (is_wire_of service row) (is_mesh_class row.class) of_mesh) is joined
 
     found_end : n ≡ row.pw_id → Some place ≡ Some end.place
     found_end same = sym found ∙ (ap (end_named plan me peer) same ∙ end.named)
@@ -273,7 +255,7 @@ module _ (plan : Plan) (service : ServiceId) (network : NetworkState) (me peer :
     released_acts : (now : Work) → Acted base work now → ((wire : WireId) (row : WirePlan) → wire_row plan wire ≡ Some row → is_mesh_of service row ≡ true → joins me.0 peer.0 row.path ≡ true → names_wire row.pw_id fec.pw_id ≡ false)
         → Acted base work (releases_label taken_all peer fec (Some label) now)
     released_acts now acted others =
-        says_acted base work now (release fec (Some label)) (release_is fec (Some label) (kind_fits fec (right_of (is_some fec.pw_id) (writable_fec fec) said.1)) said.0.1.group said.0.1.pw_id said.0.2)
+        says_acted base work now (release fec (Some label)) (release_is fec (Some label) (kind_fits fec (second_holds (is_some fec.pw_id) (writable_fec fec) said.1)) said.0.1.group said.0.1.pw_id said.0.2)
         (λ joined there. mild_release fec (Some label) others) acted
 
     changed : (change : EndState → EndState) (place : EndPlace) → end_of_fec plan work.edge peer fec ≡ Some place → ((end : EndState) → (change end).local ≡ end.local) → TellsSoundly (point_limit plan me.0) (with_end_changed change (Some place) work.edge)
@@ -335,7 +317,7 @@ module _ (plan : Plan) (service : ServiceId) (network : NetworkState) (me peer :
 
         -- the end is none of a mesh wire
         not_here : (wire : WireId) (row : WirePlan) → wire_row plan wire ≡ Some row → is_mesh_of service row ≡ true → joins me.0 peer.0 row.path ≡ true → (place.wire.0 == wire.0) ≡ false
-        not_here wire row at of_mesh joined = named fec.pw_id is (not_true (names_wire row.pw_id fec.pw_id) (leaves wire row at of_mesh joined))
+        not_here wire row at of_mesh joined = named fec.pw_id is (not-true (names_wire row.pw_id fec.pw_id) (leaves wire row at of_mesh joined))
           where
             named : (o : Option ℕ) → option_and_then (end_named plan work.edge.me peer) o ≡ Some place → names_wire row.pw_id o ≡ false → (place.wire.0 == wire.0) ≡ false
             named None found other = absurd (cc (found))

@@ -17,19 +17,19 @@ use Rattle.flight_laws.proofs.MendingLemmas.{KeptByRows, choice_keeps, chooses_k
 use Rattle.flight_laws.proofs.NameLemmas.{end_fact}
 use Rattle.flight_laws.proofs.OfferLemmas.{IsOfWires, clearance_is}
 use Rattle.flight_laws.proofs.PieceLemmas.{none_are_piece}
-use Rattle.flight_laws.proofs.PlaceLemmas.{IsEndOf, places_are}
-use Rattle.flight_laws.proofs.RowLemmas.{clash}
+use Rattle.flight_laws.proofs.PlaceLemmas.{IsEndOf, places_are, same_row}
 use Rattle.flight_laws.proofs.SaidLemmas.{all_joined, said-append}
 use Rattle.flight_laws.proofs.SayLemmas.{says_none}
 use Rattle.flight_laws.proofs.SpokenLemmas.{says_spoken}
 use Rattle.flight_laws.proofs.SteadyLemmas.{advertised_up, end_small}
-use Rattle.flight_laws.proofs.WorkLemmas.{same_end, same_place}
+use Rattle.flight_laws.proofs.WorkLemmas.{same_end}
 use Rattle.flight_laws.specs.Bound.{some_message}
 use Rattle.flight_laws.specs.Ends.{HasTypes, ends_at}
 use Rattle.flight_laws.specs.Facts.{flight}
 use Rattle.flight_laws.specs.Meeting.{said_to}
 use Rattle.flight_laws.specs.Messages.{octets_of_all}
 use Rattle.flight_laws.specs.Sound.{point_limit}
+use Rattle.flight_laws.proofs.BindingLemmas.{some_last}
 use Rattle.move_laws.specs.Moves.{has_short_paths}
 use Rattle.ldp_grammar.specs.declared.message.Message.{Message}
 use Rattle.move_laws.proofs.ForwardLemmas.{IsChoice, advertises_it, all_get, choice_is}
@@ -47,6 +47,8 @@ use Rattle.net_base.specs.declared.plan.wire_plan.WirePlan.{WirePlan}
 use Rattle.net_base.specs.declared.trace.down.Down.{Down}
 use Rattle.net_values.specs.declared.addr.Addr.{Addr}
 use Rattle.net_values.specs.declared.mac.Mac.{Mac}
+use Rattle.net_values.proofs.BoolLemmas.{clash, now_and_not_was}
+use Rattle.net_values.proofs.NumberLemmas.{same_number}
 use Rattle.net_base.specs.plan.Accepted.{IsChecked}
 use Rattle.net_base.specs.plan.Paths.{joins}
 use Rattle.net_base.specs.plan.Places.{wire_row}
@@ -60,7 +62,7 @@ use Rattle.pw_signalling.specs.declared.end_role.EndRole.TheVariants as role
 use Rattle.pw_signalling.specs.declared.told.Told.{Told}
 use Rattle.pw_tlvs.specs.declared.pw_status.PwStatus.{PwStatus}
 use Rattle.session_core.specs.declared.peers.Peers.{Peers}
-use Rattle.std.proofs.Common.{Bool, List, None, Option, Some, [], ap, append_assoc, arith, cond, false, inl, inr, not, refl, slice_get, subst, suc, sym, true, zero, ℕ, ◌&&◌, ◌++◌, ◌==◌, ◌||◌, ◌∙◌, ◌∷◌, ◌≡◌, ◌⊎◌}
+use Rattle.std.proofs.Common.{Bool, List, None, Option, Some, [], ap, append_assoc, arith, cond, false, inl, inr, refl, slice_get, subst, suc, sym, true, zero, ℕ, ◌&&◌, ◌++◌, ◌==◌, ◌||◌, ◌∙◌, ◌∷◌, ◌≡◌, ◌⊎◌}
 use Rattle.std.proofs.lemmas.Bool.Decides.{nat_tests}
 use Rattle.std.proofs.lemmas.Bool.{cases_Bool, eqb-true}
 use Rattle.std.specs.List.{AllByRecursion}
@@ -206,15 +208,7 @@ module _ (plan : Plan) (service : ServiceId) (network : NetworkState) (me : Edge
     by false is = clash (sym (ap is_up_with (speaks.apart place joined is)) ∙ up)
 
   cleared_by : (pw_id : ℕ) (content : Told) (id : ℕ) → clears pw_id (mac_withdrawal pw_id [] content id) ≡ true
-  cleared_by pw_id content id = rw (same_place pw_id) refl
-
-  last_among : (test : Message → Bool) (xs : List Message) (m : Message) → test m ≡ true → some_message test (xs ++ m ∷ []) ≡ true
-  last_among test [] m is = rw is refl
-  last_among test (x ∷ xs) m is = or_later (test x) (some_message test (xs ++ m ∷ [])) (last_among test xs m is)
-    where
-      or_later : (a b : Bool) → b ≡ true → a || b ≡ true
-      or_later true b is = refl
-      or_later false b is = is
+  cleared_by pw_id content id = rw (same_number pw_id) refl
 
   said_with : (router : Addr) (front said : List ℕ) (ms ns : List Message) → front ≡ octets_of_all router ms → said ≡ octets_of_all router ns → front ++ said ≡ octets_of_all router (ms ++ ns)
   said_with router front said ms ns one other = rw (one, other) (sym (all_joined router ms ns))
@@ -244,7 +238,7 @@ module _ (plan : Plan) (service : ServiceId) (network : NetworkState) (me : Edge
           is = said_with own.me (flight network me.0 place.peer.0) _ way.messages (mildly.messages ++ m ∷ []) way.is said;
           said = said-append own way.messages (mildly.messages ++ m ∷ []) way.said (said-append own mildly.messages (m ∷ []) mildly.said (of_wires.said own mildly.kept.next_id mildly.numbered, tt));
           among = subst (λ (ms : List Message). some_message (clears place.pw_id) ms ≡ true) (joined_all way.messages mildly.messages m)
-              (last_among (clears place.pw_id) (way.messages ++ mildly.messages) m (cleared_by place.pw_id content mildly.kept.next_id));
+              (some_last (clears place.pw_id) (way.messages ++ mildly.messages) m (cleared_by place.pw_id content mildly.kept.next_id));
         };
       }
 
@@ -338,15 +332,9 @@ module _ (plan : Plan) (service : ServiceId) (network : NetworkState) (me : Edge
       chosen_is : last.edge.chosen service.0 ≡ choice plan advertised.work.edge service
       chosen_is = ap (λ (f : ℕ → Option WireId). f service.0) chosen_last ∙ choosing_chosen plan advertised.work service
 
-      one_row : (one other : WirePlan) → Some one ≡ Some other → one ≡ other
-      one_row one other is = cc
-
       is_wire_some : (wire : WireId) (o : Option WireId) → Rattle.edge_model.specs.Role.is_chosen_wire wire o ≡ true → o ≡ Some wire
       is_wire_some wire None is = clash is
       is_wire_some wire (Some other) is = ap (λ (n : ℕ). Some (record { 0 = n })) (eqb-true other.0 wire.0 is)
-
-      or_new : (now was : Bool) → now ≡ true → was ≡ false → now && not was ≡ true
-      or_new now was one other = rw (one, other) refl
 
       tell : (wire : WireId) (home : ℕ) (spoke : IsSpokeTo plan service me.0 wire home) → last.edge.chosen service.0 ≡ Some wire
           → (work.edge.chosen service.0 ≡ Some wire) ⊎ WillTell plan service network me.0 home spoke.row.pw_id last
@@ -371,7 +359,7 @@ module _ (plan : Plan) (service : ServiceId) (network : NetworkState) (me : Edge
           end = all_get (IsEndOf plan me) places choose.k place all at
 
           row_is : end.row ≡ spoke.row
-          row_is = one_row end.row spoke.row (sym end.is ∙ (ap (wire_row plan) choose.wire_is ∙ spoke.is))
+          row_is = same_row end.row spoke.row (sym end.is ∙ (ap (wire_row plan) choose.wire_is ∙ spoke.is))
 
           home_is : place.peer.0 ≡ home
           home_is = ap (λ (k : EdgeId). k.0)
@@ -399,7 +387,7 @@ module _ (plan : Plan) (service : ServiceId) (network : NetworkState) (me : Edge
               let fresh : is_new_choice work.edge.chosen statuses.work.edge.chosen place.wire (wire_row plan place.wire) ≡ true =
               ap (λ (w : WireId). is_new_choice work.edge.chosen statuses.work.edge.chosen w (wire_row plan w)) choose.wire_is
               ∙ (ap (is_new_choice work.edge.chosen statuses.work.edge.chosen wire) spoke.is
-              ∙ or_new (is_chosen statuses.work.edge.chosen wire spoke.row) (is_chosen work.edge.chosen wire spoke.row) (rw now (same_place wire.0)) new) in
+              ∙ now_and_not_was (is_chosen statuses.work.edge.chosen wire spoke.row) (is_chosen work.edge.chosen wire spoke.row) (rw now (same_number wire.0)) new) in
               let first : WillTell plan service network me.0 place.peer.0 place.pw_id moved.work =
               each_tells work.edge.chosen place end joined places all choose.k at statuses (again work statuses.work speaks_statuses) told fresh in
               let more : WillTell plan service network me.0 place.peer.0 place.pw_id last = tells_on plan service network me.0 place.peer.0 place.pw_id moved.work last (speaks_last.more place.peer.0 first.joined first.there) first in

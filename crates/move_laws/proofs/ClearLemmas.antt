@@ -18,8 +18,6 @@ use Rattle.flight_laws.proofs.MendingLemmas.{KeptByRows, piece_keeps}
 use Rattle.flight_laws.proofs.PassingLemmas.{forgetting_rest, wire_end_is, withdraw_keeps}
 use Rattle.flight_laws.proofs.PieceLemmas.{AreSixOctetsEach, none_are_piece}
 use Rattle.flight_laws.proofs.PlaceLemmas.{IsEndOf}
-use Rattle.flight_laws.proofs.RowLemmas.{clash}
-use Rattle.flight_laws.proofs.WorkLemmas.{same_place}
 use Rattle.flight_laws.specs.Ends.{HasTypes}
 use Rattle.move_laws.specs.Moves.{has_short_paths}
 use Rattle.hvpls_spokes.specs.Port.{is_wire_port, ports_of, wire_port}
@@ -47,6 +45,8 @@ use Rattle.net_base.specs.declared.plan.places.ServiceId.{ServiceId}
 use Rattle.net_base.specs.declared.plan.places.WireId.{WireId}
 use Rattle.net_base.specs.declared.plan.wire_plan.WirePlan.{WirePlan}
 use Rattle.net_values.specs.declared.mac.Mac.{Mac}
+use Rattle.net_values.proofs.BoolLemmas.{clash}
+use Rattle.net_values.proofs.NumberLemmas.{same_number, next_place, from_none, at_start}
 use Rattle.net_base.specs.plan.Accepted.{IsChecked}
 use Rattle.net_base.specs.plan.Paths.{joins}
 use Rattle.net_base.specs.plan.Places.{wire_row}
@@ -186,7 +186,7 @@ module _ (plan : Plan) (service : ServiceId) (me peer : EdgeId) (wire : WireId) 
 
   cleared_learned : Cleared.edge.learned service.0 ≡ filter (entry_stays found_port.p []) (work.edge.learned service.0)
   unfolding changes with_addresses
-  cleared_learned = rw (same_place service.0) refl
+  cleared_learned = rw (same_number service.0) refl
 
   left_pass : (test : MacEntry → Bool) (xs : List MacEntry) → AllByRecursion (λ (entry : MacEntry). test entry ≡ true) (filter test xs)
   left_pass test [] = tt
@@ -271,20 +271,14 @@ module _ (plan : Plan) (service : ServiceId) (network : NetworkState) (me : Edge
     ports_tell targets p i [] work at goes speaks = absurd (cc (at))
     ports_tell targets p zero (x ∷ xs) work at goes speaks =
         let same : x ≡ port.Mesh mesh = cc (at) in
-        let target : targets p ≡ true = ap targets (sym (add_none p)) ∙ goes in
+        let target : targets p ≡ true = ap targets (sym (at_start p)) ∙ goes in
         let next : Work = tells_at plan taken_all [] x work in
         let first : WillTell plan service network me.0 core.0 row.pw_id next = subst (λ (y : Port). WillTell plan service network me.0 core.0 row.pw_id (tells_at plan taken_all [] y work)) (sym same) (here_tells work speaks) in
         let then : Speaks plan service network me k next (copies targets (tells_at plan taken_all []) (p + 1) xs next) = ports_speak next targets (p + 1) xs next (renew work next (port_speaks work x work speaks)) in
         subst (λ (b : Bool). WillTell plan service network me.0 core.0 row.pw_id (copies targets (tells_at plan taken_all []) (p + 1) xs (cond b next work))) (sym target)
         (tells_on plan service network me.0 core.0 row.pw_id next (copies targets (tells_at plan taken_all []) (p + 1) xs next) (then.more core.0 first.joined first.there) first)
-      where
-        add_none : (n : ℕ) → n + 0 ≡ n
-        add_none n = omega arith
     ports_tell targets p (suc i) (x ∷ xs) work at goes speaks =
-        ports_tell targets (p + 1) i xs (cond (targets p) (tells_at plan taken_all [] x work) work) at (ap targets (further p i) ∙ goes) (renew work _ (port_or_not work (targets p) x work speaks))
-      where
-        further : (n m : ℕ) → (n + 1) + m ≡ n + suc m
-        further n m = omega arith
+        ports_tell targets (p + 1) i xs (cond (targets p) (tells_at plan taken_all [] x work) work) at (ap targets (next_place p i) ∙ goes) (renew work _ (port_or_not work (targets p) x work speaks))
 
     -- from a spoke
     pub withdraw_passes : (peer : EdgeId) (wire : WireId) (fec : PwFec) (work : Work) → (begun : Stays plan service network me k work) → (spoke : IsSpokeTo plan service peer.0 wire me.0) → fec.pw_id ≡ Some spoke.row.pw_id
@@ -297,7 +291,7 @@ module _ (plan : Plan) (service : ServiceId) (network : NetworkState) (me : Edge
         near = spoke_link plan service peer.0 wire me.0 checked short spoke
 
         ours : is_wire_of service spoke.row ≡ true
-        ours = ap (λ (s : ServiceId). s.0 == service.0) near.of_service ∙ same_place service.0
+        ours = ap (λ (s : ServiceId). s.0 == service.0) near.of_service ∙ same_number service.0
 
         back : joins me.0 peer.0 spoke.row.path ≡ true
         back = sym (joins_turned spoke.row.path peer.0 me.0) ∙ near.joined
@@ -346,7 +340,4 @@ module _ (plan : Plan) (service : ServiceId) (network : NetworkState) (me : Edge
 
         passed : WillTell plan service network me.0 core.0 row.pw_id (passes_on plan taken_all [] service from.p (Some role.Core) cleared)
         passed = subst (λ (e : EdgeId). WillTell plan service network me.0 core.0 row.pw_id (copies (is_passed_to role.Core (ports_of plan service e) from.p) (tells_at plan taken_all []) 0 (ports_of plan service e) cleared)) (sym cleared_me)
-            (ports_tell (is_passed_to role.Core ports from.p) 0 to.p ports cleared mesh_leads (ap (is_passed_to role.Core ports from.p) (no_more to.p) ∙ goes) at_cleared)
-          where
-            no_more : (n : ℕ) → 0 + n ≡ n
-            no_more n = omega arith
+            (ports_tell (is_passed_to role.Core ports from.p) 0 to.p ports cleared mesh_leads (ap (is_passed_to role.Core ports from.p) (from_none to.p) ∙ goes) at_cleared)

@@ -1,14 +1,11 @@
 -- A delivery heals on.
 use Rattle.address_laws.specs.Sites.{Sites}
-use Rattle.edge_model.specs.Mend.{is_up_with, mends}
+use Rattle.edge_model.specs.Mend.{mends}
 use Rattle.edge_model.specs.Session.{happens_with_ends}
-use Rattle.edge_model.specs.State.{Peering, is_there}
 use Rattle.edge_model.specs.Work.{Work, idles}
 use Rattle.flight_laws.proofs.EventLemmas.{pipe_edges}
 use Rattle.flight_laws.proofs.PipeLemmas.{pipe_from, pipe_there, pipe_to}
-use Rattle.flight_laws.proofs.RowLemmas.{clash}
 use Rattle.flight_laws.proofs.RunLemmas.{both_apart}
-use Rattle.flight_laws.proofs.SettleLemmas.{apart_turned}
 use Rattle.flight_laws.proofs.SoundLemmas.{happens_sound}
 use Rattle.flight_laws.specs.Ends.{HasTypes, IsOrdered}
 use Rattle.move_laws.specs.Moves.{has_short_paths}
@@ -28,7 +25,10 @@ use Rattle.network_model.specs.Absorb.{absorb, begin_at, idle, taken_all}
 use Rattle.network_model.specs.Connection.{deliver_event, delivering, hearing_work, is_drained_pipe, losing, losing_work}
 use Rattle.network_model.specs.State.{NetworkState, held_by, stands, with_pipe}
 use Rattle.session_core.specs.Table.{Closed}
-use Rattle.std.proofs.Common.{Bool, List, None, Option, Some, [], ap, cond, drop, false, nat_eq, not, refl, subst, sym, take, true, ℕ, ◌&&◌, ◌++◌, ◌||◌, ◌∙◌, ◌≡◌}
+use Rattle.std.proofs.Common.{Bool, List, [], ap, cond, drop, false, nat_eq, not, refl, subst, sym, take, true, ℕ, ◌&&◌, ◌++◌, ◌||◌, ◌∙◌, ◌≡◌}
+use Rattle.net_values.proofs.BoolLemmas.{clash}
+use Rattle.net_values.proofs.NumberLemmas.{apart_back}
+use Rattle.flood_laws.proofs.ChainLemmas.{has_end}
 
 -- each two core edges have a mesh wire, in a calm service
 pub record HasMeshes (plan : Plan) (service : ServiceId) : Type 0 where
@@ -37,10 +37,6 @@ pub record HasMeshes (plan : Plan) (service : ServiceId) : Type 0 where
 -- nothing is drawn
 all_there : (network : NetworkState) (me : ℕ) → IsDrawn network network me me
 all_there network me = record { edges = refl; pipes = λ a b other. refl }
-
-up_end : (near : Option Peering) → is_up_with near ≡ true → is_there near ≡ true
-up_end None up = clash up
-up_end (Some kept) up = refl
 
 module _ (plan : Plan) (service : ServiceId) (site : Sites) (calm network : NetworkState) (checked : IsChecked plan) (types : HasTypes plan) (short : has_short_paths plan service ≡ true) (ordered : IsOrdered plan network) (meshed : HasMeshes plan service)
     (heals : Heals plan service site calm network) where
@@ -57,7 +53,7 @@ module _ (plan : Plan) (service : ServiceId) (site : Sites) (calm network : Netw
       apart : are_joined_by plan service me.0 peer.0 ≡ false
       apart = by (are_joined_by plan service me.0 peer.0) refl where
         by : (b : Bool) → are_joined_by plan service me.0 peer.0 ≡ b → b ≡ false
-        by true joined = clash (sym gone ∙ up_end ((network.edges peer.0).peering me.0) (heals.steady me.0 peer.0 joined there).1.up)
+        by true joined = clash (sym gone ∙ has_end ((network.edges peer.0).peering me.0) (heals.steady me.0 peer.0 joined there).1.up)
         by false is = refl
 
       began : IsHealing plan service site network me peer.0 [] (begin_at network me)
@@ -97,7 +93,7 @@ module _ (plan : Plan) (service : ServiceId) (site : Sites) (calm network : Netw
   pub deliver_heals : (from to : EdgeId) (count : ℕ) → Heals plan service site calm (deliver_event plan from to count network).state
   deliver_heals from to count = by (stands network to.0 from.0) refl where
     away_of : stands network to.0 from.0 ≡ true → nat_eq from.0 to.0 ≡ false
-    away_of there = apart_turned to.0 from.0 (both_apart plan network to.0 from.0 ordered there)
+    away_of there = apart_back to.0 from.0 (both_apart plan network to.0 from.0 ordered there)
 
     by_drained : stands network to.0 from.0 ≡ true → (drained far : Bool) → is_drained_pipe network from.0 to.0 ≡ drained → stands network from.0 to.0 ≡ far
         → Heals plan service site calm (cond (not drained || not far) (cond drained (losing plan to from network) (delivering plan from to count network)) (idle network)).state

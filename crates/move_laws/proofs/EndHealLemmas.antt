@@ -2,13 +2,11 @@
 use Rattle.address_laws.specs.Points.{Points, PointsToSite}
 use Rattle.address_laws.specs.Sites.{Sites}
 use Rattle.edge_model.specs.Ends.{end_forwards}
-use Rattle.flight_laws.proofs.PlanLemmas.{row_holds}
-use Rattle.flight_laws.proofs.RowLemmas.{clash}
 use Rattle.flight_laws.proofs.RunLemmas.{none_said}
-use Rattle.flight_laws.proofs.WorkLemmas.{same_place}
 use Rattle.flight_laws.specs.Bound.{some_message}
 use Rattle.flight_laws.specs.Ends.{IsOrdered, ends_at}
 use Rattle.flood_laws.proofs.FarLemmas.{are_settled}
+use Rattle.flood_laws.proofs.LawLemmas.{circuit_within}
 use Rattle.move_laws.specs.Moves.{has_short_paths}
 use Rattle.hvpls_spokes.proofs.PortsLemmas.{IsWired, served_at}
 use Rattle.hvpls_spokes.specs.Port.{ports_of}
@@ -29,7 +27,7 @@ use Rattle.net_base.specs.declared.plan.places.EdgeId.{EdgeId}
 use Rattle.net_base.specs.declared.plan.places.ServiceId.{ServiceId}
 use Rattle.net_base.specs.declared.plan.places.WireId.{WireId}
 use Rattle.net_base.specs.declared.plan.wire_plan.WirePlan.{WirePlan}
-use Rattle.net_base.specs.plan.Accepted.{IsChecked, IsCircuitOf}
+use Rattle.net_base.specs.plan.Accepted.{IsChecked}
 use Rattle.net_base.specs.plan.Paths.{is_first, is_last, joins}
 use Rattle.net_base.specs.plan.Places.{circuit_row, is_mesh_class, wire_row}
 use Rattle.net_base.specs.plan.Roles.{is_core_edge, is_mesh_of, is_spoke_edge, is_spoke_from, is_wire_of}
@@ -37,18 +35,10 @@ use Rattle.network_model.specs.Calm.{carries, has_live_spokes, is_calm, is_full,
 use Rattle.network_model.specs.Reach.{at_edge_of, behind_wire, beside_far, circuit_is_at, elsewhere_of, far_of, home_of, is_beside, is_circuit_of, is_home, is_row_at, is_row_beside, reach}
 use Rattle.network_model.specs.State.{NetworkState}
 use Rattle.std.proofs.Common.{Bool, None, Option, Some, [], ap, cond, false, length, refl, slice_get, subst, sym, true, ℕ, ◌&&◌, ◌<◌, ◌==◌, ◌||◌, ◌∙◌, ◌≡◌}
-use Rattle.std.proofs.lemmas.Bool.{eqb-true}
-
-left_part : (a b : Bool) → a && b ≡ true → a ≡ true
-left_part true b h = refl
-left_part false b h = clash h
-
-right_part : (a b : Bool) → a && b ≡ true → b ≡ true
-right_part true b h = h
-right_part false b h = clash h
-
-both_parts : (a b : Bool) → a ≡ true → b ≡ true → a && b ≡ true
-both_parts a b one other = rw (one, other) refl
+use Rattle.std.proofs.lemmas.Bool.{eqb-true, and_from}
+use Rattle.net_values.proofs.BoolLemmas.{first_holds, clash, second_holds}
+use Rattle.net_values.proofs.NumberLemmas.{same_number}
+use Rattle.net_values.proofs.OptionLemmas.{some_same}
 
 -- ---- a circuit, by its edge
 
@@ -60,21 +50,18 @@ pub record IsBeside (plan : Plan) (service : ServiceId) (network : NetworkState)
   pub where_is : row.edge.0 == core || (is_spoke_edge plan service row.edge.0 && is_home core (home_of plan network service row.edge.0)) ≡ true
 
 pub beside_is : (plan : Plan) (service : ServiceId) (network : NetworkState) (core : ℕ) (circuit : CircuitId) → is_beside plan network service core circuit ≡ true → IsBeside plan service network core circuit
-beside_is plan service network core circuit beside = by (circuit_row plan circuit) refl (right_part (is_circuit_of plan service circuit) (is_row_beside plan network service core (circuit_row plan circuit)) beside) where
+beside_is plan service network core circuit beside = by (circuit_row plan circuit) refl (second_holds (is_circuit_of plan service circuit) (is_row_beside plan network service core (circuit_row plan circuit)) beside) where
   by : (o : Option CircuitPlan) → circuit_row plan circuit ≡ o → is_row_beside plan network service core o ≡ true → IsBeside plan service network core circuit
   by None is there = clash there
-  by (Some row) is there = record { row = row; is = is; of_service = left_part (is_circuit_of plan service circuit) (is_row_beside plan network service core (circuit_row plan circuit)) beside; where_is = there }
+  by (Some row) is there = record { row = row; is = is; of_service = first_holds (is_circuit_of plan service circuit) (is_row_beside plan network service core (circuit_row plan circuit)) beside; where_is = there }
 
 pub is_beside_by : (plan : Plan) (service : ServiceId) (network : NetworkState) (core : ℕ) (circuit : CircuitId) (row : CircuitPlan) → circuit_row plan circuit ≡ Some row → is_circuit_of plan service circuit ≡ true
     → row.edge.0 == core || (is_spoke_edge plan service row.edge.0 && is_home core (home_of plan network service row.edge.0)) ≡ true → is_beside plan network service core circuit ≡ true
-is_beside_by plan service network core circuit row is ours there = both_parts (is_circuit_of plan service circuit) (is_row_beside plan network service core (circuit_row plan circuit)) ours (ap (is_row_beside plan network service core) is ∙ there)
+is_beside_by plan service network core circuit row is ours there = and_from (is_circuit_of plan service circuit) (is_row_beside plan network service core (circuit_row plan circuit)) ours (ap (is_row_beside plan network service core) is ∙ there)
 
 -- it is at its edge
 pub at_own_edge : (plan : Plan) (service : ServiceId) (circuit : CircuitId) (row : CircuitPlan) → circuit_row plan circuit ≡ Some row → is_circuit_of plan service circuit ≡ true → at_edge_of plan service row.edge.0 circuit ≡ true
-at_own_edge plan service circuit row is ours = both_parts (is_circuit_of plan service circuit) (circuit_is_at plan row.edge.0 circuit) ours (ap (is_row_at row.edge.0) is ∙ same_place row.edge.0)
-
-pub edge_within : (plan : Plan) (circuit : CircuitId) (row : CircuitPlan) → IsChecked plan → circuit_row plan circuit ≡ Some row → row.edge.0 < length plan.edges
-edge_within plan circuit row checked is = (row_holds (IsCircuitOf plan) plan.circuits circuit.0 row is checked.circuits).edge
+at_own_edge plan service circuit row is ours = and_from (is_circuit_of plan service circuit) (circuit_is_at plan row.edge.0 circuit) ours (ap (is_row_at row.edge.0) is ∙ same_number row.edge.0)
 
 -- ---- spokes and mesh wires behind ports
 
@@ -93,17 +80,17 @@ pub behind_is : (plan : Plan) (service : ServiceId) (network : NetworkState) (ed
     → IsBehindSpoke plan service network edge wire row link circuit
 behind_is plan service network edge wire row link circuit is reached =
     let both = sym (spoke_reach plan service network edge wire row link circuit is) ∙ reached in
-    let live : is_live_spoke plan network service link.near.0 wire.0 row ≡ true = left_part (is_live_spoke plan network service link.near.0 wire.0 row) _ both in
+    let live : is_live_spoke plan network service link.near.0 wire.0 row ≡ true = first_holds (is_live_spoke plan network service link.near.0 wire.0 row) _ both in
     record {
-      from = left_part (is_spoke_from service link.near.0 row) (carries plan network wire.0 row) live;
-      live = right_part (is_spoke_from service link.near.0 row) (carries plan network wire.0 row) live;
-      behind = right_part (is_live_spoke plan network service link.near.0 wire.0 row) _ both;
+      from = first_holds (is_spoke_from service link.near.0 row) (carries plan network wire.0 row) live;
+      live = second_holds (is_spoke_from service link.near.0 row) (carries plan network wire.0 row) live;
+      behind = second_holds (is_live_spoke plan network service link.near.0 wire.0 row) _ both;
     }
 
 pub reach_spoke : (plan : Plan) (service : ServiceId) (network : NetworkState) (edge : ℕ) (wire : WireId) (row : WirePlan) (link : IsShortLink plan row) (circuit : CircuitId) → wire_row plan wire ≡ Some row → IsBehindSpoke plan service network edge wire row link circuit
     → reach plan network service edge (port.Spoke wire) circuit ≡ true
 reach_spoke plan service network edge wire row link circuit is behind = spoke_reach plan service network edge wire row link circuit is
-    ∙ both_parts (is_live_spoke plan network service link.near.0 wire.0 row) _ (both_parts (is_spoke_from service link.near.0 row) (carries plan network wire.0 row) behind.from behind.live) behind.behind
+    ∙ and_from (is_live_spoke plan network service link.near.0 wire.0 row) _ (and_from (is_spoke_from service link.near.0 row) (carries plan network wire.0 row) behind.from behind.live) behind.behind
 
 pub mesh_reach : (plan : Plan) (service : ServiceId) (network : NetworkState) (edge peer : ℕ) (wire : WireId) (row : WirePlan) (circuit : CircuitId) → wire_row plan wire ≡ Some row → far_of edge row.path ≡ Some peer
     → reach plan network service edge (port.Mesh wire) circuit ≡ is_beside plan network service peer circuit
@@ -123,7 +110,7 @@ pub record IsPortWire (plan : Plan) (service : ServiceId) (edge : ℕ) (mesh : B
 
 port_wire : (plan : Plan) (service : ServiceId) (edge : ℕ) (mesh : Bool) (wire : WireId) → IsChecked plan → has_short_paths plan service ≡ true → IsWired plan.wires service (record { 0 = edge }) mesh wire.0 → IsPortWire plan service edge mesh wire
 port_wire plan service edge mesh wire checked short wired =
-    let link : IsShortLink plan wired.row = short_link plan service wire.0 wired.row checked short (left_part (is_wire_of service wired.row) (is_first edge wired.row.path || is_last edge wired.row.path) wired.ends) wired.is in
+    let link : IsShortLink plan wired.row = short_link plan service wire.0 wired.row checked short (first_holds (is_wire_of service wired.row) (is_first edge wired.row.path || is_last edge wired.row.path) wired.ends) wired.is in
     let other = other_of plan service (record { 0 = edge }) wired.row link wired.ends in
     record { row = wired.row; is = wired.is; ends = wired.ends; class = wired.class; link = link; peer = other.peer; joined = other.joined }
 
@@ -134,18 +121,18 @@ pub spoke_port : (plan : Plan) (service : ServiceId) (edge p : ℕ) (wire : Wire
 spoke_port plan service edge p wire checked short at = port_wire plan service edge false wire checked short (served_at plan service (record { 0 = edge }) p (port.Spoke wire) at)
 
 pub of_mesh : (plan : Plan) (service : ServiceId) (edge : ℕ) (wire : WireId) (at : IsPortWire plan service edge true wire) → is_mesh_of service at.row ≡ true
-of_mesh plan service edge wire at = both_parts (is_wire_of service at.row) (is_mesh_class at.row.class) (left_part (is_wire_of service at.row) (is_first edge at.row.path || is_last edge at.row.path) at.ends) at.class
+of_mesh plan service edge wire at = and_from (is_wire_of service at.row) (is_mesh_class at.row.class) (first_holds (is_wire_of service at.row) (is_first edge at.row.path || is_last edge at.row.path) at.ends) at.class
 
 -- of two ends the other one
 pub at_far : (plan : Plan) (service : ServiceId) (edge : ℕ) (row : WirePlan) (link : IsShortLink plan row) → Rattle.net_base.specs.plan.Roles.wire_ends_at service edge row ≡ true → (edge == link.near.0) ≡ false → edge ≡ link.far.0
-at_far plan service edge row link ends away = eqb-true edge link.far.0 (rw away at (rw link.path at (right_part (is_wire_of service row) (is_first edge row.path || is_last edge row.path) ends)))
+at_far plan service edge row link ends away = eqb-true edge link.far.0 (rw away at (rw link.path at (second_holds (is_wire_of service row) (is_first edge row.path || is_last edge row.path) ends)))
 
 -- ---- a calm state
 
 module _ (plan : Plan) (service : ServiceId) (site : Sites) (calm network : NetworkState) (checked : IsChecked plan) (short : has_short_paths plan service ≡ true) (ordered : IsOrdered plan network) (is_calm_now : is_calm plan network service ≡ true)
     (heals : Heals plan service site calm network) where
   quiet : is_quiet plan network service ≡ true
-  quiet = left_part (is_quiet plan network service) (is_full plan network service) (left_part (is_quiet plan network service && is_full plan network service) (has_live_spokes plan network service) is_calm_now)
+  quiet = first_holds (is_quiet plan network service) (is_full plan network service) (first_holds (is_quiet plan network service && is_full plan network service) (has_live_spokes plan network service) is_calm_now)
 
   -- nothing is on its way
   none_pending : {P : Type 0} (a b n : ℕ) (wire : WireId) (row : WirePlan) → wire_row plan wire ≡ Some row → is_wire_of service row ≡ true → joins a b row.path ≡ true → IsWithdrawalPending plan service network a b n → P
@@ -166,11 +153,8 @@ module _ (plan : Plan) (service : ServiceId) (site : Sites) (calm network : Netw
 
     by : WillBeRight plan service (IsWithdrawalPending plan service network) x live.wire live.spoke.row.pw_id live.home core entry.port → LeadsHome plan core live.home live.wire (slice_get (ports_of plan service (record { 0 = core })) entry.port)
     by (IsRight leads) = leads
-    by (BySpoke pending) = none_pending x live.home live.spoke.row.pw_id live.wire live.spoke.row live.spoke.is (ap (λ (s : ServiceId). s.0 == service.0) link.of_service ∙ same_place service.0) link.joined pending
-    by (ByMesh mesh row at_mesh its joined pending) = none_pending live.home core row.pw_id mesh row at_mesh (left_part (is_wire_of service row) (is_mesh_class row.class) its) joined pending
-
-  some_same : {A : Type 0} {a b : A} → Some a ≡ Some b → a ≡ b
-  some_same e = cc
+    by (BySpoke pending) = none_pending x live.home live.spoke.row.pw_id live.wire live.spoke.row live.spoke.is (ap (λ (s : ServiceId). s.0 == service.0) link.of_service ∙ same_number service.0) link.joined pending
+    by (ByMesh mesh row at_mesh its joined pending) = none_pending live.home core row.pw_id mesh row at_mesh (first_holds (is_wire_of service row) (is_mesh_class row.class) its) joined pending
 
   module _ (e k : ℕ) (entry : MacEntry) (at : slice_get (learned_in service network e) k ≡ Some entry) where
     abbrev circuit : CircuitId
@@ -196,12 +180,12 @@ module _ (plan : Plan) (service : ServiceId) (site : Sites) (calm network : Netw
       -- the home of its spoke edge is the one to which the mesh wire leads
       home_now : is_spoke_edge plan service x ≡ true → is_home wired.peer.0 (home_of plan network service x) ≡ true
       home_now starts =
-          let live = lives x (edge_within plan circuit beside.row checked beside.is) starts in
+          let live = lives x (circuit_within plan circuit beside.row checked beside.is) starts in
           let right : LeadsHome plan e live.home live.wire (Some (port.Mesh wire)) =
           subst (LeadsHome plan e live.home live.wire) leads (right_now e k entry link.one_core at x live (at_own_edge plan service circuit beside.row beside.is beside.of_service)) in
           let rows : right.row ≡ wired.row = some_same (sym right.is ∙ wired.is) in
           let homes : live.home ≡ wired.peer.0 = some_same (sym (far_is right.row.path e live.home (has_two plan service wire right.row short (subst (λ (r : WirePlan). is_wire_of service r ≡ true) (sym rows) link.ours) right.is) right.joined) ∙ (ap (λ (r : WirePlan). far_of e r.path) rows ∙ link.far)) in
-          ap (is_home wired.peer.0) live.home_is ∙ (ap (λ (n : ℕ). n == wired.peer.0) homes ∙ same_place wired.peer.0)
+          ap (is_home wired.peer.0) live.home_is ∙ (ap (λ (n : ℕ). n == wired.peer.0) homes ∙ same_number wired.peer.0)
 
       by_case : (here starts home : Bool) → (starts ≡ true → is_home wired.peer.0 (home_of plan network service x) ≡ true) → here || (starts && home) ≡ true → here || (starts && is_home wired.peer.0 (home_of plan network service x)) ≡ true
       by_case true starts home now was = refl

@@ -3,7 +3,6 @@ use Rattle.edge_model.specs.EndPlaces.{end_places, passes}
 use Rattle.edge_model.specs.Spokes.{choice, is_spoke_row, is_usable, spoke_at, spoke_places, spokes_of}
 use Rattle.edge_model.specs.State.{EdgeState, end_at}
 use Rattle.edge_model.specs.declared.end_place.EndPlace.{EndPlace}
-use Rattle.flight_laws.proofs.RowLemmas.{clash}
 use Rattle.move_laws.specs.Healing.{is_advertising}
 use Rattle.net_base.specs.declared.plan.Plan.{Plan}
 use Rattle.net_base.specs.declared.plan.places.ServiceId.{ServiceId}
@@ -11,29 +10,20 @@ use Rattle.net_base.specs.declared.plan.places.WireId.{WireId}
 use Rattle.net_base.specs.declared.trace.down.Down.TheVariants as cause
 use Rattle.net_base.specs.declared.trace.down.Down.{Down}
 use Rattle.net_base.specs.plan.Places.{wire_row}
-use Rattle.pw_signalling.proofs.LawLemmas.{forwards_where_both_agree}
-use Rattle.pw_signalling.specs.Down.{causes, down, far_told, holds_cause, of_both, own_told}
+use Rattle.pw_signalling.specs.Down.{causes, down, far_told, holds_cause, own_told}
 use Rattle.pw_signalling.specs.End.{Advertised, EndState, LocalPart}
-use Rattle.pw_signalling.specs.Laws.{BothAgree}
 use Rattle.pw_signalling.specs.declared.end_role.EndRole.TheVariants as role
 use Rattle.pw_signalling.specs.declared.end_role.EndRole.{EndRole}
 use Rattle.pw_signalling.specs.declared.told.Told.{Told}
 use Rattle.spoke_redundancy.specs.Choice.{comes_before, is_best}
 use Rattle.spoke_redundancy.specs.declared.spoke.Spoke.{Spoke}
-use Rattle.std.proofs.Common.{Bool, List, None, Option, Some, [], ap, arith, false, filter, get_or, is_some, not, option_and_then, option_map, refl, slice_get, subst, suc, sym, true, zero, ℕ, ◌&&◌, ◌==◌, ◌∙◌, ◌∷◌, ◌≡◌}
+use Rattle.std.proofs.Common.{Bool, List, None, Option, Some, [], ap, arith, false, filter, get_or, is_some, not, option_and_then, option_map, refl, slice_get, subst, suc, sym, true, zero, ℕ, ◌==◌, ◌∙◌, ◌∷◌, ◌≡◌}
 use Rattle.std.proofs.lemmas.Bool.Decides.{nat_tests}
 use Rattle.std.proofs.lemmas.List.Quantifiers.{position-Some}
 use Rattle.std.proofs.lemmas.Option.{get_or_from_slice_get, slice_get-map}
-use Rattle.std.specs.List.{AllByRecursion, find, list_any}
-
--- what is not found passes the test nowhere
-none_passes : {A : Type 0} (test : A → Bool) (xs : List A) (i : ℕ) (x : A) → find test xs ≡ None → slice_get xs i ≡ Some x → test x ≡ false
-none_passes test [] i x none at = absurd (cc (at))
-none_passes test (y ∷ ys) i x none at = by (test y) refl i at (λ j later rest. none_passes test ys j x rest later) where
-  by : (b : Bool) → test y ≡ b → (i : ℕ) → slice_get (y ∷ ys) i ≡ Some x → ((j : ℕ) → slice_get ys j ≡ Some x → find test ys ≡ None → test x ≡ false) → test x ≡ false
-  by true here i at more = absurd (cc (rw here at none))
-  by false away zero at more = (let same : y ≡ x = cc (at) in ap test (sym same) ∙ away)
-  by false away (suc j) at more = more j at (rw away at none)
+use Rattle.std.specs.List.{AllByRecursion, list_any}
+use Rattle.net_values.proofs.BoolLemmas.{first_holds, clash}
+use Rattle.net_values.proofs.RowLemmas.{none_passes}
 
 zero_of : (n : ℕ) → not (n == 0) ≡ false → n ≡ 0
 zero_of n is = grind (arith, nat_tests)
@@ -42,15 +32,6 @@ zero_of n is = grind (arith, nat_tests)
 pub forwards_whole : (role : EndRole) (bits : ℕ) (e : EndState) → down role bits e ≡ None → bits ≡ 0
 unfolding down
 forwards_whole role bits e up = zero_of bits (none_passes (holds_cause role bits (own_told e.local) (far_told e.remote)) causes 5 cause.LocalFault up refl)
-
--- it is none of a spoke that was not chosen
-pub forwards_chosen : {P : Type 0} (bits : ℕ) (e : EndState) → down role.NotChosen bits e ≡ None → P
-unfolding down
-forwards_chosen {P} bits e up =
-    both (forwards_where_both_agree role.NotChosen bits e up) (none_passes (holds_cause role.NotChosen bits (own_told e.local) (far_told e.remote)) causes 7 cause.Standby up refl)
-  where
-    both : BothAgree e → of_both (λ a b. true) (own_told e.local) (far_told e.remote) ≡ false → P
-    both agree none = (let wrong : true ≡ false = rw (agree.advertises, agree.bound) at none in absurd (cc (wrong)))
 
 pub advertises_it : (label : ℕ) (content : Told) (local : LocalPart) → local ≡ Advertised label content → is_advertising local ≡ true
 advertises_it label content local at = ap is_advertising at
@@ -90,10 +71,6 @@ not_some : (o : Option Down) → not (is_some o) ≡ true → o ≡ None
 not_some None is = refl
 not_some (Some x) is = clash is
 
-left_part : (a b : Bool) → a && b ≡ true → a ≡ true
-left_part true b h = refl
-left_part false b h = clash h
-
 pub choice_is : (plan : Plan) (service : ServiceId) (edge : EdgeState) (wire : WireId) → choice plan edge service ≡ Some wire → IsChoice plan service edge wire
 choice_is plan service edge wire is = by_number (Rattle.spoke_redundancy.specs.Choice.chosen (spokes_of plan edge service)) refl is where
   places : List EndPlace
@@ -115,7 +92,7 @@ choice_is plan service edge wire is = by_number (Rattle.spoke_redundancy.specs.C
         at = among.at;
         wire_is = same;
         spoke = among.passes;
-        usable = not_some (down role.Chosen (edge.bits place.wire.0) (end_at edge place)) (left_part (is_usable edge place) (not (list_any (comes_before (spoke_at edge place)) spokes)) passes);
+        usable = not_some (down role.Chosen (edge.bits place.wire.0) (end_at edge place)) (first_holds (is_usable edge place) (not (list_any (comes_before (spoke_at edge place)) spokes)) passes);
       }
 
   wire_of : (place : EndPlace) → Some place.wire ≡ Some wire → place.wire ≡ wire

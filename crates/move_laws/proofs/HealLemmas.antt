@@ -1,7 +1,6 @@
 -- After a move to another spoke, each learned address points to its site again.
 use Rattle.address_laws.specs.Points.{Points}
 use Rattle.address_laws.specs.Sites.{Sites}
-use Rattle.flight_laws.proofs.RowLemmas.{clash}
 use Rattle.flight_laws.proofs.RunLemmas.{run_ordered, step_keeps}
 use Rattle.flight_laws.specs.Ends.{HasTypes, IsOrdered}
 use Rattle.flight_laws.specs.Laws.{IsRun, network_after}
@@ -27,6 +26,7 @@ use Rattle.network_model.specs.Step.{step}
 use Rattle.std.proofs.Common.{List, [], subst, sym, true, ◌++◌, ◌∷◌, ◌≡◌}
 use Rattle.std.proofs.lemmas.List.Elements.{All-cons, All-head, All-nil, All-tail}
 use Rattle.std.specs.List.{All, list_all}
+use Rattle.net_values.proofs.BoolLemmas.{clash}
 
 -- a network that heals, in a run
 record HealsAt (plan : Plan) (service : ServiceId) (site : Sites) (calm network : NetworkState) : Type 0 where

@@ -10,8 +10,6 @@ use Rattle.edge_model.specs.Work.{Work}
 use Rattle.flight_laws.proofs.HearingLemmas.{up_heard}
 use Rattle.flight_laws.proofs.NameLemmas.{split}
 use Rattle.flight_laws.proofs.PieceLemmas.{heard_are, none_are_piece}
-use Rattle.flight_laws.proofs.RowLemmas.{clash}
-use Rattle.flight_laws.proofs.WorkLemmas.{same_place}
 use Rattle.flight_laws.proofs.WorksLemmas.{event_spares}
 use Rattle.flight_laws.specs.Bound.{some_message}
 use Rattle.flight_laws.specs.Ends.{HasTypes, ends_at}
@@ -55,6 +53,8 @@ use Rattle.session_core.specs.Table.{Received, SessionEvent}
 use Rattle.std.proofs.Common.{Bool, List, None, Option, Some, [], ap, cond, false, inl, nat_eq, refl, slice_get, subst, sym, true, ℕ, ◌&&◌, ◌++◌, ◌==◌, ◌||◌, ◌∙◌, ◌∷◌, ◌≡◌}
 use Rattle.std.proofs.lemmas.Bool.{eqb-true}
 use Rattle.std.specs.List.{AllByRecursion}
+use Rattle.net_values.proofs.BoolLemmas.{clash, and_false}
+use Rattle.net_values.proofs.NumberLemmas.{same_number}
 
 -- an edge at work heals, and what it has still to hear leaves all as it is
 pub record HearsHealing (plan : Plan) (service : ServiceId) (site : Sites) (network : NetworkState) (me : EdgeId) (peer : ℕ) (messages : List Message) (work : Work) : Type 0 where
@@ -145,7 +145,7 @@ module _ (plan : Plan) (service : ServiceId) (site : Sites) (network : NetworkSt
     on_spoke : (wire : WireId) (spoke : IsSpokeTo plan service peer.0 wire me.0) → fec.pw_id ≡ Some spoke.row.pw_id → AreAtPort plan service me (port.Spoke wire) (New.edge.learned service.0)
     on_spoke wire spoke named =
         subst (λ (x : Port). AreAtPort plan service me x (New.edge.learned service.0)) (ap (λ (m : Bool). cond m (port.Mesh (record { 0 = wire.0 })) (port.Spoke (record { 0 = wire.0 }))) link.class)
-        (withdraw_port plan service me peer wire spoke.row fec work checked short heals.stays.place spoke.is (ap (λ (s : ServiceId). s.0 == service.0) link.of_service ∙ same_place service.0) (sym (joins_turned spoke.row.path peer.0 me.0) ∙ link.joined) named)
+        (withdraw_port plan service me peer wire spoke.row fec work checked short heals.stays.place spoke.is (ap (λ (s : ServiceId). s.0 == service.0) link.of_service ∙ same_number service.0) (sym (joins_turned spoke.row.path peer.0 me.0) ∙ link.joined) named)
       where
         link : IsSpokeLink plan service peer.0 me.0 spoke.row
         link = spoke_link plan service peer.0 wire me.0 checked short spoke
@@ -153,7 +153,7 @@ module _ (plan : Plan) (service : ServiceId) (site : Sites) (network : NetworkSt
     on_mesh : (mesh : WireId) (row : WirePlan) → wire_row plan mesh ≡ Some row → is_mesh_of service row ≡ true → joins peer.0 me.0 row.path ≡ true → fec.pw_id ≡ Some row.pw_id → AreAtPort plan service me (port.Mesh mesh) (New.edge.learned service.0)
     on_mesh mesh row is of_mesh joined named =
         subst (λ (x : Port). AreAtPort plan service me x (New.edge.learned service.0)) (ap (λ (m : Bool). cond m (port.Mesh (record { 0 = mesh.0 })) (port.Spoke (record { 0 = mesh.0 }))) link.class)
-        (withdraw_port plan service me peer mesh row fec work checked short heals.stays.place is (ap (λ (s : ServiceId). s.0 == service.0) link.of_service ∙ same_place service.0) (sym (joins_turned row.path peer.0 me.0) ∙ joined) named)
+        (withdraw_port plan service me peer mesh row fec work checked short heals.stays.place is (ap (λ (s : ServiceId). s.0 == service.0) link.of_service ∙ same_number service.0) (sym (joins_turned row.path peer.0 me.0) ∙ joined) named)
       where
         link : IsMeshLink plan service peer.0 me.0 row
         link = mesh_link plan service peer.0 me.0 mesh row checked short is of_mesh joined
@@ -178,7 +178,7 @@ module _ (plan : Plan) (service : ServiceId) (site : Sites) (network : NetworkSt
         (λ later. BySpoke (ToHear from to joined there later))
     away_heals core is away edge wire home spoke p (BySpoke (Waits gone other pending)) = BySpoke (Waits gone other pending)
     away_heals core is away edge wire home spoke p (ByMesh mesh row at of_mesh joins (WasSaid from joined there cleared)) = ByMesh mesh row at of_mesh joins (grown home core row.pw_id from joined there cleared)
-    away_heals core is away edge wire home spoke p (ByMesh mesh row at of_mesh joins (ToHear from to joined there among)) = clash (sym away ∙ (ap (λ (n : ℕ). n == me.0) to ∙ same_place me.0))
+    away_heals core is away edge wire home spoke p (ByMesh mesh row at of_mesh joins (ToHear from to joined there among)) = clash (sym away ∙ (ap (λ (n : ℕ). n == me.0) to ∙ same_number me.0))
     away_heals core is away edge wire home spoke p (ByMesh mesh row at of_mesh joins (Waits gone other pending)) = ByMesh mesh row at of_mesh joins (Waits gone other pending)
 
     -- an entry of the edge's own
@@ -227,7 +227,7 @@ module _ (plan : Plan) (service : ServiceId) (site : Sites) (network : NetworkSt
         own_table all = subst (AllByRecursion (EntryHeals plan service site (choices_of work) (WaysOf (AddressWithdraw id None (Some fec) (Some []) ∷ messages) work) me.0)) here all
           where
             here : tables_of work me.0 ≡ work.edge.learned service.0
-            here = ap (λ (b : Bool). cond b (work.edge.learned service.0) (learned_in service network me.0)) (same_place me.0)
+            here = ap (λ (b : Bool). cond b (work.edge.learned service.0) (learned_in service network me.0)) (same_number me.0)
 
     pub cleared_heals : Healing messages New
     cleared_heals = record {
@@ -235,7 +235,7 @@ module _ (plan : Plan) (service : ServiceId) (site : Sites) (network : NetworkSt
       right = λ core is. split {P = AllByRecursion (EntryHeals plan service site (choices_of New) (WaysOf messages New) core) (tables_of New core)} (nat_eq core me.0)
           (λ same. (let here : core ≡ me.0 = eqb-true core me.0 same in
           subst (λ (n : ℕ). AllByRecursion (EntryHeals plan service site (choices_of New) (WaysOf messages New) n) (tables_of New n)) (sym here)
-          (subst (AllByRecursion (EntryHeals plan service site (choices_of New) (WaysOf messages New) me.0)) (sym (ap (λ (b : Bool). cond b (New.edge.learned service.0) (learned_in service network me.0)) (same_place me.0)))
+          (subst (AllByRecursion (EntryHeals plan service site (choices_of New) (WaysOf messages New) me.0)) (sym (ap (λ (b : Bool). cond b (New.edge.learned service.0) (learned_in service network me.0)) (same_number me.0)))
           (own_right (subst (λ (n : ℕ). is_core_edge plan service n ≡ true) here is)))))
           (λ away. subst (AllByRecursion (EntryHeals plan service site (choices_of New) (WaysOf messages New) core)) (same_table core away)
           (all_weaker (EntryHeals plan service site (choices_of work) (WaysOf (AddressWithdraw id None (Some fec) (Some []) ∷ messages) work) core) (EntryHeals plan service site (choices_of New) (WaysOf messages New) core) (tables_of work core)
@@ -273,11 +273,7 @@ module _ (plan : Plan) (service : ServiceId) (site : Sites) (network : NetworkSt
     by (AddressWithdraw id None (Some fec) (Some (mac ∷ macs))) said leaves sound heals =
         heals_on plan service site network me peer.0 messages work (hears_mac_withdraw plan taken_all peer (Some fec) (Some (mac ∷ macs)) work)
         (withdraw_stays plan service network me peer.0 peer fec (mac ∷ macs) work checked types short (heard_are id fec (mac ∷ macs) said.0) heals.stays)
-        (chosen_same work _ (withdraw_chosen plan peer fec (mac ∷ macs) work)) (popped (AddressWithdraw id None (Some fec) (Some (mac ∷ macs))) messages work (λ n joined. none (names_by_fec n (Some fec))) heals)
-      where
-        none : (b : Bool) → b && false ≡ false
-        none true = refl
-        none false = refl
+        (chosen_same work _ (withdraw_chosen plan peer fec (mac ∷ macs) work)) (popped (AddressWithdraw id None (Some fec) (Some (mac ∷ macs))) messages work (λ n joined. and_false (names_by_fec n (Some fec))) heals)
     by (AddressWithdraw id addresses fec macs) said leaves sound heals = absurd said.1
     by m said leaves sound heals = absurd said
 
@@ -288,7 +284,7 @@ module _ (plan : Plan) (service : ServiceId) (site : Sites) (network : NetworkSt
       → Healing messages (happens_with_ends taken_all peer event work)
   event_heals event messages work apart sound heals =
       let new : Work = happens_with_ends taken_all peer event work in
-      let works = happens_with_ends_works taken_all (λ (k : ℕ). nat_eq k peer.0) peer event work (same_place peer.0) in
+      let works = happens_with_ends_works taken_all (λ (k : ℕ). nat_eq k peer.0) peer event work (same_number peer.0) in
       let base : Speaks plan service network me peer.0 work work = speaks_first plan service network me peer.0 work heals.stays in
       let speaks : Speaks plan service network me peer.0 work new = record {
         place = works.edge.me ∙ base.place;

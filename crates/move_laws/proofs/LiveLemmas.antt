@@ -11,8 +11,6 @@ use Rattle.edge_model.specs.State.{EdgeState, without_port}
 use Rattle.edge_model.specs.Work.{Work}
 use Rattle.edge_model.specs.declared.end_place.EndPlace.{EndPlace}
 use Rattle.flight_laws.proofs.PlaceLemmas.{find_holds}
-use Rattle.flight_laws.proofs.RowLemmas.{clash}
-use Rattle.flight_laws.proofs.WorkLemmas.{same_place}
 use Rattle.move_laws.specs.Moves.{has_short_paths}
 use Rattle.hvpls_spokes.proofs.PortsLemmas.{IsWired}
 use Rattle.hvpls_spokes.proofs.WirePortLemmas.{LeadsToWire, found_wire_port, leads_by_spoke, same_wire_port, wired_at}
@@ -37,20 +35,18 @@ use Rattle.network_model.specs.Absorb.{taken_all}
 use Rattle.std.proofs.Common.{Bool, List, None, Option, Some, ap, arith, false, filter, is_some, not, position, refl, slice_get, subst, sym, true, ℕ, ◌&&◌, ◌==◌, ◌||◌, ◌∙◌, ◌≡◌}
 use Rattle.std.proofs.lemmas.Bool.Decides.{nat_tests}
 use Rattle.std.specs.List.{AllByRecursion}
+use Rattle.net_values.proofs.BoolLemmas.{first_holds, clash, second_holds}
+use Rattle.net_values.proofs.NumberLemmas.{same_number}
 
 -- the other edge of a wire that ends at an edge
 pub record HasOther (plan : Plan) (me : EdgeId) (row : WirePlan) : Type 0 where
   pub peer : EdgeId
   pub joined : joins me.0 peer.0 row.path ≡ true
 
-right_part : (a b : Bool) → a && b ≡ true → b ≡ true
-right_part true b h = h
-right_part false b h = clash h
-
 pub other_of : (plan : Plan) (service : ServiceId) (me : EdgeId) (row : WirePlan) → IsShortLink plan row → Rattle.net_base.specs.plan.Roles.wire_ends_at service me.0 row ≡ true → HasOther plan me row
 other_of plan service me row link ends = by (me.0 == link.near.0) refl where
   ends_there : (me.0 == link.near.0) || (me.0 == link.far.0) ≡ true
-  ends_there = rw link.path at (right_part (is_wire_of service row) (is_first me.0 row.path || is_last me.0 row.path) ends)
+  ends_there = rw link.path at (second_holds (is_wire_of service row) (is_first me.0 row.path || is_last me.0 row.path) ends)
 
   at_near : (m n f : ℕ) → (m == n) ≡ true → ((m == n && f == f) || (f == n && m == f)) || false ≡ true
   at_near m n f is = grind (arith, nat_tests)
@@ -93,11 +89,7 @@ mends_live plan service me work checked short placed = all_by_place (IsAtLive pl
     row = wired.row
 
     served : is_wire_of service row ≡ true
-    served = left_part (is_wire_of service row) (is_first me.0 row.path || is_last me.0 row.path) wired.ends
-      where
-        left_part : (a b : Bool) → a && b ≡ true → a ≡ true
-        left_part true b h = refl
-        left_part false b h = clash h
+    served = first_holds (is_wire_of service row) (is_first me.0 row.path || is_last me.0 row.path) wired.ends
 
     other : HasOther plan me row
     other = other_of plan service me row (short_link plan service wire.0 row checked short served wired.is) wired.ends
@@ -122,7 +114,7 @@ mends_live plan service me work checked short placed = all_by_place (IsAtLive pl
         ∙ (ap (λ (s : ServiceId). position (is_wire_port wire) (ports_of plan s edge.me)) ours ∙ (ap (λ (e : EdgeId). position (is_wire_port wire) (ports_of plan service e)) me_is ∙ here.found))
 
     same_port : (entry.port == here.p) ≡ true
-    same_port = same_wire_port plan service me entry.port here.p wire.0 wire.0 to_wire (found_wire_port wire (ports_of plan service me) here.p here.found) ∙ same_place wire.0
+    same_port = same_wire_port plan service me entry.port here.p wire.0 wire.0 to_wire (found_wire_port wire (ports_of plan service me) here.p here.found) ∙ same_number wire.0
 
     forgotten : IsForgotten plan edge place
     forgotten = (find_holds (IsForgotten plan edge) (is_end_of_wire wire) (end_places plan edge.me) place mended.forgotten found).holds

@@ -1,18 +1,17 @@
 -- The spoke that carries frames in a calm state is the one that its spoke edge has chosen, and leads to its home.
-use Rattle.edge_model.specs.Ends.{end_forwards, forwards_at, is_up, wire_end}
+use Rattle.edge_model.specs.Ends.{end_forwards, forwards_at, wire_end}
 use Rattle.edge_model.specs.Role.{down_at, end_role_of, is_chosen, role_at, role_in}
 use Rattle.edge_model.specs.State.{EdgeState, end_at}
+use Rattle.edge_model.proofs.CopyLemmas.{up_is_none}
 use Rattle.flight_laws.proofs.PlaceLemmas.{wire_apart}
-use Rattle.flight_laws.proofs.RowLemmas.{clash}
-use Rattle.flight_laws.proofs.SettleLemmas.{apart_turned}
-use Rattle.flight_laws.proofs.WorkLemmas.{same_place}
 use Rattle.flight_laws.specs.Ends.{IsOrdered}
 use Rattle.flight_laws.specs.Facts.{flight}
+use Rattle.flight_laws.proofs.BoundRunLemmas.{drained_flight}
 use Rattle.flood_laws.proofs.DueLemmas.{forwards}
 use Rattle.flood_laws.proofs.HomeLemmas.{LiveSpoke, live_count, live_found}
 use Rattle.flood_laws.proofs.MeshLemmas.{mesh_wire}
+use Rattle.flood_laws.proofs.ChosenLemmas.{not_chosen_down}
 use Rattle.move_laws.specs.Moves.{has_short_paths}
-use Rattle.move_laws.proofs.ForwardLemmas.{forwards_chosen}
 use Rattle.move_laws.proofs.HearHealLemmas.{MeshesTo}
 use Rattle.move_laws.proofs.ShortLinkLemmas.{IsShortLink, short_link}
 use Rattle.move_laws.proofs.WireLemmas.{IsLinkEnd, IsSpokeLink, link_end, spoke_link}
@@ -22,39 +21,29 @@ use Rattle.net_base.specs.declared.plan.places.EdgeId.{EdgeId}
 use Rattle.net_base.specs.declared.plan.places.ServiceId.{ServiceId}
 use Rattle.net_base.specs.declared.plan.places.WireId.{WireId}
 use Rattle.net_base.specs.declared.plan.wire_plan.WirePlan.{WirePlan}
-use Rattle.net_base.specs.declared.trace.down.Down.{Down}
 use Rattle.net_base.specs.plan.Accepted.{IsChecked}
 use Rattle.net_base.specs.plan.Paths.{is_first, is_last}
 use Rattle.net_base.specs.plan.Places.{is_mesh_class, wire_row}
 use Rattle.net_base.specs.plan.Roles.{is_core_edge, is_mesh_of, is_spoke_edge, is_spoke_from, is_wire_of}
+use Rattle.net_base.proofs.CommonLemmas.{same_row}
 use Rattle.network_model.specs.Calm.{carries, is_calm, is_drained, is_live_spoke, is_settled}
 use Rattle.network_model.specs.Reach.{home_of, last_place}
-use Rattle.network_model.specs.State.{NetworkState, held, stands}
+use Rattle.network_model.specs.State.{NetworkState, stands}
 use Rattle.pw_signalling.specs.Down.{down}
 use Rattle.pw_signalling.specs.declared.end_role.EndRole.TheVariants as role
 use Rattle.pw_signalling.specs.declared.end_role.EndRole.{EndRole}
-use Rattle.std.proofs.Common.{Bool, List, None, Option, Some, [], ap, arith, cond, false, length, nat_eq, not, refl, slice_get, subst, suc, sym, true, ℕ, ◌&&◌, ◌+◌, ◌<◌, ◌==◌, ◌||◌, ◌∙◌, ◌∷◌, ◌≡◌}
+use Rattle.std.proofs.Common.{Bool, List, None, Option, Some, [], ap, arith, cond, false, length, nat_eq, not, refl, slice_get, subst, sym, true, ℕ, ◌&&◌, ◌<◌, ◌==◌, ◌||◌, ◌∙◌, ◌∷◌, ◌≡◌}
 use Rattle.std.proofs.lemmas.Bool.Decides.{nat_tests}
 use Rattle.std.proofs.lemmas.Bool.{eqb-true}
-
-left_of : (a b : Bool) → a && b ≡ true → a ≡ true
-left_of true b h = refl
-left_of false b h = clash h
-
-right_of : (a b : Bool) → a && b ≡ true → b ≡ true
-right_of true b h = h
-right_of false b h = clash h
-
-is_up_none : (o : Option Down) → is_up o ≡ true → o ≡ None
-is_up_none None up = refl
-is_up_none (Some why) up = clash up
+use Rattle.net_values.proofs.BoolLemmas.{first_holds, clash, second_holds}
+use Rattle.net_values.proofs.NumberLemmas.{same_number, apart_back, from_none}
 
 -- ---- an end that forwards
 
 -- the end of an edge at a wire that forwards there
 pub forwards_end : (plan : Plan) (edge : EdgeState) (me peer : EdgeId) (wire : WireId) (row : WirePlan) (end : IsLinkEnd plan me peer wire row) → edge.me ≡ me → end_forwards plan edge wire ≡ true → down_at plan edge end.place ≡ None
 forwards_end plan edge me peer wire row end placed up =
-    is_up_none (down_at plan edge end.place) (ap (forwards_at plan edge) (sym (ap (λ (e : EdgeId). wire_end plan e wire) placed ∙ end.found)) ∙ up)
+    up_is_none (down_at plan edge end.place) (ap (forwards_at plan edge) (sym (ap (λ (e : EdgeId). wire_end plan e wire) placed ∙ end.found)) ∙ up)
 
 -- a spoke edge forwards only by the spoke that it has chosen
 pub chosen_forwards : (plan : Plan) (service : ServiceId) (edge : EdgeState) (x : ℕ) (wire : WireId) (home : ℕ) → IsChecked plan → has_short_paths plan service ≡ true → edge.me ≡ record { 0 = x } → (spoke : IsSpokeTo plan service x wire home)
@@ -90,7 +79,7 @@ chosen_forwards plan service edge x wire home checked short placed spoke up = by
 
   by : (b : Bool) → is_chosen edge.chosen wire spoke.row ≡ b → edge.chosen service.0 ≡ Some wire
   by true is = some_wire (edge.chosen service.0) (subst (λ (s : ServiceId). Rattle.edge_model.specs.Role.is_chosen_wire wire (edge.chosen s.0) ≡ true) link.of_service is)
-  by false is = forwards_chosen (edge.bits end.place.wire.0) (end_at edge end.place)
+  by false is = not_chosen_down (edge.bits end.place.wire.0) (end_at edge end.place)
       (ap (λ (r : EndRole). down r (edge.bits end.place.wire.0) (end_at edge end.place)) (sym (role_is false is)) ∙ down_is)
 
 -- ---- the spoke that carries frames
@@ -99,8 +88,8 @@ chosen_forwards plan service edge x wire home checked short placed spoke up = by
 pub carries_ends : (plan : Plan) (network : NetworkState) (k : ℕ) (row : WirePlan) (link : IsShortLink plan row) → carries plan network k row ≡ true
     → (end_forwards plan (network.edges link.near.0) (record { 0 = k }) ≡ true) × (end_forwards plan (network.edges link.far.0) (record { 0 = k }) ≡ true)
 carries_ends plan network k row link live =
-    let both = left_of (forwards plan network link.near.0 k && forwards plan network link.far.0 k) true (rw link.path at live) in
-    (left_of (forwards plan network link.near.0 k) (forwards plan network link.far.0 k) both, right_of (forwards plan network link.near.0 k) (forwards plan network link.far.0 k) both)
+    let both = first_holds (forwards plan network link.near.0 k && forwards plan network link.far.0 k) true (rw link.path at live) in
+    (first_holds (forwards plan network link.near.0 k) (forwards plan network link.far.0 k) both, second_holds (forwards plan network link.near.0 k) (forwards plan network link.far.0 k) both)
 
 -- a spoke of the service, by its place
 pub record IsLiveAt (plan : Plan) (service : ServiceId) (network : NetworkState) (x : ℕ) : Type 0 where
@@ -113,25 +102,22 @@ pub record IsLiveAt (plan : Plan) (service : ServiceId) (network : NetworkState)
 
 -- a spoke from an edge leads to the far edge of its path
 pub spoke_at_link : (plan : Plan) (service : ServiceId) (x k : ℕ) (row : WirePlan) (link : IsShortLink plan row) → slice_get plan.wires k ≡ Some row → is_spoke_from service x row ≡ true → IsSpokeTo plan service x (record { 0 = k }) link.far.0
-spoke_at_link plan service x k row link is from = record { row = row; is = is; from = from; to = ap (is_last link.far.0) link.path ∙ same_place link.far.0 }
+spoke_at_link plan service x k row link is from = record { row = row; is = is; from = from; to = ap (is_last link.far.0) link.path ∙ same_number link.far.0 }
 
 pub near_of : (plan : Plan) (service : ServiceId) (x : ℕ) (row : WirePlan) (link : IsShortLink plan row) → is_spoke_from service x row ≡ true → x ≡ link.near.0
-near_of plan service x row link from = eqb-true x link.near.0 (ap (is_first x) (sym link.path) ∙ right_of (is_wire_of service row && not (is_mesh_class row.class)) (is_first x row.path) from)
+near_of plan service x row link from = eqb-true x link.near.0 (ap (is_first x) (sym link.path) ∙ second_holds (is_wire_of service row && not (is_mesh_class row.class)) (is_first x row.path) from)
 
 pub live_at : (plan : Plan) (service : ServiceId) (network : NetworkState) (x : ℕ) → IsChecked plan → has_short_paths plan service ≡ true → IsOrdered plan network → is_calm plan network service ≡ true → x < length plan.edges → is_spoke_edge plan service x ≡ true
     → IsLiveAt plan service network x
 unfolding spoke_at_link
 live_at plan service network x checked short ordered calm within starts = from (live_found plan network service x 0 plan.wires (live_count plan network service x calm within starts)) where
-  no_more : (n : ℕ) → 0 + n ≡ n
-  no_more n = omega arith
-
   from : LiveSpoke plan network service x 0 plan.wires → IsLiveAt plan service network x
   from found =
-      let live : is_live_spoke plan network service x found.k found.row ≡ true = subst (λ (n : ℕ). is_live_spoke plan network service x n found.row ≡ true) (no_more found.k) found.live in
-      let starts_here : is_spoke_from service x found.row ≡ true = left_of (is_spoke_from service x found.row) (carries plan network found.k found.row) live in
-      let ours : is_wire_of service found.row ≡ true = left_of (is_wire_of service found.row) (not (is_mesh_class found.row.class)) (left_of (is_wire_of service found.row && not (is_mesh_class found.row.class)) (is_first x found.row.path) starts_here) in
+      let live : is_live_spoke plan network service x found.k found.row ≡ true = subst (λ (n : ℕ). is_live_spoke plan network service x n found.row ≡ true) (from_none found.k) found.live in
+      let starts_here : is_spoke_from service x found.row ≡ true = first_holds (is_spoke_from service x found.row) (carries plan network found.k found.row) live in
+      let ours : is_wire_of service found.row ≡ true = first_holds (is_wire_of service found.row) (not (is_mesh_class found.row.class)) (first_holds (is_wire_of service found.row && not (is_mesh_class found.row.class)) (is_first x found.row.path) starts_here) in
       let link : IsShortLink plan found.row = short_link plan service found.k found.row checked short ours found.is in
-      let carried : carries plan network found.k found.row ≡ true = right_of (is_spoke_from service x found.row) (carries plan network found.k found.row) live in
+      let carried : carries plan network found.k found.row ≡ true = second_holds (is_spoke_from service x found.row) (carries plan network found.k found.row) live in
       let spoke : IsSpokeTo plan service x (record { 0 = found.k }) link.far.0 = spoke_at_link plan service x found.k found.row link found.is starts_here in
       let up : end_forwards plan (network.edges x) (record { 0 = found.k }) ≡ true =
       subst (λ (n : ℕ). end_forwards plan (network.edges n) (record { 0 = found.k }) ≡ true) (sym (near_of plan service x found.row link starts_here)) (carries_ends plan network found.k found.row link carried).0 in
@@ -160,9 +146,6 @@ home_same plan service x wire a b checked short one other =
     let second = (spoke_link plan service x wire b checked short other).path in
     last_of (sym first ∙ (ap (λ (r : WirePlan). r.path) rows ∙ second))
   where
-    same_row : {p q : WirePlan} → Some p ≡ Some q → p ≡ q
-    same_row e = cc
-
     second_of : List EdgeId → ℕ
     second_of [] = 0
     second_of (only ∷ []) = 0
@@ -176,18 +159,6 @@ home_same plan service x wire a b checked short one other =
 
 -- ---- quiet states
 
-zero_length : (xs : List ℕ) → nat_eq (length xs) 0 ≡ true → xs ≡ []
-zero_length [] e = refl
-zero_length (x ∷ xs) e = absurd (no (length xs) e)
-  where
-    no : (n : ℕ) → nat_eq (suc n) 0 ≡ true → ⊥
-    no n e = grind (arith, nat_tests)
-
-drained : (network : NetworkState) (from to : ℕ) → is_drained network from to ≡ true → flight network from to ≡ []
-drained network from to is =
-    rw (zero_length (held network to from) (right_of (nat_eq (length (network.pipes from to)) 0) (nat_eq (length (held network to from)) 0) is))
-    (zero_length (network.pipes from to) (left_of (nat_eq (length (network.pipes from to)) 0) (nat_eq (length (held network to from)) 0) is))
-
 -- both ends of a wire of a quiet service stand or neither does, and nothing is on its way
 pub record IsQuietWay (network : NetworkState) (a b : ℕ) : Type 0 where
   pub back : stands network b a ≡ true
@@ -199,8 +170,8 @@ quiet_way network a b settled there = by (stands network a b) (stands network b 
   by : (p q : Bool) → stands network a b ≡ p → stands network b a ≡ q → p ≡ true → (not p && not q) || ((p && q) && (is_drained network a b && is_drained network b a)) ≡ true → IsQuietWay network a b
   by true true one other there settled = record {
     back = other;
-    out = drained network a b (left_of (is_drained network a b) (is_drained network b a) settled);
-    home = drained network b a (right_of (is_drained network a b) (is_drained network b a) settled);
+    out = drained_flight network a b (first_holds (is_drained network a b) (is_drained network b a) settled);
+    home = drained_flight network b a (second_holds (is_drained network a b) (is_drained network b a) settled);
   }
   by true false one other there settled = clash settled
   by false q one other there settled = clash there
@@ -210,15 +181,15 @@ quiet_way network a b settled there = by (stands network a b) (stands network b 
 pub has_meshes : (plan : Plan) (network : NetworkState) (service : ServiceId) → IsChecked plan → has_short_paths plan service ≡ true → is_calm plan network service ≡ true → (a b : ℕ) → a < length plan.edges → b < length plan.edges
     → is_core_edge plan service a ≡ true → is_core_edge plan service b ≡ true → nat_eq b a ≡ false → MeshesTo plan service a b
 has_meshes plan network service checked short calm a b within also one other apart =
-    let found = mesh_wire plan network service a b calm within also one other (apart_turned b a apart) in
-    let of_mesh : is_mesh_of service found.row ≡ true = left_of (is_mesh_of service found.row) _ found.between in
-    let link : IsShortLink plan found.row = short_link plan service found.k found.row checked short (left_of (is_wire_of service found.row) (is_mesh_class found.row.class) of_mesh) found.is in
+    let found = mesh_wire plan network service a b calm within also one other (apart_back b a apart) in
+    let of_mesh : is_mesh_of service found.row ≡ true = first_holds (is_mesh_of service found.row) _ found.between in
+    let link : IsShortLink plan found.row = short_link plan service found.k found.row checked short (first_holds (is_wire_of service found.row) (is_mesh_class found.row.class) of_mesh) found.is in
     record {
       wire = record { 0 = found.k };
       row = found.row;
       is = found.is;
       of_mesh = of_mesh;
-      joined = rw link.path (joins_them a b link.near.0 link.far.0 (rw link.path at (right_of (is_mesh_of service found.row) _ found.between)));
+      joined = rw link.path (joins_them a b link.near.0 link.far.0 (rw link.path at (second_holds (is_mesh_of service found.row) _ found.between)));
     }
   where
     joins_them : (a b n f : ℕ) → (a == n && b == f) || (b == n && a == f) ≡ true → ((a == n && b == f) || (b == n && a == f)) || false ≡ true

@@ -4,7 +4,6 @@ use Rattle.edge_model.specs.Mend.{mends}
 use Rattle.edge_model.specs.State.{put_at}
 use Rattle.edge_model.specs.Work.{Work}
 use Rattle.flight_laws.proofs.NameLemmas.{split}
-use Rattle.flight_laws.proofs.WorkLemmas.{same_place}
 use Rattle.flight_laws.specs.Ends.{HasTypes}
 use Rattle.move_laws.specs.Moves.{has_short_paths}
 use Rattle.ldp_grammar.specs.declared.message.Message.{Message}
@@ -25,6 +24,7 @@ use Rattle.network_model.specs.State.{NetworkState}
 use Rattle.std.proofs.Common.{List, Option, Some, inl, inr, nat_eq, refl, subst, sym, true, ℕ, ⊎_elim, ◌∙◌, ◌≡◌, ◌⊎◌}
 use Rattle.std.proofs.lemmas.Bool.{eqb-true}
 use Rattle.std.specs.List.{AllByRecursion}
+use Rattle.net_values.proofs.NumberLemmas.{same_number}
 
 -- ---- an edge at work
 
@@ -40,7 +40,7 @@ module _ (plan : Plan) (service : ServiceId) (site : Sites) (network : NetworkSt
   choices work = put_at (chosen_in service network) me.0 (work.edge.chosen service.0)
 
   choice_here : (work : Work) → choices work me.0 ≡ work.edge.chosen service.0
-  choice_here work = rw (same_place me.0) refl
+  choice_here work = rw (same_number me.0) refl
 
   told_here : (wire : WireId) (home : ℕ) (spoke : IsSpokeTo plan service me.0 wire home) → choices new me.0 ≡ Some wire → (choices old me.0 ≡ Some wire) ⊎ WorkWays plan service network me.0 peer messages new me.0 home spoke.row.pw_id
   told_here wire home spoke chosen = ⊎_elim

@@ -6,7 +6,6 @@ use Rattle.edge_model.specs.State.{EdgeState, end_at}
 use Rattle.edge_model.specs.declared.end_place.EndPlace.{EndPlace}
 use Rattle.flight_laws.proofs.MendedRunLemmas.{IsMendedAt, run_mended_at}
 use Rattle.flight_laws.proofs.PlaceLemmas.{IsEndOf, NamedEnd, end_of, find_holds}
-use Rattle.flight_laws.proofs.RowLemmas.{clash}
 use Rattle.flight_laws.specs.Laws.{IsRun, network_after}
 use Rattle.move_laws.specs.Healing.{is_advertising}
 use Rattle.net_base.specs.declared.plan.Plan.{Plan}
@@ -20,6 +19,7 @@ use Rattle.network_model.specs.State.{NetworkState}
 use Rattle.pw_signalling.specs.End.{Advertised, Idle, LocalPart, Withdrawing}
 use Rattle.pw_signalling.specs.declared.told.Told.{Told}
 use Rattle.std.proofs.Common.{Bool, List, None, Option, Some, ap, cond, false, is_some, refl, sym, true, ℕ, ◌&&◌, ◌∙◌, ◌≡◌}
+use Rattle.net_values.proofs.BoolLemmas.{clash}
 
 wish_on : (plan : Plan) (edge : EdgeState) (place : EndPlace) (row : Option WirePlan) → is_some (wish_of plan edge place row) ≡ true → edge.wire_on place.wire.0 ≡ true
 wish_on plan edge place None some = clash some

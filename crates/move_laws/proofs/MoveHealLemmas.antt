@@ -6,12 +6,11 @@ use Rattle.edge_model.specs.Spokes.{is_spoke_row}
 use Rattle.edge_model.specs.State.{EdgeState, with_bits, with_priority}
 use Rattle.edge_model.specs.Wire.{is_own_spoke}
 use Rattle.edge_model.specs.Work.{Work, changes, idles}
-use Rattle.flight_laws.proofs.RowLemmas.{clash}
 use Rattle.flight_laws.proofs.SoundLemmas.{sound_same}
-use Rattle.flight_laws.proofs.WorkLemmas.{same_place}
 use Rattle.flight_laws.proofs.WorksLemmas.{changed_edge}
 use Rattle.flight_laws.specs.Ends.{HasTypes, IsOrdered}
 use Rattle.flight_laws.specs.Sound.{TellsSoundly, point_limit}
+use Rattle.flight_laws.proofs.PlaceLemmas.{same_row}
 use Rattle.move_laws.specs.Moves.{has_short_paths}
 use Rattle.move_laws.proofs.ForgetLemmas.{changed_forgets}
 use Rattle.move_laws.proofs.LiveLemmas.{mends_live}
@@ -39,6 +38,8 @@ use Rattle.network_model.specs.Step.{step}
 use Rattle.network_model.specs.Wire.{priority_event, status_event}
 use Rattle.std.proofs.Common.{Bool, None, Option, Some, [], ap, cond, false, inl, nat_eq, not, refl, slice_get, sym, true, ℕ, ◌&&◌, ◌==◌, ◌∙◌, ◌≡◌, ◌≤◌}
 use Rattle.std.proofs.lemmas.Bool.{eqb-true}
+use Rattle.net_values.proofs.BoolLemmas.{clash, second_holds}
+use Rattle.net_values.proofs.NumberLemmas.{same_number}
 
 module _ (plan : Plan) (service : ServiceId) (site : Sites) (calm network : NetworkState) (me : EdgeId) (checked : IsChecked plan) (types : HasTypes plan) (short : has_short_paths plan service ≡ true) (ordered : IsOrdered plan network)
     (heals : Heals plan service site calm network) where
@@ -49,7 +50,7 @@ module _ (plan : Plan) (service : ServiceId) (site : Sites) (calm network : Netw
   ways place joined stood = (heals.steady me.0 place joined stood).0.way
 
   began : IsHealing plan service site network me me.0 [] Begun
-  began = begin_heals plan service site calm network me me.0 [] checked ordered heals (λ joined stood. clash (sym (joined_away plan service me.0 me.0 checked joined) ∙ same_place me.0))
+  began = begin_heals plan service site calm network me me.0 [] checked ordered heals (λ joined stood. clash (sym (joined_away plan service me.0 me.0 checked joined) ∙ same_number me.0))
 
   -- a change that leaves mesh wires, choice and tables as they are, after which the edge mends
   changed_heals : (change : EdgeState → EdgeState) → (change Begun.edge).peering ≡ Begun.edge.peering → (change Begun.edge).me ≡ Begun.edge.me → (change Begun.edge).chosen ≡ Begun.edge.chosen → (change Begun.edge).learned ≡ Begun.edge.learned
@@ -58,7 +59,7 @@ module _ (plan : Plan) (service : ServiceId) (site : Sites) (calm network : Netw
       settle_heals plan service site calm network network me me.0 [] (mends plan taken_all (changes change Begun)) checked (record { edges = refl; pipes = λ a b other. refl }) heals
       (mends_heal plan service site network me me.0 [] (changes change Begun) checked types short ways changed)
       (mends_live plan service me (changes change Begun) checked short changed.stays.place)
-      (λ joined stood. clash (sym (joined_away plan service me.0 me.0 checked joined) ∙ same_place me.0))
+      (λ joined stood. clash (sym (joined_away plan service me.0 me.0 checked joined) ∙ same_number me.0))
     where
       chosen_is : (changes change Begun).edge.chosen ≡ Begun.edge.chosen
       chosen_is = ap (λ (e : EdgeState). e.chosen) (changed_edge change Begun) ∙ chosen
@@ -95,17 +96,10 @@ module _ (plan : Plan) (service : ServiceId) (site : Sites) (calm network : Netw
     whole = λ other its peer at of_mesh joined. by other its peer at of_mesh joined (nat_eq other.0 wire.0) refl;
   }
     where
-      one_row : (one other : WirePlan) → Some one ≡ Some other → one ≡ other
-      one_row one other is = cc
-
-      right_part : (a b : Bool) → a && b ≡ true → b ≡ true
-      right_part true b h = h
-      right_part false b h = clash h
-
       by : (other : WireId) (its : WirePlan) (peer : ℕ) → wire_row plan other ≡ Some its → is_mesh_of service its ≡ true → joins me.0 peer its.path ≡ true → (b : Bool) → nat_eq other.0 wire.0 ≡ b → cond b bits (edge.bits other.0) ≡ 0
       by other its peer at of_mesh joined true same =
-          let rows : its ≡ row = one_row its row (sym at ∙ (ap (slice_get plan.wires) (eqb-true other.0 wire.0 same) ∙ is)) in
-          clash (sym class ∙ (ap (λ (r : WirePlan). is_mesh_class r.class) (sym rows) ∙ right_part (is_wire_of service its) (is_mesh_class its.class) of_mesh))
+          let rows : its ≡ row = same_row its row (sym at ∙ (ap (slice_get plan.wires) (eqb-true other.0 wire.0 same) ∙ is)) in
+          clash (sym class ∙ (ap (λ (r : WirePlan). is_mesh_class r.class) (sym rows) ∙ second_holds (is_wire_of service its) (is_mesh_class its.class) of_mesh))
       by other its peer at of_mesh joined false away = mesh.whole other its peer at of_mesh joined
 
   -- an input that applies or not

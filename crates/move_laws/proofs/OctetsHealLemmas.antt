@@ -3,7 +3,7 @@ use Rattle.pw_messages.specs.Sender.{platform_of}
 use Rattle.address_laws.specs.Sites.{Sites}
 use Rattle.edge_model.proofs.MendLemmas.{SpeaksOn, clears_not, having_spoken_times, mends_speaks}
 use Rattle.edge_model.specs.Hear.{acts, hears_few, hears_one, holds, octets_input, was_up}
-use Rattle.edge_model.specs.Mend.{is_up_with, mends}
+use Rattle.edge_model.specs.Mend.{mends}
 use Rattle.edge_model.specs.Session.{clears_ends, comes_of, happens_to, happens_with_ends, is_same_phase, with_session}
 use Rattle.edge_model.specs.State.{Peering, is_there, with_peering}
 use Rattle.edge_model.specs.Work.{Work, changes, gives}
@@ -12,18 +12,17 @@ use Rattle.flight_laws.proofs.EventLemmas.{hears_begin}
 use Rattle.flight_laws.proofs.HearLemmas.{HearsOn, hears_kept}
 use Rattle.flight_laws.proofs.HearingLemmas.{HasHeard, KeptByHearing, KeptByMessages, few_heard, message_heard, one_heard}
 use Rattle.flight_laws.proofs.NameLemmas.{split}
-use Rattle.flight_laws.proofs.RowLemmas.{clash}
 use Rattle.flight_laws.proofs.SaidLemmas.{said_sender}
-use Rattle.flight_laws.proofs.SettleLemmas.{apart_turned}
 use Rattle.flight_laws.proofs.SoundLemmas.{happens_sound}
 use Rattle.flight_laws.proofs.UniqueLemmas.{said_once}
-use Rattle.flight_laws.proofs.WorkLemmas.{same_place, with_peering_spares}
+use Rattle.flight_laws.proofs.WorkLemmas.{with_peering_spares}
 use Rattle.flight_laws.specs.Ends.{HasTypes, IsOrdered, ends_at}
 use Rattle.flight_laws.specs.Facts.{flight}
 use Rattle.flight_laws.specs.Messages.{IsSaid, octets_of_all}
-use Rattle.flight_laws.specs.Pair.{ArePaired, AreTalking, IsStanding}
+use Rattle.flight_laws.specs.Pair.{ArePaired, AreTalking}
 use Rattle.flight_laws.specs.Rules.{AllMessages}
 use Rattle.flight_laws.specs.Sound.{TellsSoundly, point_limit}
+use Rattle.flight_laws.proofs.CommonLemmas.{platform_is}
 use Rattle.move_laws.specs.Moves.{has_short_paths}
 use Rattle.ldp_grammar.specs.declared.ldp_id.LdpId.{LdpId}
 use Rattle.ldp_grammar.specs.declared.message.Message.{Message}
@@ -45,15 +44,15 @@ use Rattle.net_base.specs.plan.Roles.{are_joined_by, is_core_edge}
 use Rattle.network_model.specs.Absorb.{begin_at, taken_all}
 use Rattle.network_model.specs.Connection.{hearing_work}
 use Rattle.network_model.specs.State.{NetworkState, held_by, stands, with_pipe}
-use Rattle.session_core.specs.Parameters.{is_platform}
 use Rattle.session_core.specs.Phase as phase
 use Rattle.session_core.specs.Session.{phase_name}
 use Rattle.session_core.specs.Table.{Goes, Heard, Outcome, Received, SessionEvent, outcome_of}
-use Rattle.session_core.specs.declared.peers.Peers.{Peers}
-use Rattle.std.proofs.Common.{Bool, List, None, Option, Some, [], ap, append_assoc, cond, drop, false, inl, inr, length, nat_eq, option_map, refl, rules, subst, suc, sym, take, take-append-drop, true, zero, ℕ, ◌++◌, ◌<◌, ◌^◌, ◌∙◌, ◌∷◌, ◌≡◌}
+use Rattle.std.proofs.Common.{Bool, List, None, Option, Some, [], ap, append_assoc, cond, drop, false, inl, inr, length, nat_eq, option_map, refl, subst, suc, sym, take, take-append-drop, true, zero, ℕ, ◌++◌, ◌<◌, ◌^◌, ◌∙◌, ◌∷◌, ◌≡◌}
 use Rattle.std.proofs.lemmas.Bool.{cases_Bool, eqb-true}
 use Rattle.std.specs.List.{AllByRecursion}
-use Rattle.std.specs.Str.{bytes_eq}
+use Rattle.net_values.proofs.BoolLemmas.{clash}
+use Rattle.net_values.proofs.NumberLemmas.{same_number, apart_back}
+use Rattle.flood_laws.proofs.ChainLemmas.{has_end}
 
 -- ---- what is kept for the peer becomes something else
 
@@ -89,11 +88,11 @@ module _ (plan : Plan) (service : ServiceId) (network : NetworkState) (me peer :
       here : SpeaksMildly plan service network me.0 peer.0 peer.0 work → SpeaksMildly plan service network me.0 peer.0 peer.0 new
       here old = record {
         kept = now;
-        at = rw (same_place peer.0) refl;
+        at = rw (same_number peer.0) refl;
         up = still.phase ∙ (ap (λ (k : Peering). k.session.phase) (same_kept kept old.kept (sym at ∙ old.at)) ∙ old.up);
         peers = still.peers ∙ (ap (λ (k : Peering). k.session.peers) (same_kept kept old.kept (sym at ∙ old.at)) ∙ old.peers);
         numbered = subst (λ (n : ℕ). n < 2 ^ 32) (sym (still.number ∙ ap (λ (k : Peering). k.next_id) (same_kept kept old.kept (sym at ∙ old.at)))) old.numbered;
-        held_still = λ other. clash (sym other ∙ same_place peer.0);
+        held_still = λ other. clash (sym other ∙ same_number peer.0);
         unclosed = old.unclosed;
         messages = old.messages;
         is = old.is;
@@ -111,7 +110,7 @@ kept_chosen peer now work = (refl, refl)
 
 kept_here : (peer : EdgeId) (now : Peering) (work : Work) → (changes (with_peering peer (Some now)) work).edge.peering peer.0 ≡ Some now
 unfolding changes with_peering
-kept_here peer now work = rw (same_place peer.0) refl
+kept_here peer now work = rw (same_number peer.0) refl
 
 -- the sender of a PDU is known, in a session that is up
 heard_is : (peer : EdgeId) (sender : LdpId) (kept : Peering) (work : Work) → work.edge.peering peer.0 ≡ Some kept → kept.session.phase ≡ phase.Operational → outcome_of kept.session (Heard sender) ≡ Goes (record kept.session { wait = 0 }) []
@@ -139,10 +138,6 @@ held_sound limit peer rest kept work at sound = record {
   ];
 }
 
-up_of : (near : Option Peering) → is_up_with near ≡ true → is_there near ≡ true
-up_of None up = clash up
-up_of (Some kept) up = refl
-
 -- ---- octets
 
 -- it has mended, and these messages are still to hear
@@ -168,13 +163,13 @@ module _ (plan : Plan) (service : ServiceId) (site : Sites) (calm network : Netw
   Both messages work = Hearing messages work × HearsHealing plan service site network me peer.0 messages work
 
   hearing : KeptByHearing plan me peer (ends_at plan peer.0 me.0) Hearing
-  hearing = hears_kept plan later_network me peer (apart_turned peer.0 me.0 away) checked types
+  hearing = hears_kept plan later_network me peer (apart_back peer.0 me.0 away) checked types
 
   ways : HasWays plan service network me
   ways place joined stood = (heals.steady me.0 place joined stood).0.way
 
   back : are_joined_by plan service me.0 peer.0 ≡ true → stands network peer.0 me.0 ≡ true
-  back joined = up_of ((network.edges peer.0).peering me.0) (heals.steady me.0 peer.0 joined there).1.up
+  back joined = has_end ((network.edges peer.0).peering me.0) (heals.steady me.0 peer.0 joined there).1.up
 
   chosen_same : (old new : Work) → new.edge.chosen ≡ old.edge.chosen → TellsChoice plan service network me old new
   chosen_same old new same = record { told = λ wire home spoke chosen. inl (ap (λ (f : ℕ → Option WireId). f service.0) (sym same) ∙ chosen) }
@@ -204,12 +199,6 @@ module _ (plan : Plan) (service : ServiceId) (site : Sites) (calm network : Netw
         subst (IsHealing plan service site network me peer.0 messages) (sym is)
         (kept_heals messages mildly.kept (with_session (record mildly.kept.session { wait = 0 }) mildly.kept) work mildly.at (record { phase = refl; peers = refl; number = refl })
         (subst (λ (w : Work). TellsSoundly (point_limit plan me.0) w.edge) is (happens_sound taken_all peer (Heard (platform_of (ends_at plan peer.0 me.0).me)) work both.1.heals.stays.sound)) both.1.heals)
-      where
-        same_bytes : (xs : List ℕ) → bytes_eq xs xs ≡ true
-        same_bytes xs = search rules
-
-        platform_is : (own other : Peers) (kept : Peering) → IsStanding own other kept → is_platform kept.session.peers.peer (platform_of other.me) ≡ true
-        platform_is own other kept standing = rw (ap (λ (p : Peers). p.peer) standing.peers ∙ standing.between.facing.there) (rw (same_bytes other.me.0) refl)
 
     by : (b : Bool) → are_joined_by plan service me.0 peer.0 ≡ b → IsHealing plan service site network me peer.0 messages (happens_with_ends taken_all peer (Heard (platform_of (ends_at plan peer.0 me.0).me)) work)
     by true joined = up_here joined
@@ -286,7 +275,7 @@ module _ (plan : Plan) (service : ServiceId) (site : Sites) (calm network : Netw
         begun = begin_at network me
 
         pair : ArePaired (ends_at plan me.0 peer.0) (ends_at plan peer.0 me.0) (Some kept) ((network.edges peer.0).peering me.0) (flight network me.0 peer.0) (kept.held ++ pipe)
-        pair = rw at at (ordered.two me.0 peer.0 (apart_turned peer.0 me.0 away))
+        pair = rw at at (ordered.two me.0 peer.0 (apart_back peer.0 me.0 away))
 
         whole : octets ++ drop count pipe ≡ octets_of_all (ends_at plan peer.0 me.0).me pair.answers
         whole = append_assoc kept.held (take count pipe) (drop count pipe) ∙ ap (λ (l : List ℕ). kept.held ++ l) (take-append-drop count pipe) ∙ pair.back_is

@@ -1,7 +1,6 @@
 -- What heals goes on to heal while more is said, addresses are forgotten and a new choice is told.
 use Rattle.address_laws.specs.Sites.{Sites}
 use Rattle.edge_model.specs.Work.{Work}
-use Rattle.flight_laws.proofs.RowLemmas.{clash}
 use Rattle.flight_laws.proofs.SaidLemmas.{all_joined, said-append}
 use Rattle.flight_laws.specs.Bound.{some_message}
 use Rattle.flight_laws.specs.Ends.{ends_at}
@@ -16,8 +15,10 @@ use Rattle.net_base.specs.declared.plan.Plan.{Plan}
 use Rattle.net_base.specs.declared.plan.places.ServiceId.{ServiceId}
 use Rattle.net_base.specs.declared.plan.places.WireId.{WireId}
 use Rattle.network_model.specs.State.{NetworkState}
-use Rattle.std.proofs.Common.{Bool, List, Option, Some, [], ap, append_assoc, false, refl, sym, true, ℕ, ⊎_elim, ◌++◌, ◌||◌, ◌∙◌, ◌∷◌, ◌≡◌, ◌⊎◌}
+use Rattle.std.proofs.Common.{Bool, List, Option, Some, [], ap, append_assoc, false, refl, sym, true, ℕ, ⊎_elim, ◌++◌, ◌∙◌, ◌∷◌, ◌≡◌, ◌⊎◌}
 use Rattle.std.specs.List.{AllByRecursion}
+use Rattle.std.proofs.lemmas.Bool.{or_right}
+use Rattle.net_values.proofs.BoolLemmas.{clash}
 
 -- what holds of each holds of the others that follow
 pub all_weaker : {A : Type 0} (P Q : A → Type 0) (xs : List A) → ((x : A) → P x → Q x) → AllByRecursion P xs → AllByRecursion Q xs
@@ -44,13 +45,9 @@ entry_heals_on plan service site old new ways more core entry grows told heals e
 pub some_more : (test : Message → Bool) (xs ys : List Message) → some_message test xs ≡ true → some_message test (xs ++ ys) ≡ true
 some_more test [] ys some = clash some
 some_more test (x ∷ xs) ys some = by (test x) refl (some_more test xs ys) where
-  or_later : (a b : Bool) → b ≡ true → a || b ≡ true
-  or_later true b is = refl
-  or_later false b is = is
-
   by : (b : Bool) → test x ≡ b → (some_message test xs ≡ true → some_message test (xs ++ ys) ≡ true) → some_message test (x ∷ (xs ++ ys)) ≡ true
   by true here more = rw here refl
-  by false away more = or_later (test x) (some_message test (xs ++ ys)) (more (rw away at some))
+  by false away more = or_right (test x) (some_message test (xs ++ ys)) (more (rw away at some))
 
 pub cleared_more : (plan : Plan) (a b n : ℕ) (old new : List ℕ) (more : List Message) → new ≡ old ++ octets_of_all (ends_at plan a b).me more → AreSaid (ends_at plan a b) more → IsCleared plan a b n old → IsCleared plan a b n new
 cleared_more plan a b n old new more is said cleared = record {

@@ -1,14 +1,12 @@
 -- What an edge has done goes into the network, and the network goes on to heal.
 use Rattle.address_laws.specs.Points.{PointsToSite}
 use Rattle.address_laws.specs.Sites.{Sites}
-use Rattle.edge_model.specs.Mend.{is_up_with}
 use Rattle.edge_model.specs.State.{EdgeState, Peering, is_there, put_at}
 use Rattle.edge_model.specs.Work.{Work}
 use Rattle.flight_laws.proofs.MentionLemmas.{all_more}
 use Rattle.flight_laws.proofs.NameLemmas.{split}
 use Rattle.flight_laws.proofs.PipeLemmas.{all_apart, all_edges, all_from, all_to}
 use Rattle.flight_laws.proofs.PlanLemmas.{joined_apart}
-use Rattle.flight_laws.proofs.RowLemmas.{clash}
 use Rattle.flight_laws.proofs.SaidLemmas.{all_joined, said-append}
 use Rattle.flight_laws.proofs.SettleLemmas.{edge_else, edge_pipes, edge_there}
 use Rattle.flight_laws.proofs.UniqueLemmas.{said_once}
@@ -35,34 +33,28 @@ use Rattle.net_base.specs.plan.Paths.{joins}
 use Rattle.net_base.specs.plan.Roles.{are_joined_by, is_wire_of}
 use Rattle.network_model.specs.Absorb.{absorb, absorb_all, begin_at}
 use Rattle.network_model.specs.State.{NetworkState, held, held_by, stands, with_edge}
-use Rattle.std.proofs.Common.{Bool, List, None, Option, Some, [], ap, append_assoc, cond, false, inl, nat_eq, refl, subst, sym, true, ℕ, ◌&&◌, ◌++◌, ◌||◌, ◌∙◌, ◌∷◌, ◌≡◌}
-use Rattle.std.proofs.lemmas.Bool.{eqb-true}
+use Rattle.std.proofs.Common.{Bool, List, None, Option, Some, [], ap, append_assoc, cond, false, inl, nat_eq, refl, subst, sym, true, ℕ, ◌&&◌, ◌++◌, ◌∙◌, ◌∷◌, ◌≡◌}
+use Rattle.std.proofs.lemmas.Bool.{eqb-true, or_right, and_parts, and_right, and_left}
 use Rattle.std.specs.List.{AllByRecursion, list_any}
+use Rattle.net_values.proofs.BoolLemmas.{clash}
+use Rattle.flood_laws.proofs.ChainLemmas.{has_end}
 
 -- ---- edges that the service joins
 
 any_weaker : {A : Type 0} (test other : A → Bool) (xs : List A) → ((x : A) → test x ≡ true → other x ≡ true) → list_any test xs ≡ true → list_any other xs ≡ true
 any_weaker test other [] follows some = clash some
 any_weaker test other (x ∷ xs) follows some = by (test x) refl (any_weaker test other xs follows) where
-  or_later : (a b : Bool) → b ≡ true → a || b ≡ true
-  or_later true b is = refl
-  or_later false b is = is
-
   by : (b : Bool) → test x ≡ b → (list_any test xs ≡ true → list_any other xs ≡ true) → list_any other (x ∷ xs) ≡ true
   by true here rest = rw (follows x here) refl
-  by false away rest = or_later (other x) (list_any other xs) (rest (rw away at some))
-
-part_of : (a b : Bool) → a && b ≡ true → (a ≡ true) × (b ≡ true)
-part_of true b h = (refl, h)
-part_of false b h = clash h
+  by false away rest = or_right (other x) (list_any other xs) (rest (rw away at some))
 
 pub joined_back : (plan : Plan) (service : ServiceId) (a b : ℕ) → are_joined_by plan service a b ≡ true → are_joined_by plan service b a ≡ true
 joined_back plan service a b joined = any_weaker (λ (r : WirePlan). is_wire_of service r && joins a b r.path) (λ (r : WirePlan). is_wire_of service r && joins b a r.path) plan.wires
-    (λ r is. (let parts = part_of (is_wire_of service r) (joins a b r.path) is in rw (parts.0) (sym (joins_turned r.path a b) ∙ parts.1))) joined
+    (λ r is. (let parts = and_parts (is_wire_of service r) (joins a b r.path) is in rw (parts.0) (sym (joins_turned r.path a b) ∙ parts.1))) joined
 
 pub joined_away : (plan : Plan) (service : ServiceId) (a b : ℕ) → IsChecked plan → are_joined_by plan service a b ≡ true → nat_eq a b ≡ false
 joined_away plan service a b checked joined = joined_apart plan a b checked
-    (any_weaker (λ (r : WirePlan). is_wire_of service r && joins a b r.path) (λ (r : WirePlan). joins a b r.path) plan.wires (λ r is. (part_of (is_wire_of service r) (joins a b r.path) is).1) joined)
+    (any_weaker (λ (r : WirePlan). is_wire_of service r && joins a b r.path) (λ (r : WirePlan). joins a b r.path) plan.wires (λ r is. (and_parts (is_wire_of service r) (joins a b r.path) is).1) joined)
 
 pub none_there : {A : Type 0} (x : Option A) → is_there x ≡ false → x ≡ None
 none_there None is = refl
@@ -71,10 +63,6 @@ none_there (Some a) is = clash (sym is)
 pub there_some : {A : Type 0} {P : Type 0} (x : Option A) → is_there x ≡ true → ((a : A) → x ≡ Some a → P) → P
 there_some None is follows = clash is
 there_some (Some a) is follows = follows a refl
-
-up_there : (near : Option Peering) → is_up_with near ≡ true → is_there near ≡ true
-up_there None up = clash up
-up_there (Some kept) up = refl
 
 -- ---- an edge begins
 
@@ -128,7 +116,7 @@ module _ (plan : Plan) (service : ServiceId) (site : Sites) (calm network : Netw
       WasSaid same (subst (λ (k : ℕ). are_joined_by plan service k b ≡ true) same pending.joined) (subst (λ (k : ℕ). stands network k b ≡ true) same pending.there)
       (rw (same_end (flight network me.0 b)) (subst (λ (k : ℕ). IsCleared plan k b n (flight network k b)) same pending.cleared))))
       (λ away. split {P = WorkWays plan service network me.0 peer messages Begun a b n} (nat_eq a peer && nat_eq b me.0)
-      (λ both. hear (eqb-true a peer (part_of (nat_eq a peer) (nat_eq b me.0) both).0) (eqb-true b me.0 (part_of (nat_eq a peer) (nat_eq b me.0) both).1))
+      (λ both. hear (eqb-true a peer (and_parts (nat_eq a peer) (nat_eq b me.0) both).0) (eqb-true b me.0 (and_parts (nat_eq a peer) (nat_eq b me.0) both).1))
       (λ other. Waits away other pending))
     where
       hear : a ≡ peer → b ≡ me.0 → WorkWays plan service network me.0 peer messages Begun a b n
@@ -181,15 +169,8 @@ module _ (plan : Plan) (service : ServiceId) (site : Sites) (calm network drawn 
   other_edge : (a : ℕ) → nat_eq a me.0 ≡ false → After.edges a ≡ network.edges a
   other_edge a away = ap (λ (f : ℕ → EdgeState). f a) edges ∙ (edge_else me work.edge drawn a away ∙ ap (λ (f : ℕ → EdgeState). f a) same.edges)
 
-  no_and : (a b : Bool) → b ≡ false → a && b ≡ false
-  no_and true b is = is
-  no_and false b is = refl
-
-  not_both : (a b : Bool) → a ≡ false → a && b ≡ false
-  not_both a b is = rw is refl
-
   other_flight : (a b : ℕ) → nat_eq a me.0 ≡ false → nat_eq b me.0 ≡ false → flight After a b ≡ flight network a b
-  other_flight a b away gone = rw (other_edge b gone, all_apart me 0 0 a b work.effects Begin away gone, edge_pipes me work.edge drawn, same.pipes a b (no_and (nat_eq a peer) (nat_eq b me.0) gone)) refl
+  other_flight a b away gone = rw (other_edge b gone, all_apart me 0 0 a b work.effects Begin away gone, edge_pipes me work.edge drawn, same.pipes a b (and_right (nat_eq a peer) (nat_eq b me.0) gone)) refl
 
   out_flight : (place : ℕ) → nat_eq place me.0 ≡ false → stands network place me.0 ≡ true → flight After me.0 place ≡ flight network me.0 place ++ said_to place work.effects
   out_flight place away there =
@@ -199,7 +180,7 @@ module _ (plan : Plan) (service : ServiceId) (site : Sites) (calm network drawn 
         edge_else me work.edge drawn place away,
         ap (λ (f : ℕ → EdgeState). f place) same.edges,
         edge_pipes me work.edge drawn,
-        same.pipes me.0 place (no_and (nat_eq me.0 peer) (nat_eq place me.0) away),
+        same.pipes me.0 place (and_right (nat_eq me.0 peer) (nat_eq place me.0) away),
       )
       (said_behind ((network.edges place).peering me.0) (network.pipes me.0 place) (said_to place work.effects) there)
 
@@ -212,7 +193,7 @@ module _ (plan : Plan) (service : ServiceId) (site : Sites) (calm network drawn 
       back_flight place away mildly.unclosed
       ∙ (ap (λ (o : Option Peering). held_by o ++ drawn.pipes place me.0) mildly.at
       ∙ (ap (λ (l : List ℕ). l ++ drawn.pipes place me.0) (mildly.held_still other)
-      ∙ ap (λ (l : List ℕ). held network me.0 place ++ l) (same.pipes place me.0 (not_both (nat_eq place peer) (nat_eq me.0 me.0) other))))
+      ∙ ap (λ (l : List ℕ). held network me.0 place ++ l) (same.pipes place me.0 (and_left (nat_eq place peer) (nat_eq me.0 me.0) other))))
 
   -- a place with which the session is up
   record IsNear (place : ℕ) : Type 0 where
@@ -236,7 +217,7 @@ module _ (plan : Plan) (service : ServiceId) (site : Sites) (calm network drawn 
       }
 
   back_there : (place : ℕ) → IsNear place → stands network place me.0 ≡ true
-  back_there place at = up_there ((network.edges place).peering me.0) at.back.up
+  back_there place at = has_end ((network.edges place).peering me.0) at.back.up
 
   steady_out : (place : ℕ) → IsNear place → IsSteady plan service After me.0 place
   steady_out place at = record {
@@ -291,7 +272,7 @@ module _ (plan : Plan) (service : ServiceId) (site : Sites) (calm network drawn 
       to_me : (place : ℕ) → nat_eq place me.0 ≡ false → are_joined_by plan service place me.0 ≡ true → stands After place me.0 ≡ true → IsSteady plan service After place me.0 × IsSteady plan service After me.0 place
       to_me place away joined there =
           let both = heals.steady place me.0 joined (rw (other_edge place away) at there) in
-          let at : IsNear place = near place (joined_back plan service place me.0 joined) (up_there ((network.edges me.0).peering place) both.1.up) in
+          let at : IsNear place = near place (joined_back plan service place me.0 joined) (has_end ((network.edges me.0).peering place) both.1.up) in
           (steady_back place at, steady_out place at)
 
       others : nat_eq a me.0 ≡ false → nat_eq b me.0 ≡ false → IsSteady plan service After a b × IsSteady plan service After b a
@@ -314,7 +295,7 @@ module _ (plan : Plan) (service : ServiceId) (site : Sites) (calm network drawn 
       })
   ways_after a b n (ToHear from to joined there among) =
       let both = heals.steady peer me.0 joined there in
-      let at : IsNear peer = near peer (joined_back plan service peer me.0 joined) (up_there ((network.edges me.0).peering peer) both.1.up) in
+      let at : IsNear peer = near peer (joined_back plan service peer me.0 joined) (has_end ((network.edges me.0).peering peer) both.1.up) in
       let rest = left joined there in
       subst (λ (k : ℕ). IsWithdrawalPending plan service After k b n) (sym from) (subst (λ (k : ℕ). IsWithdrawalPending plan service After peer k n) (sym to) (record {
         joined = joined;
@@ -332,7 +313,7 @@ module _ (plan : Plan) (service : ServiceId) (site : Sites) (calm network drawn 
       to_me : IsWithdrawalPending plan service network a me.0 n → nat_eq a peer && true ≡ false → IsWithdrawalPending plan service After a me.0 n
       to_me pending other =
           let both = heals.steady a me.0 pending.joined pending.there in
-          let at : IsNear a = near a (joined_back plan service a me.0 pending.joined) (up_there ((network.edges me.0).peering a) both.1.up) in
+          let at : IsNear a = near a (joined_back plan service a me.0 pending.joined) (has_end ((network.edges me.0).peering a) both.1.up) in
           record {
             joined = pending.joined;
             there = rw (other_edge a away) pending.there;

@@ -3,6 +3,7 @@ use Rattle.std.proofs.Common.{◌≡◌, ◌<◌, ◌&&◌, ◌||◌, ◌==◌, 
 use Rattle.std.proofs.lemmas.Bool.{cases_Bool, eqb-true}
 use Rattle.std.proofs.lemmas.Bool.Decides.{nat_tests}
 use Rattle.std.specs.List.{list_all}
+use Rattle.net_values.proofs.BoolLemmas.{first_holds, second_holds}
 use Rattle.net_base.specs.declared.plan.Plan.{Plan}
 use Rattle.net_base.specs.declared.plan.places.EdgeId.{EdgeId}
 use Rattle.net_base.specs.declared.plan.places.ServiceId.{ServiceId}
@@ -12,7 +13,6 @@ use Rattle.net_base.specs.plan.Accepted.{IsChecked}
 use Rattle.net_base.specs.plan.Paths.{joins, last_edge}
 use Rattle.net_base.specs.plan.Places.{wire_row}
 use Rattle.net_base.specs.plan.Roles.{is_wire_of}
-use Rattle.edge_model.proofs.LocalLemmas.{and_left, and_right}
 use Rattle.network_model.specs.Reach.{far_of}
 use Rattle.move_laws.specs.Moves.{has_short_paths}
 use Rattle.flood_laws.proofs.LinkLemmas.{IsLink, link_at}
@@ -22,8 +22,8 @@ all_hold : {A : Type 0} (test : A → Bool) (xs : List A) (i : ℕ) (x : A) → 
 all_hold test [] i x all is = absurd (cc (is))
 all_hold test (y ∷ ys) zero x all is =
     let same : y ≡ x = cc (is) in
-    ap test (sym same) ∙ and_left (test y) (list_all test ys) all
-all_hold test (y ∷ ys) (suc i) x all is = all_hold test ys i x (and_right (test y) (list_all test ys) all) is
+    ap test (sym same) ∙ first_holds (test y) (list_all test ys) all
+all_hold test (y ∷ ys) (suc i) x all is = all_hold test ys i x (second_holds (test y) (list_all test ys) all) is
 
 -- the path of a wire of the service has two edges
 pub has_two : (plan : Plan) (service : ServiceId) (wire : WireId) (row : WirePlan) → has_short_paths plan service ≡ true → is_wire_of service row ≡ true → wire_row plan wire ≡ Some row → nat_eq (length row.path) 2 ≡ true

@@ -1,6 +1,5 @@
 -- An edge at work in a network that heals speaks mildly: to each place with which the service has a session up it says what leaves the
 -- labels of mesh wires as they are, and its own ends of those stay advertised.
-use Rattle.pw_messages.specs.Sender.{following, platform_of}
 use Rattle.edge_model.specs.Put.{having_spoken, message_octets_of, stays, with_spoken}
 use Rattle.edge_model.specs.Session.{says}
 use Rattle.edge_model.specs.State.{EdgeState, Peering, with_peering}
@@ -10,7 +9,7 @@ use Rattle.flight_laws.proofs.MentionLemmas.{all_more}
 use Rattle.flight_laws.proofs.NameLemmas.{split}
 use Rattle.flight_laws.proofs.OfferLemmas.{IsOfWires}
 use Rattle.flight_laws.proofs.SaidLemmas.{all_joined, said-append}
-use Rattle.flight_laws.proofs.SayLemmas.{says_is, says_none, says_spares}
+use Rattle.flight_laws.proofs.SayLemmas.{says_is, says_none, says_spares, one_octets}
 use Rattle.flight_laws.proofs.SpokenLemmas.{says_spoken}
 use Rattle.flight_laws.proofs.SteadyLemmas.{IsSilent}
 use Rattle.flight_laws.proofs.WorkLemmas.{same_end, wrote}
@@ -19,7 +18,6 @@ use Rattle.flight_laws.specs.Ends.{ends_at}
 use Rattle.flight_laws.specs.Meeting.{Spares, said_to}
 use Rattle.flight_laws.specs.Messages.{octets_of_all}
 use Rattle.flight_laws.specs.Sound.{TellsSoundly, point_limit}
-use Rattle.ldp_grammar.specs.Written.{written}
 use Rattle.ldp_grammar.specs.declared.message.Message.{Message}
 use Rattle.move_laws.specs.Clearing.{IsMild}
 use Rattle.move_laws.specs.Healing.{KeepsMesh, SaysMore, SpeaksMildly, Stays, is_advertising}
@@ -31,9 +29,9 @@ use Rattle.network_model.specs.Absorb.{taken_all}
 use Rattle.network_model.specs.State.{NetworkState, stands}
 use Rattle.pw_signalling.specs.End.{EndState}
 use Rattle.session_core.specs.declared.peers.Peers.{Peers}
-use Rattle.std.proofs.Common.{Bool, List, None, Option, Some, [], ap, append_assoc, arith, false, nat_eq, refl, subst, sym, true, ℕ, ◌++◌, ◌<◌, ◌^◌, ◌∙◌, ◌∷◌, ◌≡◌}
-use Rattle.std.proofs.lemmas.Bool.Decides.{nat_tests}
+use Rattle.std.proofs.Common.{Bool, List, None, Option, Some, [], ap, append_assoc, false, nat_eq, refl, subst, sym, true, ℕ, ◌++◌, ◌∙◌, ◌∷◌, ◌≡◌}
 use Rattle.std.proofs.lemmas.Bool.{eqb-true}
+use Rattle.pw_messages.proofs.CommonLemmas.{following_small}
 
 -- what an edge at work is for such places, with what it has said more since a first moment
 pub record Speaks (plan : Plan) (service : ServiceId) (network : NetworkState) (me : EdgeId) (peer : ℕ) (base work : Work) : Type 0 where
@@ -103,12 +101,6 @@ module _ (plan : Plan) (service : ServiceId) (network : NetworkState) (me : Edge
   gives_speaks base e work silent speaks =
       spared_speaks base work (gives e work) (λ place. gives_spares place e work silent) (ap (λ (x : EdgeState). x.me) (given_edge e work)) (rw (given_edge e work) speaks.sound) (rw (given_edge e work) speaks.mesh) speaks
 
-  pub following_fits : (id : ℕ) → id < 2 ^ 32 → following id < 2 ^ 32
-  following_fits id small = grind (arith, nat_tests)
-
-  pub one_octets : (own : Peers) (message : ℕ → Message) (kept : Peering) → kept.session.peers ≡ own → message_octets_of kept message ≡ octets_of_all own.me (message kept.next_id ∷ [])
-  one_octets own message kept peers = ap (λ (p : Peers). written (message kept.next_id) (platform_of p.me)) peers ∙ sym (same_end (written (message kept.next_id) (platform_of own.me)))
-
   -- a message is said more
   pub said_more : (own : Peers) (before said : List ℕ) (kept : Peering) (message : ℕ → Message) (ms : List Message) → kept.session.peers ≡ own → said ≡ octets_of_all own.me ms
       → (before ++ said) ++ message_octets_of kept message ≡ before ++ octets_of_all own.me (ms ++ message kept.next_id ∷ [])
@@ -131,7 +123,7 @@ module _ (plan : Plan) (service : ServiceId) (network : NetworkState) (me : Edge
           at = spoken.here;
           up = old.up;
           peers = old.peers;
-          numbered = following_fits old.kept.next_id old.numbered;
+          numbered = following_small old.kept.next_id old.numbered;
           held_still = old.held_still;
           unclosed = spoken.closed to.0 ∙ old.unclosed;
           messages = old.messages ++ m ∷ [];

@@ -9,10 +9,7 @@ use Rattle.edge_model.specs.State.{end_at}
 use Rattle.flight_laws.proofs.BoundRunLemmas.{runs_settle}
 use Rattle.flight_laws.proofs.NameLemmas.{split}
 use Rattle.flight_laws.proofs.PassingLemmas.{wire_end_is}
-use Rattle.flight_laws.proofs.PlanLemmas.{row_holds}
-use Rattle.flight_laws.proofs.RowLemmas.{clash}
 use Rattle.flight_laws.proofs.RunLemmas.{run_ordered}
-use Rattle.flight_laws.proofs.WorkLemmas.{same_place}
 use Rattle.flight_laws.specs.Ends.{IsOrdered}
 use Rattle.flight_laws.specs.Facts.{flight}
 use Rattle.flight_laws.specs.Laws.{AreSettled, IsRun, IsUp, network_after}
@@ -53,14 +50,10 @@ use Rattle.std.proofs.Common.{Bool, List, None, Option, Some, [], ap, arith, con
 use Rattle.std.proofs.lemmas.Bool.Decides.{nat_tests}
 use Rattle.std.proofs.lemmas.Bool.{cases_Bool, eqb-true}
 use Rattle.std.specs.List.{list_any}
-
-left_half : (a b : Bool) → a && b ≡ true → a ≡ true
-left_half true b h = refl
-left_half false b h = clash h
-
-right_half : (a b : Bool) → a && b ≡ true → b ≡ true
-right_half true b h = h
-right_half false b h = clash h
+use Rattle.net_values.proofs.BoolLemmas.{first_holds, clash, second_holds}
+use Rattle.net_values.proofs.NumberLemmas.{same_number}
+use Rattle.net_values.proofs.OptionLemmas.{some_same}
+use Rattle.net_values.proofs.RowLemmas.{row_holds}
 
 -- ---- rows that are found
 
@@ -82,7 +75,7 @@ port_inside : (plan : Plan) (service : ServiceId) (e : ℕ) → IsChecked plan �
 port_inside plan service e checked short port = by (list_any (is_circuit_at service e) plan.circuits) refl port where
   of_circuit : HasRow (is_circuit_at service e) plan.circuits → e < length plan.edges
   of_circuit found =
-      subst (λ (n : ℕ). n < length plan.edges) (eqb-true found.row.edge.0 e (right_half (found.row.service.0 == service.0) (found.row.edge.0 == e) found.passes))
+      subst (λ (n : ℕ). n < length plan.edges) (eqb-true found.row.edge.0 e (second_holds (found.row.service.0 == service.0) (found.row.edge.0 == e) found.passes))
       (row_holds (IsCircuitOf plan) plan.circuits found.k found.row found.is checked.circuits).edge
 
   of_wire : HasRow (Rattle.net_base.specs.plan.Roles.wire_ends_at service e) plan.wires → e < length plan.edges
@@ -92,7 +85,7 @@ port_inside plan service e checked short port = by (list_any (is_circuit_at serv
   ]
     where
       link : IsShortLink plan found.row
-      link = short_link plan service found.k found.row checked short (left_half (is_wire_of service found.row) (is_first e found.row.path || is_last e found.row.path) found.passes) found.is
+      link = short_link plan service found.k found.row checked short (first_holds (is_wire_of service found.row) (is_first e found.row.path || is_last e found.row.path) found.passes) found.is
 
   by : (b : Bool) → list_any (is_circuit_at service e) plan.circuits ≡ b → b || list_any (Rattle.net_base.specs.plan.Roles.wire_ends_at service e) plan.wires ≡ true → e < length plan.edges
   by true is some = of_circuit (has_row (is_circuit_at service e) plan.circuits is)
@@ -104,20 +97,20 @@ all_meshes plan network service checked short calm = record {
 }
   where
     inside : (e : ℕ) → is_core_edge plan service e ≡ true → e < length plan.edges
-    inside e core = port_inside plan service e checked short (left_half (has_port plan service e) (not (is_spoke_edge plan service e)) core)
+    inside e core = port_inside plan service e checked short (first_holds (has_port plan service e) (not (is_spoke_edge plan service e)) core)
 
 -- ---- the state
 
 module _ (plan : Plan) (service : ServiceId) (site : Sites) (network : NetworkState) (checked : IsChecked plan) (short : has_short_paths plan service ≡ true) (ordered : IsOrdered plan network)
     (settle : (a b : ℕ) → are_joined_by plan service a b ≡ true → AreSettled plan network a b) (mended : HasMended plan network) (starts : StartsRight plan network service site) where
   quiet : is_quiet plan network service ≡ true
-  quiet = left_half (is_quiet plan network service) (is_full plan network service) (left_half (is_quiet plan network service && is_full plan network service) (has_live_spokes plan network service) starts.calm)
+  quiet = first_holds (is_quiet plan network service) (is_full plan network service) (first_holds (is_quiet plan network service && is_full plan network service) (has_live_spokes plan network service) starts.calm)
 
   settled_here : (a b : ℕ) → are_joined_by plan service a b ≡ true → is_settled network a b ≡ true
   settled_here a b joined =
       let found = has_row (λ (r : WirePlan). is_wire_of service r && joins a b r.path) plan.wires joined in
-      are_settled plan network service a b (record { 0 = found.k }) found.row checked found.is (left_half (is_wire_of service found.row) (joins a b found.row.path) found.passes)
-      (right_half (is_wire_of service found.row) (joins a b found.row.path) found.passes) quiet
+      are_settled plan network service a b (record { 0 = found.k }) found.row checked found.is (first_holds (is_wire_of service found.row) (joins a b found.row.path) found.passes)
+      (second_holds (is_wire_of service found.row) (joins a b found.row.path) found.passes) quiet
 
   still_way : (a b : ℕ) → flight network a b ≡ [] → IsMildWay plan service a b (flight network a b)
   still_way a b none = record { messages = []; is = none; said = tt; mild = tt }
@@ -136,7 +129,7 @@ module _ (plan : Plan) (service : ServiceId) (site : Sites) (network : NetworkSt
   mesh_here : (a : ℕ) → KeepsMesh plan service a (network.edges a)
   mesh_here a = record { told = told; on = on; whole = whole } where
     ours : (row : WirePlan) → is_mesh_of service row ≡ true → is_wire_of service row ≡ true
-    ours row mesh = left_half (is_wire_of service row) (is_mesh_class row.class) mesh
+    ours row mesh = first_holds (is_wire_of service row) (is_mesh_class row.class) mesh
 
     link_of : (wire : WireId) (row : WirePlan) → wire_row plan wire ≡ Some row → is_mesh_of service row ≡ true → IsShortLink plan row
     link_of wire row is mesh = short_link plan service wire.0 row checked short (ours row mesh) is
@@ -185,23 +178,20 @@ module _ (plan : Plan) (service : ServiceId) (site : Sites) (network : NetworkSt
 
   -- ---- entries
 
-  some_same : {A : Type 0} {x y : A} → Some x ≡ Some y → x ≡ y
-  some_same e = cc
-
   lives : (x : ℕ) → x < length plan.edges → is_spoke_edge plan service x ≡ true → IsLiveAt plan service network x
   lives x within starts_there = live_at plan service network x checked short ordered starts.calm within starts_there
 
   same_edge : (circuit : CircuitId) (row : CircuitPlan) (x : ℕ) → circuit_row plan circuit ≡ Some row → at_edge_of plan service x circuit ≡ true → row.edge.0 ≡ x
-  same_edge circuit row x is there = eqb-true row.edge.0 x (ap (is_row_at x) (sym is) ∙ right_half (is_circuit_of plan service circuit) (circuit_is_at plan x circuit) there)
+  same_edge circuit row x is there = eqb-true row.edge.0 x (ap (is_row_at x) (sym is) ∙ second_holds (is_circuit_of plan service circuit) (circuit_is_at plan x circuit) there)
 
   own_edge_is : (circuit : CircuitId) (x y : ℕ) → at_edge_of plan service x circuit ≡ true → at_edge_of plan service y circuit ≡ true → x ≡ y
   own_edge_is circuit x y one other = by (circuit_row plan circuit) refl where
     by : (o : Option CircuitPlan) → circuit_row plan circuit ≡ o → x ≡ y
-    by None is = clash (ap (is_row_at x) (sym is) ∙ right_half (is_circuit_of plan service circuit) (circuit_is_at plan x circuit) one)
+    by None is = clash (ap (is_row_at x) (sym is) ∙ second_holds (is_circuit_of plan service circuit) (circuit_is_at plan x circuit) one)
     by (Some row) is = sym (same_edge circuit row x is one) ∙ same_edge circuit row y is other
 
   no_both : {P : Type 0} (e : ℕ) → is_core_edge plan service e ≡ true → is_spoke_edge plan service e ≡ true → P
-  no_both e core spoke = clash (ap not (sym spoke) ∙ right_half (has_port plan service e) (not (is_spoke_edge plan service e)) core)
+  no_both e core spoke = clash (ap not (sym spoke) ∙ second_holds (has_port plan service e) (not (is_spoke_edge plan service e)) core)
 
   module _ (core : ℕ) (core_is : is_core_edge plan service core ≡ true) (entry : MacEntry) (points : PointsToSite plan network service site core entry) (x : ℕ) (wire : WireId) (home : ℕ) (spoke : IsSpokeTo plan service x wire home)
       (chosen : (network.edges x).chosen service.0 ≡ Some wire) (there : at_edge_of plan service x (site entry.address.0) ≡ true) where
@@ -216,7 +206,7 @@ module _ (plan : Plan) (service : ServiceId) (site : Sites) (network : NetworkSt
       where
         near_inside : IsShortLink plan spoke.row → has_port plan service x ≡ true
         near_inside link = subst (λ (n : ℕ). has_port plan service n ≡ true) (sym (near_of plan service x spoke.row link spoke.from))
-            (near_port plan service wire.0 spoke.row (whole plan spoke.row link) spoke.is (ap (λ (s : ServiceId). s.0 == service.0) spoke_is.of_service ∙ same_place service.0))
+            (near_port plan service wire.0 spoke.row (whole plan spoke.row link) spoke.is (ap (λ (s : ServiceId). s.0 == service.0) spoke_is.of_service ∙ same_number service.0))
 
     live : IsLiveAt plan service network x
     live = lives x inside spoke_is.starts
@@ -248,7 +238,7 @@ module _ (plan : Plan) (service : ServiceId) (site : Sites) (network : NetworkSt
       by_beside : (b : Bool) → (beside.row.edge.0 == wired.peer.0) ≡ b → IsWireBetween plan core home mesh
       by_beside true here = no_both x (subst (λ (n : ℕ). is_core_edge plan service n ≡ true) (sym (eqb-true beside.row.edge.0 wired.peer.0 here) ∙ edge_is) link.other_core) spoke_is.starts
       by_beside false away =
-          let led : is_home wired.peer.0 (home_of plan network service beside.row.edge.0) ≡ true = right_half (is_spoke_edge plan service beside.row.edge.0) _ (rw away at beside.where_is) in
+          let led : is_home wired.peer.0 (home_of plan network service beside.row.edge.0) ≡ true = second_holds (is_spoke_edge plan service beside.row.edge.0) _ (rw away at beside.where_is) in
           let homes : live.home ≡ wired.peer.0 = at_home (home_of plan network service x) live.home_is (subst (λ (n : ℕ). is_home wired.peer.0 (home_of plan network service n) ≡ true) edge_is led) in
           record { row = wired.row; is = wired.is; joined = subst (λ (n : ℕ). joins core n wired.row.path ≡ true) (sym homes ∙ home_is) wired.joined }
     by_port (port.Spoke other) leads reached = by_side (core == wired.link.near.0) refl behind.behind where
@@ -304,5 +294,5 @@ start_heals plan events service site run short starts =
     (λ a b joined. runs_settle plan events run service (quiet_of plan events service starts.calm) a b joined) (run_mended plan events run) starts
   where
     quiet_of : (plan : Plan) (events : List Event) (service : ServiceId) → is_calm plan (network_after plan events) service ≡ true → is_quiet plan (network_after plan events) service ≡ true
-    quiet_of plan events service calm = left_half (is_quiet plan (network_after plan events) service) (is_full plan (network_after plan events) service)
-        (left_half (is_quiet plan (network_after plan events) service && is_full plan (network_after plan events) service) (has_live_spokes plan (network_after plan events) service) calm)
+    quiet_of plan events service calm = first_holds (is_quiet plan (network_after plan events) service) (is_full plan (network_after plan events) service)
+        (first_holds (is_quiet plan (network_after plan events) service && is_full plan (network_after plan events) service) (has_live_spokes plan (network_after plan events) service) calm)

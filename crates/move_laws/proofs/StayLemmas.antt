@@ -13,10 +13,9 @@ use Rattle.flight_laws.proofs.MendingLemmas.{KeptByRows, mends_keep}
 use Rattle.flight_laws.proofs.NameLemmas.{end_fact, split}
 use Rattle.flight_laws.proofs.OfferLemmas.{IsOfWires, clearance_is, mapping_sound, sound_can, status_is, withdrawal_is}
 use Rattle.flight_laws.proofs.PieceLemmas.{IsPiece}
-use Rattle.flight_laws.proofs.PlaceLemmas.{IsEndOf, member_by_pw_id}
-use Rattle.flight_laws.proofs.RowLemmas.{clash}
+use Rattle.flight_laws.proofs.PlaceLemmas.{IsEndOf, member_by_pw_id, same_row}
 use Rattle.flight_laws.proofs.SoundLemmas.{sound_giving, sound_same, sound_with_end}
-use Rattle.flight_laws.proofs.SteadyLemmas.{IsSilent, WishesSoundly, advertised_up, end_small, next_is_label, status_small, wishes}
+use Rattle.flight_laws.proofs.SteadyLemmas.{IsSilent, WishesSoundly, advertised_up, end_small, next_is_label, status_small, wishes, with_end_rest, advertising_rest}
 use Rattle.flight_laws.specs.Ends.{HasTypes}
 use Rattle.flight_laws.specs.Sound.{CanBeTold, IsSoundEnd, IsSoundPart, TellsSoundly, point_limit}
 use Rattle.move_laws.specs.Moves.{has_short_paths}
@@ -27,6 +26,7 @@ use Rattle.move_laws.proofs.SpeakLemmas.{Speaks, changed_speaks, gives_speaks, m
 use Rattle.move_laws.proofs.WireLemmas.{IsMeshLink, mesh_link}
 use Rattle.move_laws.specs.Clearing.{IsMild, leaves_label}
 use Rattle.move_laws.specs.Healing.{KeepsMesh, Stays, StaysOn, is_advertising, learned_in}
+use Rattle.move_laws.proofs.ForwardLemmas.{advertises_it}
 use Rattle.net_base.specs.declared.plan.Plan.{Plan}
 use Rattle.net_base.specs.declared.plan.places.EdgeId.{EdgeId}
 use Rattle.net_base.specs.declared.plan.places.ServiceId.{ServiceId}
@@ -39,6 +39,7 @@ use Rattle.net_base.specs.plan.Paths.{is_first, is_last, joins, offer_of}
 use Rattle.net_base.specs.plan.Places.{wire_row}
 use Rattle.net_base.specs.plan.Roles.{is_mesh_of, is_wire_of}
 use Rattle.net_values.specs.Label.{IsLabel}
+use Rattle.net_values.proofs.BoolLemmas.{clash, second_holds}
 use Rattle.network_model.specs.Absorb.{taken_all}
 use Rattle.network_model.specs.State.{NetworkState}
 use Rattle.pw_signalling.specs.End.{Advertised, EndState, Idle, LocalPart}
@@ -48,15 +49,12 @@ use Rattle.pw_status.specs.Status.{method_by}
 use Rattle.pw_stitch.specs.Change.{is_same_but_status}
 use Rattle.pw_tlvs.specs.declared.pw_status.PwStatus.{PwStatus}
 use Rattle.session_core.specs.Reasons.{is_fatal}
-use Rattle.std.proofs.Common.{Bool, List, None, Option, Some, ap, cond, false, is_some, not, refl, slice_get, sym, true, ℕ, ◌&&◌, ◌==◌, ◌||◌, ◌∙◌, ◌≡◌}
-use Rattle.std.proofs.lemmas.Bool.{eqb-true}
+use Rattle.std.proofs.Common.{Bool, List, None, Option, Some, ap, cond, false, is_some, not, refl, slice_get, sym, true, ℕ, ◌==◌, ◌||◌, ◌∙◌, ◌≡◌}
+use Rattle.std.proofs.lemmas.Bool.{eqb-true, and_from}
 
 -- a message about pseudowires that leaves labels
 pub mild_message : (plan : Plan) (service : ServiceId) (a b : ℕ) (m : Message) → is_fatal m ≡ false → ((pw_id : ℕ) → leaves_label pw_id m ≡ true) → IsMild plan service a b m
 mild_message plan service a b m plain leaves = record { plain = plain; labels = λ wire row is mesh joined. leaves row.pw_id }
-
-is_advertised : (label : ℕ) (content : Told) (local : LocalPart) → local ≡ Advertised label content → is_advertising local ≡ true
-is_advertised label content local at = ap is_advertising at
 
 advertised_end_is : (e : EndState) (label : ℕ) (content : Told) → e.local ≡ Idle false → (advertised label content e).local ≡ Advertised label content
 advertised_end_is e label content at = ap (advertise_part label content) at
@@ -72,18 +70,12 @@ stands_terminal place content None terminal some = clash some
 stands_terminal place content (Some wished) terminal some = ap (λ (b : Bool). b || is_same_but_status content wished) terminal
 
 module _ (plan : Plan) (service : ServiceId) (me : EdgeId) (checked : IsChecked plan) (types : HasTypes plan) (short : has_short_paths plan service ≡ true) where
-  same_row : (one other : WirePlan) → Some one ≡ Some other → one ≡ other
-  same_row one other is = cc
-
   by_bits : (told : Bool) (bits : ℕ) (content : Told) → bits ≡ 0 → is_some (cond (told || bits == 0) (Some content) None) ≡ true
   by_bits told bits content none = rw none (either told)
     where
       either : (b : Bool) → is_some (cond (b || true) (Some content) None) ≡ true
       either true = refl
       either false = refl
-
-  both_true : (a b : Bool) → a ≡ true → b ≡ true → a && b ≡ true
-  both_true a b one other = rw (one, other) refl
 
   -- what an end of a mesh wire of the service tells goes on to stand
   pub mesh_stands : (edge : EdgeState) (place : EndPlace) (label : ℕ) (content : Told) (row : WirePlan) → edge.me ≡ me → TellsSoundly (point_limit plan me.0) edge → KeepsMesh plan service me.0 edge → IsEndOf plan me place
@@ -108,17 +100,13 @@ module _ (plan : Plan) (service : ServiceId) (me : EdgeId) (checked : IsChecked 
       link : IsMeshLink plan service me.0 place.peer.0 row
       link = mesh_link plan service me.0 place.peer.0 place.wire row checked short is of_mesh joined
 
-      right_part : (a b : Bool) → a && b ≡ true → b ≡ true
-      right_part true b h = h
-      right_part false b h = clash h
-
       terminal : place.terminal ≡ true
-      terminal = end.terminal ∙ (ap (λ (r : WirePlan). is_terminal r me) rows ∙ right_part (is_wire_of service row) (is_first me.0 row.path || is_last me.0 row.path) link.ends)
+      terminal = end.terminal ∙ (ap (λ (r : WirePlan). is_terminal r me) rows ∙ second_holds (is_wire_of service row) (is_first me.0 row.path || is_last me.0 row.path) link.ends)
 
       wished : is_some (wish plan edge place) ≡ true
       wished =
           ap (λ (r : Option WirePlan). is_some (wish_of plan edge place r)) is
-          ∙ (ap (λ (b : Bool). is_some (cond b (wish_by plan edge place row) None)) (both_true (edge.wire_on place.wire.0) (is_up_with (edge.peering place.peer.0)) on up)
+          ∙ (ap (λ (b : Bool). is_some (cond b (wish_by plan edge place row) None)) (and_from (edge.wire_on place.wire.0) (is_up_with (edge.peering place.peer.0)) on up)
           ∙ (ap (λ (b : Bool). is_some (cond b (terminal_wish plan edge place (offer_of row edge.me.0)) (passed_wish plan edge place row))) terminal
           ∙ by_bits (tells_status (method_by (offer_of row edge.me.0).status (status_held (end_at edge place).remote))) (edge.bits place.wire.0) (content_of (offer_of row edge.me.0) (status_offered plan edge place (offer_of row edge.me.0))) whole))
 
@@ -168,14 +156,6 @@ module _ (plan : Plan) (service : ServiceId) (me : EdgeId) (checked : IsChecked 
       sound_giving label (with_end place (advertised label content (end_at edge place)) edge)
       (sound_with_end place (advertised label content (end_at edge place)) edge (local_sound (point_limit plan me.0 place.wire.0) (is_up_with (edge.peering place.peer.0)) (end_at edge place) (advertised label content (end_at edge place)).local up (rw at can) (sound.ends place.wire.0 place.peer.0)) sound)
 
-  advertising_rest : (place : EndPlace) (content : Told) (label : ℕ) (edge : EdgeState) → ((advertising place label content edge).peering ≡ edge.peering) × ((advertising place label content edge).me ≡ edge.me)
-  unfolding with_end with_next_label with_kept
-  advertising_rest place content label edge = (refl, refl)
-
-  with_end_rest : (place : EndPlace) (end : EndState) (edge : EdgeState) → ((with_end place end edge).peering ≡ edge.peering) × ((with_end place end edge).me ≡ edge.me)
-  unfolding with_end
-  with_end_rest place end edge = (refl, refl)
-
   down_rest : (place : EndPlace) (down : Option Down) (edge : EdgeState)
       → ((with_told_down place.wire down edge).peering ≡ edge.peering) × ((with_told_down place.wire down edge).me ≡ edge.me) × (TellsSoundly (point_limit plan me.0) edge → TellsSoundly (point_limit plan me.0) (with_told_down place.wire down edge)) × (KeepsMesh plan service me.0 edge → KeepsMesh plan service me.0 (with_told_down place.wire down edge))
   unfolding with_told_down
@@ -200,7 +180,7 @@ module _ (plan : Plan) (service : ServiceId) (me : EdgeId) (checked : IsChecked 
         (λ joined there id. mild_message plan service me.0 place.peer.0 (mapping place.pw_id label content id) refl (λ pw_id. refl))
         (changed_speaks plan service network me peer base (advertising place label content) work rest.0 rest.1 (advertising_sound place label content work.edge told.up at can i.sound)
         (mesh_label label _ (mesh_end work.edge place (advertised label content (end_at work.edge place))
-        (is_advertised label content _ (advertised_end_is (end_at work.edge place) label content at)) i.mesh)) i)
+        (advertises_it label content _ (advertised_end_is (end_at work.edge place) label content at)) i.mesh)) i)
 
     row_withdraws : (place : EndPlace) (label : ℕ) (content : Told) (work : Work) → IsEndOf plan me place → (end_at work.edge place).local ≡ Advertised label content → stands place content (wish plan work.edge place) ≡ false
         → At work → At (withdraws taken_all place label content work).work
@@ -225,7 +205,7 @@ module _ (plan : Plan) (service : ServiceId) (me : EdgeId) (checked : IsChecked 
         (λ joined there id. mild_message plan service me.0 place.peer.0 (status_notification place.pw_id status content id) refl (λ pw_id. refl))
         (changed_speaks plan service network me peer base (telling_status place status) work rest.0 rest.1
         (sound_with_end place (telling status (end_at work.edge place)) work.edge (local_sound (point_limit plan me.0 place.wire.0) (is_up_with (work.edge.peering place.peer.0)) (end_at work.edge place) (telling status (end_at work.edge place)).local can.0 (rw at (told_on label content status can.1)) (i.sound.ends place.wire.0 place.peer.0)) i.sound)
-        (mesh_end work.edge place (telling status (end_at work.edge place)) (is_advertised label (with_status status content) _ local) i.mesh) i)
+        (mesh_end work.edge place (telling status (end_at work.edge place)) (advertises_it label (with_status status content) _ local) i.mesh) i)
       where
         told_on : (label : ℕ) (content : Told) (status : PwStatus) → CanBeTold label content → CanBeTold label (with_status status content)
         told_on label content status can = record { is_label = can.is_label; kind = can.kind; group = can.group }

@@ -1,11 +1,9 @@
 -- Wires with paths of two edges: their ends, and their ports.
 use Rattle.edge_model.proofs.OneEndLemmas.{one_neighbour}
-use Rattle.edge_model.specs.EndPlaces.{end_named, end_places, is_end_of_wire, is_named, is_of_wire, is_terminal, passes}
+use Rattle.edge_model.specs.EndPlaces.{end_named, end_places, is_end_of_wire, is_named, is_of_wire, is_terminal}
 use Rattle.edge_model.specs.Ends.{wire_end}
 use Rattle.edge_model.specs.declared.end_place.EndPlace.{EndPlace}
-use Rattle.flight_laws.proofs.PlaceLemmas.{Finds, IsEndOf, IsFound, IsNamed, NamedEnd, end_of, find_holds, find_some, named_is, places_are, places_named, wire_apart}
-use Rattle.flight_laws.proofs.PlanLemmas.{row_holds}
-use Rattle.flight_laws.proofs.RowLemmas.{clash}
+use Rattle.flight_laws.proofs.PlaceLemmas.{Finds, IsEndOf, IsFound, IsNamed, NamedEnd, end_of, find_holds, find_some, named_is, places_are, places_named, wire_apart, same_row}
 use Rattle.flood_laws.proofs.MeshLemmas.{core_edge, far_core, far_port, mesh_near, near_port}
 use Rattle.move_laws.specs.Moves.{has_short_paths}
 use Rattle.hvpls_spokes.proofs.WirePortLemmas.{finds_wire_port, found_wire_port, has_wire_port, wire_port_is}
@@ -20,23 +18,17 @@ use Rattle.net_base.specs.plan.Accepted.{IsChecked, IsWireOf}
 use Rattle.net_base.specs.plan.Paths.{is_first, is_last, joins}
 use Rattle.net_base.specs.plan.Places.{is_mesh_class, wire_row}
 use Rattle.net_base.specs.plan.Roles.{are_joined_by, is_core_edge, is_mesh_of, is_spoke_edge, is_spoke_from, is_wire_of, wire_ends_at}
-use Rattle.network_model.proofs.CalmLemmas.{any_at}
 use Rattle.network_model.specs.Reach.{far_of}
-use Rattle.std.proofs.Common.{Bool, List, Some, [], ap, arith, false, inl, inr, not, position, refl, slice_get, subst, sym, true, ℕ, ◌&&◌, ◌==◌, ◌||◌, ◌∙◌, ◌∷◌, ◌≡◌}
+use Rattle.std.proofs.Common.{List, Some, [], ap, arith, false, inl, inr, not, position, refl, slice_get, subst, sym, true, ℕ, ◌&&◌, ◌==◌, ◌||◌, ◌∙◌, ◌∷◌, ◌≡◌}
 use Rattle.std.proofs.lemmas.Bool.Decides.{nat_tests}
-use Rattle.std.proofs.lemmas.Bool.{cases_Bool, eq-eqb, eqb-true}
-use Rattle.std.specs.List.{AllByRecursion, find, list_any}
+use Rattle.std.proofs.lemmas.Bool.{cases_Bool, eq-eqb, eqb-true, and_from, not-true}
+use Rattle.std.proofs.lemmas.Map.Keys.{any_passes_from_place}
+use Rattle.std.specs.List.{AllByRecursion}
+use Rattle.net_values.proofs.BoolLemmas.{first_holds, second_holds}
+use Rattle.net_values.proofs.RowLemmas.{row_holds, found_is_any}
 use Rattle.move_laws.proofs.ShortLinkLemmas.{IsShortLink, far_is, has_two, short_link, whole}
 
 -- ---- the two edges of a wire
-
-both_left : (a b : Bool) → a && b ≡ true → a ≡ true
-both_left true b h = refl
-both_left false b h = clash h
-
-both_right : (a b : Bool) → a && b ≡ true → b ≡ true
-both_right true b h = h
-both_right false b h = clash h
 
 pub service_is : (row : WirePlan) (service : ServiceId) → is_wire_of service row ≡ true → row.service ≡ service
 service_is row service is = ap (λ (n : ℕ). record { 0 = n }) (eqb-true row.service.0 service.0 is)
@@ -55,22 +47,15 @@ pub record IsSpokeLink (plan : Plan) (service : ServiceId) (edge home : ℕ) (ro
 two_joined : (a b : ℕ) → ((a == a && b == b) || (b == a && a == b)) || false ≡ true
 two_joined a b = grind (arith, nat_tests)
 
-not_true : (b : Bool) → not b ≡ true → b ≡ false
-not_true true is = clash is
-not_true false is = refl
-
-and_both : (a b : Bool) → a ≡ true → b ≡ true → a && b ≡ true
-and_both a b one other = rw (one, other) refl
-
 pub spoke_link : (plan : Plan) (service : ServiceId) (edge : ℕ) (wire : WireId) (home : ℕ) → IsChecked plan → has_short_paths plan service ≡ true → (spoke : IsSpokeTo plan service edge wire home) → IsSpokeLink plan service edge home spoke.row
 spoke_link plan service edge wire home checked short spoke = record {
   of_service = service_is row service ours;
   ours = ours;
-  class = not_true (is_mesh_class row.class) (both_right (is_wire_of service row) (not (is_mesh_class row.class)) (both_left (is_wire_of service row && not (is_mesh_class row.class)) (is_first edge row.path) spoke.from));
+  class = not-true (is_mesh_class row.class) (second_holds (is_wire_of service row) (not (is_mesh_class row.class)) (first_holds (is_wire_of service row && not (is_mesh_class row.class)) (is_first edge row.path) spoke.from));
   path = path;
   joined = joined;
-  by_service = any_at (λ (r : WirePlan). is_wire_of service r && joins edge home r.path) plan.wires wire.0 row spoke.is (and_both (is_wire_of service row) (joins edge home row.path) ours joined);
-  starts = any_at (is_spoke_from service edge) plan.wires wire.0 row spoke.is spoke.from;
+  by_service = any_passes_from_place (λ (r : WirePlan). is_wire_of service r && joins edge home r.path) plan.wires wire.0 row spoke.is (and_from (is_wire_of service row) (joins edge home row.path) ours joined);
+  starts = any_passes_from_place (is_spoke_from service edge) plan.wires wire.0 row spoke.is spoke.from;
   core = subst (λ (n : ℕ). is_core_edge plan service n ≡ true) (sym last)
       (core_edge plan service link.far.0 (far_port plan service wire.0 row (whole plan row link) spoke.is ours) (far_core plan service wire.0 row (whole plan row link) checked spoke.is ours));
 }
@@ -79,13 +64,13 @@ spoke_link plan service edge wire home checked short spoke = record {
     row = spoke.row
 
     ours : is_wire_of service row ≡ true
-    ours = both_left (is_wire_of service row) (not (is_mesh_class row.class)) (both_left (is_wire_of service row && not (is_mesh_class row.class)) (is_first edge row.path) spoke.from)
+    ours = first_holds (is_wire_of service row) (not (is_mesh_class row.class)) (first_holds (is_wire_of service row && not (is_mesh_class row.class)) (is_first edge row.path) spoke.from)
 
     link : IsShortLink plan row
     link = short_link plan service wire.0 row checked short ours spoke.is
 
     first : edge ≡ link.near.0
-    first = eqb-true edge link.near.0 (ap (is_first edge) (sym link.path) ∙ both_right (is_wire_of service row && not (is_mesh_class row.class)) (is_first edge row.path) spoke.from)
+    first = eqb-true edge link.near.0 (ap (is_first edge) (sym link.path) ∙ second_holds (is_wire_of service row && not (is_mesh_class row.class)) (is_first edge row.path) spoke.from)
 
     last : home ≡ link.far.0
     last = eqb-true home link.far.0 (ap (is_last home) (sym link.path) ∙ spoke.to)
@@ -116,17 +101,17 @@ pub mesh_link : (plan : Plan) (service : ServiceId) (a b : ℕ) (wire : WireId) 
 mesh_link plan service a b wire row checked short is mesh joined = record {
   of_service = service_is row service ours;
   ours = ours;
-  class = both_right (is_wire_of service row) (is_mesh_class row.class) mesh;
+  class = second_holds (is_wire_of service row) (is_mesh_class row.class) mesh;
   apart = wire_apart plan wire row a b checked is joined;
-  by_service = any_at (λ (r : WirePlan). is_wire_of service r && joins a b r.path) plan.wires wire.0 row is (and_both (is_wire_of service row) (joins a b row.path) ours joined);
+  by_service = any_passes_from_place (λ (r : WirePlan). is_wire_of service r && joins a b r.path) plan.wires wire.0 row is (and_from (is_wire_of service row) (joins a b row.path) ours joined);
   one_core = core_of a (on_path a b link.near.0 link.far.0 (rw link.path at joined)).0;
   other_core = core_of b (on_path a b link.near.0 link.far.0 (rw link.path at joined)).1;
-  ends = and_both (is_wire_of service row) (is_first a row.path || is_last a row.path) ours (rw link.path (on_path a b link.near.0 link.far.0 (rw link.path at joined)).0);
+  ends = and_from (is_wire_of service row) (is_first a row.path || is_last a row.path) ours (rw link.path (on_path a b link.near.0 link.far.0 (rw link.path at joined)).0);
   far = far_is row.path a b (has_two plan service wire row short ours is) joined;
 }
   where
     ours : is_wire_of service row ≡ true
-    ours = both_left (is_wire_of service row) (is_mesh_class row.class) mesh
+    ours = first_holds (is_wire_of service row) (is_mesh_class row.class) mesh
 
     link : IsShortLink plan row
     link = short_link plan service wire.0 row checked short ours is
@@ -157,23 +142,6 @@ pub record IsLinkEnd (plan : Plan) (me peer : EdgeId) (wire : WireId) (row : Wir
   pub pw_id_is : place.pw_id ≡ row.pw_id
   pub terminal : place.terminal ≡ true
 
-one_of : {A : Type 0} (test other : A → Bool) (xs : List A) (x : A) → find test xs ≡ Some x → other x ≡ true → list_any other xs ≡ true
-one_of test other [] x is passes = absurd (cc (is))
-one_of test other (y ∷ ys) x is passes = elim (cases_Bool (test y)) [
-  | inl here ↦ rw (ap other (same (rw here at is)) ∙ passes) refl
-  | inr away ↦ or_right (other y) (list_any other ys) (one_of test other ys x (rw away at is) passes)
-]
-  where
-    same : Some y ≡ Some x → y ≡ x
-    same e = cc
-
-    or_right : (a b : Bool) → b ≡ true → a || b ≡ true
-    or_right a b is = rw is (any_true a)
-      where
-        any_true : (c : Bool) → c || true ≡ true
-        any_true true = refl
-        any_true false = refl
-
 -- an end of an edge that its peer and PW ID name
 pub record IsKnownEnd (plan : Plan) (me : EdgeId) (place : EndPlace) : Type 0 where
   pub end : IsEndOf plan me place
@@ -187,9 +155,6 @@ pub known_ends : (plan : Plan) (me : EdgeId) → IsChecked plan → AllByRecursi
 known_ends plan me checked = both_all (IsEndOf plan me) (λ (place : EndPlace). end_named plan me place.peer place.pw_id ≡ Some place) (IsKnownEnd plan me) (end_places plan me)
     (λ place end named. record { end = end; named = named }) (places_are plan me) (places_named plan me checked)
 
-same_some : (one other : WirePlan) → Some one ≡ Some other → one ≡ other
-same_some one other is = cc
-
 pub link_end : (plan : Plan) (service : ServiceId) (me peer : EdgeId) (wire : WireId) (row : WirePlan) → IsChecked plan → has_short_paths plan service ≡ true → is_wire_of service row ≡ true → wire_row plan wire ≡ Some row → joins me.0 peer.0 row.path ≡ true → IsLinkEnd plan me peer wire row
 link_end plan service me peer wire row checked short ours is joined = record {
   place = place;
@@ -199,7 +164,7 @@ link_end plan service me peer wire row checked short ours is joined = record {
   wire_is = of_wire;
   peer_is = peer_is;
   pw_id_is = at.holds.end.pw_id ∙ ap (λ (r : WirePlan). r.pw_id) rows;
-  terminal = both_right (is_of_wire wire place) place.terminal at.passes;
+  terminal = second_holds (is_of_wire wire place) place.terminal at.passes;
 }
   where
     near : NamedEnd plan me peer wire row
@@ -218,11 +183,11 @@ link_end plan service me peer wire row checked short ours is joined = record {
         on_it link = rw link.path (either me.0 peer.0 link.near.0 link.far.0 (rw link.path at joined))
 
     first_passes : is_end_of_wire wire near.place ≡ true
-    first_passes = and_both (is_of_wire wire near.place) near.place.terminal (ap (λ (w : WireId). w.0 == wire.0) near.wire_is ∙ eq-eqb wire.0 wire.0 refl)
-        (there.holds.terminal ∙ (ap (λ (r : WirePlan). is_terminal r me) (same_some there.holds.row row (sym there.holds.is ∙ (ap (wire_row plan) near.wire_is ∙ is))) ∙ ends))
+    first_passes = and_from (is_of_wire wire near.place) near.place.terminal (ap (λ (w : WireId). w.0 == wire.0) near.wire_is ∙ eq-eqb wire.0 wire.0 refl)
+        (there.holds.terminal ∙ (ap (λ (r : WirePlan). is_terminal r me) (same_row there.holds.row row (sym there.holds.is ∙ (ap (wire_row plan) near.wire_is ∙ is))) ∙ ends))
 
     found : Finds (is_end_of_wire wire) (end_places plan me)
-    found = find_some (is_end_of_wire wire) (end_places plan me) (one_of (is_named peer row.pw_id) (is_end_of_wire wire) (end_places plan me) near.place near.named first_passes)
+    found = find_some (is_end_of_wire wire) (end_places plan me) (found_is_any (is_named peer row.pw_id) (is_end_of_wire wire) (end_places plan me) near.place near.named first_passes)
 
     place : EndPlace
     place = found.place
@@ -231,10 +196,10 @@ link_end plan service me peer wire row checked short ours is joined = record {
     at = find_holds (IsKnownEnd plan me) (is_end_of_wire wire) (end_places plan me) place (known_ends plan me checked) found.is
 
     of_wire : place.wire ≡ wire
-    of_wire = ap (λ (n : ℕ). record { 0 = n }) (eqb-true place.wire.0 wire.0 (both_left (is_of_wire wire place) place.terminal at.passes))
+    of_wire = ap (λ (n : ℕ). record { 0 = n }) (eqb-true place.wire.0 wire.0 (first_holds (is_of_wire wire place) place.terminal at.passes))
 
     rows : at.holds.end.row ≡ row
-    rows = same_some at.holds.end.row row (sym at.holds.end.is ∙ (ap (wire_row plan) of_wire ∙ is))
+    rows = same_row at.holds.end.row row (sym at.holds.end.is ∙ (ap (wire_row plan) of_wire ∙ is))
 
     peer_is : place.peer ≡ peer
     peer_is = ap (λ (n : ℕ). record { 0 = n })

@@ -1,10 +1,10 @@
 -- A wire that breaks a rule with an earlier one asks for a mark that this one left.
 use Rattle.std.proofs.Common.{◌≡◌, ◌<◌, ◌+◌, ◌*◌, ◌%◌, ◌==◌, ◌&&◌, ◌||◌, ◌∙◌, ◌++◌, not, ℕ, zero, suc, Bool, true, false, List, [], ◌∷◌, length, take, get_or, set, Option, Some, None, if◌then◌else◌, refl, sym, ap, arith, add-one, length-set}
-use Rattle.std.proofs.lemmas.Bool.{false_from_ne_true}
-use Rattle.std.proofs.lemmas.Bool.Decides.{nat_tests}
+use Rattle.std.proofs.lemmas.Bool.{false_from_ne_true, eqb-true, or_right, or_left}
 use Rattle.std.proofs.lemmas.List.{get_or-set_same}
 use Rattle.std.proofs.Math.Seq.{take-suc}
 use Rattle.std.specs.List.{list_any}
+use Rattle.net_values.proofs.BoolLemmas.{by_either, both_of}
 use Rattle.net_base.specs.declared.plan.places.EdgeId.{EdgeId}
 use Rattle.net_base.specs.declared.plan.wire_plan.WirePlan.{WirePlan}
 use Rattle.net_base.specs.declared.plan.wire_rule.WireRule.{WireRule}
@@ -14,30 +14,10 @@ use Rattle.net_base.specs.plan.Places.{is_mesh_class}
 use Rattle.net_base.specs.plan.WireFaults.{breaks, have_same_service, starts_in_mesh}
 use Rattle.net_base.specs.plan.WireMarks.{edge_number, pw_id_mark, pair_mark, end_mark, start_mark, ends_mark, left_first, left_last, is_marked, marks_with, IsLeft, AreLeft}
 
-both : {P : Type 0} (p q : Bool) → p && q ≡ true → (p ≡ true → q ≡ true → P) → P
-both true true e f = f refl refl
-both true false e f = absurd (cc)
-both false q e f = absurd (cc)
-
-one : {P : Type 0} (p q : Bool) → p || q ≡ true → (p ≡ true → P) → (q ≡ true → P) → P
-one true q e f g = f refl
-one false q e f g = g e
-
-or_first : (p q : Bool) → p ≡ true → p || q ≡ true
-or_first true q e = refl
-or_first false q e = absurd (cc)
-
-or_last : (p q : Bool) → q ≡ true → p || q ≡ true
-or_last true q e = refl
-or_last false q e = e
-
-same_number : (a b : ℕ) → a == b ≡ true → a ≡ b
-same_number a b e = grind (arith, nat_tests)
-
 same_edge : (a b : Option EdgeId) → is_same_edge a b ≡ true → edge_number a ≡ edge_number b
 same_edge None b e = absurd (cc)
 same_edge (Some a) None e = absurd (cc)
-same_edge (Some a) (Some b) e = same_number a.0 b.0 e
+same_edge (Some a) (Some b) e = eqb-true a.0 b.0 e
 
 -- a mark stays where others are left
 kept : (marks : List Bool) (i k : ℕ) → get_or marks k false ≡ true → get_or (set marks i true) k false ≡ true
@@ -108,27 +88,27 @@ turned service a b = ap (λ n. (service * 4096 + n) % 8192) (omega arith)
 -- where the paths end alike, in either order, the marks of their ends are one
 alike : (service a b c d : ℕ) (p q r s : Bool) → (p ≡ true → a ≡ c) → (q ≡ true → b ≡ d) → (r ≡ true → a ≡ d) → (s ≡ true → b ≡ c)
     → (p && q) || (r && s) ≡ true → pair_mark service c d ≡ pair_mark service a b
-alike service a b c d p q r s first last crossed back e = one (p && q) (r && s) e
-    (λ h. both p q h (λ x y. rw (first x, last y) refl))
-    (λ h. both r s h (λ x y. rw (crossed x, back y) (turned service c d)))
+alike service a b c d p q r s first last crossed back e = by_either (p && q) (r && s) e
+    (λ h. both_of p q h (λ x y. rw (first x, last y) refl))
+    (λ h. both_of r s h (λ x y. rw (crossed x, back y) (turned service c d)))
 
 -- a spoke left the mark of its start, for which a wire that ends there asks
 asks_start : (marks : List Bool) (service start first last : ℕ) (mesh p q : Bool) → get_or marks (start_mark service start) false ≡ true → (p ≡ true → start ≡ last) → (q ≡ true → start ≡ first)
     → p || (mesh && q) ≡ true → get_or marks (if mesh then start_mark service first else end_mark service first) false || get_or marks (start_mark service last) false ≡ true
 asks_start marks service start first last true p q left at_last at_first e =
-    one p q e (λ h. or_last _ _ (ap (λ n. get_or marks (start_mark service n) false) (sym (at_last h)) ∙ left))
-    (λ h. or_first _ _ (ap (λ n. get_or marks (start_mark service n) false) (sym (at_first h)) ∙ left))
+    by_either p q e (λ h. or_right _ _ (ap (λ n. get_or marks (start_mark service n) false) (sym (at_last h)) ∙ left))
+    (λ h. or_left _ _ (ap (λ n. get_or marks (start_mark service n) false) (sym (at_first h)) ∙ left))
 asks_start marks service start first last false p q left at_last at_first e =
-    one p false e (λ h. or_last _ _ (ap (λ n. get_or marks (start_mark service n) false) (sym (at_last h)) ∙ left)) (λ h. absurd (cc))
+    by_either p false e (λ h. or_right _ _ (ap (λ n. get_or marks (start_mark service n) false) (sym (at_last h)) ∙ left)) (λ h. absurd (cc))
 
 -- a wire left the marks of its ends, for which a spoke that starts there asks
 asks_end : (marks : List Bool) (service start end first last : ℕ) (mesh p q : Bool) → get_or marks (if mesh then end_mark service start else start_mark service start) false ≡ true
     → get_or marks (end_mark service end) false ≡ true → (p ≡ true → first ≡ end) → (q ≡ true → first ≡ start)
     → p || (mesh && q) ≡ true → get_or marks (end_mark service first) false || get_or marks (start_mark service last) false ≡ true
 asks_end marks service start end first last true p q left left_end at_end at_start e =
-    one p q e (λ h. or_first _ _ (ap (λ n. get_or marks (end_mark service n) false) (at_end h) ∙ left_end)) (λ h. or_first _ _ (ap (λ n. get_or marks (end_mark service n) false) (at_start h) ∙ left))
+    by_either p q e (λ h. or_left _ _ (ap (λ n. get_or marks (end_mark service n) false) (at_end h) ∙ left_end)) (λ h. or_left _ _ (ap (λ n. get_or marks (end_mark service n) false) (at_start h) ∙ left))
 asks_end marks service start end first last false p q left left_end at_end at_start e =
-    one p false e (λ h. or_first _ _ (ap (λ n. get_or marks (end_mark service n) false) (at_end h) ∙ left_end)) (λ h. absurd (cc))
+    by_either p false e (λ h. or_left _ _ (ap (λ n. get_or marks (end_mark service n) false) (at_end h) ∙ left_end)) (λ h. absurd (cc))
 
 asks : (marks : List Bool) (service start end first last : ℕ) (old later p q r s : Bool) → get_or marks (if old then end_mark service start else start_mark service start) false ≡ true
     → get_or marks (end_mark service end) false ≡ true → (p ≡ true → start ≡ last) → (q ≡ true → start ≡ first) → (r ≡ true → first ≡ end) → (s ≡ true → first ≡ start)
@@ -138,9 +118,9 @@ asks marks service start end first last true true p q r s left left_end at_last 
 asks marks service start end first last true false p q r s left left_end at_last at_first at_end at_start e =
     asks_end marks service start end first last true r s left left_end at_end at_start e
 asks marks service start end first last false true p q r s left left_end at_last at_first at_end at_start e =
-    one (p || q) false e (λ h. asks_start marks service start first last true p q left at_last at_first h) (λ h. absurd (cc))
+    by_either (p || q) false e (λ h. asks_start marks service start first last true p q left at_last at_first h) (λ h. absurd (cc))
 asks marks service start end first last false false p q r s left left_end at_last at_first at_end at_start e =
-    one (p || false) (r || false) e
+    by_either (p || false) (r || false) e
     (λ h. asks_start marks service start first last false p q left at_last at_first h)
     (λ h. asks_end marks service start end first last false r s left left_end at_end at_start h)
 
@@ -152,21 +132,21 @@ last_number wire = edge_number (last_edge wire.path)
 
 caught : (rule : WireRule) (marks : List Bool) (old later : WirePlan) → IsLeft rule marks old → breaks rule old later ≡ true → is_marked rule marks later ≡ true
 caught PwIds marks old later left e =
-    both (old.pw_id == later.pw_id) (share_segment old.path later.path) e (λ h g.
-    or_first _ _ (ap (λ n. get_or marks (pw_id_mark n) false) (sym (same_number old.pw_id later.pw_id h)) ∙ left.first))
+    both_of (old.pw_id == later.pw_id) (share_segment old.path later.path) e (λ h g.
+    or_left _ _ (ap (λ n. get_or marks (pw_id_mark n) false) (sym (eqb-true old.pw_id later.pw_id h)) ∙ left.first))
 caught MeshWires marks old later left e =
-    both (have_same_service old later && (is_mesh_class old.class && is_mesh_class later.class)) (have_same_ends old.path later.path) e (λ h g.
-    both (have_same_service old later) (is_mesh_class old.class && is_mesh_class later.class) h (λ s m.
+    both_of (have_same_service old later && (is_mesh_class old.class && is_mesh_class later.class)) (have_same_ends old.path later.path) e (λ h g.
+    both_of (have_same_service old later) (is_mesh_class old.class && is_mesh_class later.class) h (λ s m.
     let mark : ends_mark later ≡ ends_mark old =
-    ap (λ n. pair_mark n (first_number later) (last_number later)) (sym (same_number old.service.0 later.service.0 s))
+    ap (λ n. pair_mark n (first_number later) (last_number later)) (sym (eqb-true old.service.0 later.service.0 s))
     ∙ alike old.service.0 (first_number old) (last_number old) (first_number later) (last_number later) _ _ _ _
     (same_edge (first_edge old.path) (first_edge later.path)) (same_edge (last_edge old.path) (last_edge later.path))
     (same_edge (first_edge old.path) (last_edge later.path)) (same_edge (last_edge old.path) (first_edge later.path)) g in
-    or_first _ _ (ap (λ n. get_or marks n false) mark ∙ left.first)))
+    or_left _ _ (ap (λ n. get_or marks n false) mark ∙ left.first)))
 caught SpokeStarts marks old later left e =
-    both (have_same_service old later) (starts_in_mesh old later || starts_in_mesh later old) e (λ s h.
+    both_of (have_same_service old later) (starts_in_mesh old later || starts_in_mesh later old) e (λ s h.
     ap (λ n. get_or marks (if is_mesh_class later.class then start_mark n (first_number later) else end_mark n (first_number later)) false || get_or marks (start_mark n (last_number later)) false)
-    (sym (same_number old.service.0 later.service.0 s))
+    (sym (eqb-true old.service.0 later.service.0 s))
     ∙ asks marks old.service.0 (first_number old) (last_number old) (first_number later) (last_number later) (is_mesh_class old.class) (is_mesh_class later.class) _ _ _ _ left.first left.last
     (same_edge (first_edge old.path) (last_edge later.path)) (same_edge (first_edge old.path) (first_edge later.path))
     (same_edge (first_edge later.path) (last_edge old.path)) (same_edge (first_edge later.path) (first_edge old.path)) h)

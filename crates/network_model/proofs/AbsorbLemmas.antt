@@ -98,7 +98,7 @@ abbrev pub is_no_packet : Effect → Bool
 is_no_packet (effect.Sent peer wire came octets) = false
 is_no_packet e = true
 
-pipe_sends_none : (from to : EdgeId) (octets : List ℕ) (network : NetworkState) (b : Bool) → (cond b (with_pipe from to octets network) network).under_way ≡ network.under_way
+pub pipe_sends_none : (from to : EdgeId) (octets : List ℕ) (network : NetworkState) (b : Bool) → (cond b (with_pipe from to octets network) network).under_way ≡ network.under_way
 unfolding with_pipe
 pipe_sends_none from to octets network true = refl
 pipe_sends_none from to octets network false = refl

@@ -1,59 +1,39 @@
 -- The circuits of a calm service without a wire are at one edge.
 use Rattle.std.proofs.Common.{◌≡◌, ◌<◌, ◌+◌, ◌&&◌, ◌||◌, ◌==◌, ◌∙◌, ℕ, zero, suc, Bool, true, false, List, [], ◌∷◌, Some, length, slice_get, refl, ap, nat_eq, not, arith, inl, inr}
 use Rattle.std.proofs.lemmas.Bool.{eqb-true, eq-eqb, cases_order}
+use Rattle.std.proofs.lemmas.Map.Keys.{any_passes_from_place}
 use Rattle.std.specs.List.{list_any}
+use Rattle.net_values.proofs.BoolLemmas.{first_holds, second_holds, second_fails, first_fails, first_of_two}
 use Rattle.net_base.specs.declared.plan.Plan.{Plan}
 use Rattle.net_base.specs.declared.plan.circuit_plan.CircuitPlan.{CircuitPlan}
 use Rattle.net_base.specs.declared.plan.wire_plan.WirePlan.{WirePlan}
 use Rattle.net_base.specs.declared.plan.places.ServiceId.{ServiceId}
 use Rattle.network_model.specs.State.{NetworkState}
 use Rattle.net_base.specs.plan.Roles.{all_below, any_wire, count_wires, is_circuit_at, is_wire_of, is_spoke_edge, is_core_edge}
-use Rattle.edge_model.proofs.LocalLemmas.{and_left, and_right}
 use Rattle.network_model.specs.Calm.{meshes, is_live_spoke, is_quiet, is_full, has_live_spokes, is_calm}
 
 -- a test that holds of each number below n holds of one
 pub below_holds : (n i : ℕ) (test : ℕ → Bool) → all_below n test ≡ true → i < n → test i ≡ true
 below_holds zero i test all below = absurd (omega arith)
 below_holds (suc n) i test all below = elim (cases_order i n) [
-  | inl same ↦ ap test same ∙ and_left (test n) (all_below n test) all
+  | inl same ↦ ap test same ∙ first_holds (test n) (all_below n test) all
   | inr rest ↦ elim rest [
-    | inl under ↦ below_holds n i test (and_right (test n) (all_below n test) all) under
+    | inl under ↦ below_holds n i test (second_holds (test n) (all_below n test) all) under
     | inr over ↦ absurd (omega arith)
   ]
 ]
 
--- a service without a wire has no mesh wire and no live spoke
-pub none_first : (a b : Bool) → a || b ≡ false → a ≡ false
-none_first false b none = refl
-none_first true b none = absurd (cc (none))
-
-pub none_later : (a b : Bool) → a || b ≡ false → b ≡ false
-none_later false b none = none
-none_later true b none = absurd (cc (none))
-
 no_mesh : (plan : Plan) (network : NetworkState) (service : ServiceId) (a b place : ℕ) (rows : List WirePlan) → list_any (is_wire_of service) rows ≡ false → any_wire (meshes plan network service a b) place rows ≡ false
 no_mesh plan network service a b place [] none = refl
 no_mesh plan network service a b place (row ∷ rows) none =
-    let here : is_wire_of service row ≡ false = none_first (is_wire_of service row) (list_any (is_wire_of service) rows) none in
-    rw here (no_mesh plan network service a b (place + 1) rows (none_later (is_wire_of service row) (list_any (is_wire_of service) rows) none))
+    let here : is_wire_of service row ≡ false = first_fails (is_wire_of service row) (list_any (is_wire_of service) rows) none in
+    rw here (no_mesh plan network service a b (place + 1) rows (second_fails (is_wire_of service row) (list_any (is_wire_of service) rows) none))
 
 no_live : (plan : Plan) (network : NetworkState) (service : ServiceId) (edge place : ℕ) (rows : List WirePlan) → list_any (is_wire_of service) rows ≡ false → count_wires (is_live_spoke plan network service edge) place rows ≡ 0
 no_live plan network service edge place [] none = refl
 no_live plan network service edge place (row ∷ rows) none =
-    let here : is_wire_of service row ≡ false = none_first (is_wire_of service row) (list_any (is_wire_of service) rows) none in
-    rw here (omega (arith, no_live plan network service edge (place + 1) rows (none_later (is_wire_of service row) (list_any (is_wire_of service) rows) none)))
-
--- the edge of a circuit of the service is a core edge, where each spoke edge has a live spoke
-pub any_at : {X : Type 0} (test : X → Bool) (xs : List X) (i : ℕ) (x : X) → slice_get xs i ≡ Some x → test x ≡ true → list_any test xs ≡ true
-any_at test [] i x is passes = absurd (cc (is))
-any_at test (y ∷ ys) zero x is passes =
-    let same : y ≡ x = cc (is) in
-    let here : test y ≡ true = ap test same ∙ passes in
-    rw here refl
-any_at test (y ∷ ys) (suc i) x is passes = rises (test y) (list_any test ys) (any_at test ys i x is passes) where
-  rises : (a b : Bool) → b ≡ true → a || b ≡ true
-  rises true b e = refl
-  rises false b e = e
+    let here : is_wire_of service row ≡ false = first_fails (is_wire_of service row) (list_any (is_wire_of service) rows) none in
+    rw here (omega (arith, no_live plan network service edge (place + 1) rows (second_fails (is_wire_of service row) (list_any (is_wire_of service) rows) none)))
 
 no_spoke_edge : (plan : Plan) (network : NetworkState) (service : ServiceId) (edge : ℕ) → list_any (is_wire_of service) plan.wires ≡ false → has_live_spokes plan network service ≡ true → edge < length plan.edges → is_spoke_edge plan service edge ≡ false
 no_spoke_edge plan network service edge none live within =
@@ -70,7 +50,7 @@ core_of : (plan : Plan) (network : NetworkState) (service : ServiceId) (circuit 
     → is_core_edge plan service row.edge.0 ≡ true
 core_of plan network service circuit row none live is of_service within =
     let here : is_circuit_at service row.edge.0 row ≡ true = rw (of_service, eq-eqb row.edge.0 row.edge.0 refl) refl in
-    let some : list_any (is_circuit_at service row.edge.0) plan.circuits ≡ true = any_at (is_circuit_at service row.edge.0) plan.circuits circuit row is here in
+    let some : list_any (is_circuit_at service row.edge.0) plan.circuits ≡ true = any_passes_from_place (is_circuit_at service row.edge.0) plan.circuits circuit row is here in
     rw (some, no_spoke_edge plan network service row.edge.0 none live within) refl
 
 -- two circuits of a calm service without a wire are at one edge
@@ -81,8 +61,8 @@ pub at_one_edge : (plan : Plan) (network : NetworkState) (service : ServiceId) (
     → slice_get plan.circuits d ≡ Some other → nat_eq other.service.0 service.0 ≡ true → other.edge.0 < length plan.edges
     → row.edge.0 ≡ other.edge.0
 at_one_edge plan network service c d row other none calm is of_service within is_too of_service_too within_too =
-    let live = and_right (is_quiet plan network service && is_full plan network service) (has_live_spokes plan network service) calm in
-    let full = and_right (is_quiet plan network service) (is_full plan network service) (and_left (is_quiet plan network service && is_full plan network service) (has_live_spokes plan network service) calm) in
+    let live = second_holds (is_quiet plan network service && is_full plan network service) (has_live_spokes plan network service) calm in
+    let full = second_holds (is_quiet plan network service) (is_full plan network service) (first_holds (is_quiet plan network service && is_full plan network service) (has_live_spokes plan network service) calm) in
     let met : (a : ℕ) → (b : ℕ) → Bool = λ a b. not (is_core_edge plan service a && is_core_edge plan service b) || (a == b || any_wire (meshes plan network service a b) 0 plan.wires) in
     let first = below_holds (length plan.edges) row.edge.0 (λ a. all_below (length plan.edges) (met a)) full within in
     let both = below_holds (length plan.edges) other.edge.0 (met row.edge.0) first within_too in
@@ -90,7 +70,4 @@ at_one_edge plan network service c d row other none calm is of_service within is
     (core_of plan network service c row none live is of_service within) (core_of plan network service d other none live is_too of_service_too within_too)
     (no_mesh plan network service row.edge.0 other.edge.0 0 plan.wires none) both where
       meets : (x y : Bool) (a b : ℕ) (mesh : Bool) → x ≡ true → y ≡ true → mesh ≡ false → not (x && y) || (nat_eq a b || mesh) ≡ true → a ≡ b
-      meets x y a b mesh core too none holds = eqb-true a b (last (nat_eq a b) mesh none (rw (core, too) at holds)) where
-        last : (equal mesh : Bool) → mesh ≡ false → equal || mesh ≡ true → equal ≡ true
-        last true mesh none holds = refl
-        last false mesh none holds = absurd (cc)
+      meets x y a b mesh core too none holds = eqb-true a b (first_of_two (nat_eq a b) mesh none (rw (core, too) at holds))

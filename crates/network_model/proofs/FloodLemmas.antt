@@ -1,6 +1,6 @@
 -- A frame that is flooded goes to a group, or to a station of which its bridge knows no port.
 use Rattle.std.proofs.Common.{◌≡◌, ◌&&◌, ◌||◌, ◌∙◌, ℕ, Bool, true, false, List, ◌∷◌, Option, Some, None, Ok, length, refl, ap, sym, not, inl, inr}
-use Rattle.std.proofs.lemmas.Bool.{cases_Bool, eq-eqb}
+use Rattle.std.proofs.lemmas.Bool.{cases_Bool, eq-eqb, not-true}
 use Rattle.std.specs.Prelude.{option_map}
 use Rattle.std.specs.List.{list_any}
 use Rattle.std.specs.Str.{bytes_eq}
@@ -14,6 +14,7 @@ use Rattle.net_base.specs.declared.plan.places.ServiceId.{ServiceId}
 use Rattle.net_base.specs.trace.Frame.{destination_of, source_of, goes_to_group}
 use Rattle.net_base.specs.trace.Isolated.{inner_at}
 use Rattle.net_values.specs.Mac.{is_group_address}
+use Rattle.net_values.proofs.BoolLemmas.{first_holds, second_holds}
 use Rattle.net_base.specs.plan.Accepted.{IsChecked}
 use Rattle.net_base.specs.plan.Places.{circuit_row}
 use Rattle.mac_table.specs.Addresses.{has_address}
@@ -23,7 +24,6 @@ use Rattle.vsi_bridge.specs.BridgeState.{table_of}
 use Rattle.vsi_bridge.specs.Targets.{heard, known_port}
 use Rattle.edge_model.specs.Frame.{destination, hearing, source}
 use Rattle.edge_model.specs.State.{EdgeState, addresses_of, is_on, with_addresses}
-use Rattle.edge_model.proofs.LocalLemmas.{and_left, and_right, is_not}
 use Rattle.network_model.specs.Reach.{is_circuit_of, is_circuit_on, is_row_of, is_row_on}
 use Rattle.network_model.specs.State.{NetworkState, edge_at}
 use Rattle.network_model.specs.Window.{is_flooded_frame, is_unlearned, is_sourced, packet_teaches, some_teach, teaches}
@@ -72,14 +72,14 @@ unknown_heard plan network at octets frame row during checked is on formed flood
       let packets : Bool = not (list_any (packet_teaches plan row.service (destination_of frame)) network.under_way) in
       let taught : Bool = some_teach plan network row.service (destination_of frame) (Frame at octets ∷ during) in
       let both : (unlearned && packets) && not taught ≡ true = rw single at floods in
-      let none = and_left unlearned packets (and_left (unlearned && packets) (not taught) both) in
+      let none = first_holds unlearned packets (first_holds (unlearned && packets) (not taught) both) in
       let here = below_holds (length plan.edges) row.edge.0 (λ edge. not (has_address ((network.edges edge).learned row.service.0) (destination frame))) none (circuit_of plan at row checked is).edge in
-      let first : teaches plan network row.service (destination_of frame) (Frame at octets) ≡ false = first_of (teaches plan network row.service (destination_of frame) (Frame at octets)) _ (and_right (unlearned && packets) (not taught) both) in
+      let first : teaches plan network row.service (destination_of frame) (Frame at octets) ≡ false = first_of (teaches plan network row.service (destination_of frame) (Frame at octets)) _ (second_holds (unlearned && packets) (not taught) both) in
       let own : is_circuit_of plan row.service at ≡ true = ap (λ (r : Option CircuitPlan). is_row_of row.service r) is ∙ eq-eqb row.service.0 row.service.0 refl in
       let here_on : is_circuit_on plan network at ≡ true = ap (λ (r : Option CircuitPlan). is_row_on network at r) is ∙ on in
       let other : bytes_eq (source_of frame) (destination_of frame) ≡ false =
       ap (is_sourced (destination_of frame)) (sym formed) ∙ (rw (own, here_on) at first) in
-      unknown_hearing (edge_at network row.edge) row.service frame arrival (is_not (has_address (addresses_of (edge_at network row.edge) row.service) (destination frame)) here) other)
+      unknown_hearing (edge_at network row.edge) row.service frame arrival (not-true (has_address (addresses_of (edge_at network row.edge) row.service) (destination frame)) here) other)
 ] where
   first_of : (a b : Bool) → not (a || b) ≡ true → a ≡ false
   first_of false b holds = refl

@@ -2,10 +2,13 @@
 -- a terminal edge.
 use Rattle.std.proofs.Common.{◌≡◌, ◌==◌, ◌&&◌, ◌||◌, ◌∙◌, ℕ, Bool, true, false, List, [], ◌∷◌, Option, Some, None, if◌then◌else◌, refl, sym, ap, arith}
 use Rattle.std.proofs.lemmas.Bool.Decides.{nat_tests}
+use Rattle.std.proofs.lemmas.Bool.{eqb-true}
+use Rattle.net_values.proofs.BoolLemmas.{clash, or_later, second_of_two}
+use Rattle.net_values.proofs.NumberLemmas.{same_number as is_same}
 use Rattle.net_base.specs.declared.plan.places.EdgeId.{EdgeId}
 use Rattle.net_base.specs.plan.Paths.{follows, has_repeat, is_first, is_last, joins, mate_on}
 use Rattle.network_model.specs.Goal.{first_or, goal, last_or}
-use Rattle.network_model.proofs.WayLemmas.{Homeward, Onward, Passes, behind_first, clash, earlier_stands, is_same, later_stands, joins_is, mate_of_way, mate_passes, once_behind, same_number, split, stands_on, way_kept}
+use Rattle.network_model.proofs.WayLemmas.{Homeward, Onward, Passes, behind_first, earlier_stands, later_stands, joins_is, mate_of_way, mate_passes, once_behind, split, stands_on, way_kept}
 
 -- a path with an edge has one first edge and one last one
 pub one_last : (one other : EdgeId) (first : EdgeId) (rest : List EdgeId) → last_or one (first ∷ rest) ≡ last_or other (first ∷ rest)
@@ -26,23 +29,20 @@ goal_kept path me from to once joined is =
 -- the last edge is where one comes that follows nothing
 last_is : (other : EdgeId) (path : List EdgeId) (me : ℕ) → is_last me path ≡ true → (last_or other path).0 ≡ me
 last_is other [] me is = clash is
-last_is other (last ∷ []) me is = sym (same_number me last.0 is)
+last_is other (last ∷ []) me is = sym (eqb-true me last.0 is)
 last_is other (first ∷ next ∷ rest) me is = last_is other (next ∷ rest) me is
 
 first_is : (other : EdgeId) (path : List EdgeId) (me : ℕ) → is_first me path ≡ true → (first_or other path).0 ≡ me
 first_is other [] me is = clash is
-first_is other (first ∷ rest) me is = sym (same_number me first.0 is)
+first_is other (first ∷ rest) me is = sym (eqb-true me first.0 is)
 
 -- nothing follows the last edge, and the first follows nothing
-last_stands : (path : List EdgeId) (a : ℕ) → is_last a path ≡ true → stands_on a path ≡ true
+pub last_stands : (path : List EdgeId) (a : ℕ) → is_last a path ≡ true → stands_on a path ≡ true
 last_stands [] a is = clash is
 last_stands (last ∷ []) a is = here a last.0 is where
   here : (a b : ℕ) → (a == b) ≡ true → (b == a) || false ≡ true
   here a b is = grind (arith, nat_tests)
-last_stands (first ∷ next ∷ rest) a is = more (first.0 == a) (last_stands (next ∷ rest) a is) where
-  more : (p : Bool) {q : Bool} → q ≡ true → p || q ≡ true
-  more true h = refl
-  more false h = h
+last_stands (first ∷ next ∷ rest) a is = or_later (first.0 == a) (last_stands (next ∷ rest) a is)
 
 pub ends_last : (path : List EdgeId) (a b : ℕ) → has_repeat path ≡ false → is_last a path ≡ true → follows path a b ≡ false
 ends_last [] a b once is = refl
@@ -83,13 +83,9 @@ some_follows (first ∷ next ∷ rest) a there not_last = by (a == first.0) refl
   rest_there : (f : ℕ) {r : Bool} → (a == f) ≡ false → (f == a) || r ≡ true → r ≡ true
   rest_there f apart h = grind (arith, nat_tests)
 
-  later : (p : Bool) {q : Bool} → q ≡ true → p || q ≡ true
-  later true h = refl
-  later false h = h
-
   by : (t : Bool) → (a == first.0) ≡ t → (stands_on a (next ∷ rest) ≡ true → (b : EdgeId) × (follows (next ∷ rest) a b.0 ≡ true)) → (b : EdgeId) × (follows (first ∷ next ∷ rest) a b.0 ≡ true)
   by true is more = (next, here is)
-  by false is more = let found = more (rest_there first.0 is there) in (found.0, later (a == first.0 && found.0.0 == next.0) found.1)
+  by false is more = let found = more (rest_there first.0 is there) in (found.0, or_later (a == first.0 && found.0.0 == next.0) found.1)
 
 -- it follows some edge, where it is not the first one
 follows_some : (path : List EdgeId) (a : ℕ) → stands_on a path ≡ true → is_first a path ≡ false → (b : EdgeId) × (follows path b.0 a ≡ true)
@@ -104,13 +100,9 @@ follows_some (first ∷ next ∷ rest) a there not_first = by (a == next.0) refl
   rest_there : (f : ℕ) {r : Bool} → (a == f) ≡ false → (f == a) || r ≡ true → r ≡ true
   rest_there f apart h = grind (arith, nat_tests)
 
-  later : (p : Bool) {q : Bool} → q ≡ true → p || q ≡ true
-  later true h = refl
-  later false h = h
-
   by : (t : Bool) → (a == next.0) ≡ t → (stands_on a (next ∷ rest) ≡ true → is_first a (next ∷ rest) ≡ false → (b : EdgeId) × (follows (next ∷ rest) b.0 a ≡ true)) → (b : EdgeId) × (follows (first ∷ next ∷ rest) b.0 a ≡ true)
   by true is more = (first, here is)
-  by false is more = let found = more (rest_there first.0 not_first there) is in (found.0, later (found.0.0 == first.0 && a == next.0) found.1)
+  by false is more = let found = more (rest_there first.0 not_first there) is in (found.0, or_later (found.0.0 == first.0 && a == next.0) found.1)
 
 -- so it has a mate towards which it passes on what it has from a neighbour
 pub has_mate : (path : List EdgeId) (from me : EdgeId) → has_repeat path ≡ false → joins from.0 me.0 path ≡ true → is_first me.0 path ≡ false → is_last me.0 path ≡ false → (to : EdgeId) × (mate_on path me.0 from.0 ≡ Some to)
@@ -130,17 +122,11 @@ has_mate path from me once joined not_first not_last = by (follows path from.0 m
   by true way = let found = some_follows path me.0 (behind path way) not_last in (found.0, mate_of_way path from.0 me.0 found.0.0 once way found.1) where
     behind : (p : List EdgeId) → follows p from.0 me.0 ≡ true → stands_on me.0 p ≡ true
     behind [] h = clash h
-    behind (first ∷ rest) h = more (first.0 == me.0) (later_stands first rest from.0 me.0 h) where
-      more : (p : Bool) {q : Bool} → q ≡ true → p || q ≡ true
-      more true k = refl
-      more false k = k
+    behind (first ∷ rest) h = or_later (first.0 == me.0) (later_stands first rest from.0 me.0 h)
   by false way =
-      let back : follows path me.0 from.0 ≡ true = only (follows path from.0 me.0) way (sym (joins_is path from.0 me.0) ∙ joined) in
+      let back : follows path me.0 from.0 ≡ true = second_of_two (follows path from.0 me.0) way (sym (joins_is path from.0 me.0) ∙ joined) in
       let found = follows_some path me.0 (earlier_stands path me.0 from.0 back) not_first in
       (found.0, turned_mate found.0 found.1 back)
-    where
-      only : (p : Bool) {q : Bool} → p ≡ false → p || q ≡ true → q ≡ true
-      only p h k = grind (arith, h, k)
 
 -- and one that has a mate is no terminal edge
 pub mate_inside : (path : List EdgeId) (me from : EdgeId) (to : EdgeId) → has_repeat path ≡ false → mate_on path me.0 from.0 ≡ Some to → is_first me.0 path || is_last me.0 path ≡ false

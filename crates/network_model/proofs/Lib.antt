@@ -1,6 +1,7 @@
 pub mod AbsorbLemmas
 pub mod AgeLemmas
 pub mod CalmLemmas
+pub mod CommonLemmas
 mod ConnectionExamples
 pub mod EdgeLemmas
 mod Examples

@@ -1,9 +1,10 @@
 -- The packets under way, as a list: one is found by its number, one goes, one comes. Their numbers rise, and are counted.
 use Rattle.std.proofs.Common.{◌≡◌, ◌<◌, ◌≤◌, ◌+◌, ◌++◌, ◌∙◌, ℕ, Bool, true, false, List, [], ◌∷◌, Option, Some, None, cond, refl, ap, sym, subst, nat_eq, length, arith, append_assoc, append-nil, length-append}
-use Rattle.std.proofs.lemmas.Bool.{eq-eqb, eqb-true, ne_eqb}
+use Rattle.std.proofs.lemmas.Bool.{eqb-true, ne_eqb, eqb-false}
 use Rattle.std.proofs.lemmas.List.Folds.{find-append}
 use Rattle.std.specs.Option.{option_or}
 use Rattle.std.specs.List.{AllByRecursion, find}
+use Rattle.net_values.proofs.RowLemmas.{found_passes, found_among}
 use Rattle.net_base.specs.declared.plan.Plan.{Plan}
 use Rattle.net_base.specs.declared.plan.circuit_plan.CircuitPlan.{CircuitPlan}
 use Rattle.net_base.specs.declared.plan.places.CircuitId.{CircuitId}
@@ -16,7 +17,6 @@ use Rattle.net_base.specs.plan.Places.{circuit_row}
 use Rattle.edge_model.specs.declared.effect.Effect.{Effect}
 use Rattle.edge_model.specs.declared.effect.Effect.TheVariants as effect
 use Rattle.edge_model.specs.Work.{Work}
-use Rattle.edge_model.proofs.CopyLemmas.{found_among, found_passes}
 use Rattle.network_model.specs.declared.packet.Packet.{Packet}
 use Rattle.network_model.specs.Absorb.{absorb, absorb_all, absorb_one, idle}
 use Rattle.network_model.specs.Frame.{entering, frame_event, frame_work, next_origin}
@@ -197,9 +197,6 @@ gone least number (p ∷ ps) rise = by (nat_eq p.number number) refl (gone p.num
   by true same rest = none_below p.number number ps (omega (arith, eqb-true p.number number same)) rise.1
   by false other rest = rw other rest
 
-are_apart : (a b : ℕ) → nat_eq a b ≡ false → a ≡ b → ⊥
-are_apart a b unequal equal = absurd (cc (unequal, eq-eqb a b equal))
-
 -- the others are found as before
 pub others_stay : (number other : ℕ) (packets : List Packet) → nat_eq other number ≡ false → find (λ packet. nat_eq packet.number other) (without_number number packets) ≡ find (λ packet. nat_eq packet.number other) packets
 others_stay number other [] apart = refl
@@ -209,7 +206,7 @@ others_stay number other (p ∷ ps) apart = by (nat_eq p.number number) refl (ot
       → find (λ packet. nat_eq packet.number other) (cond b ps (p ∷ without_number number ps)) ≡ cond (nat_eq p.number other) (Some p) (find (λ packet. nat_eq packet.number other) ps)
   by true same rest =
       let place : p.number ≡ number = eqb-true p.number number same in
-      rw (ne_eqb p.number other (λ e. are_apart other number apart (sym e ∙ place))) refl
+      rw (ne_eqb p.number other (λ e. eqb-false other number apart (sym e ∙ place))) refl
   by false away rest = ap (λ (found : Option Packet). cond (nat_eq p.number other) (Some p) found) rest
 
 -- ---- and are counted, in every state of a run

@@ -2,11 +2,13 @@
 -- those, and hears two at most.
 use Rattle.std.proofs.Common.{◌≡◌, ◌≤◌, ◌<◌, ◌+◌, ◌==◌, ◌||◌, ◌++◌, ◌∙◌, ℕ, Bool, true, false, List, [], ◌∷◌, Some, if◌then◌else◌, length, reverse, refl, sym, ap, arith}
 use Rattle.std.proofs.lemmas.List.{length-append, length-reverse}
+use Rattle.std.proofs.lemmas.Bool.{eqb-true}
+use Rattle.net_values.proofs.BoolLemmas.{clash, or_later}
 use Rattle.net_base.specs.declared.plan.Plan.{Plan}
 use Rattle.net_base.specs.declared.plan.places.EdgeId.{EdgeId}
 use Rattle.net_base.specs.declared.plan.wire_plan.WirePlan.{WirePlan}
 use Rattle.net_base.specs.plan.Paths.{PassedPoint, edge_address, expected, follows, has_repeat, mate_on, points_on, up_to}
-use Rattle.network_model.proofs.WayLemmas.{Homeward, Onward, Passes, behind_first, clash, earlier_stands, either_here, later_stands, mate_passes, once_behind, one_way, same_number, split, way_kept}
+use Rattle.network_model.proofs.WayLemmas.{Homeward, Onward, Passes, behind_first, earlier_stands, either_here, later_stands, mate_passes, once_behind, one_way, split, way_kept}
 use Rattle.network_model.proofs.ReversedLemmas.{follows_reversed, once_reversed}
 
 -- the point with which an edge passes on what it has from another one
@@ -14,7 +16,7 @@ abbrev pub point_at : Plan → WirePlan → EdgeId → EdgeId → PassedPoint
 point_at plan row point before = record { pw_id = row.pw_id; local = edge_address plan point; remote = edge_address plan before }
 
 place : (n : ℕ) (e : EdgeId) → (n == e.0) ≡ true → record { 0 = n } ≡ e
-place n e same = ap (λ (k : ℕ). record { 0 = k }) (same_number n e.0 same)
+place n e same = ap (λ (k : ℕ). record { 0 = k }) (eqb-true n e.0 same)
 
 -- ---- one edge further on the way
 
@@ -73,7 +75,7 @@ up_to_before (first ∷ next ∷ rest) a b once h = by (a == first.0) refl
     by true is more = omega arith
     by false is more = omega (arith, more (rw is at h))
 
-points_less : (plan : Plan) (row : WirePlan) (way : List EdgeId) → length (points_on plan row way) ≤ length way
+pub points_less : (plan : Plan) (row : WirePlan) (way : List EdgeId) → length (points_on plan row way) ≤ length way
 points_less plan row [] = omega arith
 points_less plan row (last ∷ []) = omega arith
 points_less plan row (before ∷ point ∷ rest) = omega (arith, points_less plan row (point ∷ rest))
@@ -106,10 +108,6 @@ points_heard plan row me from to once fits is =
     less : (m n : ℕ) → n ≡ m + 1 → n ≤ 3 → m < 3
     less m n is most = omega (arith, is, most)
 
-    more : (p : Bool) {q : Bool} → q ≡ true → p || q ≡ true
-    more true h = refl
-    more false h = h
-
     goes : Passes row.path me.0 from.0 to.0 → follows row.path me.0 to.0 || follows row.path to.0 me.0 ≡ true
     goes (Onward a b) = rw b refl
-    goes (Homeward a b) = more (follows row.path me.0 to.0) a
+    goes (Homeward a b) = or_later (follows row.path me.0 to.0) a

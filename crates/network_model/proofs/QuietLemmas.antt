@@ -1,6 +1,7 @@
 -- Events that tell of no frame: connections come and go, octets are delivered, edges restart, circuits and wires go on and
 -- off, and failures of wires are set. A tick tells of none either, and makes the packets under way older.
 use Rattle.std.proofs.Common.{◌≡◌, ◌+◌, ◌++◌, ◌∙◌, ℕ, zero, suc, Bool, true, false, List, [], ◌∷◌, Option, Some, None, cond, refl, length, take, drop}
+use Rattle.net_values.proofs.BoolLemmas.{first_holds, second_holds}
 use Rattle.net_base.specs.declared.plan.Plan.{Plan}
 use Rattle.net_base.specs.declared.plan.circuit_plan.CircuitPlan.{CircuitPlan}
 use Rattle.net_base.specs.declared.plan.places.CircuitId.{CircuitId}
@@ -19,7 +20,6 @@ use Rattle.edge_model.specs.State.{EdgeState}
 use Rattle.edge_model.specs.Tick.{tick_input}
 use Rattle.edge_model.specs.Wire.{priority_input, status_input, wire_input}
 use Rattle.edge_model.specs.Work.{Work, changes}
-use Rattle.edge_model.proofs.LocalLemmas.{and_left, and_right}
 use Rattle.edge_model.proofs.SessionLemmas.{are_all, own_effects}
 use Rattle.edge_model.proofs.SignalLemmas.{circuit_signals, connected_signals, is_of_signalling, lost_signals, octets_signal, priority_signals, status_signals, tick_works, wire_signals}
 use Rattle.network_model.specs.declared.packet.Packet.{Packet}
@@ -80,8 +80,8 @@ pub signals_quiet : (me : EdgeId) (origin hops : ℕ) (es : List Effect) (networ
 signals_quiet me origin hops [] network own = record { under_way = refl; sent = refl; entered = refl }
 signals_quiet me origin hops (e ∷ es) network own =
     let next : NetworkState = absorb_one me origin hops e network in
-    quiet_then network next (absorb_all me origin hops es next) (one_quiet me origin hops e network (and_left (is_of_signalling e) (are_all is_of_signalling es) own))
-    (signals_quiet me origin hops es next (and_right (is_of_signalling e) (are_all is_of_signalling es) own))
+    quiet_then network next (absorb_all me origin hops es next) (one_quiet me origin hops e network (first_holds (is_of_signalling e) (are_all is_of_signalling es) own))
+    (signals_quiet me origin hops es next (second_holds (is_of_signalling e) (are_all is_of_signalling es) own))
 
 -- ---- the works of the events give out effects of signalling alone
 

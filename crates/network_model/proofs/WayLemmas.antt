@@ -1,24 +1,17 @@
 -- Two neighbours on a path without a repeat: one follows the other, one way alone, and a switching point passes on the same way.
-use Rattle.std.proofs.Common.{◌≡◌, ◌==◌, ◌&&◌, ◌||◌, ◌∙◌, ℕ, Bool, true, false, List, [], ◌∷◌, Option, Some, None, if◌then◌else◌, refl, sym, ap, subst, arith}
+use Rattle.std.proofs.Common.{◌≡◌, ◌==◌, ◌&&◌, ◌||◌, ◌∙◌, ℕ, Bool, true, false, List, [], ◌∷◌, Some, refl, sym, ap, subst, arith}
 use Rattle.std.specs.List.{list_any}
-use Rattle.std.specs.Option.{option_or}
-use Rattle.std.proofs.lemmas.Bool.{or_parts}
+use Rattle.std.proofs.lemmas.Bool.{or_parts, eqb-true, and_parts}
 use Rattle.std.proofs.lemmas.Bool.Decides.{nat_tests}
+use Rattle.net_values.proofs.BoolLemmas.{clash, or_later}
+use Rattle.net_values.proofs.NumberLemmas.{same_number as is_same}
+use Rattle.net_values.proofs.OptionLemmas.{of_choice, by_first_or}
 use Rattle.net_base.specs.declared.plan.places.EdgeId.{EdgeId}
 use Rattle.net_base.specs.plan.Paths.{follows, has_repeat, joins, mate_among, mate_on}
-
-pub clash : {P : Type 0} → false ≡ true → P
-clash e = absurd (cc)
 
 pub split : {P : Type 0} (b : Bool) → (b ≡ true → P) → (b ≡ false → P) → P
 split true f g = f refl
 split false f g = g refl
-
-pub same_number : (v w : ℕ) → (v == w) ≡ true → v ≡ w
-same_number v w h = grind (arith, nat_tests)
-
-pub is_same : (v : ℕ) → (v == v) ≡ true
-is_same v = grind (arith, nat_tests)
 
 pub turned_test : (v w : ℕ) {b : Bool} → (v == w) ≡ b → (w == v) ≡ b
 turned_test v w h = grind (arith, nat_tests)
@@ -49,27 +42,19 @@ earlier_stands (last ∷ []) a b h = clash h
 earlier_stands (first ∷ next ∷ rest) a b h =
     either_here (a == first.0) (b == next.0) (follows (next ∷ rest) a b) h
     (λ p q. rw (turned_test a first.0 p) refl)
-    (λ t. behind (first.0 == a) (earlier_stands (next ∷ rest) a b t))
-  where
-    behind : (p : Bool) {q : Bool} → q ≡ true → p || q ≡ true
-    behind true is = refl
-    behind false is = is
+    (λ t. or_later (first.0 == a) (earlier_stands (next ∷ rest) a b t))
 
 pub later_stands : (first : EdgeId) (rest : List EdgeId) (a b : ℕ) → follows (first ∷ rest) a b ≡ true → stands_on b rest ≡ true
 later_stands first [] a b h = clash h
 later_stands first (next ∷ rest) a b h =
     either_here (a == first.0) (b == next.0) (follows (next ∷ rest) a b) h
     (λ p q. rw (turned_test b next.0 q) refl)
-    (λ t. behind (next.0 == b) (later_stands next rest a b t))
-  where
-    behind : (p : Bool) {q : Bool} → q ≡ true → p || q ≡ true
-    behind true is = refl
-    behind false is = is
+    (λ t. or_later (next.0 == b) (later_stands next rest a b t))
 
 -- an edge that does not stand on a path is another one than those that do
 pub not_there : (path : List EdgeId) (a b : ℕ) → stands_on a path ≡ false → stands_on b path ≡ true → (a == b) ≡ false
 not_there path a b none some = split {P = (a == b) ≡ false} (a == b)
-    (λ same. clash (sym none ∙ (ap (λ (n : ℕ). stands_on n path) (same_number a b same) ∙ some)))
+    (λ same. clash (sym none ∙ (ap (λ (n : ℕ). stands_on n path) (eqb-true a b same) ∙ some)))
     (λ other. other)
 
 -- what stands behind the first edge is another one
@@ -92,52 +77,32 @@ one_way (first ∷ next ∷ rest) a b once h =
     (λ t. rw late (one_way (next ∷ rest) a b (once_behind first (next ∷ rest) once) t))
   where
     later_on : (next : EdgeId) (rest : List EdgeId) (x y : ℕ) → follows (next ∷ rest) x y ≡ true → stands_on y (next ∷ rest) ≡ true
-    later_on next rest x y t = more (next.0 == y) (later_stands next rest x y t) where
-      more : (p : Bool) {q : Bool} → q ≡ true → p || q ≡ true
-      more true is = refl
-      more false is = is
+    later_on next rest x y t = or_later (next.0 == y) (later_stands next rest x y t)
 
 -- ---- a switching point passes on the same way
-
-first_of : {A P : Type 0} (x y : Option A) (a : A) → option_or x y ≡ Some a → (x ≡ Some a → P) → (y ≡ Some a → P) → P
-first_of None y a h f g = g h
-first_of (Some x) y a h f g = f h
-
-of_choice : {A P : Type 0} (t u : Bool) (x y a : A) → (if t then Some x else if u then Some y else None) ≡ Some a → (t ≡ true → x ≡ a → P) → (u ≡ true → y ≡ a → P) → P
-of_choice true u x y a h f g = f refl (cc)
-of_choice false true x y a h f g = g refl (cc)
-of_choice false false x y a h f g = absurd (cc)
 
 -- the two neighbours of a switching point: it follows one, and the other follows it
 pub data Passes (path : List EdgeId) (me from to : ℕ) : Type 0 where
   Onward : follows path from me ≡ true → follows path me to ≡ true → Passes path me from to
   Homeward : follows path to me ≡ true → follows path me from ≡ true → Passes path me from to
 
-both : (p q : Bool) → p && q ≡ true → (p ≡ true) × (q ≡ true)
-both true true h = (refl, refl)
-both true false h = clash h
-both false q h = clash h
-
 here_follows : (first next : EdgeId) (rest : List EdgeId) (a b : ℕ) → (a == first.0) ≡ true → (b == next.0) ≡ true → follows (first ∷ next ∷ rest) a b ≡ true
 here_follows first next rest a b p q = rw (p, q) refl
 
 later_follows : (first next : EdgeId) (rest : List EdgeId) (a b : ℕ) → follows (next ∷ rest) a b ≡ true → follows (first ∷ next ∷ rest) a b ≡ true
-later_follows first next rest a b h = more (a == first.0 && b == next.0) h where
-  more : (p : Bool) {q : Bool} → q ≡ true → p || q ≡ true
-  more true is = refl
-  more false is = is
+later_follows first next rest a b h = or_later (a == first.0 && b == next.0) h
 
 pub mate_passes : (path : List EdgeId) (me from : ℕ) (to : EdgeId) → mate_on path me from ≡ Some to → Passes path me from to.0
 mate_passes [] me from to is = absurd (cc (is))
 mate_passes (last ∷ []) me from to is = absurd (cc (is))
 mate_passes (before ∷ last ∷ []) me from to is = absurd (cc (is))
 mate_passes (before ∷ point ∷ next ∷ rest) me from to is =
-    first_of (mate_among before point next me from) (mate_on (point ∷ next ∷ rest) me from) to is
+    by_first_or (mate_among before point next me from) (mate_on (point ∷ next ∷ rest) me from) to is
     (λ here. of_choice (me == point.0 && from == before.0) (me == point.0 && from == next.0) next before to here
-    (λ test same. let (p, q) = both (me == point.0) (from == before.0) test in
+    (λ test same. let (p, q) = and_parts (me == point.0) (from == before.0) test in
     subst (λ (e : EdgeId). Passes (before ∷ point ∷ next ∷ rest) me from e.0) same
     (Onward (here_follows before point (next ∷ rest) from me q p) (later_follows before point (next ∷ rest) me next.0 (here_follows point next rest me next.0 p (is_same next.0)))))
-    (λ test same. let (p, q) = both (me == point.0) (from == next.0) test in
+    (λ test same. let (p, q) = and_parts (me == point.0) (from == next.0) test in
     subst (λ (e : EdgeId). Passes (before ∷ point ∷ next ∷ rest) me from e.0) same
     (Homeward (here_follows before point (next ∷ rest) before.0 me (is_same before.0) p) (later_follows before point (next ∷ rest) me from (here_follows point next rest me from p q)))))
     (λ later. longer (mate_passes (point ∷ next ∷ rest) me from to later))
@@ -172,7 +137,7 @@ mate_of_way (before ∷ point ∷ next ∷ rest) from me to once a b =
   where
     first_on : (me == point.0) ≡ true → follows (point ∷ next ∷ rest) me to ≡ true → Some next ≡ Some (record { 0 = to })
     first_on q on = either_here (me == point.0) (to == next.0) (follows (next ∷ rest) me to) on
-        (λ r s. ap (λ (n : ℕ). Some (record { 0 = n })) (sym (same_number to next.0 s)))
+        (λ r s. ap (λ (n : ℕ). Some (record { 0 = n })) (sym (eqb-true to next.0 s)))
         (λ t. clash (sym (behind_first point (next ∷ rest) me (once_behind before (point ∷ next ∷ rest) once) (earlier_stands (next ∷ rest) me to t)) ∙ q))
 
     later : (test : Bool) → (me == point.0) ≡ test → follows (point ∷ next ∷ rest) from me ≡ true → follows (point ∷ next ∷ rest) me to ≡ true

@@ -1,5 +1,6 @@
 -- A packet that is carried comes by its own wire, and the edge that it reaches reads the inner frame that was packed.
 use Rattle.std.proofs.Common.{◌≡◌, ◌≤◌, ◌+◌, ◌++◌, ◌∙◌, ℕ, Bool, true, List, Option, Some, None, Result, Ok, length, is_some, slice_get, refl, ap, sym, subst, arith}
+use Rattle.net_values.proofs.RowLemmas.{found_passes, found_among}
 use Rattle.net_base.specs.declared.plan.Plan.{Plan}
 use Rattle.net_base.specs.declared.plan.circuit_plan.CircuitPlan.{CircuitPlan}
 use Rattle.net_base.specs.declared.plan.offer.Offer.{Offer}
@@ -24,16 +25,17 @@ use Rattle.edge_model.specs.declared.end_place.EndPlace.{EndPlace}
 use Rattle.edge_model.specs.EndPlaces.{end_places, is_terminal}
 use Rattle.edge_model.specs.Packet.{advertiser, advertises_label, behind_entry, unpacked_at, unpacked_by}
 use Rattle.edge_model.specs.State.{EdgeState, end_at}
-use Rattle.edge_model.proofs.CopyLemmas.{found_among, found_passes}
 use Rattle.edge_model.proofs.PlaceLemmas.{IsEndOf, places_are}
 use Rattle.network_model.specs.declared.packet.Packet.{Packet}
 use Rattle.network_model.specs.State.{NetworkState}
 use Rattle.flight_laws.specs.Rules.{part_owns}
 use Rattle.flight_laws.proofs.StableLemmas.{terminal_offer}
 use Rattle.flight_laws.proofs.TellLemmas.{TellsOwnOffer}
+use Rattle.flight_laws.proofs.PlaceLemmas.{same_row}
+use Rattle.flight_laws.proofs.RuledMendLemmas.{wire_fits}
 use Rattle.packet_laws.specs.Carried.{IsCarried}
-use Rattle.packet_laws.proofs.PackLemmas.{few_points, wire_checked}
-use Rattle.packet_laws.proofs.SendLemmas.{HasCome, come_of, same_row}
+use Rattle.packet_laws.proofs.PackLemmas.{few_points}
+use Rattle.packet_laws.proofs.SendLemmas.{HasCome, come_of}
 
 -- ---- the size of a frame that entered
 
@@ -83,10 +85,10 @@ owner_is plan edge label place found = record {
 }
 
 -- what was read twice is the same
-same_entry : (read : Result StackEntry DropCause) (one other : StackEntry) → read ≡ Ok one → read ≡ Ok other → one.label ≡ other.label
+pub same_entry : (read : Result StackEntry DropCause) (one other : StackEntry) → read ≡ Ok one → read ≡ Ok other → one.label ≡ other.label
 same_entry read one other first second = cc
 
-same_frame : (read : Result (List ℕ) DropCause) (one other : List ℕ) → read ≡ Ok one → read ≡ Ok other → one ≡ other
+pub same_frame : (read : Result (List ℕ) DropCause) (one other : List ℕ) → read ≡ Ok one → read ≡ Ok other → one ≡ other
 same_frame read one other first second = cc
 
 -- ---- what stands behind it
@@ -109,7 +111,7 @@ module _ (plan : Plan) (network : NetworkState) (trace : List Entry) (packet : P
     (at : (network.edges packet.to.0).me ≡ packet.to) (out : PacketIsCopied plan (network.edges packet.to.0) packet.bytes effects) where
   alive : IsAlive carried.packed.ttl
   alive = few_left carried.packed.ttl (length (expected plan carried.row packet.from.0 packet.to.0).points)
-      (few_points plan carried.row packet.from.0 packet.to.0 (wire_checked plan packet.wire carried.row checked carried.is)) carried.packed.left
+      (few_points plan carried.row packet.from.0 packet.to.0 (wire_fits plan packet.wire carried.row checked carried.is)) carried.packed.left
 
   entry : entry_of packet.bytes ≡ Ok (record { label = carried.label; bottom = true; ttl = carried.packed.ttl })
   entry = ap entry_of carried.packed.bytes

@@ -2,6 +2,7 @@
 use Rattle.std.proofs.Common.{◌≡◌, ◌+◌, ◌==◌, ◌&&◌, ◌∙◌, ℕ, Bool, true, false, List, Option, Some, None, cond, length, option_map, refl, ap, sym, arith, zero-add}
 use Rattle.std.proofs.lemmas.Bool.{eqb-true}
 use Rattle.std.proofs.lemmas.List.{length-map}
+use Rattle.net_values.proofs.BoolLemmas.{and_turned}
 use Rattle.net_base.specs.declared.plan.Plan.{Plan}
 use Rattle.net_base.specs.declared.plan.offer.Offer.{Offer}
 use Rattle.net_base.specs.declared.plan.places.EdgeId.{EdgeId}
@@ -78,12 +79,6 @@ alert_points (Some own) (Some told) false points is = by (offers_ping told.1) is
   by false is = absurd (cc (is))
 
 -- ---- both terminal edges pick the same
-
-and_turned : (a b : Bool) → (a && b) ≡ (b && a)
-and_turned true true = refl
-and_turned true false = refl
-and_turned false true = refl
-and_turned false false = refl
 
 shared_turned : (cword : Bool) (points own told : ℕ) → shared cword points own told ≡ shared cword points told own
 shared_turned cword points own told =

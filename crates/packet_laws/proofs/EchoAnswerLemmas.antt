@@ -1,6 +1,5 @@
 -- An echo packet that is answered comes in the channel in which it was sent, and its answer goes back as the packet rule says.
-use Rattle.std.proofs.Common.{◌≡◌, ◌≤◌, ◌+◌, ◌++◌, ◌∙◌, ◌&&◌, ℕ, Bool, true, false, List, Some, Ok, length, nat_eq, option_and_then, slice_get, refl, ap, sym, subst, arith}
-use Rattle.std.proofs.lemmas.Bool.Decides.{nat_tests}
+use Rattle.std.proofs.Common.{◌≡◌, ◌+◌, ◌++◌, ◌∙◌, ℕ, true, false, List, Some, Ok, length, nat_eq, option_and_then, slice_get, refl, ap, sym, subst}
 use Rattle.net_base.specs.declared.plan.Plan.{Plan}
 use Rattle.net_base.specs.declared.plan.places.EdgeId.{EdgeId}
 use Rattle.net_base.specs.declared.plan.places.WireId.{WireId}
@@ -9,6 +8,8 @@ use Rattle.net_base.specs.declared.trace.arrival.Arrival.{Arrival}
 use Rattle.net_base.specs.plan.Accepted.{IsChecked, IsWireOf}
 use Rattle.net_base.specs.plan.Paths.{edge_address, expected, joins}
 use Rattle.net_values.specs.Label.{IsLabel}
+use Rattle.net_values.proofs.BoolLemmas.{and_false}
+use Rattle.net_values.proofs.NumberLemmas.{ttl_lives}
 use Rattle.eth_encap.specs.declared.stack_entry.StackEntry.{StackEntry}
 use Rattle.eth_encap.specs.Packet.{entry_of}
 use Rattle.vccv_channel.specs.declared.cc.Cc.{Cc}
@@ -28,15 +29,16 @@ use Rattle.network_model.specs.State.{NetworkState}
 use Rattle.network_model.proofs.PacketListLemmas.{packet_from}
 use Rattle.flight_laws.specs.Ends.{HasTypes}
 use Rattle.flight_laws.proofs.RuledNetworkLemmas.{IsRuledNetwork}
+use Rattle.flight_laws.proofs.PlaceLemmas.{same_row}
+use Rattle.flight_laws.proofs.RuledMendLemmas.{wire_fits}
 use Rattle.packet_laws.specs.Channel.{IsBoundEnd}
 use Rattle.packet_laws.specs.Echoed.{Answers, CountsTtl, IsEchoMessage, IsEchoed, echo_stack, source_address, source_of}
 use Rattle.packet_laws.proofs.ArriveLemmas.{IsAlive, IsOwner, owner_is}
 use Rattle.packet_laws.proofs.EchoSendLemmas.{far_of, sender_echoes}
 use Rattle.packet_laws.proofs.EchoSwitchLemmas.{alert_entry, alert_unowned, alive_by, front_entry}
 use Rattle.packet_laws.proofs.MessageLemmas.{IsRequestOf, asks_only, cut_of, starts_version}
-use Rattle.packet_laws.proofs.PackLemmas.{few_points, wire_checked}
+use Rattle.packet_laws.proofs.PackLemmas.{few_points}
 use Rattle.packet_laws.proofs.PathLemmas.{HasTerminals, side_of, terminals}
-use Rattle.packet_laws.proofs.SendLemmas.{same_row}
 use Rattle.packet_laws.proofs.SwitchLemmas.{same_read}
 
 -- ---- in which channel it comes
@@ -51,10 +53,7 @@ pub record ComesAsSent (kind other : Cc) (label : ℕ) (entry : StackEntry) : Ty
   pub label_is : entry.label ≡ label
 
 no_alert : (label ttl : ℕ) → has_alert (Ok (record { label = label; bottom = true; ttl = ttl })) ≡ false
-no_alert label ttl = and_false (nat_eq label 1) where
-  and_false : (b : Bool) → b && false ≡ false
-  and_false true = refl
-  and_false false = refl
+no_alert label ttl = and_false (nat_eq label 1)
 
 module _ (label ttl : ℕ) (ip : List ℕ) (entry : StackEntry) (is : IsLabel label) (alive : IsAlive ttl) (version : is_channel ip ≡ false) (unreserved : entry.label ≡ 1 → ⊥) where
   -- the entry of the pseudowire, behind a router alert where there is one
@@ -100,10 +99,7 @@ payload_there Expiry label ttl ip = refl
 -- the TTL of type 1 does not end
 long_ttl : (plan : Plan) (row : WirePlan) (from to : ℕ) (kind : Cc) (ttl : ℕ) → IsWireOf plan row → CountsTtl plan row from to kind ttl → kind ≡ Header → nat_eq ttl 1 ≡ false
 long_ttl plan row from to kind ttl wire left is =
-    lives ttl (length (expected plan row from to).points) (few_points plan row from to wire) (subst (λ (k : Cc). CountsTtl plan row from to k ttl) is left)
-  where
-    lives : (t m : ℕ) → m ≤ 5 → t + m ≡ 255 → nat_eq t 1 ≡ false
-    lives t m few is = grind (arith, nat_tests)
+    ttl_lives ttl (length (expected plan row from to).points) (few_points plan row from to wire) (subst (λ (k : Cc). CountsTtl plan row from to k ttl) is left)
 
 -- ---- the answer
 
@@ -113,7 +109,7 @@ module _ (plan : Plan) (network : NetworkState) (packet : Packet) (peer : EdgeId
   at = (ruled.edges packet.to.0).place
 
   wire_of : IsWireOf plan echo.row
-  wire_of = wire_checked plan packet.wire echo.row checked echo.is
+  wire_of = wire_fits plan packet.wire echo.row checked echo.is
 
   -- ---- it comes by the end beside its sender, in the channel in which it was sent
 
@@ -160,7 +156,7 @@ module _ (plan : Plan) (network : NetworkState) (packet : Packet) (peer : EdgeId
     -- ---- between the same two terminal edges
 
     wire_there : IsWireOf plan back.row
-    wire_there = wire_checked plan back.place.wire back.row checked back.by.is
+    wire_there = wire_fits plan back.place.wire back.row checked back.by.is
 
     ways : HasTerminals back.row.path packet.to back.place.peer.0
     ways = terminals back.row.path packet.to back.place.peer.0 (side_of back.row.path packet.to.0 back.place.peer.0 wire_there.once bound.joined bound.terminal)

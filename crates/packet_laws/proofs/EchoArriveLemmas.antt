@@ -1,6 +1,7 @@
 -- A ping or an answer is never unpacked as a frame, and a packet that carries a frame is never taken for a ping.
-use Rattle.std.proofs.Common.{◌≡◌, ◌≤◌, ◌+◌, ◌++◌, ◌∙◌, ◌&&◌, ℕ, Bool, true, false, List, [], Some, Ok, length, nat_eq, slice_get, refl, ap, sym, subst, arith}
-use Rattle.std.proofs.lemmas.Bool.Decides.{nat_tests}
+use Rattle.std.proofs.Common.{◌≡◌, ◌+◌, ◌++◌, ◌∙◌, ℕ, Bool, true, false, List, [], Some, Ok, length, nat_eq, slice_get, refl, ap, sym, subst}
+use Rattle.net_values.proofs.BoolLemmas.{and_false}
+use Rattle.net_values.proofs.NumberLemmas.{ttl_lives}
 use Rattle.net_base.specs.declared.plan.Plan.{Plan}
 use Rattle.net_base.specs.declared.plan.offer.Offer.{Offer}
 use Rattle.net_base.specs.declared.plan.places.EdgeId.{EdgeId}
@@ -33,14 +34,15 @@ use Rattle.network_model.specs.State.{NetworkState}
 use Rattle.flight_laws.proofs.RuledNetworkLemmas.{IsRuledNetwork}
 use Rattle.flight_laws.proofs.StableLemmas.{IsPlannedBinding, IsPlannedEnd, end_is_planned, terminal_offer}
 use Rattle.flight_laws.proofs.TellLemmas.{TellsOwnOffer}
+use Rattle.flight_laws.proofs.PlaceLemmas.{same_row}
+use Rattle.flight_laws.proofs.RuledMendLemmas.{wire_fits}
 use Rattle.net_base.proofs.PathLemmas.{joins_turned}
 use Rattle.packet_laws.specs.Carried.{IsCarried}
 use Rattle.packet_laws.specs.Echoed.{CountsTtl, IsEchoed, channels_told, echo_stack, planned_channel, points_in_all}
 use Rattle.packet_laws.proofs.ArriveLemmas.{IsAlive, IsOwner, few_left, owner_is}
 use Rattle.packet_laws.proofs.ChannelLemmas.{channel_turned, header_word, picks_planned}
 use Rattle.packet_laws.proofs.EchoSwitchLemmas.{alert_entry, alive_by, front_entry}
-use Rattle.packet_laws.proofs.PackLemmas.{HaveSameMode, few_points, forwarding_agrees, wire_checked}
-use Rattle.packet_laws.proofs.SendLemmas.{same_row}
+use Rattle.packet_laws.proofs.PackLemmas.{HaveSameMode, few_points, forwarding_agrees}
 use Rattle.packet_laws.proofs.SwitchLemmas.{same_read}
 
 -- ---- what is no frame
@@ -51,7 +53,7 @@ module _ (plan : Plan) (network : NetworkState) (packet : Packet) (effects : Lis
   at = (ruled.edges packet.to.0).place
 
   alive : IsAlive echo.ttl
-  alive = alive_by plan echo.row packet.from.0 packet.to.0 echo.kind echo.ttl (wire_checked plan packet.wire echo.row checked echo.is) echo.left
+  alive = alive_by plan echo.row packet.from.0 packet.to.0 echo.kind echo.ttl (wire_fits plan packet.wire echo.row checked echo.is) echo.left
 
   -- ---- behind a router alert
 
@@ -164,21 +166,16 @@ echo_unheard plan network packet checked ruled echo = by (packet_hears plan take
 module _ (plan : Plan) (network : NetworkState) (trace : List Entry) (packet : Packet) (checked : IsChecked plan) (ruled : IsRuledNetwork plan network) (carried : IsCarried plan network trace packet) where
   frame_alive : IsAlive carried.packed.ttl
   frame_alive = few_left carried.packed.ttl (length (expected plan carried.row packet.from.0 packet.to.0).points)
-      (few_points plan carried.row packet.from.0 packet.to.0 (wire_checked plan packet.wire carried.row checked carried.is)) carried.packed.left
+      (few_points plan carried.row packet.from.0 packet.to.0 (wire_fits plan packet.wire carried.row checked carried.is)) carried.packed.left
 
   frame_entry : entry_of packet.bytes ≡ Ok (record { label = carried.label; bottom = true; ttl = carried.packed.ttl })
   frame_entry = ap entry_of carried.packed.bytes ∙ front_entry carried.label carried.packed.ttl (payload_of (expected plan carried.row packet.from.0 packet.to.0).offer.cword carried.packed.vlan carried.frame) carried.is_label frame_alive
 
   no_router_alert : has_alert (entry_of packet.bytes) ≡ false
-  no_router_alert = ap has_alert frame_entry ∙ and_false (nat_eq carried.label 1) where
-    and_false : (b : Bool) → b && false ≡ false
-    and_false true = refl
-    and_false false = refl
+  no_router_alert = ap has_alert frame_entry ∙ and_false (nat_eq carried.label 1)
 
   pub frame_ttl : nat_eq carried.packed.ttl 1 ≡ false
-  frame_ttl = lives carried.packed.ttl (length (expected plan carried.row packet.from.0 packet.to.0).points) (few_points plan carried.row packet.from.0 packet.to.0 (wire_checked plan packet.wire carried.row checked carried.is)) carried.packed.left where
-    lives : (t m : ℕ) → m ≤ 5 → t + m ≡ 255 → nat_eq t 1 ≡ false
-    lives t m few is = grind (arith, nat_tests)
+  frame_ttl = ttl_lives carried.packed.ttl (length (expected plan carried.row packet.from.0 packet.to.0).points) (few_points plan carried.row packet.from.0 packet.to.0 (wire_fits plan packet.wire carried.row checked carried.is)) carried.packed.left
 
   -- with control word it begins with the nibble 0
   no_header : (word : Bool) → (expected plan carried.row packet.from.0 packet.to.0).offer.cword ≡ word → word ≡ true → is_channel (behind_entry packet.bytes) ≡ false

@@ -1,6 +1,8 @@
 -- What a terminal edge sends of itself on a wire is a ping or an answer, as the packet rule says.
 use Rattle.std.proofs.Common.{◌≡◌, ◌+◌, ◌++◌, ◌∙◌, ◌%◌, ℕ, true, List, Option, Some, None, length, option_map, slice_get, option_and_then, refl, ap, sym, subst, arith}
 use Rattle.net_values.specs.declared.addr.Addr.{Addr}
+use Rattle.net_values.proofs.BoolLemmas.{second_holds}
+use Rattle.net_values.proofs.RowLemmas.{row_holds}
 use Rattle.net_base.specs.declared.plan.Plan.{Plan}
 use Rattle.net_base.specs.declared.plan.edge_plan.EdgePlan.{EdgePlan}
 use Rattle.net_base.specs.declared.plan.places.EdgeId.{EdgeId}
@@ -23,24 +25,23 @@ use Rattle.edge_model.specs.Ends.{wire_end}
 use Rattle.edge_model.specs.Local.{SentAsked}
 use Rattle.edge_model.specs.Ping.{far_address, ping_between}
 use Rattle.edge_model.specs.State.{end_at}
-use Rattle.edge_model.proofs.LocalLemmas.{and_right}
 use Rattle.edge_model.proofs.PlaceLemmas.{IsEndOf}
 use Rattle.edge_model.proofs.SyncLemmas as sync
+use Rattle.edge_model.proofs.PacketLemmas.{wire_end_is}
 use Rattle.network_model.specs.State.{NetworkState}
 use Rattle.network_model.proofs.PacketListLemmas.{packet_from}
 use Rattle.flight_laws.specs.Ends.{HasTypes}
-use Rattle.flight_laws.proofs.PlanLemmas.{row_holds}
 use Rattle.flight_laws.proofs.RuledNetworkLemmas.{IsRuledNetwork}
 use Rattle.flight_laws.proofs.StableLemmas.{IsPlannedBinding, end_is_planned, terminal_offer}
 use Rattle.flight_laws.proofs.TellLemmas.{TellsOwnOffer}
+use Rattle.flight_laws.proofs.PlaceLemmas.{same_row}
+use Rattle.flight_laws.proofs.RuledMendLemmas.{wire_fits}
 use Rattle.packet_laws.proofs.AgeLemmas.{may_sent}
 use Rattle.packet_laws.specs.Channel.{IsBoundEnd}
 use Rattle.packet_laws.specs.Echoed.{Asks, CountsTtl, IsEchoMessage, IsEchoed, echo_stack}
 use Rattle.packet_laws.proofs.ChannelLemmas.{picks_planned, told_points}
 use Rattle.packet_laws.proofs.MessageLemmas.{IsFour, all_octets, below, request_same}
-use Rattle.packet_laws.proofs.PackLemmas.{wire_checked}
 use Rattle.packet_laws.proofs.PathLemmas.{HasTerminals, side_of, terminals}
-use Rattle.packet_laws.proofs.SendLemmas.{same_row, wire_end_is}
 
 -- ---- the end that sends
 
@@ -88,7 +89,7 @@ module _ (plan : Plan) (network : NetworkState) (me : EdgeId) (place : EndPlace)
   counts_first Expiry = ap (λ (n : ℕ). n + 1) (told_points plan row place.peer.0 me.0 binding.told told.tells)
 
   ways : HasTerminals row.path me place.peer.0
-  ways = terminals row.path me place.peer.0 (side_of row.path me.0 place.peer.0 (wire_checked plan place.wire row checked sender.is).once sender.joined sender.terminal)
+  ways = terminals row.path me place.peer.0 (side_of row.path me.0 place.peer.0 (wire_fits plan place.wire row checked sender.is).once sender.joined sender.terminal)
 
   -- a message from the edge to the other terminal edge, in the channel that the end has picked
   pub sender_echoes : (origin hops sent : ℕ) (kind : Cc) (source target : Addr) (ip : List ℕ) → origin ≡ 0 → channel_under row me binding ≡ Some kind
@@ -137,7 +138,7 @@ pub asked_echoes : (plan : Plan) (network : NetworkState) (me : EdgeId) (hops se
 asked_echoes plan network me hops sent wire peer on bytes checked ruled asked =
     let at : (network.edges me.0).me ≡ me = (ruled.edges me.0).place in
     let here : wire_end plan me wire ≡ Some asked.place = ap (λ (k : EdgeId). wire_end plan k wire) (sym at) ∙ asked.here in
-    let terminal : asked.place.terminal ≡ true = and_right (is_of_wire wire asked.place) asked.place.terminal (sync.wire_end_is plan me wire asked.place here) in
+    let terminal : asked.place.terminal ≡ true = second_holds (is_of_wire wire asked.place) asked.place.terminal (sync.wire_end_is plan me wire asked.place here) in
     let sender : IsBoundEnd plan network me asked.place asked.row asked.binding = bound_end plan network me asked.place asked.row asked.binding (wire_end_is plan me wire asked.place here) terminal asked.is asked.bound in
     let picks : channel_under asked.row me asked.binding ≡ Some asked.kind = ap (λ (k : EdgeId). channel_under asked.row k asked.binding) (sym at) ∙ asked.picked in
     let near : edge_address plan me ≡ Some asked.from = ap (edge_address plan) (sym at) ∙ asked.near in

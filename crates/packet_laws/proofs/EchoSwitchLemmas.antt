@@ -10,6 +10,7 @@ use Rattle.net_base.specs.declared.plan.places.WireId.{WireId}
 use Rattle.net_base.specs.plan.Accepted.{IsChecked, IsWireOf}
 use Rattle.net_base.specs.plan.Paths.{PassedPoint, edge_address, expected, joins, mate_on}
 use Rattle.net_base.proofs.PathLemmas.{mate_joined}
+use Rattle.net_base.proofs.CommonLemmas.{same_wire}
 use Rattle.net_values.specs.Label.{IsLabel}
 use Rattle.eth_encap.specs.Packet.{entry_octets, entry_of}
 use Rattle.eth_encap.specs.declared.stack_entry.StackEntry.{StackEntry}
@@ -30,13 +31,15 @@ use Rattle.network_model.specs.State.{NetworkState}
 use Rattle.network_model.proofs.PointLemmas.{passes_offer, passes_points, point_at}
 use Rattle.flight_laws.proofs.RuledNetworkLemmas.{IsRuledNetwork}
 use Rattle.flight_laws.proofs.StableLemmas.{IsPlannedBinding, end_is_planned}
+use Rattle.flight_laws.proofs.AcrossLemmas.{other_side}
+use Rattle.flight_laws.proofs.PlaceLemmas.{same_row}
+use Rattle.flight_laws.proofs.RuledMendLemmas.{wire_fits}
 use Rattle.packet_laws.proofs.AgeLemmas.{may_sent}
 use Rattle.packet_laws.specs.Echoed.{CountsTtl, IsEchoed, channels_told, echo_stack, planned_channel, points_in_all, source_address}
 use Rattle.packet_laws.proofs.ArriveLemmas.{IsAlive, IsOwner, few_left, owner_is}
-use Rattle.packet_laws.proofs.PackLemmas.{few_points, wire_checked}
+use Rattle.packet_laws.proofs.PackLemmas.{few_points}
 use Rattle.packet_laws.proofs.PathLemmas.{source_kept}
-use Rattle.packet_laws.proofs.SendLemmas.{same_row}
-use Rattle.packet_laws.proofs.SwitchLemmas.{mate_turned, relabelled_entry, same_read}
+use Rattle.packet_laws.proofs.SwitchLemmas.{relabelled_entry, same_read}
 
 -- ---- the label stack
 
@@ -69,7 +72,7 @@ alert_unowned plan network me place ruled found =
 module _ (plan : Plan) (network : NetworkState) (packet : Packet) (to : EdgeId) (binding : Binding) (number hops : ℕ) (checked : IsChecked plan) (ruled : IsRuledNetwork plan network) (echo : IsEchoed plan network packet)
     (mate_is : mate_on echo.row.path packet.to.0 packet.from.0 ≡ Some to) (bound : ((network.edges packet.to.0).ends packet.wire.0 to.0).remote ≡ Some binding) where
   wire_of : IsWireOf plan echo.row
-  wire_of = wire_checked plan packet.wire echo.row checked echo.is
+  wire_of = wire_fits plan packet.wire echo.row checked echo.is
 
   joined_on : joins packet.to.0 to.0 echo.row.path ≡ true
   joined_on = mate_joined echo.row.path packet.to.0 packet.from.0 to mate_is
@@ -78,7 +81,7 @@ module _ (plan : Plan) (network : NetworkState) (packet : Packet) (to : EdgeId) 
   planned = (end_is_planned plan network checked ruled packet.to.0 to.0 packet.wire echo.row echo.is joined_on).holds binding bound
 
   back : mate_on echo.row.path packet.to.0 to.0 ≡ Some packet.from
-  back = mate_turned echo.row.path packet.to packet.from to wire_of.once mate_is
+  back = other_side echo.row.path packet.to packet.from to wire_of.once mate_is
 
   offer_on : (expected plan echo.row packet.to.0 to.0).offer ≡ (expected plan echo.row packet.from.0 packet.to.0).offer
   offer_on = passes_offer plan echo.row packet.to packet.from to wire_of.once mate_is
@@ -171,7 +174,7 @@ module _ (plan : Plan) (network : NetworkState) (packet : Packet) (effects : Lis
       alert_unowned plan network packet.to out.place ruled (ap (λ (e : StackEntry). advertiser plan (network.edges packet.to.0) e.label) (sym same) ∙ out.owner)
 
   lives : IsAlive echo.ttl
-  lives = alive_by plan echo.row packet.from.0 packet.to.0 echo.kind echo.ttl (wire_checked plan packet.wire echo.row checked echo.is) echo.left
+  lives = alive_by plan echo.row packet.from.0 packet.to.0 echo.kind echo.ttl (wire_fits plan packet.wire echo.row checked echo.is) echo.left
 
   entry_by : (kind : Cc) → (kind ≡ Alert → ⊥) → packet.bytes ≡ echo_stack kind echo.label echo.ttl ++ payload kind echo.ip → entry_of packet.bytes ≡ Ok (record { label = echo.label; bottom = true; ttl = echo.ttl })
   entry_by Header other is = ap entry_of is ∙ front_entry echo.label echo.ttl (payload Header echo.ip) echo.is_label lives
@@ -209,6 +212,3 @@ module _ (plan : Plan) (network : NetworkState) (packet : Packet) (effects : Lis
       subst (λ (w : WireId). IsEchoed plan network (record { number = number; wire = w; from = packet.to; to = out.to; origin = packet.origin; hops = hops; age = 0; bytes = relabelled out.binding.label (out.entry.ttl - 1) packet.bytes })) (same_wire out.place.wire packet.wire places.0)
       (subst (λ (t : ℕ). IsEchoed plan network (record { number = number; wire = packet.wire; from = packet.to; to = out.to; origin = packet.origin; hops = hops; age = 0; bytes = relabelled out.binding.label (t - 1) packet.bytes })) (ap (λ (e : StackEntry). e.ttl) (sym same_entry))
       (relay_echoed plan network packet out.to out.binding number hops checked ruled echo mate_here bound_there no_alert))
-    where
-      same_wire : (one other : WireId) → one.0 ≡ other.0 → other ≡ one
-      same_wire one other same = ap (λ (n : ℕ). record { 0 = n }) (sym same)

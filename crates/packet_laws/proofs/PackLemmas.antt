@@ -6,10 +6,9 @@ use Rattle.net_base.specs.declared.plan.Plan.{Plan}
 use Rattle.net_base.specs.declared.plan.places.EdgeId.{EdgeId}
 use Rattle.net_base.specs.declared.plan.places.WireId.{WireId}
 use Rattle.net_base.specs.declared.plan.wire_plan.WirePlan.{WirePlan}
-use Rattle.net_base.specs.plan.Accepted.{IsChecked, IsOffer, IsWireOf}
+use Rattle.net_base.specs.plan.Accepted.{IsOffer, IsWireOf}
 use Rattle.net_base.specs.plan.Faults.{is_told_within}
-use Rattle.net_base.specs.plan.Paths.{expected, follows, points_on, up_to, way_from}
-use Rattle.net_base.specs.plan.Places.{wire_row}
+use Rattle.net_base.specs.plan.Paths.{expected, follows, up_to, way_from}
 use Rattle.pw_messages.specs.Content.{ethernet_raw, ethernet_tagged}
 use Rattle.eth_encap.specs.Packet.{IsVlan}
 use Rattle.pw_signalling.specs.declared.end_role.EndRole.{EndRole}
@@ -19,13 +18,9 @@ use Rattle.pw_signalling.specs.Laws.{BothAgree}
 use Rattle.pw_signalling.proofs.LawLemmas.{forwards_where_both_agree}
 use Rattle.edge_model.specs.Send.{pushed_vlan}
 use Rattle.network_model.specs.State.{NetworkState}
+use Rattle.network_model.proofs.PointLemmas.{points_less}
 use Rattle.flight_laws.specs.Rules.{TellsExpected}
-use Rattle.flight_laws.proofs.PlanLemmas.{row_holds}
 use Rattle.flight_laws.proofs.StableLemmas.{IsPlannedEnd}
-
--- the row of a wire of a checked plan is one without a fault
-pub wire_checked : (plan : Plan) (wire : WireId) (row : WirePlan) → IsChecked plan → wire_row plan wire ≡ Some row → IsWireOf plan row
-wire_checked plan wire row checked is = row_holds (IsWireOf plan) plan.wires wire.0 row is checked.wires
 
 -- ---- points
 
@@ -36,11 +31,6 @@ up_to_fits (first ∷ rest) edge = by (edge == first.0) (up_to_fits rest edge) w
   by true fits = omega arith
   by false fits = omega (arith, fits)
 
-points_fit : (plan : Plan) (row : WirePlan) (way : List EdgeId) → length (points_on plan row way) ≤ length way
-points_fit plan row [] = omega arith
-points_fit plan row (last ∷ []) = omega arith
-points_fit plan row (before ∷ point ∷ rest) = omega (arith, points_fit plan row (point ∷ rest))
-
 way_fits : (path : List EdgeId) (from to : ℕ) → length (way_from path from to) ≤ length path
 way_fits path from to = by (follows path from to) where
   by : (b : Bool) → length (cond b (up_to path from) (up_to (reverse path) from)) ≤ length path
@@ -49,7 +39,7 @@ way_fits path from to = by (follows path from to) where
 
 -- no more points pass an offer on than its path has edges
 pub few_points : (plan : Plan) (row : WirePlan) (from to : ℕ) → IsWireOf plan row → length (expected plan row from to).points ≤ 5
-few_points plan row from to checked = omega (arith, points_fit plan row (way_from row.path from to), way_fits row.path from to, checked.most)
+few_points plan row from to checked = omega (arith, points_less plan row (way_from row.path from to), way_fits row.path from to, checked.most)
 
 -- ---- VLAN IDs
 

@@ -1,6 +1,8 @@
 -- What goes along a wire comes from one of its terminal edges, and has its switching points behind it or before it.
 use Rattle.std.proofs.Common.{◌≡◌, ◌≤◌, ◌+◌, ◌-◌, ◌==◌, ◌||◌, ◌∙◌, ℕ, Bool, true, false, List, [], ◌∷◌, Some, cond, length, reverse, refl, ap, sym, subst, arith}
 use Rattle.std.proofs.lemmas.List.{length-reverse}
+use Rattle.std.proofs.lemmas.Bool.{eqb-true}
+use Rattle.net_values.proofs.BoolLemmas.{clash}
 use Rattle.net_base.specs.declared.plan.Plan.{Plan}
 use Rattle.net_base.specs.declared.plan.places.EdgeId.{EdgeId}
 use Rattle.net_base.specs.declared.plan.wire_plan.WirePlan.{WirePlan}
@@ -8,7 +10,8 @@ use Rattle.net_base.specs.plan.Accepted.{IsWireOf}
 use Rattle.net_base.specs.plan.Paths.{expected, first_edge, follows, has_repeat, is_first, is_last, joins, last_edge, mate_on, offer_of, points_on, up_to}
 use Rattle.edge_model.specs.Ping.{far_terminal}
 use Rattle.network_model.proofs.ReversedLemmas.{follows_reversed, last_reversed, once_reversed}
-use Rattle.network_model.proofs.WayLemmas.{behind_first, clash, earlier_stands, either_here, joins_is, later_stands, once_behind, same_number, split, stands_on, turned_test, way_kept}
+use Rattle.network_model.proofs.WayLemmas.{behind_first, earlier_stands, either_here, joins_is, later_stands, once_behind, split, turned_test, way_kept}
+use Rattle.network_model.proofs.GoalLemmas.{ends_last, last_stands}
 use Rattle.packet_laws.specs.Echoed.{source_of}
 
 -- two numbers apart
@@ -16,34 +19,15 @@ turned : (a b : ℕ) → (b == a) ≡ false → (a == b) ≡ false
 turned a b apart = turned_test b a apart
 
 other_number : (a b h : ℕ) → (a == h) ≡ true → (a == b) ≡ false → (b == h) ≡ false
-other_number a b h is apart = subst (λ (n : ℕ). (b == n) ≡ false) (same_number a h is) (turned b a apart)
+other_number a b h is apart = subst (λ (n : ℕ). (b == n) ≡ false) (eqb-true a h is) (turned b a apart)
 
 -- ---- the ends of a path
-
-last_stands : (path : List EdgeId) (a : ℕ) → is_last a path ≡ true → stands_on a path ≡ true
-last_stands [] a is = clash is
-last_stands (last ∷ []) a is = here a last.0 is where
-  here : (a b : ℕ) → (a == b) ≡ true → (b == a) || false ≡ true
-  here a b is = rw (turned_test a b is) refl
-last_stands (first ∷ next ∷ rest) a is = later (first.0 == a) (last_stands (next ∷ rest) a is) where
-  later : (p : Bool) {q : Bool} → q ≡ true → p || q ≡ true
-  later true h = refl
-  later false h = h
 
 -- nothing comes before the first edge, and nothing after the last one
 none_before : (path : List EdgeId) (a b : ℕ) → has_repeat path ≡ false → is_first b path ≡ true → follows path a b ≡ false
 none_before [] a b once first = refl
 none_before (head ∷ rest) a b once first = split {P = follows (head ∷ rest) a b ≡ false} (follows (head ∷ rest) a b)
     (λ h. clash (sym (behind_first head rest b once (later_stands head rest a b h)) ∙ first))
-    (λ h. h)
-
-none_after : (path : List EdgeId) (a b : ℕ) → has_repeat path ≡ false → is_last a path ≡ true → follows path a b ≡ false
-none_after [] a b once last = refl
-none_after (head ∷ []) a b once last = refl
-none_after (head ∷ next ∷ rest) a b once last = split {P = follows (head ∷ next ∷ rest) a b ≡ false} (follows (head ∷ next ∷ rest) a b)
-    (λ h. either_here (a == head.0) (b == next.0) (follows (next ∷ rest) a b) h
-    (λ p q. clash (sym (behind_first head (next ∷ rest) a once (last_stands (next ∷ rest) a last)) ∙ p))
-    (λ t. clash (sym (none_after (next ∷ rest) a b (once_behind head (next ∷ rest) once) last) ∙ t)))
     (λ h. h)
 
 -- a terminal edge is the first of the path, and its neighbour follows it, or it is the last and follows its neighbour
@@ -58,7 +42,7 @@ side_of path me peer once joined terminal = split {P = IsSideOf path me peer} (i
     AtFirst first (other_of (follows path me peer) (follows path peer me) (sym (joins_is path me peer) ∙ joined) back) back)
     (λ other.
     let last : is_last me path ≡ true = behind (is_first me path) (is_last me path) terminal other in
-    let on : follows path me peer ≡ false = none_after path me peer once last in
+    let on : follows path me peer ≡ false = ends_last path me peer once last in
     AtLast other last (behind (follows path me peer) (follows path peer me) (sym (joins_is path me peer) ∙ joined) on) on)
   where
     behind : (p q : Bool) → p || q ≡ true → p ≡ false → q ≡ true
@@ -122,7 +106,7 @@ all_points plan row me peer wire joined terminal = by (side_of row.path me peer 
 -- ---- from where it comes
 
 edge_is : (a b : EdgeId) → (a.0 == b.0) ≡ true → b ≡ a
-edge_is a b is = ap (λ (n : ℕ). record { 0 = n }) (sym (same_number a.0 b.0 is))
+edge_is a b is = ap (λ (n : ℕ). record { 0 = n }) (sym (eqb-true a.0 b.0 is))
 
 first_is : (path : List EdgeId) (me : EdgeId) → is_first me.0 path ≡ true → first_edge path ≡ Some me
 first_is [] me is = clash is

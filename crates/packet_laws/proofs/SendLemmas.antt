@@ -1,6 +1,7 @@
 -- A copy that an edge sends on a wire is carried there as the packet rule says.
-use Rattle.std.proofs.Common.{◌≡◌, ◌==◌, ◌+◌, ◌++◌, ◌∙◌, ℕ, true, false, List, [], ◌∷◌, Some, None, Ok, length, ap, sym, subst, arith}
+use Rattle.std.proofs.Common.{◌≡◌, ◌==◌, ◌+◌, ◌++◌, ◌∙◌, ℕ, true, false, List, [], ◌∷◌, Some, None, Ok, length, ap, sym, subst}
 use Rattle.std.specs.List.{AllByRecursion}
+use Rattle.net_values.proofs.NumberLemmas.{ttl_whole}
 use Rattle.net_base.specs.declared.plan.Plan.{Plan}
 use Rattle.net_base.specs.declared.plan.offer.Offer.{Offer}
 use Rattle.net_base.specs.declared.plan.places.CircuitId.{CircuitId}
@@ -23,20 +24,22 @@ use Rattle.edge_model.specs.Copies.{AllAreCopies, SentCopy}
 use Rattle.edge_model.specs.declared.effect.Effect.{Effect}
 use Rattle.edge_model.specs.declared.effect.Effect.TheVariants as effect
 use Rattle.edge_model.specs.declared.end_place.EndPlace.{EndPlace}
-use Rattle.edge_model.specs.EndPlaces.{end_places, is_end_of_wire, is_terminal}
+use Rattle.edge_model.specs.EndPlaces.{is_terminal}
 use Rattle.edge_model.specs.Ends.{wire_end}
 use Rattle.edge_model.specs.Role.{down_at, role_at}
 use Rattle.edge_model.specs.Send.{full_ttl, packet_of, pushed_vlan}
-use Rattle.edge_model.proofs.CopyLemmas.{found_among}
-use Rattle.edge_model.proofs.PlaceLemmas.{IsEndOf, places_are}
+use Rattle.edge_model.proofs.PlaceLemmas.{IsEndOf}
+use Rattle.edge_model.proofs.PacketLemmas.{wire_end_is}
 use Rattle.network_model.specs.State.{NetworkState}
 use Rattle.network_model.proofs.PacketListLemmas.{packet_from, packets_of}
 use Rattle.flight_laws.proofs.RuledNetworkLemmas.{IsRuledNetwork}
 use Rattle.flight_laws.proofs.StableLemmas.{IsPlannedBinding, IsPlannedEnd, end_is_planned, terminal_offer}
 use Rattle.flight_laws.proofs.TellLemmas.{TellsOwnOffer}
+use Rattle.flight_laws.proofs.PlaceLemmas.{same_row}
+use Rattle.flight_laws.proofs.RuledMendLemmas.{wire_fits}
 use Rattle.packet_laws.proofs.AgeLemmas.{may_sent}
 use Rattle.packet_laws.specs.Carried.{HasEnteredService, IsCarried, IsPacked}
-use Rattle.packet_laws.proofs.PackLemmas.{HaveSameMode, expected_offer, forwarding_agrees, pushed_fits, pushed_mode, pushed_same, told_vlan, wire_checked}
+use Rattle.packet_laws.proofs.PackLemmas.{HaveSameMode, expected_offer, forwarding_agrees, pushed_fits, pushed_mode, pushed_same, told_vlan}
 
 -- ---- frames that entered
 
@@ -84,14 +87,6 @@ pub record IsSender (plan : Plan) (network : NetworkState) (me : EdgeId) (place 
   pub bound : ((network.edges me.0).ends place.wire.0 place.peer.0).remote ≡ Some binding
   pub forwards : down_at plan (network.edges me.0) place ≡ None
 
--- an end that is found for a wire is one of the plan
-pub wire_end_is : (plan : Plan) (me : EdgeId) (wire : WireId) (place : EndPlace) → wire_end plan me wire ≡ Some place → IsEndOf plan me place
-wire_end_is plan me wire place found = found_among (IsEndOf plan me) (is_end_of_wire wire) (end_places plan me) place (places_are plan me) found
-
--- two rows that were found are one where they were found in one place
-pub same_row : (one other : WirePlan) → Some one ≡ Some other → one ≡ other
-same_row one other is = cc
-
 -- the end of a copy is
 pub copy_sender : (plan : Plan) (network : NetworkState) (me : EdgeId) (came : Arrival) (service : ServiceId) (frame : List ℕ) (arrival : ℕ) (peer : EdgeId) (wire : WireId) (of_arrival : Arrival) (bytes : List ℕ)
     → (network.edges me.0).me ≡ me → (copy : SentCopy plan (network.edges me.0) came service frame arrival peer wire of_arrival bytes) → IsSender plan network me copy.place copy.row copy.binding
@@ -126,7 +121,7 @@ module _ (plan : Plan) (network : NetworkState) (me : EdgeId) (place : EndPlace)
   within : is_told_within 0 4095 binding.told.vlan ≡ true
   within =
       ap (is_told_within 0 4095) (told_vlan plan row place.peer.0 me.0 binding.told told.tells)
-      ∙ (expected_offer plan row place.peer.0 me.0 (wire_checked plan place.wire row checked sender.is)).vlan
+      ∙ (expected_offer plan row place.peer.0 me.0 (wire_fits plan place.wire row checked sender.is)).vlan
 
   -- the packet is that of the inner frame, in the mode of the end
   pub sender_packs : (origin hops sent : ℕ) (frame : List ℕ)
@@ -134,7 +129,7 @@ module _ (plan : Plan) (network : NetworkState) (me : EdgeId) (place : EndPlace)
   sender_packs origin hops sent frame = record {
     ttl = full_ttl;
     vlan = pushed_vlan (offer_of row me.0).tagged binding.told.vlan;
-    left = all_left (length (expected plan row me.0 place.peer.0).points) (ap length own.points);
+    left = ttl_whole (length (expected plan row me.0 place.peer.0).points) (ap length own.points);
     fits = pushed_fits (offer_of row me.0).tagged binding.told.vlan within;
     mode = pushed_mode (offer_of row me.0).tagged binding.told.vlan ∙ ap (λ (o : Offer). o.tagged) (sym own.offer);
     requested = pushed_same (offer_of row me.0).tagged (expected plan row me.0 place.peer.0).offer.tagged binding.told.vlan (expected plan row place.peer.0 me.0).offer.vlan
@@ -143,9 +138,6 @@ module _ (plan : Plan) (network : NetworkState) (me : EdgeId) (place : EndPlace)
     same_word = modes.word;
     same_mode = modes.mode;
   }
-    where
-      all_left : (n : ℕ) → n ≡ 0 → 255 + n ≡ 255
-      all_left n none = omega (arith, none)
 
   -- and is carried, where the frame has come
   pub sender_carries : (trace : List Entry) (service : ServiceId) (origin hops sent : ℕ) (frame : List ℕ) → row.service ≡ service → HasCome plan trace service origin frame

@@ -20,11 +20,12 @@ use Rattle.flight_laws.proofs.RuledNetworkLemmas.{IsRuledNetwork}
 use Rattle.flight_laws.proofs.RuledRunLemmas.{run_ruled}
 use Rattle.flight_laws.proofs.StableLemmas.{IsPlannedBinding, end_is_planned, terminal_offer}
 use Rattle.flight_laws.proofs.TellLemmas.{TellsOwnOffer}
+use Rattle.flight_laws.proofs.RuledMendLemmas.{wire_fits}
 use Rattle.packet_laws.specs.Channel.{IsBoundEnd, SharesChannel}
 use Rattle.packet_laws.specs.Echoed.{channels_told}
 use Rattle.packet_laws.specs.Laws.{RunsShareChannels}
 use Rattle.packet_laws.proofs.ChannelLemmas.{picked_turned, told_channels, told_points}
-use Rattle.packet_laws.proofs.PackLemmas.{HaveSameMode, forwarding_agrees, wire_checked}
+use Rattle.packet_laws.proofs.PackLemmas.{HaveSameMode, forwarding_agrees}
 use Rattle.packet_laws.proofs.PathLemmas.{all_points, far_offer, side_of}
 
 -- ---- by the offers of both terminal edges, and all switching points of the wire
@@ -39,7 +40,7 @@ channel_turned own far points same = ap (λ (w : Bool). picked own.vccv (channel
 pub bound_picks : (plan : Plan) (network : NetworkState) (row : WirePlan) (me : EdgeId) (place : EndPlace) (binding : Binding) → IsChecked plan → IsRuledNetwork plan network
     → IsBoundEnd plan network me place row binding → channel_under row me binding ≡ channel_between (offer_of row me.0) (expected plan row place.peer.0 me.0).offer (length row.path - 2)
 bound_picks plan network row me place binding checked ruled bound =
-    let wire : IsWireOf plan row = wire_checked plan place.wire row checked bound.is in
+    let wire : IsWireOf plan row = wire_fits plan place.wire row checked bound.is in
     let planned : IsPlannedBinding plan network me.0 place.peer.0 place.wire row binding = (end_is_planned plan network checked ruled me.0 place.peer.0 place.wire row bound.is bound.joined).holds binding bound.bound in
     ap (λ (v : Option (ℕ × ℕ)). picked (offer_of row me.0).vccv v (offer_of row me.0).cword (length binding.told.points)) (told_channels plan row place.peer.0 me.0 binding.told planned.tells)
     ∙ ap (λ (n : ℕ). channel_between (offer_of row me.0) (expected plan row place.peer.0 me.0).offer n)
@@ -50,7 +51,7 @@ bound_picks plan network row me place binding checked ruled bound =
 far_end : (plan : Plan) (network : NetworkState) (row : WirePlan) (me other : EdgeId) (place : EndPlace) (binding : Binding) → IsChecked plan → nat_eq me.0 other.0 ≡ false → IsBoundEnd plan network me place row binding → is_terminal row other ≡ true
     → (expected plan row place.peer.0 me.0).offer ≡ offer_of row other.0
 far_end plan network row me other place binding checked apart bound terminal =
-    far_offer plan row me other place.peer.0 (side_of row.path me.0 place.peer.0 (wire_checked plan place.wire row checked bound.is).once bound.joined bound.terminal) apart terminal
+    far_offer plan row me other place.peer.0 (side_of row.path me.0 place.peer.0 (wire_fits plan place.wire row checked bound.is).once bound.joined bound.terminal) apart terminal
 
 pub shares_channel : (plan : Plan) (network : NetworkState) → IsChecked plan → IsRuledNetwork plan network → SharesChannel plan network
 shares_channel plan network checked ruled = record {

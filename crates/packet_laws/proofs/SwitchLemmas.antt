@@ -1,7 +1,8 @@
 -- A packet at a switching point: what is sent on is carried, as the packet rule says.
-use Rattle.std.proofs.Common.{◌≡◌, ◌≤◌, ◌<◌, ◌+◌, ◌-◌, ◌*◌, ◌/◌, ◌%◌, ◌++◌, ◌∙◌, ℕ, Bool, true, false, List, [], ◌∷◌, Option, Some, None, Result, Ok, length, nat_eq, slice_get, ap, sym, subst, arith}
+use Rattle.std.proofs.Common.{◌≡◌, ◌≤◌, ◌<◌, ◌+◌, ◌-◌, ◌*◌, ◌/◌, ◌%◌, ◌++◌, ◌∙◌, ℕ, Bool, true, false, List, [], ◌∷◌, Option, Some, Result, Ok, length, nat_eq, slice_get, ap, sym, subst, arith}
 use Rattle.std.proofs.lemmas.Bool.Decides.{nat_tests}
 use Rattle.std.proofs.lemmas.List.{length-append}
+use Rattle.net_values.proofs.NumberLemmas.{ttl_most}
 use Rattle.byteorder.specs.Endian.{big_bytes, big_number}
 use Rattle.byteorder.specs.Numbers.{big_number-reads_back}
 use Rattle.net_base.specs.declared.plan.Plan.{Plan}
@@ -12,8 +13,9 @@ use Rattle.net_base.specs.declared.plan.places.WireId.{WireId}
 use Rattle.net_base.specs.declared.trace.drop_cause.DropCause.{DropCause}
 use Rattle.net_base.specs.declared.trace.entry.Entry.{Entry}
 use Rattle.net_base.specs.plan.Accepted.{IsChecked, IsWireOf}
-use Rattle.net_base.specs.plan.Paths.{PassedPoint, expected, has_repeat, joins, mate_on}
-use Rattle.net_base.proofs.PathLemmas.{mate_back, mate_joined, place_of}
+use Rattle.net_base.specs.plan.Paths.{PassedPoint, expected, joins, mate_on}
+use Rattle.net_base.proofs.PathLemmas.{mate_joined}
+use Rattle.net_base.proofs.CommonLemmas.{same_wire}
 use Rattle.eth_encap.specs.Packet.{entry_number, entry_octets, entry_of, packed, payload_of}
 use Rattle.eth_encap.specs.declared.stack_entry.StackEntry.{StackEntry}
 use Rattle.eth_encap.proofs.PacketLemmas.{packed_is_unpacked}
@@ -27,11 +29,13 @@ use Rattle.network_model.specs.declared.packet.Packet.{Packet}
 use Rattle.network_model.specs.State.{NetworkState}
 use Rattle.flight_laws.proofs.RuledNetworkLemmas.{IsRuledNetwork}
 use Rattle.flight_laws.proofs.StableLemmas.{IsPlannedBinding, end_is_planned}
+use Rattle.flight_laws.proofs.AcrossLemmas.{other_side}
+use Rattle.flight_laws.proofs.PlaceLemmas.{same_row}
+use Rattle.flight_laws.proofs.RuledMendLemmas.{wire_fits}
 use Rattle.packet_laws.proofs.AgeLemmas.{may_sent}
 use Rattle.packet_laws.specs.Carried.{IsCarried, IsPacked}
 use Rattle.packet_laws.proofs.ArriveLemmas.{IsOwner, owner_is}
-use Rattle.packet_laws.proofs.PackLemmas.{few_points, wire_checked}
-use Rattle.packet_laws.proofs.SendLemmas.{same_row}
+use Rattle.packet_laws.proofs.PackLemmas.{few_points}
 use Rattle.network_model.proofs.WayLemmas.{joins_is}
 use Rattle.network_model.proofs.PointLemmas.{passes_offer, passes_points, point_at, points_three}
 
@@ -55,12 +59,6 @@ relabelled_packed label ttl old was cword vlan frame low most = relabelled_entry
 
 -- ---- a mate
 
-pub mate_turned : (path : List EdgeId) (me from to : EdgeId) → has_repeat path ≡ false → mate_on path me.0 from.0 ≡ Some to → mate_on path me.0 to.0 ≡ Some from
-mate_turned path me from to once is = by (mate_on path me.0 to.0) (mate_back path me.0 from.0 to once is) where
-  by : (m : Option EdgeId) → place_of m ≡ Some from.0 → m ≡ Some from
-  by None h = absurd (cc (h))
-  by (Some e) h = let same : e.0 ≡ from.0 = cc (h) in ap (λ (n : ℕ). Some (record { 0 = n })) same
-
 module _ (plan : Plan) (network : NetworkState) (trace : List Entry) (packet : Packet) (to : EdgeId) (binding : Binding) (number hops : ℕ) (checked : IsChecked plan) (ruled : IsRuledNetwork plan network) (rule : IsCarried plan network trace packet)
     (mate_is : mate_on rule.row.path packet.to.0 packet.from.0 ≡ Some to) (bound : ((network.edges packet.to.0).ends packet.wire.0 to.0).remote ≡ Some binding) where
   -- what is sent on
@@ -68,7 +66,7 @@ module _ (plan : Plan) (network : NetworkState) (trace : List Entry) (packet : P
   relayed = record { number = number; wire = packet.wire; from = packet.to; to = to; origin = packet.origin; hops = hops; age = 0; bytes = relabelled binding.label (rule.packed.ttl - 1) packet.bytes }
 
   pub wire_of : IsWireOf plan rule.row
-  wire_of = wire_checked plan packet.wire rule.row checked rule.is
+  wire_of = wire_fits plan packet.wire rule.row checked rule.is
 
   pub joined_on : joins packet.to.0 to.0 rule.row.path ≡ true
   joined_on = mate_joined rule.row.path packet.to.0 packet.from.0 to mate_is
@@ -77,7 +75,7 @@ module _ (plan : Plan) (network : NetworkState) (trace : List Entry) (packet : P
   planned = (end_is_planned plan network checked ruled packet.to.0 to.0 packet.wire rule.row rule.is joined_on).holds binding bound
 
   pub back : mate_on rule.row.path packet.to.0 to.0 ≡ Some packet.from
-  back = mate_turned rule.row.path packet.to packet.from to wire_of.once mate_is
+  back = other_side rule.row.path packet.to packet.from to wire_of.once mate_is
 
   -- towards the mate the same offer is expected, and one point more
   offer_on : (expected plan rule.row packet.to.0 to.0).offer ≡ (expected plan rule.row packet.from.0 packet.to.0).offer
@@ -147,18 +145,15 @@ same_read read one other first second = cc
 module _ (plan : Plan) (network : NetworkState) (trace : List Entry) (packet : Packet) (effects : List Effect) (checked : IsChecked plan) (ruled : IsRuledNetwork plan network) (carried : IsCarried plan network trace packet)
     (at : (network.edges packet.to.0).me ≡ packet.to) (out : PacketIsSwitched plan (network.edges packet.to.0) packet.bytes effects) where
   few : length (expected plan carried.row packet.from.0 packet.to.0).points ≤ 5
-  few = few_points plan carried.row packet.from.0 packet.to.0 (wire_checked plan packet.wire carried.row checked carried.is)
+  few = few_points plan carried.row packet.from.0 packet.to.0 (wire_fits plan packet.wire carried.row checked carried.is)
 
   entry : entry_of packet.bytes ≡ Ok (record { label = carried.label; bottom = true; ttl = carried.packed.ttl })
   entry = ap entry_of carried.packed.bytes
       ∙ packed_is_unpacked.entry carried.label carried.packed.ttl true (payload_of (expected plan carried.row packet.from.0 packet.to.0).offer.cword carried.packed.vlan carried.frame) carried.is_label
-      (least carried.packed.ttl (length (expected plan carried.row packet.from.0 packet.to.0).points) few carried.packed.left) (most carried.packed.ttl (length (expected plan carried.row packet.from.0 packet.to.0).points) carried.packed.left)
+      (least carried.packed.ttl (length (expected plan carried.row packet.from.0 packet.to.0).points) few carried.packed.left) (ttl_most carried.packed.ttl (length (expected plan carried.row packet.from.0 packet.to.0).points) carried.packed.left)
     where
       least : (t m : ℕ) → m ≤ 5 → t + m ≡ 255 → 1 ≤ t
       least t m few is = omega (arith, few, is)
-
-      most : (t m : ℕ) → t + m ≡ 255 → t ≤ 255
-      most t m is = omega (arith, is)
 
   same_entry : out.entry ≡ record { label = carried.label; bottom = true; ttl = carried.packed.ttl }
   same_entry = same_read (entry_of packet.bytes) out.entry (record { label = carried.label; bottom = true; ttl = carried.packed.ttl }) out.read entry
@@ -188,6 +183,3 @@ module _ (plan : Plan) (network : NetworkState) (trace : List Entry) (packet : P
       subst (λ (w : WireId). IsCarried plan network trace (record { number = number; wire = w; from = packet.to; to = out.to; origin = packet.origin; hops = hops; age = 0; bytes = relabelled out.binding.label (out.entry.ttl - 1) packet.bytes })) (same_wire out.place.wire packet.wire places.0)
       (subst (λ (t : ℕ). IsCarried plan network trace (record { number = number; wire = packet.wire; from = packet.to; to = out.to; origin = packet.origin; hops = hops; age = 0; bytes = relabelled out.binding.label (t - 1) packet.bytes })) (ap (λ (e : StackEntry). e.ttl) (sym same_entry))
       (relay_carried plan network trace packet out.to out.binding number hops checked ruled carried mate_is bound))
-    where
-      same_wire : (one other : WireId) → one.0 ≡ other.0 → other ≡ one
-      same_wire one other same = ap (λ (n : ℕ). record { 0 = n }) (sym same)

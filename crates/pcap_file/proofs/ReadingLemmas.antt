@@ -2,6 +2,7 @@
 use Rattle.std.proofs.Common.{◌≡◌, ◌+◌, ◌⊎◌, ◌++◌, ◌∙◌, inl, inr, ℕ, List, [], ◌∷◌, length, drop, map, flat_map, Option, Some, None, Result, Ok, Err, IfOk, IfErr, refl, sym, ap, subst, arith, append_assoc, length-append}
 use Rattle.std.specs.List.{AllByRecursion}
 use Rattle.std.proofs.lemmas.List.{append-nil}
+use Rattle.net_values.proofs.RowLemmas.{same_front}
 use Rattle.pcap_file.specs.declared.capture_fault.CaptureFault.{CaptureFault}
 use Rattle.pcap_file.specs.declared.capture_fault.CaptureFault.TheVariants.{Magic, Version, Network, Length, Truncated, NoMemory}
 use Rattle.pcap_file.specs.declared.endianness.Endianness.{Endianness}
@@ -46,17 +47,6 @@ one_header_fault octets fault other (inr (inr a)) (inr (inl b)) = absurd (not_bo
 one_header_fault octets fault other (inr (inr a)) (inr (inr b)) =
     let same = same_order (order_told (number_at Big 4 0 octets)) a.order b.order a.magic b.magic in
     same_fault (first_field_fault 0 a.order octets header_fields) fault other a.first (subst (λ (o : Endianness). first_field_fault 0 o octets header_fields ≡ Some other) (sym same) b.first)
-
--- of two joinings whose fronts have the same length the fronts are the same, and so are the rests
-same_front : (xs ys more rest : List ℕ) → length xs ≡ length ys → xs ++ more ≡ ys ++ rest → (xs ≡ ys) × (more ≡ rest)
-same_front [] [] more rest len e = (refl, e)
-same_front [] (y ∷ ys) more rest len e = absurd (omega (arith, len))
-same_front (x ∷ xs) [] more rest len e = absurd (omega (arith, len))
-same_front (x ∷ xs) (y ∷ ys) more rest len e =
-    let head : x ≡ y = cc in
-    let tail : xs ++ more ≡ ys ++ rest = cc in
-    let (front, back) = same_front xs ys more rest (omega (arith, len)) tail in
-    ((λ i. head i ∷ front i), back)
 
 -- the record in front of octets is one
 same_record : (order : Endianness) (p q : PacketRecord) (more rest : List ℕ) → IsPacketRecord order p → IsPacketRecord order q → spell_record p ++ more ≡ spell_record q ++ rest → (p ≡ q) × (more ≡ rest)

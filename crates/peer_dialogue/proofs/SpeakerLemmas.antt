@@ -3,6 +3,7 @@ use Rattle.std.proofs.Common.{◌≡◌, ◌<◌, ◌≤◌, ◌+◌, ◌-◌, �
 use Rattle.std.proofs.lemmas.Bool.{eq-eqb, eqb-true}
 use Rattle.std.proofs.lemmas.List.{append-nil}
 use Rattle.std.specs.List.{AllByRecursion}
+use Rattle.net_values.proofs.RowLemmas.{last_of}
 use Rattle.net_base.specs.declared.outside.link_call.LinkCall.{LinkCall}
 use Rattle.net_base.specs.declared.plan.places.EdgeId.{EdgeId}
 use Rattle.net_base.specs.outside.Link.{call_of}
@@ -67,11 +68,6 @@ pub failed_at : (peer : EdgeId) (kept : Option Peering) (bytes : List ℕ) (edge
     → put_octets peer bytes false (at_peer peer kept edge calls out) ≡ record { work = at_peer peer kept edge (calls ++ call_of peer false bytes false ∷ []) out; failed = true }
 unfolding at_peer puts
 failed_at peer kept bytes edge calls out = refl
-
--- the last of a list
-last_of : {X : Type 0} (xs : List X) (x d : X) → slice_index_or (xs ++ x ∷ []) (length xs) d ≡ x
-last_of [] x d = refl
-last_of (y ∷ xs) x d = last_of xs x d
 
 -- what was told of the call that came last
 pub told_last : (told : Answers) (calls : List LinkCall) (call : LinkCall) → Agrees told (calls ++ call ∷ []) → told (length calls) ≡ call.taken

@@ -1,33 +1,23 @@
 -- An edge holds no more than its plan lets it hold.
-use Rattle.std.proofs.Common.{◌≡◌, ◌≤◌, ℕ, Bool, true, false, List, [], ◌∷◌, Option, Some, None, cond, length, map, slice_set, ap, inl, inr, refl, subst, sym, arith, ◌∙◌}
+use Rattle.std.proofs.Common.{◌≡◌, ◌≤◌, ℕ, List, [], ◌∷◌, Option, None, length, map, slice_set, ap, inl, inr, subst, sym, arith, ◌∙◌}
 use Rattle.std.specs.Prelude.{All}
 use Rattle.std.specs.List.{find}
 use Rattle.std.proofs.lemmas.Bool.{cases_order}
 use Rattle.std.proofs.lemmas.List.Elements.{All-cons, All-nil, All-set}
+use Rattle.net_values.proofs.RowLemmas.{same_read}
 use Rattle.net_base.specs.declared.plan.Plan.{Plan}
-use Rattle.pw_signalling.specs.End.{EndState, fresh}
 use Rattle.vsi_bridge.specs.BridgeState.{most_addresses}
 use Rattle.edge_model.specs.EndPlaces.{is_at}
 use Rattle.edge_model.specs.State.{Peering}
-use Rattle.edge_model.specs.declared.end_place.EndPlace.{EndPlace}
 use Rattle.edge_forwarding.specs.Forwarding.{domain_of, entries_of}
-use Rattle.edge_forwarding.proofs.Views.{past_end, same_read}
+use Rattle.edge_forwarding.proofs.Views.{past_end}
 use Rattle.edge_forwarding.specs.Views.{view}
 use Rattle.peer_dialogue.specs.Peering.{gone}
-use Rattle.pw_ends.specs.Ends.{look, seen_ends}
+use Rattle.pw_ends.specs.Ends.{seen_ends}
+use Rattle.pw_ends.proofs.BesideLemmas.{look_none}
 use Rattle.provider_edge.specs.Bounds.{HoldsFew, IsBounded}
 use Rattle.provider_edge.specs.Invariant.{IsEdge}
 use Rattle.provider_edge.specs.Lists.{EdgeLists, seen}
-
--- nothing is kept of an end that has no place
-look_none : (places : List EndPlace) (ends : List EndState) (wire peer : ℕ) → find (is_at wire peer) places ≡ None → look places ends wire peer ≡ fresh
-look_none [] ends wire peer none = refl
-look_none (place ∷ places) [] wire peer none = refl
-look_none (place ∷ places) (end ∷ ends) wire peer none = of (is_at wire peer place) (λ other. look_none places ends wire peer other) none where
-  of : (b : Bool) → (find (is_at wire peer) places ≡ None → look places ends wire peer ≡ fresh)
-      → cond b (Some place) (find (is_at wire peer) places) ≡ None → cond b end (look places ends wire peer) ≡ fresh
-  of true next other = absurd (cc (other))
-  of false next other = next other
 
 few_in : (kept : List (Option Peering)) → All HoldsFew kept → (peer : ℕ) → HoldsFew (view None kept peer)
 few_in kept few peer = elim (cases_order peer (length kept)) [

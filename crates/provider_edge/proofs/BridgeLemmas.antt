@@ -30,7 +30,7 @@ use Rattle.edge_model.specs.declared.end_place.EndPlace.{EndPlace}
 use Rattle.edge_model.specs.Ends.{wire_end}
 use Rattle.edge_model.specs.Frame.{copies, copy_by, destination, forwarded, hearing, port_forwards, received, tag_of, targets_of}
 use Rattle.edge_model.specs.Send.{drops, had_posted, packet_of, sends, sends_copy, sends_under}
-use Rattle.edge_model.specs.State.{EdgeState, end_at, with_addresses}
+use Rattle.edge_model.specs.State.{EdgeState, with_addresses}
 use Rattle.edge_model.specs.Synced.{InSync}
 use Rattle.edge_model.specs.Work.{Work, changes, gives, posts}
 use Rattle.pw_ends.specs.Ends.{end_in, place_of}
@@ -42,6 +42,7 @@ use Rattle.provider_edge.proofs.ForwardLemmas.{learned_read, seen_kept}
 use Rattle.provider_edge.proofs.SyncLemmas.{forwards_hearing, open_forwards}
 use Rattle.provider_edge.specs.Invariant.{IsEdge}
 use Rattle.provider_edge.specs.Lists.{EdgeLists, Keeps, seen}
+use Rattle.provider_edge.proofs.MendLemmas.{me_at, local_at}
 
 -- ---- a packet is sent
 
@@ -89,14 +90,6 @@ under_some told came frame me place row own remote binding offer packet work x a
     ∙ (ap (λ (b : Option Binding). sends_under told came frame me place (Some own) b work) (sym holds)
     ∙ ap (λ (r : Option WirePlan). sends_under told came frame me place r remote work) (sym at)))
 
-me_in : (c : EdgeLists) (calls : List LinkCall) (out : List Effect) → (at_edge (seen c) calls out).edge.me ≡ c.me
-unfolding seen at_edge
-me_in c calls out = refl
-
-end_is : (c : EdgeLists) (calls : List LinkCall) (out : List Effect) (slot : ℕ) → end_at (at_edge (seen c) calls out).edge (place_of c.ends slot) ≡ end_in c.ends slot
-unfolding seen at_edge
-end_is c calls out slot = refl
-
 pub copy_none : (told : Answers) (came : Arrival) (frame : List ℕ) (plan : Plan) (end : Option EndPlace) (work : Work) → end ≡ None → work ≡ sends_copy plan told came frame end work
 copy_none told came frame plan end work none = sym (ap (λ (e : Option EndPlace). sends_copy plan told came frame e work) none)
 
@@ -105,8 +98,8 @@ pub copy_some : (c : EdgeLists) (told : Answers) (came : Arrival) (frame : List 
     → x ≡ sends_copy c.plan told came frame end (at_edge (seen c) calls out)
 copy_some c told came frame slot end calls out x some is =
     is
-    ∙ (ap (λ (m : EdgeId). sends_under told came frame m (place_of c.ends slot) (wire_row c.plan (place_of c.ends slot).wire) (end_in c.ends slot).remote (at_edge (seen c) calls out)) (sym (me_in c calls out))
-    ∙ (ap (λ e. sends_under told came frame (at_edge (seen c) calls out).edge.me (place_of c.ends slot) (wire_row c.plan (place_of c.ends slot).wire) e.remote (at_edge (seen c) calls out)) (sym (end_is c calls out slot))
+    ∙ (ap (λ (m : EdgeId). sends_under told came frame m (place_of c.ends slot) (wire_row c.plan (place_of c.ends slot).wire) (end_in c.ends slot).remote (at_edge (seen c) calls out)) (sym (me_at c calls out))
+    ∙ (ap (λ e. sends_under told came frame (at_edge (seen c) calls out).edge.me (place_of c.ends slot) (wire_row c.plan (place_of c.ends slot).wire) e.remote (at_edge (seen c) calls out)) (sym (local_at c calls out slot))
     ∙ ap (λ (e : Option EndPlace). sends_copy c.plan told came frame e (at_edge (seen c) calls out)) (sym some)))
 
 -- ---- the copy by a port
@@ -124,7 +117,7 @@ pub copied_mesh : (c : EdgeLists) (told : Answers) (came : Arrival) (frame : Lis
     → next ≡ copy_by c.plan told came frame x (at_edge (seen c) calls out)
 copied_mesh c told came frame x wire calls out next is sent =
     sent
-    ∙ (ap (λ (m : EdgeId). sends_copy c.plan told came frame (wire_end c.plan m wire) (at_edge (seen c) calls out)) (sym (me_in c calls out))
+    ∙ (ap (λ (m : EdgeId). sends_copy c.plan told came frame (wire_end c.plan m wire) (at_edge (seen c) calls out)) (sym (me_at c calls out))
     ∙ ap (λ (y : Port). copy_by c.plan told came frame y (at_edge (seen c) calls out)) (sym is))
 
 pub copied_spoke : (c : EdgeLists) (told : Answers) (came : Arrival) (frame : List ℕ) (x : Port) (wire : WireId) (calls : List LinkCall) (out : List Effect) (next : Work) → x ≡ port.Spoke wire
@@ -132,7 +125,7 @@ pub copied_spoke : (c : EdgeLists) (told : Answers) (came : Arrival) (frame : Li
     → next ≡ copy_by c.plan told came frame x (at_edge (seen c) calls out)
 copied_spoke c told came frame x wire calls out next is sent =
     sent
-    ∙ (ap (λ (m : EdgeId). sends_copy c.plan told came frame (wire_end c.plan m wire) (at_edge (seen c) calls out)) (sym (me_in c calls out))
+    ∙ (ap (λ (m : EdgeId). sends_copy c.plan told came frame (wire_end c.plan m wire) (at_edge (seen c) calls out)) (sym (me_at c calls out))
     ∙ ap (λ (y : Port). copy_by c.plan told came frame y (at_edge (seen c) calls out)) (sym is))
 
 -- the port is a target, or it is not

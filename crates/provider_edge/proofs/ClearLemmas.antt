@@ -1,6 +1,7 @@
 -- A MAC withdraw is heard, exit by exit: what is forgotten, and where the addresses go on.
 use Rattle.std.proofs.Common.{◌≡◌, ◌<◌, ◌∙◌, ℕ, zero, suc, Bool, true, false, not, cond, List, [], ◌∷◌, Option, Some, None, length, slice_get, position, refl, ap, sym, subst, arith}
 use Rattle.std.specs.Prelude.{IfSome}
+use Rattle.std.proofs.lemmas.Bool.{not-true, not-false}
 use Rattle.net_base.specs.declared.outside.link_call.LinkCall.{LinkCall}
 use Rattle.net_base.specs.declared.plan.Plan.{Plan}
 use Rattle.net_base.specs.declared.plan.places.EdgeId.{EdgeId}
@@ -73,14 +74,6 @@ end_heard plan told peer fec named macs addresses place edge calls out next ther
 
 -- ---- the wire of the end
 
-not_true : (b : Bool) → not b ≡ true → b ≡ false
-not_true true is = absurd (cc (is))
-not_true false is = refl
-
-not_false : (b : Bool) → not b ≡ false → b ≡ true
-not_false true is = refl
-not_false false is = absurd (cc (is))
-
 -- a switching point tells its other side
 pub beyond_clears : (c : EdgeLists) (told : Answers) (addresses given : List Mac) (place at : EndPlace) (calls : List LinkCall) (out : List Effect) (next : Work) → place ≡ at → not place.terminal ≡ true → given ≡ addresses
     → next ≡ tells_by told given (end_beyond c.plan c.me at) (at_edge (seen c) calls out) → next ≡ clears_by c.plan told addresses (Some at) (at_edge (seen c) calls out)
@@ -89,7 +82,7 @@ beyond_clears c told addresses given place at calls out next is passes same tell
     tells
     ∙ (ap (λ (l : List Mac). tells_by told l (end_beyond c.plan c.me at) work) same
     ∙ (ap (λ (m : EdgeId). tells_by told addresses (end_beyond c.plan m at) work) (sym (me_at c calls out))
-    ∙ sym (ap (λ (b : Bool). cond b (clears_wire c.plan told addresses at (wire_row c.plan at.wire) work) (tells_by told addresses (end_beyond c.plan work.edge.me at) work)) (sym (ap (λ (p : EndPlace). p.terminal) is) ∙ not_true place.terminal passes))))
+    ∙ sym (ap (λ (b : Bool). cond b (clears_wire c.plan told addresses at (wire_row c.plan at.wire) work) (tells_by told addresses (end_beyond c.plan work.edge.me at) work)) (sym (ap (λ (p : EndPlace). p.terminal) is) ∙ not-true place.terminal passes))))
 
 there : {X : Type 0} (xs : List X) (i : ℕ) → slice_get xs i ≡ None → i < length xs → ⊥
 there [] i none below = absurd (omega arith)
@@ -112,7 +105,7 @@ terminal_clears c told addresses place at service found calls out next is ends w
       ∙ (ap (λ (s : ServiceId). clears_at c.plan told addresses s (position (is_wire_port at.wire) (ports_of c.plan s c.me)) work) (of row some)
       ∙ (ap (λ (m : EdgeId). clears_at c.plan told addresses row.service (position (is_wire_port at.wire) (ports_of c.plan row.service m)) work) (sym (me_at c calls out))
       ∙ (ap (λ (r : Option WirePlan). clears_wire c.plan told addresses at r work) (sym some)
-      ∙ ap (λ (b : Bool). cond b (clears_wire c.plan told addresses at (wire_row c.plan at.wire) work) (tells_by told addresses (end_beyond c.plan work.edge.me at) work)) (sym (sym (ap (λ (p : EndPlace). p.terminal) is) ∙ not_false place.terminal ends))))))
+      ∙ ap (λ (b : Bool). cond b (clears_wire c.plan told addresses at (wire_row c.plan at.wire) work) (tells_by told addresses (end_beyond c.plan work.edge.me at) work)) (sym (sym (ap (λ (p : EndPlace). p.terminal) is) ∙ not-false place.terminal ends))))))
 
 -- the port that is found for a wire leads to it
 pub found_is_wire : (wire : WireId) (ports : List Port) (found : Option ℕ) → found ≡ position (is_wire_port wire) ports → IfSome found (λ from. is_wire_at ports from ≡ true)

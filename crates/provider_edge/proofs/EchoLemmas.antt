@@ -23,9 +23,10 @@ use Rattle.net_base.specs.plan.Places.{wire_row}
 use Rattle.net_values.specs.declared.addr.Addr.{Addr}
 use Rattle.peer_dialogue.specs.Peering.{at_edge}
 use Rattle.provider_edge.proofs.BridgeLemmas.{dropped_at}
-use Rattle.provider_edge.proofs.PacketLemmas.{me_of, row_there}
+use Rattle.provider_edge.proofs.PacketLemmas.{row_there}
 use Rattle.provider_edge.specs.Lists.{EdgeLists, Keeps, seen, worked}
 use Rattle.provider_edge.specs.Pings.{asked_with, asks_with, channel_by, ping_from, ping_of, request_at, request_by, request_in, request_of, request_under, verified_by}
+use Rattle.provider_edge.proofs.MendLemmas.{me_at}
 use Rattle.pw_ends.specs.Ends.{end_in, no_place, place_of}
 use Rattle.pw_signalling.specs.declared.binding.Binding.{Binding}
 use Rattle.pw_stitch.specs.Stitch.{has_told}
@@ -67,7 +68,7 @@ not_picked c told place row kind (Some binding) channel payload calls out given 
     let work : Work = at_edge (seen c) calls out in
     dropped_at cause.NotOffered (seen c) calls out given gave
     ∙ sym (ap (λ (b : Bool). cond b (verifies told place row kind binding payload work) (drops cause.NotOffered work))
-    (ap (λ (m : EdgeId). is_picked kind (channel_under row m binding)) (me_of c calls out) ∙ (ap (is_picked kind) (sym is) ∙ other)))
+    (ap (λ (m : EdgeId). is_picked kind (channel_under row m binding)) (me_at c calls out) ∙ (ap (is_picked kind) (sym is) ∙ other)))
 
 pub picked_by : (c : EdgeLists) (told : Answers) (place : EndPlace) (row : WirePlan) (kind : Cc) (remote : Option Binding) (channel : Option Cc) (payload : List ℕ) (calls : List LinkCall) (out : List Effect) (x : Work)
     → channel ≡ channel_by row c.me remote → is_picked kind channel ≡ true → ((binding : Binding) → remote ≡ Some binding → x ≡ verifies told place row kind binding payload (at_edge (seen c) calls out))
@@ -77,7 +78,7 @@ picked_by c told place row kind (Some binding) channel payload calls out x is he
     let work : Work = at_edge (seen c) calls out in
     same binding refl
     ∙ sym (ap (λ (b : Bool). cond b (verifies told place row kind binding payload work) (drops cause.NotOffered work))
-    (ap (λ (m : EdgeId). is_picked kind (channel_under row m binding)) (me_of c calls out) ∙ (ap (is_picked kind) (sym is) ∙ here)))
+    (ap (λ (m : EdgeId). is_picked kind (channel_under row m binding)) (me_at c calls out) ∙ (ap (is_picked kind) (sym is) ∙ here)))
 
 -- ---- the packet is read
 

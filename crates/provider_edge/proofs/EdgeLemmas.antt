@@ -1,9 +1,9 @@
 -- The inputs of an edge, exit by exit.
-use Rattle.std.proofs.Common.{◌≡◌, ◌<◌, ◌&&◌, ◌∙◌, ◌==◌, ◌↔◌, Bor, ℕ, Bool, true, false, List, [], Option, Some, None, cond, not, length, option_copied, option_map, slice_get, nat_eq, refl, ap, sym, subst}
+use Rattle.std.proofs.Common.{◌≡◌, ◌<◌, ◌&&◌, ◌∙◌, ◌==◌, ◌↔◌, Bor, ℕ, Bool, true, false, List, [], Option, Some, None, cond, not, length, option_copied, option_map, slice_get, refl, ap, sym, subst}
 use Rattle.std.proofs.Math.Bool.{beq}
 use Rattle.std.specs.Prelude.{IfSome, IsNone}
-use Rattle.std.proofs.lemmas.Bool.{eqb-true}
 use Rattle.std.proofs.lemmas.Option.{slice_get_within}
+use Rattle.net_values.proofs.BoolLemmas.{and_not_held}
 use Rattle.net_base.specs.declared.outside.link_call.LinkCall.{LinkCall}
 use Rattle.net_base.specs.declared.plan.Plan.{Plan}
 use Rattle.net_base.specs.declared.plan.circuit_plan.CircuitPlan.{CircuitPlan}
@@ -122,7 +122,7 @@ ticked told e rest mid ticks now calls new list first next rests counts have for
 
 -- ---- a connection stands
 
-me_of : (e : EdgeLists) → (seen e).me ≡ e.me
+pub me_of : (e : EdgeLists) → (seen e).me ≡ e.me
 unfolding seen
 me_of e = refl
 
@@ -133,19 +133,9 @@ connected_idle e told peer calls apart =
     let test : are_joined e.plan (seen e).me.0 peer.0 && not (has_end (seen e) peer) ≡ false = ap (λ (m : EdgeId). are_joined e.plan m.0 peer.0 && not (has_end (seen e) peer)) (me_of e) ∙ apart in
     sym (ap (λ (b : Bool). cond b (connects_between e.plan told peer (slice_get e.plan.edges (seen e).me.0) (slice_get e.plan.edges peer.0) (beginning (seen e) calls)) (idles (beginning (seen e) calls))) test)
 
-pub joined_test : (joined stands : Bool) → joined ≡ true → stands ≡ false → joined && not stands ≡ true
-joined_test true false joined stands = refl
-joined_test true true joined stands = absurd (cc (stands))
-joined_test false stands joined here = absurd (cc (joined))
-
 pub apart_test : (joined stands : Bool) → joined ≡ false → joined && not stands ≡ false
 apart_test false stands apart = refl
 apart_test true stands apart = absurd (cc (apart))
-
-pub stands_test : (joined stands : Bool) → stands ≡ true → joined && not stands ≡ false
-stands_test true true here = refl
-stands_test false stands here = refl
-stands_test true false here = absurd (cc (here))
 
 between_none : (plan : Plan) (told : Answers) (peer : EdgeId) (own other : Option EdgePlan) (work : Work) → peers_between own other ≡ None → connects_between plan told peer own other work ≡ idles work
 between_none plan told peer None other work none = refl
@@ -190,26 +180,15 @@ peer_within plan own peer peers some = by own (slice_get plan.edges peer.0) refl
 
 -- ---- wires
 
-pub apart_eqb : (a b : ℕ) → (a ≡ b → ⊥) → nat_eq a b ≡ false
-apart_eqb a b apart = by (nat_eq a b) refl where
-  by : (x : Bool) → nat_eq a b ≡ x → x ≡ false
-  by false is = refl
-  by true is = absurd (apart (eqb-true a b is))
-
 pub wire_apart : (e : EdgeLists) (told : Answers) (wire : WireId) (on : Bool) (calls : List LinkCall) → passes e.plan e.me wire ≡ false → worked e calls (record { idle = true; list = [] }) ≡ wire_input e.plan told wire on (beginning (seen e) calls)
 unfolding seen
 wire_apart e told wire on calls apart =
     not_there e calls ∙ sym (ap (λ (b : Bool). cond (b && not (is_same on ((seen e).wire_on wire.0))) (mends e.plan told (changes (turned_wire wire on) (beginning (seen e) calls))) (idles (beginning (seen e) calls))) apart)
 
-and_not : (a b : Bool) → b ≡ true → a && not b ≡ false
-and_not true true is = refl
-and_not false true is = refl
-and_not a false is = absurd (cc (is))
-
 pub wire_already : (e : EdgeLists) (told : Answers) (wire : WireId) (on : Bool) (calls : List LinkCall) → beq ((seen e).wire_on wire.0) on ≡ true → worked e calls (record { idle = true; list = [] }) ≡ wire_input e.plan told wire on (beginning (seen e) calls)
 wire_already e told wire on calls same =
     not_there e calls ∙ sym (ap (λ (b : Bool). cond b (mends e.plan told (changes (turned_wire wire on) (beginning (seen e) calls))) (idles (beginning (seen e) calls)))
-    (and_not (passes e.plan (seen e).me wire) (is_same on ((seen e).wire_on wire.0)) (same_already on ((seen e).wire_on wire.0) same)))
+    (and_not_held (passes e.plan (seen e).me wire) (is_same on ((seen e).wire_on wire.0)) (same_already on ((seen e).wire_on wire.0) same)))
 
 pub wire_turned : (e : EdgeLists) (told : Answers) (wire : WireId) (on : Bool) (calls : List LinkCall) (work : Work) → passes e.plan e.me wire ≡ true → beq ((seen e).wire_on wire.0) on ≡ false
     → work ≡ mends e.plan told (changes (turned_wire wire on) (beginning (seen e) calls)) → work ≡ wire_input e.plan told wire on (beginning (seen e) calls)
@@ -230,7 +209,7 @@ status_apart e told wire bits calls apart =
 pub status_already : (e : EdgeLists) (told : Answers) (wire : WireId) (bits : ℕ) (calls : List LinkCall) → (bits == (seen e).bits wire.0) ≡ true → worked e calls (record { idle = true; list = [] }) ≡ status_input e.plan told wire bits (beginning (seen e) calls)
 status_already e told wire bits calls same =
     not_there e calls ∙ sym (ap (λ (b : Bool). cond b (mends e.plan told (changes (with_bits wire bits) (beginning (seen e) calls))) (idles (beginning (seen e) calls)))
-    (and_not (ends_here e.plan (seen e).me wire) (bits == (seen e).bits wire.0) same))
+    (and_not_held (ends_here e.plan (seen e).me wire) (bits == (seen e).bits wire.0) same))
 
 pub status_set : (e : EdgeLists) (told : Answers) (wire : WireId) (bits : ℕ) (calls : List LinkCall) (work : Work) → ends_here e.plan e.me wire ≡ true → (bits == (seen e).bits wire.0) ≡ false
     → work ≡ mends e.plan told (changes (with_bits wire bits) (beginning (seen e) calls)) → work ≡ status_input e.plan told wire bits (beginning (seen e) calls)
@@ -251,7 +230,7 @@ priority_apart e told wire priority calls apart =
 pub priority_already : (e : EdgeLists) (told : Answers) (wire : WireId) (priority : ℕ) (calls : List LinkCall) → (priority == (seen e).priority wire.0) ≡ true → worked e calls (record { idle = true; list = [] }) ≡ priority_input e.plan told wire priority (beginning (seen e) calls)
 priority_already e told wire priority calls same =
     not_there e calls ∙ sym (ap (λ (b : Bool). cond b (mends e.plan told (changes (with_priority wire priority) (beginning (seen e) calls))) (idles (beginning (seen e) calls)))
-    (and_not (is_own_spoke (seen e).me (wire_row e.plan wire)) (priority == (seen e).priority wire.0) same))
+    (and_not_held (is_own_spoke (seen e).me (wire_row e.plan wire)) (priority == (seen e).priority wire.0) same))
 
 pub priority_set : (e : EdgeLists) (told : Answers) (wire : WireId) (priority : ℕ) (calls : List LinkCall) (work : Work) → is_own_spoke e.me (wire_row e.plan wire) ≡ true → (priority == (seen e).priority wire.0) ≡ false
     → work ≡ mends e.plan told (changes (with_priority wire priority) (beginning (seen e) calls)) → work ≡ priority_input e.plan told wire priority (beginning (seen e) calls)

@@ -1,6 +1,5 @@
 -- What an edge gives out: it names what is in the plan, and tells what the link took.
 use Rattle.std.proofs.Common.{◌≡◌, ◌<◌, ◌≤◌, ◌+◌, ◌-◌, ◌++◌, ◌&&◌, ◌||◌, ◌∙◌, ℕ, zero, suc, Bool, true, false, List, [], ◌∷◌, Option, Some, None, Result, Ok, Err, cond, filter, length, nat_eq, nat_lt, not, slice_get, slice_index_or, refl, ap, sym, subst, arith, append_assoc}
-use Rattle.std.proofs.lemmas.Bool.Decides.{nat_tests}
 use Rattle.std.proofs.lemmas.List.{append-nil}
 use Rattle.std.proofs.lemmas.Option.{get_or_from_slice_get, slice_get_within}
 use Rattle.net_base.specs.declared.outside.link_call.LinkCall.{LinkCall}
@@ -23,9 +22,9 @@ use Rattle.net_base.specs.plan.Accepted.{IsChecked, IsWireOf}
 use Rattle.net_base.specs.declared.plan.wire_plan.WirePlan.{WirePlan}
 use Rattle.net_base.specs.plan.Paths.{are_joined, edge_address, joins, mate, mate_on, offer_of}
 use Rattle.net_base.specs.plan.RowFaults.{is_edge_of}
-use Rattle.std.specs.List.{AllByRecursion, find, list_all}
+use Rattle.std.specs.List.{AllByRecursion, list_all}
 use Rattle.std.specs.Option.{option_or}
-use Rattle.std.proofs.lemmas.Bool.{eqb-true}
+use Rattle.std.proofs.lemmas.Bool.{eqb-true, ltb-true}
 use Rattle.std.proofs.lemmas.List.Elements.{All-get_or}
 use Rattle.net_base.specs.declared.plan.places.WireId.{WireId}
 use Rattle.net_base.specs.declared.trace.down.Down.{Down}
@@ -81,6 +80,8 @@ use Rattle.edge_model.specs.Connection.{connected_input, connects_between, lost_
 use Rattle.edge_model.specs.Frame.{copies, copy_by, forwarded, frame_input, hearing, is_own, port_at, received, tag_of, targets_of}
 use Rattle.edge_model.specs.Hear.{acts, acts_on, advice_of, advises, hears_few, hears_front, hears_message, hears_messages, hears_on, hears_one, hears_pdu, hears_within, holds, octets_input, was_up}
 use Rattle.net_values.specs.declared.mac.Mac.{Mac}
+use Rattle.net_values.proofs.BoolLemmas.{first_holds, second_holds}
+use Rattle.net_values.proofs.RowLemmas.{same_read, found_among}
 use Rattle.hvpls_spokes.specs.declared.edge_role.Role.{Role}
 use Rattle.hvpls_spokes.specs.Role as roles
 use Rattle.mac_withdraw.specs.Passing.{is_passed_to}
@@ -111,7 +112,6 @@ use Rattle.edge_model.specs.Work.{Work, beginning, changes, gives, idles, next_a
 use Rattle.edge_model.proofs.SyncLemmas.{step_synced}
 use Rattle.edge_model.proofs.PlaceLemmas.{IsEndOf, all-map, places_are}
 use Rattle.edge_forwarding.specs.Views.{view}
-use Rattle.edge_forwarding.proofs.Views.{same_read}
 use Rattle.provider_edge.specs.Invariant.{IsEdge}
 use Rattle.provider_edge.specs.Lists.{EdgeLists, seen, worked}
 use Rattle.provider_edge.specs.Said.{AllFit, NamesPlaces, TellsTaken, calls_told}
@@ -138,32 +138,22 @@ pub record IsPlaced (plan : Plan) (place : EndPlace) : Type 0 where
   pub peer : place.peer.0 < length plan.edges
   pub wire : place.wire.0 < length plan.wires
 
-and_one : (a b : Bool) → a && b ≡ true → a ≡ true
-and_one true b both = refl
-and_one false b both = absurd (cc (both))
-
-and_other : (a b : Bool) → a && b ≡ true → b ≡ true
-and_other true b both = both
-and_other false b both = absurd (cc (both))
-
-below_edges : (plan : Plan) (edge : EdgeId) → is_edge_of plan edge ≡ true → edge.0 < length plan.edges
-below_edges plan edge is = below edge.0 (length plan.edges) is where
-  below : (n len : ℕ) → nat_lt n len ≡ true → n < len
-  below n len less = grind (arith, nat_tests)
+pub below_edges : (plan : Plan) (edge : EdgeId) → is_edge_of plan edge ≡ true → edge.0 < length plan.edges
+below_edges plan edge is = ltb-true edge.0 (length plan.edges) is
 
 joined_within : (plan : Plan) (a b : ℕ) (path : List EdgeId) → joins a b path ≡ true → list_all (is_edge_of plan) path ≡ true → b < length plan.edges
 joined_within plan a b [] joined all = absurd (cc (joined))
 joined_within plan a b (last ∷ []) joined all = absurd (cc (joined))
 joined_within plan a b (first ∷ next ∷ rest) joined all =
-    let one : first.0 < length plan.edges = below_edges plan first (and_one (is_edge_of plan first) (list_all (is_edge_of plan) (next ∷ rest)) all) in
-    let tail : list_all (is_edge_of plan) (next ∷ rest) ≡ true = and_other (is_edge_of plan first) (list_all (is_edge_of plan) (next ∷ rest)) all in
-    let two : next.0 < length plan.edges = below_edges plan next (and_one (is_edge_of plan next) (list_all (is_edge_of plan) rest) tail) in
+    let one : first.0 < length plan.edges = below_edges plan first (first_holds (is_edge_of plan first) (list_all (is_edge_of plan) (next ∷ rest)) all) in
+    let tail : list_all (is_edge_of plan) (next ∷ rest) ≡ true = second_holds (is_edge_of plan first) (list_all (is_edge_of plan) (next ∷ rest)) all in
+    let two : next.0 < length plan.edges = below_edges plan next (first_holds (is_edge_of plan next) (list_all (is_edge_of plan) rest) tail) in
     by one two (λ further. joined_within plan a b (next ∷ rest) further tail) (nat_eq a first.0 && nat_eq b next.0) refl (nat_eq b first.0 && nat_eq a next.0) refl joined
   where
     by : first.0 < length plan.edges → next.0 < length plan.edges → (joins a b (next ∷ rest) ≡ true → b < length plan.edges) → (x : Bool) → (nat_eq a first.0 && nat_eq b next.0) ≡ x → (y : Bool) → (nat_eq b first.0 && nat_eq a next.0) ≡ y
         → (x || y) || joins a b (next ∷ rest) ≡ true → b < length plan.edges
-    by one two further true is y other any = subst (λ (n : ℕ). n < length plan.edges) (sym (eqb-true b next.0 (and_other (nat_eq a first.0) (nat_eq b next.0) is))) two
-    by one two further false is true other any = subst (λ (n : ℕ). n < length plan.edges) (sym (eqb-true b first.0 (and_one (nat_eq b first.0) (nat_eq a next.0) other))) one
+    by one two further true is y other any = subst (λ (n : ℕ). n < length plan.edges) (sym (eqb-true b next.0 (second_holds (nat_eq a first.0) (nat_eq b next.0) is))) two
+    by one two further false is true other any = subst (λ (n : ℕ). n < length plan.edges) (sym (eqb-true b first.0 (first_holds (nat_eq b first.0) (nat_eq a next.0) other))) one
     by one two further false is false other any = further any
 
 place_placed : (plan : Plan) (me : EdgeId) → IsChecked plan → (place : EndPlace) → IsEndOf plan me place → IsPlaced plan place
@@ -175,15 +165,6 @@ place_placed plan me checked place is =
 
 places_placed : (plan : Plan) (me : EdgeId) → IsChecked plan → AllByRecursion (IsPlaced plan) (end_places plan me)
 places_placed plan me checked = all-map (IsEndOf plan me) (IsPlaced plan) (end_places plan me) (λ place is. place_placed plan me checked place is) (places_are plan me)
-
-found_holds : {X : Type 0} (P : X → Type 0) (test : X → Bool) (xs : List X) (x : X) → AllByRecursion P xs → find test xs ≡ Some x → P x
-found_holds P test [] x all is = absurd (cc (is))
-found_holds P test (y ∷ xs) x all is = by (test y) is (λ later. found_holds P test xs x all.1 later) where
-  by : (b : Bool) → cond b (Some y) (find test xs) ≡ Some x → (find test xs ≡ Some x → P x) → P x
-  by true is later =
-      let same : y ≡ x = cc (is) in
-      subst P same all.0
-  by false is later = later is
 
 -- ---- frames
 
@@ -207,9 +188,9 @@ copy_kept : (plan : Plan) (Holds : Work → Type 0) → AreKept plan Holds → I
 copy_kept plan Holds kept checked told came frame x false work planned here = here
 copy_kept plan Holds kept checked told came frame (port.Circuit c) true work planned here = kept.left c (dress (tag_of plan c) frame) work (planned c refl) here
 copy_kept plan Holds kept checked told came frame (port.Mesh wire) true work planned here =
-    copied_kept plan Holds kept told came frame (wire_end plan work.edge.me wire) work (λ place. found_holds (IsPlaced plan) (is_end_of_wire wire) (end_places plan work.edge.me) place (places_placed plan work.edge.me checked)) here
+    copied_kept plan Holds kept told came frame (wire_end plan work.edge.me wire) work (λ place. found_among (IsPlaced plan) (is_end_of_wire wire) (end_places plan work.edge.me) place (places_placed plan work.edge.me checked)) here
 copy_kept plan Holds kept checked told came frame (port.Spoke wire) true work planned here =
-    copied_kept plan Holds kept told came frame (wire_end plan work.edge.me wire) work (λ place. found_holds (IsPlaced plan) (is_end_of_wire wire) (end_places plan work.edge.me) place (places_placed plan work.edge.me checked)) here
+    copied_kept plan Holds kept told came frame (wire_end plan work.edge.me wire) work (λ place. found_among (IsPlaced plan) (is_end_of_wire wire) (end_places plan work.edge.me) place (places_placed plan work.edge.me checked)) here
 
 copies_kept : (plan : Plan) (Holds : Work → Type 0) → AreKept plan Holds → IsChecked plan → (told : Answers) (came : Arrival) (frame : List ℕ) (targets : ℕ → Bool) (p : ℕ) (ports : List Port) (work : Work)
     → ((q : ℕ) (c : CircuitId) → slice_get ports q ≡ Some (port.Circuit c) → c.0 < length plan.circuits)
@@ -305,11 +286,11 @@ mate_within plan [] me from to all is = absurd (cc (is))
 mate_within plan (last ∷ []) me from to all is = absurd (cc (is))
 mate_within plan (before ∷ last ∷ []) me from to all is = absurd (cc (is))
 mate_within plan (before ∷ point ∷ next ∷ rest) me from to all is =
-    let tail : list_all (is_edge_of plan) (point ∷ next ∷ rest) ≡ true = and_other (is_edge_of plan before) (list_all (is_edge_of plan) (point ∷ next ∷ rest)) all in
-    let further : list_all (is_edge_of plan) (next ∷ rest) ≡ true = and_other (is_edge_of plan point) (list_all (is_edge_of plan) (next ∷ rest)) tail in
+    let tail : list_all (is_edge_of plan) (point ∷ next ∷ rest) ≡ true = second_holds (is_edge_of plan before) (list_all (is_edge_of plan) (point ∷ next ∷ rest)) all in
+    let further : list_all (is_edge_of plan) (next ∷ rest) ≡ true = second_holds (is_edge_of plan point) (list_all (is_edge_of plan) (next ∷ rest)) tail in
     by (nat_eq me point.0 && nat_eq from before.0) (nat_eq me point.0 && nat_eq from next.0)
-    (below_edges plan next (and_one (is_edge_of plan next) (list_all (is_edge_of plan) rest) further))
-    (below_edges plan before (and_one (is_edge_of plan before) (list_all (is_edge_of plan) (point ∷ next ∷ rest)) all))
+    (below_edges plan next (first_holds (is_edge_of plan next) (list_all (is_edge_of plan) rest) further))
+    (below_edges plan before (first_holds (is_edge_of plan before) (list_all (is_edge_of plan) (point ∷ next ∷ rest)) all))
     (λ later. mate_within plan (point ∷ next ∷ rest) me from to tail later) is
   where
     same : (edge : EdgeId) → edge.0 < length plan.edges → Some edge ≡ Some to → to.0 < length plan.edges
@@ -351,7 +332,7 @@ owned_kept plan Holds kept checked told octets entry (Some place) work placed he
 -- the end that advertises a label is one of the plan
 advertiser_placed : (plan : Plan) (edge : EdgeState) (label : ℕ) → IsChecked plan → (place : EndPlace) → advertiser plan edge label ≡ Some place → IsPlaced plan place
 advertiser_placed plan edge label checked place =
-    found_holds (IsPlaced plan) (λ (p : EndPlace). advertises_label label (end_at edge p).local) (end_places plan edge.me) place (places_placed plan edge.me checked)
+    found_among (IsPlaced plan) (λ (p : EndPlace). advertises_label label (end_at edge p).local) (end_places plan edge.me) place (places_placed plan edge.me checked)
 
 labelled_kept : (plan : Plan) (Holds : Work → Type 0) → AreKept plan Holds → IsChecked plan → (told : Answers) (octets : List ℕ) (entry : StackEntry) (work : Work) → Holds work → Holds (labelled plan told octets entry work)
 labelled_kept plan Holds kept checked told octets entry work here = by (nat_lt entry.label least_label) where
@@ -406,7 +387,7 @@ asked_kept plan Holds kept told place row kind binding (Some from) None work pla
 asked_kept plan Holds kept told place row kind binding None to work placed here = kept.idle work here
 
 ping_kept : (plan : Plan) (Holds : Work → Type 0) → AreKept plan Holds → IsChecked plan → (told : Answers) (wire : WireId) (work : Work) → Holds work → Holds (ping_input plan told wire work)
-ping_kept plan Holds kept checked told wire work here = to (wire_end plan work.edge.me wire) (λ place. found_holds (IsPlaced plan) (is_end_of_wire wire) (end_places plan work.edge.me) place (places_placed plan work.edge.me checked)) where
+ping_kept plan Holds kept checked told wire work here = to (wire_end plan work.edge.me wire) (λ place. found_among (IsPlaced plan) (is_end_of_wire wire) (end_places plan work.edge.me) place (places_placed plan work.edge.me checked)) where
   picked : (place : EndPlace) → IsPlaced plan place → (row : WirePlan) (binding : Binding) (kind : Option Cc) → Holds (pings_in plan told place row binding kind work)
   picked place placed row binding None = kept.idle work here
   picked place placed row binding (Some kind) = asked_kept plan Holds kept told place row kind binding (edge_address plan work.edge.me) (far_address plan work.edge.me row) work placed here
@@ -631,9 +612,9 @@ told_at_kept : (plan : Plan) (Holds : Work → Type 0) → AreKept plan Holds �
 told_at_kept plan Holds kept checked told addresses x false work here = here
 told_at_kept plan Holds kept checked told addresses (port.Circuit c) true work here = here
 told_at_kept plan Holds kept checked told addresses (port.Mesh wire) true work here =
-    told_by_kept plan Holds kept told addresses (wire_end plan work.edge.me wire) work (λ place. found_holds (IsPlaced plan) (is_end_of_wire wire) (end_places plan work.edge.me) place (places_placed plan work.edge.me checked)) here
+    told_by_kept plan Holds kept told addresses (wire_end plan work.edge.me wire) work (λ place. found_among (IsPlaced plan) (is_end_of_wire wire) (end_places plan work.edge.me) place (places_placed plan work.edge.me checked)) here
 told_at_kept plan Holds kept checked told addresses (port.Spoke wire) true work here =
-    told_by_kept plan Holds kept told addresses (wire_end plan work.edge.me wire) work (λ place. found_holds (IsPlaced plan) (is_end_of_wire wire) (end_places plan work.edge.me) place (places_placed plan work.edge.me checked)) here
+    told_by_kept plan Holds kept told addresses (wire_end plan work.edge.me wire) work (λ place. found_among (IsPlaced plan) (is_end_of_wire wire) (end_places plan work.edge.me) place (places_placed plan work.edge.me checked)) here
 
 passed_kept : (plan : Plan) (Holds : Work → Type 0) → AreKept plan Holds → IsChecked plan → (told : Answers) (addresses : List Mac) (passed : ℕ → Bool) (p : ℕ) (ports : List Port) (work : Work) → Holds work
     → Holds (copies passed (tells_at plan told addresses) p ports work)
@@ -643,7 +624,7 @@ passed_kept plan Holds kept checked told addresses passed p (x ∷ ports) work h
 
 beyond_placed : (plan : Plan) (me : EdgeId) (wire : WireId) (mate : Option EdgeId) → IsChecked plan → (place : EndPlace) → end_beside plan me wire mate ≡ Some place → IsPlaced plan place
 beyond_placed plan me wire None checked place found = absurd (cc (found))
-beyond_placed plan me wire (Some peer) checked place found = found_holds (IsPlaced plan) (is_at wire.0 peer.0) (end_places plan me) place (places_placed plan me checked) found
+beyond_placed plan me wire (Some peer) checked place found = found_among (IsPlaced plan) (is_at wire.0 peer.0) (end_places plan me) place (places_placed plan me checked) found
 
 withdraw_kept : (plan : Plan) (Holds : Work → Type 0) → AreKept plan Holds → IsChecked plan → (told : Answers) (peer : EdgeId) (fec : Option PwFec) (macs : Option (List Mac)) (work : Work) → Holds work → Holds (hears_mac_withdraw plan told peer fec macs work)
 withdraw_kept plan Holds kept checked told peer None macs work here = here

@@ -21,6 +21,7 @@ use Rattle.provider_edge.specs.declared.end_marks.EndMarks.{EndMarks}
 use Rattle.provider_edge.specs.Invariant.{IsEdge}
 use Rattle.provider_edge.specs.Lists.{EdgeLists, Keeps, seen}
 use Rattle.provider_edge.specs.Tidy.{IsTidy}
+use Rattle.provider_edge.proofs.EdgeLemmas.{seen_marks}
 
 pub holds_forwarding : (c : EdgeLists) (f : ForwardingLists) → KeepsForwarding c.forwarding f → c.stopped ≡ true → IsEdge c → IsEdge (record c { forwarding = f; marks = None })
 holds_forwarding c f keeps working is = record {
@@ -84,16 +85,11 @@ pub seen_kept : (change : EdgeState → EdgeState) (c : EdgeLists) (f : Forwardi
 seen_kept change c f is keeps step =
     forwarding_now c f (keeps.me ∙ is.me) ∙ (step (seen c) ∙ ap change (forwarding_at c is.me))
 
--- what is seen of an edge is no matter of its marks
-pub seen_marked : (c : EdgeLists) (marks : Option EndMarks) → seen (record c { marks = marks }) ≡ seen c
-unfolding seen
-seen_marked c marks = refl
-
 -- a change after which the edge knows no marks
 pub seen_forwarding : (change : EdgeState → EdgeState) (c : EdgeLists) (f : ForwardingLists) → IsEdge c → KeepsForwarding c.forwarding f
     → ((edge : EdgeState) → with_forwarding f edge ≡ change (with_forwarding c.forwarding edge))
     → seen (record c { forwarding = f; marks = None }) ≡ change (seen c)
-seen_forwarding change c f is keeps step = seen_marked (record c { forwarding = f }) None ∙ seen_kept change c f is keeps step
+seen_forwarding change c f is keeps step = seen_marks (record c { forwarding = f }) None ∙ seen_kept change c f is keeps step
 
 -- what was learned at the port that is found is forgotten
 pub seen_forgot : (test : Port → Bool) (c : EdgeLists) (f : ForwardingLists) (service : ServiceId) → IsEdge c → KeepsForwarding c.forwarding f

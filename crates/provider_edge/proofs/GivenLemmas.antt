@@ -17,6 +17,7 @@ use Rattle.edge_model.specs.declared.end_place.EndPlace.{EndPlace}
 use Rattle.edge_model.specs.Labels.{keeps_lost, keeps_one, label_to_give, left_label, meeting, unless_kept}
 use Rattle.edge_model.specs.Signal.{with_end_changed}
 use Rattle.edge_model.specs.State.{EdgeState, end_at, with_end, with_kept}
+use Rattle.edge_model.proofs.ReleaseLemmas.{left_none}
 use Rattle.pw_ends.specs.Changes.{keeps_changed}
 use Rattle.provider_edge.specs.Changes.{KeepsLabels, changing}
 
@@ -88,10 +89,6 @@ none_is (Some label) after leaves is = absurd (cc (is))
 
 -- ---- changes by which no end leaves its label
 
-pub left_same : (own : Option ℕ) → left_label own own ≡ None
-left_same None = refl
-left_same (Some label) = refl
-
 pub keeps_withdrawn : KeepsLabels withdrawn
 keeps_withdrawn end = by end.local where
   by : (local : LocalPart) → left_label (own_label local) (own_label (withdrawn (record { local = local; remote = end.remote })).local) ≡ None
@@ -107,25 +104,25 @@ keeps_telling status end = by end.local where
   by (Withdrawing label) = refl
 
 pub keeps_bound : (binding : Binding) → KeepsLabels (bound binding)
-keeps_bound binding end = left_same (own_label end.local)
+keeps_bound binding end = left_none (own_label end.local)
 
 pub keeps_unbound : (label : Option ℕ) → KeepsLabels (unbound label)
-keeps_unbound label end = left_same (own_label end.local)
+keeps_unbound label end = left_none (own_label end.local)
 
 pub keeps_stated : (status : PwStatus) → KeepsLabels (stated status)
-keeps_stated status end = left_same (own_label end.local)
+keeps_stated status end = left_none (own_label end.local)
 
 pub keeps_group_unbound : (group : ℕ) → KeepsLabels (group_unbound group)
 keeps_group_unbound group end = by (is_in_group group end.remote) where
   by : (b : Bool) → left_label (own_label end.local) (own_label (cond b (unbound None end) end).local) ≡ None
-  by true = left_same (own_label end.local)
-  by false = left_same (own_label end.local)
+  by true = left_none (own_label end.local)
+  by false = left_none (own_label end.local)
 
 pub keeps_group_stated : (group : ℕ) (status : PwStatus) → KeepsLabels (group_stated group status)
 keeps_group_stated group status end = by (is_in_group group end.remote) where
   by : (b : Bool) → left_label (own_label end.local) (own_label (cond b (stated status end) end).local) ≡ None
-  by true = left_same (own_label end.local)
-  by false = left_same (own_label end.local)
+  by true = left_none (own_label end.local)
+  by false = left_none (own_label end.local)
 
 -- the kept numbers stay then
 pub changing_keeps : (change : EndState → EndState) (place : EndPlace) (edge : EdgeState) → KeepsLabels change → changing change place edge ≡ with_end_changed change (Some place) edge

@@ -1,6 +1,6 @@
 -- What a bridge learns by a port that forwards leaves an edge tidy: nothing is learned at a wire that does not forward.
 use Rattle.std.proofs.Common.{◌≡◌, ◌≤◌, ◌++◌, ◌∙◌, ◌&&◌, not, is_some, length, position, suc, ℕ, Bool, true, false, List, [], ◌∷◌, Option, Some, None, cond, filter, nat_eq, refl, ap, sym, subst, arith}
-use Rattle.std.proofs.lemmas.Bool.{and_parts, eqb-true}
+use Rattle.std.proofs.lemmas.Bool.{and_parts, eqb-true, and_from}
 use Rattle.std.specs.List.{list_all}
 use Rattle.std.specs.Prelude.{IfSome}
 use Rattle.net_base.specs.declared.plan.places.ServiceId.{ServiceId}
@@ -8,6 +8,7 @@ use Rattle.net_base.specs.declared.plan.wire_plan.WirePlan.{WirePlan}
 use Rattle.net_base.specs.plan.Places.{wire_row}
 use Rattle.net_values.specs.declared.mac.Mac.{Mac}
 use Rattle.net_values.specs.Mac.{is_group_address}
+use Rattle.net_values.proofs.RowLemmas.{holds_at}
 use Rattle.mac_table.specs.Addresses.{AddressTable, has_address, has_room, is_of, learned, replaced}
 use Rattle.mac_table.specs.declared.mac_entry.MacEntry.{MacEntry}
 use Rattle.hvpls_spokes.specs.Port.{is_wire_port, ports_of}
@@ -24,20 +25,15 @@ use Rattle.edge_model.specs.Settled.{IsForgotten}
 use Rattle.edge_model.specs.State.{EdgeState, addresses_of, with_addresses, without_port}
 use Rattle.edge_model.specs.Synced.{InSync, IsSynced}
 use Rattle.provider_edge.proofs.SyncLemmas.{wire_port_shut}
-use Rattle.provider_edge.proofs.ListLemmas.{in_list}
 use Rattle.provider_edge.proofs.TidyLemmas.{tidy_slots}
 use Rattle.provider_edge.specs.declared.end_marks.EndMarks.{EndMarks}
 use Rattle.provider_edge.specs.Invariant.{IsEdge}
 use Rattle.provider_edge.specs.Lists.{EdgeLists, seen}
 use Rattle.provider_edge.specs.Marks.{place_at}
 use Rattle.provider_edge.specs.Tidy.{IsTidy}
+use Rattle.provider_edge.proofs.EdgeLemmas.{me_of}
 
 -- ---- nothing is filtered out exactly where all pass
-
-both : (a b : Bool) → a ≡ true → b ≡ true → a && b ≡ true
-both true true one other = refl
-both true false one other = absurd (cc (other))
-both false b one other = absurd (cc (one))
 
 filter_short : {X : Type 0} (f : X → Bool) (xs : List X) → length (filter f xs) ≤ length xs
 filter_short {X = X} f [] = omega arith
@@ -73,14 +69,14 @@ replaced_all f entry (x ∷ xs) here all =
     by (is_of entry.address x) parts.0 parts.1 (replaced_all f entry xs here parts.1)
   where
     by : (b : Bool) → f x ≡ true → list_all f xs ≡ true → list_all f (replaced entry xs) ≡ true → list_all f (cond b (entry ∷ xs) (x ∷ replaced entry xs)) ≡ true
-    by true first rest more = both (f entry) (list_all f xs) here rest
-    by false first rest more = both (f x) (list_all f (replaced entry xs)) first more
+    by true first rest more = and_from (f entry) (list_all f xs) here rest
+    by false first rest more = and_from (f x) (list_all f (replaced entry xs)) first more
 
 added_all : (f : MacEntry → Bool) (entry : MacEntry) (xs : List MacEntry) → f entry ≡ true → list_all f xs ≡ true → list_all f (xs ++ entry ∷ []) ≡ true
-added_all f entry [] here all = both (f entry) true here refl
+added_all f entry [] here all = and_from (f entry) true here refl
 added_all f entry (x ∷ xs) here all =
     let parts = and_parts (f x) (list_all f xs) all in
-    both (f x) (list_all f (xs ++ entry ∷ [])) parts.0 (added_all f entry xs here parts.1)
+    and_from (f x) (list_all f (xs ++ entry ∷ [])) parts.0 (added_all f entry xs here parts.1)
 
 learned_all : (f : MacEntry → Bool) (table : AddressTable) (entry : MacEntry) → f entry ≡ true → list_all f table.entries ≡ true → list_all f (learned table entry) ≡ true
 learned_all f table entry here all = by (has_address table.entries entry.address) (has_room table) where
@@ -132,10 +128,6 @@ forgotten_still c service frame arrival place is on me synced gone = λ row term
       apart p false away shut = refl
       apart p true here shut = absurd (cc (sym on ∙ (ap (open_ports c.forwarding service) (eqb-true arrival p here) ∙ shut)))
 
-me_of : (c : EdgeLists) → (seen c).me ≡ c.me
-unfolding seen
-me_of c = refl
-
 pub tidy_heard : (c : EdgeLists) (service : ServiceId) (frame : List ℕ) (arrival : ℕ) (marks : Option EndMarks) → IsEdge c → InSync c.plan (seen c) → open_ports c.forwarding service arrival ≡ true
     → IfSome marks (IsTidy c.plan (seen c)) → IfSome marks (IsTidy c.plan (hearing service frame arrival (seen c)))
 unfolding with_addresses
@@ -145,7 +137,7 @@ tidy_heard c service frame arrival marks is synced on =
       mended = settled.mended;
       told = settled.told;
       forgotten = forgotten_still c service frame arrival (place_at (end_places c.plan (seen c).me) slot) is on (me_of c)
-          (in_list (IsSynced c.plan (seen c)) (end_places c.plan (seen c).me) slot no_place synced.each within) settled.forgotten;
+          (holds_at (IsSynced c.plan (seen c)) (end_places c.plan (seen c).me) slot no_place synced.each within) settled.forgotten;
       down = settled.down;
     })
     (λ service is. is)

@@ -68,7 +68,7 @@ happened_none told peer event taken edge now calls out read none took =
     ap (λ (e : EdgeState). record { edge = e; calls = calls; effects = out; idle = false }) (took ∙ put_same peer None edge (sym read ∙ none))
     ∙ ap (λ (x : Option Peering). happens_to told peer event x (record { edge = edge; calls = calls; effects = out; idle = false })) (sym none ∙ read)
 
-absent_is : (x : Option Peering) → is_there x ≡ false → None ≡ x
+pub absent_is : (x : Option Peering) → is_there x ≡ false → None ≡ x
 absent_is None absent = refl
 absent_is (Some kept) absent = absurd (cc (absent))
 

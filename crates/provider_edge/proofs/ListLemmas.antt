@@ -23,10 +23,11 @@ use Rattle.edge_model.specs.Labels.{keeping_all, keeps_lost, keeps_one, keeps_ow
 use Rattle.edge_model.specs.Session.{clears_ends, losing_ends}
 use Rattle.edge_model.specs.EndPlaces.{end_places, is_end_of_wire, is_of_wire}
 use Rattle.edge_model.specs.Mend.{advertising}
-use Rattle.edge_model.proofs.LocalLemmas.{and_left}
 use Rattle.edge_model.proofs.PlaceLemmas.{IsEndOf, places_are}
 use Rattle.std.specs.List.{AllByRecursion, list_any}
 use Rattle.std.proofs.lemmas.Option.{slice_get_within}
+use Rattle.net_values.proofs.BoolLemmas.{first_holds}
+use Rattle.net_values.proofs.RowLemmas.{replicate_length, same_read, holds_at}
 use Rattle.edge_model.specs.State.{Peering, EdgeState, empty_edge, end_at, first_label, first_ping, has_end, priority_in, put_at, with_bits, with_chosen, with_end, with_ends_beside, with_kept, with_peering, with_priority, with_renewed, with_wire, with_next_label, with_next_ping, without_ends, without_peerings}
 use Rattle.edge_model.specs.Work.{changes}
 use Rattle.edge_model.specs.Synced.{InSync}
@@ -37,7 +38,8 @@ use Rattle.edge_forwarding.specs.Forwarding.{ForwardingLists, IsNewForwarding, K
 use Rattle.peer_dialogue.specs.Peering.{at_edge, gone}
 use Rattle.edge_forwarding.specs.Views.{view}
 use Rattle.peer_dialogue.proofs.SpeakerLemmas.{put_same}
-use Rattle.edge_forwarding.proofs.Views.{past_end, same_read, view_at, view_set}
+use Rattle.edge_forwarding.proofs.Views.{past_end, view_at, view_set}
+use Rattle.edge_forwarding.proofs.ForwardingLemmas.{all_same}
 use Rattle.provider_edge.proofs.ForwardLemmas.{holds_forwarding, seen_forwarding}
 use Rattle.provider_edge.specs.declared.end_marks.EndMarks.{EndMarks}
 use Rattle.provider_edge.specs.Bounds.{HoldsFew}
@@ -296,15 +298,6 @@ cleared peer edge now calls out gone is =
 
 -- ---- before the first input
 
-all_same : {X : Type 0} (n k : ℕ) (x : X) → view x (replicate n x) k ≡ x
-all_same zero k x = refl
-all_same (suc n) zero x = refl
-all_same (suc n) (suc k) x = all_same n k x
-
-long_same : {X : Type 0} (n : ℕ) (x : X) → length (replicate n x) ≡ n
-long_same zero x = refl
-long_same (suc n) x = ap suc (long_same n x)
-
 -- the lists of a new edge
 pub record AreNewLists (plan : Plan) (me : EdgeId) (c : EdgeLists) : Type 0 where
   pub keeps : c.plan ≡ plan
@@ -379,15 +372,15 @@ is_new_edge plan me c are = record { plan_is = are.keeps; place_is = are.here; e
 pub holds_new : (plan : Plan) (me : EdgeId) (c : EdgeLists) → IsChecked plan → AreNewLists plan me c → IsEdge c
 holds_new plan me c checked are = record {
   checked = subst IsChecked (sym are.keeps) checked;
-  peerings = ap (λ (l : List (Option Peering)). length l) are.peerings ∙ (long_same (length plan.edges) None ∙ ap (λ (p : Plan). length p.edges) (sym are.keeps));
+  peerings = ap (λ (l : List (Option Peering)). length l) are.peerings ∙ (replicate_length (length plan.edges) None ∙ ap (λ (p : Plan). length p.edges) (sym are.keeps));
   held = subst (All HoldsFew) (sym are.peerings) (All-replicate HoldsFew (length plan.edges) None (omega arith));
   places = are.places ∙ (ap (λ (p : Plan). end_places p me) (sym are.keeps) ∙ ap (end_places c.plan) (sym are.here));
-  wires = ap (λ (l : List Bool). length l) are.wires ∙ (long_same (length plan.wires) true ∙ ap (λ (p : Plan). length p.wires) (sym are.keeps));
-  each_bits = ap (λ (l : List ℕ). length l) are.zeros ∙ (long_same (length plan.wires) 0 ∙ ap (λ (p : Plan). length p.wires) (sym are.keeps));
+  wires = ap (λ (l : List Bool). length l) are.wires ∙ (replicate_length (length plan.wires) true ∙ ap (λ (p : Plan). length p.wires) (sym are.keeps));
+  each_bits = ap (λ (l : List ℕ). length l) are.zeros ∙ (replicate_length (length plan.wires) 0 ∙ ap (λ (p : Plan). length p.wires) (sym are.keeps));
   spokes = subst (λ (p : Plan). AreSpokesOf p c.me c.spokes) (sym are.keeps) (subst (λ (m : EdgeId). AreSpokesOf plan m c.spokes) (sym are.here) are.spokes.are);
   plan = are.forwarding.keeps ∙ sym are.keeps;
   me = are.forwarding.here ∙ sym are.here;
-  each_ping = ap (λ (l : List ℕ). length l) are.ones ∙ (long_same (length plan.wires) 1 ∙ ap (λ (p : Plan). length p.wires) (sym are.keeps));
+  each_ping = ap (λ (l : List ℕ). length l) are.ones ∙ (replicate_length (length plan.wires) 1 ∙ ap (λ (p : Plan). length p.wires) (sym are.keeps));
   small = subst (All (λ bits. bits ≤ 31)) (sym are.zeros) (All-replicate (λ bits. bits ≤ 31) (length plan.wires) 0 (omega arith));
   priorities = ap (λ (l : List ℕ). length l) are.priorities ∙ (length-map plan.wires (λ (row : WirePlan). row.priority) ∙ ap (λ (p : Plan). length p.wires) (sym are.keeps));
   synced = λ going. subst (λ (p : Plan). InSync p (seen c)) (sym are.keeps) (subst (InSync plan) (sym (new_is plan me c are)) (synced_first plan me));
@@ -466,14 +459,9 @@ advertised_some c ends place told (Some label) same is next kept are = (is, λ i
 
 -- ---- where the ends are
 
-pub in_list : {X : Type 0} (P : X → Type 0) (xs : List X) (k : ℕ) (d : X) → AllByRecursion P xs → k < length xs → P (slice_index_or xs k d)
-in_list P [] k d all within = absurd (omega arith)
-in_list P (x ∷ xs) zero d all within = all.0
-in_list P (x ∷ xs) (suc k) d all within = in_list P xs k d all.1 (omega arith)
-
 pub slot_placed : (c : EdgeLists) (slot : ℕ) → IsEdge c → slot < length c.ends.places → IsEndOf c.plan c.me (place_of c.ends slot)
 slot_placed c slot is within =
-    in_list (IsEndOf c.plan c.me) c.ends.places slot no_place (subst (AllByRecursion (IsEndOf c.plan c.me)) (sym is.places) (places_are c.plan c.me)) within
+    holds_at (IsEndOf c.plan c.me) c.ends.places slot no_place (subst (AllByRecursion (IsEndOf c.plan c.me)) (sym is.places) (places_are c.plan c.me)) within
 
 pub slot_wire : (c : EdgeLists) (slot : ℕ) → IsEdge c → slot < length c.ends.places → (place_of c.ends slot).wire.0 < length c.plan.wires
 slot_wire c slot is within =
@@ -493,7 +481,7 @@ passes_within plan me wire any = found_within plan me wire (is_of_wire wire) (en
 
 pub ends_within : (plan : Plan) (me : EdgeId) (wire : WireId) → list_any (is_end_of_wire wire) (end_places plan me) ≡ true → wire.0 < length plan.wires
 ends_within plan me wire any =
-    found_within plan me wire (is_end_of_wire wire) (end_places plan me) (λ place same. eqb-true place.wire.0 wire.0 (and_left (nat_eq place.wire.0 wire.0) place.terminal same)) (places_are plan me) any
+    found_within plan me wire (is_end_of_wire wire) (end_places plan me) (λ place same. eqb-true place.wire.0 wire.0 (first_holds (nat_eq place.wire.0 wire.0) place.terminal same)) (places_are plan me) any
 
 -- ---- what no input changes
 

@@ -30,12 +30,9 @@ use Rattle.provider_edge.proofs.TidyLemmas.{tidy_happened}
 use Rattle.provider_edge.proofs.ListLemmas.{keeps_same}
 use Rattle.provider_edge.proofs.MendLemmas.{settled_downs, settles_downs}
 use Rattle.provider_edge.proofs.SettledLemmas.{AreFreshElse, IsBeside, IsBesides, beside_cleared, beside_ends, beside_happened, beside_peering, beside_then, besides_advertising, ends_back, ends_front, fresh_else, fresh_peering, settles_back, settles_front, statuses_back, statuses_front, tidy_beside, tidy_besides, tidy_chosen, tidy_wider}
+use Rattle.provider_edge.proofs.EdgeLemmas.{me_of}
 
 -- ---- the edge is tidy but for the ends that have marks besides
-
-seen_me : (c : EdgeLists) → (seen c).me ≡ c.me
-unfolding seen
-seen_me c = refl
 
 pub wire_tidy : (v c : EdgeLists) (wire : ℕ) (after : Option EndMarks) → v ≡ c → IsEdge v → Marked (MarksWire c.ends.places wire) c.marks after → IfSome after (IsTidyBesides c.plan (seen c) wire)
 wire_tidy v c wire after is holds marked =
@@ -48,7 +45,7 @@ wire_tidy v c wire after is holds marked =
     by (Some b) None tidy marked = tt
     by (Some b) (Some a) tidy marked = record {
       tidy = tidy_wider c.plan (seen c) b a tidy marked.0;
-      marked = subst (λ (k : EdgeId). MarksWire (end_places c.plan k) wire a) (sym (seen_me c)) marked.1;
+      marked = subst (λ (k : EdgeId). MarksWire (end_places c.plan k) wire a) (sym (me_of c)) marked.1;
     }
 
 pub each_tidy : (v c : EdgeLists) (test : EndPlace → Bool) (after : Option EndMarks) → v ≡ c → IsEdge v → Marked (MarksEach c.ends.places test) c.marks after → IfSome after (IsTidyApart c.plan (seen c) test)
@@ -62,7 +59,7 @@ each_tidy v c test after is holds marked =
     by (Some b) None tidy marked = tt
     by (Some b) (Some a) tidy marked = record {
       tidy = tidy_wider c.plan (seen c) b a tidy marked.0;
-      marked = subst (λ (k : EdgeId). MarksEach (end_places c.plan k) test a) (sym (seen_me c)) marked.1;
+      marked = subst (λ (k : EdgeId). MarksEach (end_places c.plan k) test a) (sym (me_of c)) marked.1;
     }
 
 -- ---- a change at one wire

@@ -1,8 +1,8 @@
 -- An edge mends its ends, step by step.
 use Rattle.std.proofs.Common.{◌≡◌, ◌<◌, ◌≤◌, ◌+◌, ◌-◌, ◌==◌, ◌||◌, ◌&&◌, ◌∙◌, ℕ, zero, suc, Bool, true, false, List, [], ◌∷◌, Option, Some, None, cond, is_some, not, length, drop, slice_index_or, refl, ap, sym, subst, arith}
-use Rattle.std.specs.List.{All, slice_get}
-use Rattle.std.proofs.lemmas.List.Elements.{All-get_or}
-use Rattle.std.proofs.lemmas.Option.{get_or_from_slice_get, slice_get_within}
+use Rattle.std.proofs.lemmas.Bool.{not-true, not-false}
+use Rattle.net_values.proofs.BoolLemmas.{or_false}
+use Rattle.net_values.proofs.RowLemmas.{row_holds}
 use Rattle.net_base.specs.declared.outside.link_call.LinkCall.{LinkCall}
 use Rattle.net_base.specs.declared.plan.Plan.{Plan}
 use Rattle.net_base.specs.declared.plan.offer.Offer.{Offer}
@@ -280,7 +280,7 @@ within_kept c now i keeps below = subst (λ (l : List EndPlace). i < length l) (
 
 -- ---- one end
 
-local_at : (c : EdgeLists) (calls : List LinkCall) (out : List Effect) (slot : ℕ) → end_at (at_edge (seen c) calls out).edge (place_of c.ends slot) ≡ end_in c.ends slot
+pub local_at : (c : EdgeLists) (calls : List LinkCall) (out : List Effect) (slot : ℕ) → end_at (at_edge (seen c) calls out).edge (place_of c.ends slot) ≡ end_in c.ends slot
 unfolding seen at_edge
 local_at c calls out slot = refl
 
@@ -335,19 +335,10 @@ local_is c calls out slot read end is so = ap (λ (e : EndState). e.local) (loca
 
 -- ---- a wire that began to forward, or stopped
 
--- what was learned at a wire whose terminal end does not forward is forgotten
-not_terminal : (b : Bool) → not b ≡ true → b ≡ false
-not_terminal false is = refl
-not_terminal true is = absurd (cc (is))
-
-is_terminal_end : (b : Bool) → not b ≡ false → b ≡ true
-is_terminal_end true is = refl
-is_terminal_end false is = absurd (cc (is))
-
 pub settled_other : (plan : Plan) (place at : EndPlace) (edge : EdgeState) (calls : List LinkCall) (out : List Effect) → at ≡ place → not at.terminal ≡ true
     → at_edge edge calls out ≡ mended_down plan place (forgotten_down plan place (at_edge edge calls out))
 unfolding at_edge
-settled_other plan place at edge calls out is other = sym (by place.terminal (ap (λ (p : EndPlace). p.terminal) (sym is) ∙ not_terminal at.terminal other)) where
+settled_other plan place at edge calls out is other = sym (by place.terminal (ap (λ (p : EndPlace). p.terminal) (sym is) ∙ not-true at.terminal other)) where
   start : Work
   start = record { edge = edge; calls = calls; effects = out; idle = false }
 
@@ -368,7 +359,7 @@ settled_down plan place at down edge mid calls out told is own why forgets tells
     ∙ (ap (tells_down place down) (ap (λ (e : EdgeState). record { edge = e; calls = calls; effects = out; idle = false }) forgets ∙ (ap (λ (p : EndPlace). forgot down p) is ∙ forgot_is down))
     ∙ (ap (λ (d : Option Down). tells_down place d (forgets_down plan place down start)) (why ∙ sym (forgets_alike plan place place down start).0)
     ∙ (ap (λ (d : Option Down). tells_down place (down_at plan (forgets_down plan place d start).edge place) (forgets_down plan place d start)) why
-    ∙ sym (by place.terminal (ap (λ (p : EndPlace). p.terminal) (sym is) ∙ is_terminal_end at.terminal own)))))
+    ∙ sym (by place.terminal (ap (λ (p : EndPlace). p.terminal) (sym is) ∙ not-false at.terminal own)))))
   where
     start : Work
     start = record { edge = edge; calls = calls; effects = out; idle = false }
@@ -418,10 +409,6 @@ no_new_choice chosen wire (Some row) = by (is_chosen_wire wire (chosen row.servi
 choices_not : (plan : Plan) (told : Answers) (places : List EndPlace) (m : Spoken) → each_end (mends_choice plan told m.work.edge.chosen) places m ≡ m
 choices_not plan told [] m = refl
 choices_not plan told (place ∷ places) m = ap (each_end (mends_choice plan told m.work.edge.chosen) places) one ∙ choices_not plan told places m where
-  or_false : (b : Bool) → b || false ≡ b
-  or_false true = refl
-  or_false false = refl
-
   one : and_says m (mends_choice plan told m.work.edge.chosen place) ≡ m
   one =
       ap (λ (b : Bool). record { work = (cond b (tells_piece told place [] m.work) (stays m.work)).work; failed = m.failed || (cond b (tells_piece told place [] m.work) (stays m.work)).failed })
@@ -437,9 +424,6 @@ same_choices plan told before places edge calls out failed same =
     sym (ap (λ (b : ℕ → Option WireId). each_end (mends_choice plan told b) places m) same ∙ choices_not plan told places m)
 
 -- ---- what an end should tell
-
-row_holds : {A : Type 0} (P : A → Type 0) (rows : List A) (place : ℕ) (row : A) → slice_get rows place ≡ Some row → All P rows → P row
-row_holds P rows place row is all = subst P (get_or_from_slice_get rows place row row is) (All-get_or P rows place row (slice_get_within rows place row is) all)
 
 pub offer_holds : (plan : Plan) (wire : WireId) (row : WirePlan) (me : ℕ) → IsChecked plan → wire_row plan wire ≡ Some row → IsOffer (offer_of row me)
 offer_holds plan wire row me checked is = of (is_first me row.path) where

@@ -1,7 +1,9 @@
 -- An edge is joined with those that its ends are beside.
 use Rattle.std.proofs.Common.{◌≡◌, ◌∙◌, ◌+◌, ◌++◌, ◌||◌, ◌&&◌, ℕ, Bool, true, false, List, [], ◌∷◌, cond, nat_eq, refl, ap, sym}
-use Rattle.std.proofs.lemmas.Bool.{eq-eqb, eqb-true}
+use Rattle.std.proofs.lemmas.Bool.{eqb-true}
 use Rattle.std.specs.List.{list_any}
+use Rattle.net_values.proofs.BoolLemmas.{or_assoc}
+use Rattle.net_values.proofs.NumberLemmas.{equal_turned}
 use Rattle.net_base.specs.declared.plan.Plan.{Plan}
 use Rattle.net_base.specs.declared.plan.places.EdgeId.{EdgeId}
 use Rattle.net_base.specs.declared.plan.places.WireId.{WireId}
@@ -11,27 +13,15 @@ use Rattle.edge_model.specs.declared.end_place.EndPlace.{EndPlace}
 use Rattle.edge_model.specs.EndPlaces.{end_place_at, end_places, places_along, places_at, places_from}
 use Rattle.provider_edge.specs.EndOf.{is_beside}
 
-or_assoc : (a b c : Bool) → (a || b) || c ≡ a || (b || c)
-or_assoc true b c = refl
-or_assoc false b c = refl
-
 any_append : {X : Type 0} (f : X → Bool) (xs ys : List X) → list_any f (xs ++ ys) ≡ list_any f xs || list_any f ys
 any_append {X = X} f [] ys = refl
 any_append {X = X} f (x ∷ xs) ys = ap (λ (b : Bool). f x || b) (any_append f xs ys) ∙ sym (or_assoc (f x) (list_any f xs) (list_any f ys))
-
-eq_comm : (a b : ℕ) → nat_eq a b ≡ nat_eq b a
-eq_comm a b = by (nat_eq a b) (nat_eq b a) refl refl where
-  by : (x y : Bool) → nat_eq a b ≡ x → nat_eq b a ≡ y → x ≡ y
-  by true true one other = refl
-  by false false one other = refl
-  by true false one other = sym (eq-eqb b a (sym (eqb-true a b one))) ∙ other
-  by false true one other = sym one ∙ eq-eqb a b (sym (eqb-true b a other))
 
 -- the ends at a segment
 at_segment : (wire : WireId) (row : WirePlan) (me : EdgeId) (peer segment : ℕ) (first next : EdgeId)
     → list_any (is_beside peer) (places_at wire row me segment first next) ≡ (nat_eq me.0 first.0 && nat_eq peer next.0) || (nat_eq peer first.0 && nat_eq me.0 next.0)
 at_segment wire row me peer segment first next =
-    by (nat_eq me.0 first.0) (nat_eq me.0 next.0) (nat_eq peer first.0) (nat_eq peer next.0) (eq_comm first.0 peer) (eq_comm next.0 peer) refl refl refl refl
+    by (nat_eq me.0 first.0) (nat_eq me.0 next.0) (nat_eq peer first.0) (nat_eq peer next.0) (equal_turned first.0 peer) (equal_turned next.0 peer) refl refl refl refl
   where
     beside_next : List EndPlace
     beside_next = end_place_at wire row me segment 0 next ∷ []

@@ -2,6 +2,7 @@
 use Rattle.std.proofs.Common.{Bor, option_copied, ◌&&◌, ◌≡◌, ◌<◌, ◌≤◌, ◌++◌, ◌∷◌, ◌∙◌, ◌==◌, [], ℕ, zero, suc, Bool, true, false, cond, not, nat_lt, is_some, List, Option, Some, None, Result, Ok, Err, length, option_map, position, slice_get, refl, ap, sym, subst, arith}
 use Rattle.std.specs.List.{find}
 use Rattle.std.proofs.lemmas.Bool.Decides.{nat_tests}
+use Rattle.std.proofs.lemmas.Bool.{not-true, not-false}
 use Rattle.net_base.specs.declared.outside.link_call.LinkCall.{LinkCall}
 use Rattle.net_base.specs.declared.plan.Plan.{Plan}
 use Rattle.net_base.specs.declared.plan.offer.Offer.{Offer}
@@ -31,21 +32,15 @@ use Rattle.edge_model.specs.Role.{down_at}
 use Rattle.edge_model.specs.Send.{drops}
 use Rattle.edge_model.specs.State.{EdgeState, end_at}
 use Rattle.edge_model.specs.Work.{Work, gives}
+use Rattle.edge_model.proofs.CommonLemmas.{up_not}
 use Rattle.pw_ends.specs.Ends.{end_in, end_there, place_of}
 use Rattle.peer_dialogue.specs.Peering.{at_edge}
 use Rattle.provider_edge.proofs.BridgeLemmas.{dropped_at}
 use Rattle.provider_edge.specs.Lists.{EdgeLists, seen}
 use Rattle.provider_edge.specs.Pings.{channel_by, verified_by}
+use Rattle.provider_edge.proofs.MendLemmas.{me_at}
 use Rattle.vccv_channel.specs.declared.cc.Cc.{Cc}
 use Rattle.vccv_channel.specs.declared.cc.Cc.TheVariants.{Alert, Expiry, Header}
-
-pub not_false : (b : Bool) → not b ≡ false → b ≡ true
-not_false true is = refl
-not_false false is = absurd (cc (is))
-
-pub not_true : (b : Bool) → not b ≡ true → b ≡ false
-not_true false is = refl
-not_true true is = absurd (cc (is))
 
 -- ---- the first entry
 
@@ -105,7 +100,7 @@ pub alerts_between : (plan : Plan) (told : Answers) (payload : List ℕ) (place 
 alerts_between plan told payload place at edge calls out given is other gave =
     let work : Work = at_edge edge calls out in
     dropped_at cause.NoLabel edge calls out given gave
-    ∙ sym (ap (λ (b : Bool). cond b (alerts_by told place (wire_row plan place.wire) (end_at work.edge place).remote payload work) (drops cause.NoLabel work)) (ap (λ (p : EndPlace). p.terminal) (sym is) ∙ not_true at.terminal other))
+    ∙ sym (ap (λ (b : Bool). cond b (alerts_by told place (wire_row plan place.wire) (end_at work.edge place).remote payload work) (drops cause.NoLabel work)) (ap (λ (p : EndPlace). p.terminal) (sym is) ∙ not-true at.terminal other))
 
 verified_as : (told : Answers) (place : EndPlace) (row : WirePlan) (remote : Option Binding) (payload : List ℕ) (work : Work) → verified_by told place row Alert remote payload work ≡ alerts_by told place (Some row) remote payload work
 verified_as told place row None payload work = refl
@@ -131,7 +126,7 @@ alerts_terminal c told slot at payload calls out x is within terminal same =
     ∙ (verified_as told place row (end_in c.ends slot).remote payload work
     ∙ (ap (λ (r : Option WirePlan). alerts_by told place r (end_in c.ends slot).remote payload work) (sym here)
     ∙ (ap (λ (r : Option Binding). alerts_by told place (wire_row c.plan place.wire) r payload work) (sym (remote_in c calls out slot))
-    ∙ sym (ap (λ (b : Bool). cond b (alerts_by told place (wire_row c.plan place.wire) (end_at work.edge place).remote payload work) (drops cause.NoLabel work)) (ap (λ (p : EndPlace). p.terminal) (sym is) ∙ not_false at.terminal terminal)))))
+    ∙ sym (ap (λ (b : Bool). cond b (alerts_by told place (wire_row c.plan place.wire) (end_at work.edge place).remote payload work) (drops cause.NoLabel work)) (ap (λ (p : EndPlace). p.terminal) (sym is) ∙ not-false at.terminal terminal)))))
 
 -- ---- whose label it is
 
@@ -180,7 +175,7 @@ pub owned_between : (plan : Plan) (told : Answers) (octets : List ℕ) (entry : 
     → x ≡ owned plan told octets entry (Some place) work
 owned_between plan told octets entry place at work x is other same =
     same
-    ∙ sym (ap (λ (b : Bool). cond b (terminated plan told place entry.ttl (wire_row plan place.wire) (end_at work.edge place).remote (behind_entry octets) work) (switched plan told octets entry place work)) (ap (λ (p : EndPlace). p.terminal) (sym is) ∙ not_true at.terminal other))
+    ∙ sym (ap (λ (b : Bool). cond b (terminated plan told place entry.ttl (wire_row plan place.wire) (end_at work.edge place).remote (behind_entry octets) work) (switched plan told octets entry place work)) (ap (λ (p : EndPlace). p.terminal) (sym is) ∙ not-true at.terminal other))
 
 pub owned_terminal : (c : EdgeLists) (told : Answers) (octets behind : List ℕ) (entry : StackEntry) (slot : ℕ) (at : EndPlace) (calls : List LinkCall) (out : List Effect) (x : Work) → at ≡ place_of c.ends slot → not at.terminal ≡ false → behind ≡ behind_entry octets
     → x ≡ terminated c.plan told (place_of c.ends slot) entry.ttl (wire_row c.plan (place_of c.ends slot).wire) (end_in c.ends slot).remote behind (at_edge (seen c) calls out)
@@ -191,17 +186,13 @@ owned_terminal c told octets behind entry slot at calls out x is terminal front 
     same
     ∙ (ap (λ (l : List ℕ). terminated c.plan told place entry.ttl (wire_row c.plan place.wire) (end_in c.ends slot).remote l work) front
     ∙ (ap (λ (r : Option Binding). terminated c.plan told place entry.ttl (wire_row c.plan place.wire) r (behind_entry octets) work) (sym (remote_in c calls out slot))
-    ∙ sym (ap (λ (b : Bool). cond b (terminated c.plan told place entry.ttl (wire_row c.plan place.wire) (end_at work.edge place).remote (behind_entry octets) work) (switched c.plan told octets entry place work)) (ap (λ (p : EndPlace). p.terminal) (sym is) ∙ not_false at.terminal terminal))))
+    ∙ sym (ap (λ (b : Bool). cond b (terminated c.plan told place entry.ttl (wire_row c.plan place.wire) (end_at work.edge place).remote (behind_entry octets) work) (switched c.plan told octets entry place work)) (ap (λ (p : EndPlace). p.terminal) (sym is) ∙ not-false at.terminal terminal))))
 
 -- ---- a terminal end
 
 none_of : {X : Type 0} (o : Option X) → is_some o ≡ false → o ≡ None
 none_of None is = refl
 none_of (Some x) is = absurd (cc (is))
-
-pub me_of : (c : EdgeLists) (calls : List LinkCall) (out : List Effect) → (at_edge (seen c) calls out).edge.me ≡ c.me
-unfolding seen at_edge
-me_of c calls out = refl
 
 -- whether an end that was read holds a binding
 pub bound_read : (read : Option (Bor Binding)) (none : Bool) (remote : Option Binding) → is_some read ≡ not none → option_copied read ≡ remote → not none ≡ is_some remote
@@ -237,7 +228,7 @@ by_row c told slot ttl bound offer payload calls out x within is here offers sam
     let (binding, held) = some_there (end_in c.ends slot).remote (sym is ∙ here) in
     same row binding at held
     ∙ (ap (λ (o : Offer). by_offer c.plan told row place binding ttl o.cword payload work) (offers row at)
-    ∙ (ap (λ (m : EdgeId). by_offer c.plan told row place binding ttl (offer_of row m.0).cword payload work) (sym (me_of c calls out))
+    ∙ (ap (λ (m : EdgeId). by_offer c.plan told row place binding ttl (offer_of row m.0).cword payload work) (sym (me_at c calls out))
     ∙ (ap (λ (r : Option Binding). terminated c.plan told place ttl (Some row) r payload work) (sym held)
     ∙ ap (λ (r : Option WirePlan). terminated c.plan told place ttl r (end_in c.ends slot).remote payload work) (sym at))))
 
@@ -253,7 +244,7 @@ without_word plan told row place binding ttl cword payload work x plain is = is 
 expired : (c : EdgeLists) (row : WirePlan) (binding : Binding) (remote : Option Binding) (ttl : ℕ) (channel : Option Cc) (calls : List LinkCall) (out : List Effect) → channel ≡ channel_by row c.me remote → remote ≡ Some binding
     → (ttl == 1 && is_picked Expiry (channel_under row (at_edge (seen c) calls out).edge.me binding)) ≡ (ttl == 1 && is_picked Expiry channel)
 expired c row binding remote ttl channel calls out is held =
-    ap (λ (m : EdgeId). ttl == 1 && is_picked Expiry (channel_under row m binding)) (me_of c calls out)
+    ap (λ (m : EdgeId). ttl == 1 && is_picked Expiry (channel_under row m binding)) (me_at c calls out)
     ∙ ap (λ (k : Option Cc). ttl == 1 && is_picked Expiry k) (sym (is ∙ ap (channel_by row c.me) held))
 
 pub ttl_ends : (c : EdgeLists) (told : Answers) (row : WirePlan) (place : EndPlace) (binding : Binding) (remote : Option Binding) (ttl : ℕ) (channel : Option Cc) (payload : List ℕ) (calls : List LinkCall) (out : List Effect) (x : Work)
@@ -294,10 +285,6 @@ word_frame plan told row place binding payload work x some plain is =
     ∙ ap (λ (b : Bool). cond b (verifies_in told place row Header binding payload work) (enters plan told row place payload work)) plain)
 
 -- ---- a frame comes by a wire
-
-up_not : (down : Option Down) → is_some down ≡ true → is_up down ≡ false
-up_not None is = absurd (cc (is))
-up_not (Some why) is = refl
 
 pub up_at : (down : Option Down) → is_some down ≡ false → is_up down ≡ true
 up_at None is = refl

@@ -1,9 +1,9 @@
 -- The sequence numbers of an edge's next pings.
 use Rattle.edge_forwarding.proofs.EachLemmas.{each_next}
-use Rattle.edge_forwarding.proofs.Views.{same_read}
 use Rattle.provider_edge.specs.Pings.{unpinged}
 use Rattle.std.proofs.Math.Seq.{take-append_seam}
 use Rattle.std.proofs.Common.{List, ap, drop, length, map, refl, slice_index_or, slice_set, take, ℕ, ◌++◌, ◌+◌, ◌<◌, ◌∙◌, ◌≡◌}
+use Rattle.net_values.proofs.RowLemmas.{same_read}
 
 -- one more wire counts as not pinged
 pub unpinged_next : (xs now : List ℕ) (i : ℕ) → now ≡ map unpinged (take i xs) ++ drop i xs → i < length now → slice_set now i 1 ≡ map unpinged (take (i + 1) xs) ++ drop (i + 1) xs

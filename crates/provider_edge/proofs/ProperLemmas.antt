@@ -1,11 +1,11 @@
 -- The two ends of a session of an edge are proper.
 use Rattle.std.proofs.Common.{◌≡◌, ◌||◌, ◌∙◌, ℕ, suc, Bool, true, false, List, [], ◌∷◌, Option, Some, None, slice_get, slice_index_or, nat_eq, refl, sym, subst, inl, inr, arith}
 use Rattle.std.proofs.lemmas.Bool.{cases_order, eq-eqb}
-use Rattle.std.proofs.lemmas.Bool.Decides.{nat_tests}
 use Rattle.std.proofs.lemmas.Option.{slice_get_within, get_or_from_slice_get}
 use Rattle.std.specs.List.{list_any}
 use Rattle.std.specs.Prelude.{All}
 use Rattle.std.specs.Str.{bytes_eq}
+use Rattle.net_values.proofs.RowLemmas.{bytes_eq-sym}
 use Rattle.net_base.specs.declared.plan.Plan.{Plan}
 use Rattle.net_base.specs.declared.plan.edge_plan.EdgePlan.{EdgePlan}
 use Rattle.net_base.specs.declared.plan.wire_plan.WirePlan.{WirePlan}
@@ -24,12 +24,6 @@ joined_apart plan (x ∷ rows) a b all joined = by (joins a b x.path) refl joine
   by true here any rest = joins_apart x.path a b ((all 0 x (omega arith)).once) here
   by false here any rest = rest any
 
-bytes_turned : (xs ys : List ℕ) → bytes_eq xs ys ≡ bytes_eq ys xs
-bytes_turned [] [] = refl
-bytes_turned [] (y ∷ ys) = refl
-bytes_turned (x ∷ xs) [] = refl
-bytes_turned (x ∷ xs) (y ∷ ys) = grind (arith, nat_tests, bytes_turned xs ys)
-
 row_at : (rows : List EdgePlan) (k : ℕ) (row : EdgePlan) (d : EdgePlan) → slice_get rows k ≡ Some row → slice_index_or rows k d ≡ row
 row_at rows k row d is = get_or_from_slice_get rows k row d is
 
@@ -43,7 +37,7 @@ proper_between plan me peer found peers checked joined is some = by (slice_get p
           subst (λ (e : EdgePlan). bytes_eq own.address.0 e.address.0 ≡ false) (row_at plan.edges peer other own there)
           (subst (λ (e : EdgePlan). bytes_eq e.address.0 (slice_index_or plan.edges peer own).address.0 ≡ false) (row_at plan.edges me own own at) (checked.addresses me peer own less (slice_get_within plan.edges peer other there)))
       | inr more ↦
-          bytes_turned own.address.0 other.address.0
+          bytes_eq-sym own.address.0 other.address.0
           ∙ subst (λ (e : EdgePlan). bytes_eq other.address.0 e.address.0 ≡ false) (row_at plan.edges me own own at)
           (subst (λ (e : EdgePlan). bytes_eq e.address.0 (slice_index_or plan.edges me own).address.0 ≡ false) (row_at plan.edges peer other own there) (checked.addresses peer me own more (slice_get_within plan.edges me own at)))
     ]

@@ -2,6 +2,8 @@
 use Rattle.std.proofs.Common.{◌≡◌, ◌≢◌, ◌<◌, ◌≤◌, ◌∙◌, ◌||◌, ◌&&◌, not, is_some, length, drop, map, position, option_and_then, option_map, slice_get, ℕ, zero, suc, Bool, true, false, List, [], ◌∷◌, Option, Some, None, IfSome, cond, filter, nat_eq, refl, ap, sym, subst, inl, inr, arith}
 use Rattle.std.proofs.lemmas.Bool.{cases_Bool, eq-eqb, eqb-true}
 use Rattle.std.specs.List.{AllByRecursion}
+use Rattle.net_values.proofs.BoolLemmas.{or_false}
+use Rattle.net_values.proofs.NumberLemmas.{apart_test}
 use Rattle.net_base.specs.declared.outside.link_call.LinkCall.{LinkCall}
 use Rattle.net_base.specs.declared.plan.Plan.{Plan}
 use Rattle.net_base.specs.declared.plan.places.EdgeId.{EdgeId}
@@ -24,7 +26,7 @@ use Rattle.pw_signalling.specs.declared.end_role.EndRole.{EndRole}
 use Rattle.pw_signalling.specs.declared.end_role.EndRole.TheVariants as role
 use Rattle.pw_signalling.specs.declared.told.Told.{Told}
 use Rattle.pw_signalling.specs.Down.{down}
-use Rattle.pw_signalling.specs.End.{EndState, LocalPart, Idle, Advertised, Withdrawing, fresh}
+use Rattle.pw_signalling.specs.End.{EndState, fresh}
 use Rattle.pw_signalling.specs.Laws.{own_label}
 use Rattle.pw_signalling.specs.Rows.{advertised, lost, renewed}
 use Rattle.pw_stitch.specs.Passing.{passed_status}
@@ -44,8 +46,9 @@ use Rattle.edge_model.specs.Settled.{IsForgotten, IsSettled, is_down_told, is_me
 use Rattle.edge_model.specs.Spokes.{choice, is_spoke_row, spoke_at, spoke_places}
 use Rattle.edge_model.specs.State.{EdgeState, Peering, addresses_of, end_at, has_end, put_at, with_bits, with_chosen, with_end, with_ends_beside, with_kept, with_next_label, with_peering, with_priority, with_renewed, with_told_down, with_wire, without_port}
 use Rattle.edge_model.specs.Work.{Work, changes}
-use Rattle.edge_model.proofs.MendedLemmas.{IsMended, forgets_down_not, mends_end_not, mends_not, mends_status_not, tells_down_not}
+use Rattle.edge_model.proofs.MendedLemmas.{IsMended, forgets_down_not, mends_end_not, mends_not, mends_status_not, tells_down_not, fewer}
 use Rattle.edge_model.proofs.PlaceLemmas.{IsEndOf, places_are}
+use Rattle.edge_model.proofs.CommonLemmas.{put_away}
 use Rattle.pw_ends.specs.Ends.{place_of, seen_ends}
 use Rattle.pw_ends.proofs.BesideLemmas.{beside_none, beside_peer, beside_place, beside_within}
 use Rattle.peer_dialogue.specs.Peering.{at_edge}
@@ -75,15 +78,6 @@ pub record SeesAlike (plan : Plan) (place : EndPlace) (old new : EdgeState) : Ty
   -- where no label is left none is then, and addresses that are gone are so then
   pub labels : label_to_give old ≡ None → label_to_give new ≡ None
   pub learned : (port : Option ℕ) (service : ℕ) → without_port port (old.learned service) ≡ old.learned service → without_port port (new.learned service) ≡ new.learned service
-
--- fewer labels are left
-pub fewer_left : (place : EndPlace) (wished : Option Told) (none_left then_none : Bool) (local : LocalPart) → (none_left ≡ true → then_none ≡ true) → tells_wish place wished none_left local ≡ true
-    → tells_wish place wished then_none local ≡ true
-fewer_left place wished none_left then_none (Idle true) left is = refl
-fewer_left place None none_left then_none (Idle false) left is = refl
-fewer_left place (Some content) none_left then_none (Idle false) left is = left is
-fewer_left place wished none_left then_none (Advertised label content) left is = is
-fewer_left place wished none_left then_none (Withdrawing label) left is = refl
 
 module _ (plan : Plan) (place : EndPlace) (old new : EdgeState) (alike : SeesAlike plan place old new) where
   held_alike : held_of new place.wire ≡ held_of old place.wire
@@ -135,7 +129,7 @@ module _ (plan : Plan) (place : EndPlace) (old new : EdgeState) (alike : SeesAli
   mended_alike is =
       ap (λ (o : Option Told). tells_wish place o (not (is_some (label_to_give new))) (end_at new place).local) wish_alike
       ∙ (ap (λ (e : EndState). tells_wish place (wish plan old place) (not (is_some (label_to_give new))) e.local) alike.end
-      ∙ fewer_left place (wish plan old place) (not (is_some (label_to_give old))) (not (is_some (label_to_give new))) (end_at old place).local (none_is (label_to_give old) (label_to_give new) alike.labels) is)
+      ∙ fewer place (wish plan old place) (not (is_some (label_to_give old))) (not (is_some (label_to_give new))) (end_at old place).local (none_is (label_to_give old) (label_to_give new) alike.labels) is)
 
   told_alike : is_told plan old place ≡ true → is_told plan new place ≡ true
   told_alike is =
@@ -248,12 +242,6 @@ marked_tidy plan old new holds (Some b) (Some a) tidy marked stays = stays a mar
 
 -- ---- a change at one wire
 
-unlike : (a b : ℕ) → a ≢ b → nat_eq a b ≡ false
-unlike a b apart = elim (cases_Bool (nat_eq a b)) [
-  | inl here ↦ absurd (apart (eqb-true a b here))
-  | inr away ↦ away
-]
-
 -- but for the ends of one wire, ends see nothing of it
 pub record IsBesides (wire : ℕ) (old new : EdgeState) : Type 0 where
   pub me : new.me ≡ old.me
@@ -290,8 +278,8 @@ pub tidy_besides : (plan : Plan) (wire : ℕ) (old new : EdgeState) (before afte
 tidy_besides plan wire old new before after tidy marked besides =
     marked_tidy plan old new (MarksWire (end_places plan old.me) wire) before after tidy marked
     (λ marks holds known. tidy_alike plan old new marks besides.me
-    (λ slot below free. besides_sees plan wire (at slot) old new besides (unlike (at slot).wire.0 wire (holds slot below free)))
-    (λ slot below free. by_spoke (at slot) (unlike (at slot).wire.0 wire (holds slot below free)))
+    (λ slot below free. besides_sees plan wire (at slot) old new besides (apart_test (at slot).wire.0 wire (holds slot below free)))
+    (λ slot below free. by_spoke (at slot) (apart_test (at slot).wire.0 wire (holds slot below free)))
     (λ service passed is. ap (λ (c : ℕ → Option WireId). c service) besides.chosen ∙ is)
     known)
   where
@@ -316,10 +304,6 @@ besides_then wire a b c first next = record {
   learned = λ port service gone. next.learned port service (first.learned port service gone);
 }
 
--- a map with another value at one place
-put_else : {X : Type 0} (map : ℕ → X) (place : ℕ) (value : X) (k : ℕ) → nat_eq k place ≡ false → put_at map place value k ≡ map k
-put_else map place value k away = ap (λ (b : Bool). cond b value (map k)) away
-
 pub besides_end : (place : EndPlace) (end : EndState) (edge : EdgeState) → IsBesides place.wire.0 edge (with_end place end edge)
 unfolding with_end
 besides_end place end edge = record {
@@ -329,7 +313,7 @@ besides_end place end edge = record {
   on = λ k away. refl;
   bits = λ k away. refl;
   priority = λ k away. refl;
-  ends = λ k peer away. ap (λ (row : ℕ → EndState). row peer) (put_else edge.ends place.wire.0 (put_at (edge.ends place.wire.0) place.peer.0 end) k away);
+  ends = λ k peer away. ap (λ (row : ℕ → EndState). row peer) (put_away edge.ends place.wire.0 (put_at (edge.ends place.wire.0) place.peer.0 end) k away);
   told = λ k away. refl;
   labels = λ none. none;
   learned = λ port service gone. gone;
@@ -387,7 +371,7 @@ besides_bits wire bits edge = record {
   ups = λ k. refl;
   chosen = refl;
   on = λ k away. refl;
-  bits = λ k away. put_else edge.bits wire.0 bits k away;
+  bits = λ k away. put_away edge.bits wire.0 bits k away;
   priority = λ k away. refl;
   ends = λ k peer away. refl;
   told = λ k away. refl;
@@ -403,7 +387,7 @@ besides_priority wire priority edge = record {
   chosen = refl;
   on = λ k away. refl;
   bits = λ k away. refl;
-  priority = λ k away. put_else edge.priority wire.0 priority k away;
+  priority = λ k away. put_away edge.priority wire.0 priority k away;
   ends = λ k peer away. refl;
   told = λ k away. refl;
   labels = λ none. none;
@@ -420,7 +404,7 @@ besides_told wire down edge = record {
   bits = λ k away. refl;
   priority = λ k away. refl;
   ends = λ k peer away. refl;
-  told = λ k away. put_else edge.told_down wire.0 down k away;
+  told = λ k away. put_away edge.told_down wire.0 down k away;
   labels = λ none. none;
   learned = λ port service gone. gone;
 }
@@ -431,7 +415,7 @@ besides_wire wire on edge = record {
   me = refl;
   ups = λ k. refl;
   chosen = refl;
-  on = λ k away. put_else edge.wire_on wire.0 on k away;
+  on = λ k away. put_away edge.wire_on wire.0 on k away;
   bits = λ k away. refl;
   priority = λ k away. refl;
   ends = λ k peer away. refl;
@@ -495,10 +479,6 @@ tidy_nothing plan edge marks tidy free told calls out =
     mends_not plan told (record { edge = edge; calls = calls; effects = out; idle = false }) (mended_tidy plan edge marks tidy free)
 
 -- ---- settled ends are passed over
-
-or_false : (b : Bool) → b || false ≡ b
-or_false true = refl
-or_false false = refl
 
 said_still : (m : Spoken) (next : Work → Spoken) → next m.work ≡ stays m.work → and_says m next ≡ m
 said_still m next still =
@@ -650,8 +630,8 @@ pub tidy_beside : (plan : Plan) (peer : ℕ) (old new : EdgeState) (before after
 tidy_beside plan peer old new before after tidy marked beside =
     marked_tidy plan old new (MarksBeside (end_places plan old.me) peer) before after tidy marked
     (λ marks holds known. tidy_alike plan old new marks beside.me
-    (λ slot below free. beside_sees plan peer (at slot) old new beside (λ other within same. holds slot other below within free same) (unlike (at slot).peer.0 peer (holds slot slot below below free refl)))
-    (λ slot below free. by_spoke (at slot) (unlike (at slot).peer.0 peer (holds slot slot below below free refl)))
+    (λ slot below free. beside_sees plan peer (at slot) old new beside (λ other within same. holds slot other below within free same) (apart_test (at slot).peer.0 peer (holds slot slot below below free refl)))
+    (λ slot below free. by_spoke (at slot) (apart_test (at slot).peer.0 peer (holds slot slot below below free refl)))
     (λ service passed is. ap (λ (c : ℕ → Option WireId). c service) beside.chosen ∙ is)
     known)
   where

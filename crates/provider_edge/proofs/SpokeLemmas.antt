@@ -2,13 +2,11 @@
 use Rattle.std.proofs.Common.{◌≡◌, ◌<◌, ◌≤◌, ◌+◌, ◌++◌, ◌∙◌, ◌⊎◌, ◌&&◌, ℕ, zero, suc, Bool, true, false, cond, is_some, not, filter, map, nat_eq, nat_lt, List, [], ◌∷◌, Option, Some, None, length, drop, slice_get, slice_index_or, option_and_then, option_map, set, take, append_assoc, append-nil, refl, ap, sym, subst, inl, inr, arith}
 use Rattle.std.proofs.lemmas.Bool.{cases_order, eq-eqb, eqb-true}
 use Rattle.std.proofs.lemmas.Bool.Decides.{nat_tests}
-use Rattle.std.proofs.lemmas.List.{drop_all, drop_more}
-use Rattle.std.proofs.lemmas.List.Elements.{All-get_or}
-use Rattle.std.proofs.lemmas.Option.{get_or_from_slice_get, slice_get_within}
+use Rattle.std.proofs.lemmas.List.{drop_all, drop_more, length_push}
 use Rattle.std.specs.Bool.{Decides}
 use Rattle.std.specs.Cmp.Lexicographic.{pointwise, pointwise_decides}
-use Rattle.std.specs.List.{All}
 use Rattle.std.specs.Option.{option_eq}
+use Rattle.net_values.proofs.RowLemmas.{row_holds, same_read, last_of}
 use Rattle.net_base.specs.declared.plan.Plan.{Plan}
 use Rattle.net_base.specs.declared.plan.places.EdgeId.{EdgeId}
 use Rattle.net_base.specs.declared.plan.places.ServiceId.{ServiceId}
@@ -28,8 +26,8 @@ use Rattle.edge_model.specs.State.{EdgeState, put_at, with_chosen}
 use Rattle.spoke_redundancy.specs.declared.spoke.Spoke.{Spoke}
 use Rattle.spoke_redundancy.specs.Choice.{chosen}
 use Rattle.pw_ends.specs.Ends.{EndLists, end_in, no_place, place_of}
-use Rattle.edge_forwarding.proofs.EachLemmas.{before_push, each_next, long_push, past_push}
-use Rattle.edge_forwarding.proofs.Views.{past_end, same_read}
+use Rattle.edge_forwarding.proofs.EachLemmas.{before_push, each_next}
+use Rattle.edge_forwarding.proofs.Views.{past_end}
 use Rattle.provider_edge.specs.Invariant.{IsEdge}
 use Rattle.provider_edge.specs.Lists.{EdgeLists, seen}
 use Rattle.provider_edge.specs.Spokes.{AreSlots, slots_for, slots_where, starts_spoke, unchosen}
@@ -43,7 +41,7 @@ slots_none plan me places = record { count = refl; each = λ service below. absu
 pub slots_more : (plan : Plan) (me : EdgeId) (places : List EndPlace) (n : ℕ) (slots : List (List ℕ)) (one : List ℕ) → AreSlots plan me places n slots → one ≡ slots_for plan me places n
     → AreSlots plan me places (n + 1) (slots ++ one ∷ [])
 slots_more plan me places n slots one are is = record {
-  count = long_push slots one ∙ ap (λ (k : ℕ). k + 1) are.count;
+  count = length_push slots one ∙ ap (λ (k : ℕ). k + 1) are.count;
   each = λ service below. elim (cases_order service n) [
     | inl same ↦ of service (inr same)
     | inr rest ↦ elim rest [
@@ -56,7 +54,7 @@ slots_more plan me places n slots one are is = record {
     of : (service : ℕ) → (service < n) ⊎ (service ≡ n) → slice_index_or (slots ++ one ∷ []) service [] ≡ slots_for plan me places service
     of service (inl earlier) = before_push slots one [] service (omega (arith, are.count)) ∙ are.each service earlier
     of service (inr here) =
-        ap (λ (k : ℕ). slice_index_or (slots ++ one ∷ []) k []) (here ∙ sym are.count) ∙ (past_push slots one [] ∙ (is ∙ ap (slots_for plan me places) (sym here)))
+        ap (λ (k : ℕ). slice_index_or (slots ++ one ∷ []) k []) (here ∙ sym are.count) ∙ (last_of slots one [] ∙ (is ∙ ap (slots_for plan me places) (sym here)))
 
 -- ---- slots of one service
 
@@ -150,9 +148,6 @@ slot_names test places i d below =
     ∙ got_map (λ slot. slice_index_or places slot no_place) (slots_where test 0 places) i d below
 
 -- ---- services that are not in the plan have no spokes
-
-row_holds : {A : Type 0} (P : A → Type 0) (rows : List A) (place : ℕ) (row : A) → slice_get rows place ≡ Some row → All P rows → P row
-row_holds P rows place row is all = subst P (get_or_from_slice_get rows place row row is) (All-get_or P rows place row (slice_get_within rows place row is) all)
 
 none_pass : (test : EndPlace → Bool) (places : List EndPlace) → ((place : EndPlace) → test place ≡ false) → filter test places ≡ []
 none_pass test [] none = refl

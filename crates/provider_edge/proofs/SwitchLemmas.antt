@@ -28,8 +28,9 @@ use Rattle.edge_model.specs.Work.{Work, gives, next_answer, posts}
 use Rattle.pw_ends.specs.Ends.{end_in, place_of, seen_ends}
 use Rattle.peer_dialogue.specs.Peering.{at_edge}
 use Rattle.provider_edge.proofs.BridgeLemmas.{dropped_at}
-use Rattle.provider_edge.proofs.PacketLemmas.{me_of, row_there}
+use Rattle.provider_edge.proofs.PacketLemmas.{row_there}
 use Rattle.provider_edge.specs.Lists.{EdgeLists, seen}
+use Rattle.provider_edge.proofs.MendLemmas.{me_at}
 
 -- ---- the octets
 
@@ -53,7 +54,7 @@ module _ (c : EdgeLists) (told : Answers) (octets : List ℕ) (entry : StackEntr
   by_mate =
       let (row, at) = row_there c.plan.wires place.wire.0 within in
       ap (λ (f : Option EdgeId). switched_to told octets entry place f work) (mates row at)
-      ∙ (ap (λ (m : EdgeId). switched_to told octets entry place (mate row m.0 place.peer.0) work) (sym (me_of c calls out))
+      ∙ (ap (λ (m : EdgeId). switched_to told octets entry place (mate row m.0 place.peer.0) work) (sym (me_at c calls out))
       ∙ ap (λ (r : Option WirePlan). switched_by told octets entry place r work) (sym at))
 
   -- an edge between no two others does nothing

@@ -1,9 +1,11 @@
 -- Between two inputs the ports that are open are those that forward.
-use Rattle.std.proofs.Common.{◌≡◌, ◌<◌, ◌≤◌, ◌+◌, ◌++◌, ◌&&◌, ◌||◌, ◌∙◌, ◌⊎◌, inl, inr, ℕ, zero, suc, Bool, true, false, cond, List, [], ◌∷◌, Option, Some, None, is_some, length, position, slice_get, slice_index_or, nat_eq, refl, ap, sym, subst, arith}
+use Rattle.std.proofs.Common.{◌≡◌, ◌<◌, ◌≤◌, ◌+◌, ◌++◌, ◌||◌, ◌∙◌, inl, inr, ℕ, zero, suc, Bool, true, false, cond, List, [], ◌∷◌, Option, Some, None, is_some, length, position, slice_get, nat_eq, refl, ap, sym, subst, arith}
 use Rattle.std.specs.List.{AllByRecursion, list_any}
 use Rattle.std.specs.Prelude.{IfSome}
-use Rattle.std.proofs.lemmas.Bool.{eq-eqb}
+use Rattle.std.proofs.lemmas.Bool.{eq-eqb, and_from, or_right, or_left, or_cases}
 use Rattle.std.proofs.lemmas.List.Folds.{list_any-append}
+use Rattle.net_values.proofs.BoolLemmas.{second_holds}
+use Rattle.net_values.proofs.RowLemmas.{row_holds, holds_at}
 use Rattle.net_base.specs.declared.plan.Plan.{Plan}
 use Rattle.net_base.specs.declared.plan.wire_plan.WirePlan.{WirePlan}
 use Rattle.net_base.specs.declared.plan.places.CircuitId.{CircuitId}
@@ -26,27 +28,15 @@ use Rattle.edge_model.specs.Role.{down_at}
 use Rattle.edge_model.specs.State.{EdgeState, is_on, with_addresses}
 use Rattle.edge_model.specs.Synced.{InSync, IsSynced}
 use Rattle.edge_model.proofs.SyncLemmas.{cause_same, forwards_as_told}
+use Rattle.edge_model.proofs.CommonLemmas.{up_not}
 use Rattle.pw_ends.specs.Ends.{no_place, place_of}
 use Rattle.edge_forwarding.specs.Domain.{opens, port_opens}
 use Rattle.edge_forwarding.specs.Forwarding.{circuits_in, open_ports, told_in}
-use Rattle.edge_forwarding.proofs.ForwardingLemmas.{row_holds}
 use Rattle.edge_forwarding.proofs.OpenLemmas.{found_opens, same_tests}
 use Rattle.provider_edge.specs.Invariant.{IsEdge}
 use Rattle.provider_edge.specs.Lists.{EdgeLists, seen}
 
 -- ---- an edge has an end of each wire that ends there
-
-or_either : (a b : Bool) → a || b ≡ true → (a ≡ true) ⊎ (b ≡ true)
-or_either true b either = inl refl
-or_either false b either = inr either
-
-or_left : (a b : Bool) → a ≡ true → a || b ≡ true
-or_left true b here = refl
-or_left false b here = absurd (cc (here))
-
-or_right : (a b : Bool) → b ≡ true → a || b ≡ true
-or_right true b there = refl
-or_right false b there = there
 
 -- some end of the wire is terminal
 abbrev has_end_in : WireId → List EndPlace → Bool
@@ -59,11 +49,7 @@ joined_right : (wire : WireId) (xs ys : List EndPlace) → has_end_in wire ys �
 joined_right wire xs ys there = list_any-append (is_end_of_wire wire) xs ys ∙ or_right (has_end_in wire xs) (has_end_in wire ys) there
 
 one_end : (wire : WireId) (place : EndPlace) → place.wire.0 ≡ wire.0 → place.terminal ≡ true → has_end_in wire (place ∷ []) ≡ true
-one_end wire place same terminal = or_left (is_end_of_wire wire place) false (both (nat_eq place.wire.0 wire.0) place.terminal (eq-eqb place.wire.0 wire.0 same) terminal) where
-  both : (a b : Bool) → a ≡ true → b ≡ true → a && b ≡ true
-  both true true one other = refl
-  both true false one other = absurd (cc (other))
-  both false b one other = absurd (cc (one))
+one_end wire place same terminal = or_left (is_end_of_wire wire place) false (and_from (nat_eq place.wire.0 wire.0) place.terminal (eq-eqb place.wire.0 wire.0 same) terminal)
 
 -- an edge at one side of a segment has an end there
 at_one : (wire : WireId) (row : WirePlan) (me : EdgeId) (segment : ℕ) (first next : EdgeId) → is_terminal row me ≡ true → (nat_eq me.0 first.0 || nat_eq me.0 next.0) ≡ true → has_end_in wire (places_at wire row me segment first next) ≡ true
@@ -89,7 +75,7 @@ at_first wire row me segment (x ∷ y ∷ rest) terminal least first =
     joined_left wire (places_at wire row me segment x y) (places_along wire row me (segment + 1) (y ∷ rest)) (at_one wire row me segment x y terminal (or_left (nat_eq me.0 x.0) (nat_eq me.0 y.0) first))
 
 has_end_along : (wire : WireId) (row : WirePlan) (me : EdgeId) → is_terminal row me ≡ true → 2 ≤ length row.path → has_end_in wire (places_along wire row me 0 row.path) ≡ true
-has_end_along wire row me terminal least = elim (or_either (is_first me.0 row.path) (is_last me.0 row.path) terminal) [
+has_end_along wire row me terminal least = elim (or_cases (is_first me.0 row.path) (is_last me.0 row.path) terminal) [
   | inl first ↦ at_first wire row me 0 row.path terminal least first
   | inr last ↦ at_last wire row me 0 row.path terminal least last
 ]
@@ -107,15 +93,11 @@ has_end_from me k (suc n) w (x ∷ rows) row place is terminal least =
 
 -- ---- what was told of an end is why it does not forward
 
-and_other : (a b : Bool) → a && b ≡ true → b ≡ true
-and_other true b both = both
-and_other false b both = absurd (cc (both))
-
 -- a wire that ends at the edge forwards where nothing was told of a cause
 wire_opens : (plan : Plan) (edge : EdgeState) (service : ServiceId) (mesh : Bool) (wire : WireId) → IsChecked plan → InSync plan edge → IsWired plan.wires service edge.me mesh wire.0 → is_up (edge.told_down wire.0) ≡ end_forwards plan edge wire
 wire_opens plan edge service mesh wire checked synced wired =
     let row : IsWireOf plan wired.row = row_holds (IsWireOf plan) plan.wires wire.0 wired.row wired.is checked.wires in
-    let terminal : is_terminal wired.row edge.me ≡ true = and_other _ (is_terminal wired.row edge.me) wired.ends in
+    let terminal : is_terminal wired.row edge.me ≡ true = second_holds _ (is_terminal wired.row edge.me) wired.ends in
     sym (forwards_as_told plan edge wire synced (has_end_from edge.me 0 wire.0 wire.0 plan.wires wired.row (omega arith) wired.is terminal row.least))
 
 -- the ports of a service that are open are those that forward
@@ -158,11 +140,6 @@ forwards_hearing plan edge service frame arrival ports p = by (slice_get ports p
 
 -- ---- the port of a wire whose end forwards
 
-all_at : {X : Type 0} (P : X → Type 0) (xs : List X) (i : ℕ) (d : X) → AllByRecursion P xs → i < length xs → P (slice_index_or xs i d)
-all_at P [] i d all within = absurd (omega (arith, within))
-all_at P (x ∷ xs) zero d all within = all.0
-all_at P (x ∷ xs) (suc i) d all within = all_at P xs i d all.1 (omega (arith, within))
-
 -- a port that leads to a wire is open by what was told of that wire
 opens_by_wire : (on : ℕ → Bool) (told : ℕ → Option Down) (ports : List Port) (p wire : ℕ) → LeadsToWire ports p wire → port_opens on told ports p ≡ is_up (told wire)
 opens_by_wire on told ports p wire leads = elim (mesh_or_spoke ports p wire leads) [
@@ -181,7 +158,7 @@ synced_at : (c : EdgeLists) (slot : ℕ) → IsEdge c → InSync c.plan (seen c)
 unfolding seen
 synced_at c slot is synced within =
     let all : AllByRecursion (IsSynced c.plan (seen c)) c.ends.places = subst (AllByRecursion (IsSynced c.plan (seen c))) (sym is.places) synced.each in
-    all_at (IsSynced c.plan (seen c)) c.ends.places slot no_place all within
+    holds_at (IsSynced c.plan (seen c)) c.ends.places slot no_place all within
 
 -- the port that is found for the wire of a terminal end that forwards is open
 pub wire_port_opens : (c : EdgeLists) (slot : ℕ) (service : ServiceId) (p : ℕ) → IsEdge c → InSync c.plan (seen c) → slot < length c.ends.places
@@ -202,11 +179,7 @@ wire_port_shut c place service p is synced terminal down found =
     ap (λ (t : ℕ → Bool). t p) (open_in c service is)
     ∙ (opens_by_wire (circuits_in c.forwarding) (told_in c.forwarding) (ports_of c.plan service c.me) p place.wire.0 (found_wire_port place.wire (ports_of c.plan service c.me) p found)
     ∙ (ap is_up (told_of c place.wire.0)
-    ∙ (told_up c.plan (seen c) place synced terminal ∙ shut (down_at c.plan (seen c) place) down)))
-  where
-    shut : (d : Option Down) → is_some d ≡ true → is_up d ≡ false
-    shut None some = absurd (cc (some))
-    shut (Some cause) some = refl
+    ∙ (told_up c.plan (seen c) place synced terminal ∙ up_not (down_at c.plan (seen c) place) down)))
 
 -- the port that is found for a circuit that is on is open
 on_of : (c : EdgeLists) (circuit : ℕ) → circuits_in c.forwarding circuit ≡ (seen c).circuit_on circuit

@@ -1,37 +1,27 @@
 -- A tick passes by a neighbour with which no session stands.
-use Rattle.std.proofs.Common.{◌≡◌, ◌<◌, ◌+◌, ◌↔◌, ◌∙◌, ℕ, zero, suc, Bool, true, false, not, List, [], ◌∷◌, Option, Some, None, get_or, ap, refl, sym, arith}
+use Rattle.std.proofs.Common.{◌≡◌, ◌<◌, ◌+◌, ◌↔◌, ◌∙◌, ℕ, zero, suc, Bool, true, false, not, List, [], ◌∷◌, Option, None, get_or, ap, refl, sym, arith}
 use Rattle.std.specs.List.{list_all}
+use Rattle.std.proofs.lemmas.Bool.{not-true}
+use Rattle.net_values.proofs.BoolLemmas.{first_holds, second_holds}
 use Rattle.net_base.specs.declared.outside.link_call.LinkCall.{LinkCall}
 use Rattle.net_base.specs.declared.plan.places.EdgeId.{EdgeId}
 use Rattle.session_core.specs.Table.{SessionEvent, Ticked}
 use Rattle.pw_messages.specs.LinkAnswers.{Answers}
 use Rattle.edge_model.specs.declared.effect.Effect.{Effect}
-use Rattle.edge_model.specs.Session.{losing_ends, happens, happens_to, happens_with_ends}
+use Rattle.edge_model.specs.Session.{losing_ends, happens_with_ends}
 use Rattle.edge_model.specs.State.{EdgeState, Peering, has_end, is_there}
 use Rattle.edge_model.specs.Tick.{ticks_sessions}
-use Rattle.edge_model.proofs.LocalLemmas.{and_left, and_right, is_not}
 use Rattle.peer_dialogue.specs.Peering.{at_edge}
-use Rattle.provider_edge.proofs.LiftLemmas.{happened}
+use Rattle.provider_edge.proofs.LiftLemmas.{happened, untouched_none}
 use Rattle.provider_edge.proofs.ListLemmas.{cleared}
 use Rattle.provider_edge.specs.Lists.{EdgeLists, seen}
-
-absent_is : (kept : Option Peering) → is_there kept ≡ false → None ≡ kept
-absent_is None absent = refl
-absent_is (Some kept) absent = absurd (cc (absent))
-
--- nothing happens where no session stands
-untouched : (told : Answers) (peer : EdgeId) (event : SessionEvent) (edge : EdgeState) (calls : List LinkCall) (out : List Effect)
-    → has_end edge peer ≡ false → at_edge edge calls out ≡ happens told peer event (at_edge edge calls out)
-unfolding at_edge
-untouched told peer event edge calls out absent =
-    ap (λ (kept : Option Peering). happens_to told peer event kept (record { edge = edge; calls = calls; effects = out; idle = false })) (absent_is (edge.peering peer.0) absent)
 
 -- nor are ends lost of which nothing was told
 pub passed_by : (told : Answers) (peer : EdgeId) (event : SessionEvent) (edge : EdgeState) (calls : List LinkCall) (out : List Effect)
     → has_end edge peer ≡ false → losing_ends peer edge ≡ edge → at_edge edge calls out ≡ happens_with_ends told peer event (at_edge edge calls out)
 passed_by told peer event edge calls out absent untold =
     happened told peer event (at_edge edge calls out) (at_edge edge calls out) (at_edge edge calls out)
-    (untouched told peer event edge calls out absent) (cleared peer edge edge calls out absent (sym untold))
+    (untouched_none told peer event edge calls out absent) (cleared peer edge edge calls out absent (sym untold))
 
 -- so it is with so many neighbours from a place on
 pub all_passed_by : (told : Answers) (size place count : ℕ) (edge : EdgeState) (calls : List LinkCall) (out : List Effect)
@@ -51,8 +41,8 @@ is_none_kept peerings = list_all (λ kept. not (is_there kept)) peerings
 
 each_absent : (peerings : List (Option Peering)) (place : ℕ) → is_none_kept peerings ≡ true → is_there (get_or peerings place None) ≡ false
 each_absent [] place none = refl
-each_absent (kept ∷ more) zero none = is_not (is_there kept) (and_left (not (is_there kept)) (is_none_kept more) none)
-each_absent (kept ∷ more) (suc place) none = each_absent more place (and_right (not (is_there kept)) (is_none_kept more) none)
+each_absent (kept ∷ more) zero none = not-true (is_there kept) (first_holds (not (is_there kept)) (is_none_kept more) none)
+each_absent (kept ∷ more) (suc place) none = each_absent more place (second_holds (not (is_there kept)) (is_none_kept more) none)
 
 all_absent : (peerings : List (Option Peering)) → ((place : ℕ) → is_there (get_or peerings place None) ≡ false) → is_none_kept peerings ≡ true
 all_absent [] each = refl

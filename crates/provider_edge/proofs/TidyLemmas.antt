@@ -1,7 +1,7 @@
 -- An edge whose ends are all settled has nothing to mend; and the changes that leave each end settled, so that the marks stay.
 use Rattle.std.proofs.Common.{◌≡◌, ◌<◌, ◌∙◌, ◌||◌, ◌&&◌, not, is_some, length, ℕ, Bool, true, false, List, [], ◌∷◌, Option, Some, None, cond, filter, nat_eq, slice_get, refl, ap, sym, subst}
 use Rattle.std.specs.Prelude.{IfSome}
-use Rattle.std.proofs.lemmas.Bool.{eq-eqb, eqb-true}
+use Rattle.std.proofs.lemmas.Bool.{eqb-true, not-true}
 use Rattle.net_base.specs.declared.outside.link_call.LinkCall.{LinkCall}
 use Rattle.net_base.specs.declared.plan.Plan.{Plan}
 use Rattle.net_base.specs.declared.plan.places.CircuitId.{CircuitId}
@@ -12,6 +12,7 @@ use Rattle.net_base.specs.declared.plan.service_plan.ServicePlan.{ServicePlan}
 use Rattle.net_base.specs.declared.plan.wire_plan.WirePlan.{WirePlan}
 use Rattle.net_base.specs.plan.Accepted.{IsChecked}
 use Rattle.net_values.specs.declared.mac.Mac.{Mac}
+use Rattle.net_values.proofs.NumberLemmas.{same_number}
 use Rattle.net_base.specs.plan.Places.{wire_row}
 use Rattle.label_space.specs.declared.kept.Kept.{Kept}
 use Rattle.label_space.specs.Kept.{met}
@@ -36,10 +37,10 @@ use Rattle.edge_model.specs.State.{EdgeState, Peering, addresses_of, end_at, has
 use Rattle.edge_model.specs.Tick.{aged, forgetting}
 use Rattle.edge_model.specs.Work.{Work, changes}
 use Rattle.edge_model.proofs.AgainLemmas.{mends_at_once, one_end}
-use Rattle.edge_model.proofs.MendedLemmas.{IsMended, round_mends}
+use Rattle.edge_model.proofs.MendedLemmas.{IsMended, round_mends, fewer as fewer_left}
+use Rattle.edge_model.proofs.CommonLemmas.{gone_up}
 use Rattle.peer_dialogue.specs.Peering.{at_edge}
 use Rattle.provider_edge.proofs.GivenLemmas.{meeting_leaves, none_is}
-use Rattle.provider_edge.proofs.SettledLemmas.{fewer_left}
 use Rattle.provider_edge.specs.declared.end_marks.EndMarks.{EndMarks}
 use Rattle.provider_edge.specs.Marks.{IsUnmarked, place_at}
 use Rattle.provider_edge.specs.Spokes.{starts_spoke}
@@ -277,16 +278,12 @@ tidy_begun plan peer kept old new marks tidy none down puts = subst (λ (e : Edg
   peering : ℕ → Option Peering
   peering = put_at old.peering peer.0 (Some kept)
 
-  not_up : (k : Option Peering) → is_there k ≡ false → is_up_with k ≡ false
-  not_up None absent = refl
-  not_up (Some k) absent = absurd (cc (absent))
-
   ups : (k : ℕ) → is_up_with (peering k) ≡ is_up_with (old.peering k)
   ups k = by (nat_eq k peer.0) refl where
     by : (b : Bool) → nat_eq k peer.0 ≡ b → is_up_with (cond b (Some kept) (old.peering k)) ≡ is_up_with (old.peering k)
     by true here =
         was_up_with (Some kept)
-        ∙ (down ∙ (sym (not_up (old.peering peer.0) none) ∙ ap (λ (n : ℕ). is_up_with (old.peering n)) (sym (eqb-true k peer.0 here))))
+        ∙ (down ∙ (sym (gone_up (old.peering peer.0) none) ∙ ap (λ (n : ℕ). is_up_with (old.peering n)) (sym (eqb-true k peer.0 here))))
     by false away = refl
 
 stands_there : (up : Bool) (left : Option Peering) → stands_as up left ≡ true → is_there left ≡ true
@@ -296,10 +293,7 @@ stands_there up (Some kept) stands = refl
 stands_up : (up : Bool) (left : Option Peering) → stands_as up left ≡ true → was_up left ≡ up
 stands_up up None stands = absurd (cc (stands))
 stands_up true (Some kept) stands = stands
-stands_up false (Some kept) stands = by (was_up (Some kept)) stands where
-  by : (b : Bool) → not b ≡ true → b ≡ false
-  by true e = absurd (cc (e))
-  by false e = refl
+stands_up false (Some kept) stands = not-true (was_up (Some kept)) stands
 
 cleared_there : (peer : EdgeId) (put new : EdgeState) → ((calls : List LinkCall) (out : List Effect) → at_edge new calls out ≡ clears_ends peer (at_edge put calls out)) → has_end put peer ≡ true → new ≡ put
 unfolding at_edge
@@ -309,9 +303,7 @@ cleared_there peer put new clears there =
 
 there_put : (peer : EdgeId) (left : Option Peering) (mid put : EdgeState) → put ≡ with_peering peer left mid → is_there left ≡ true → has_end put peer ≡ true
 unfolding with_peering
-there_put peer left mid put puts there = ap (λ (e : EdgeState). has_end e peer) puts ∙ (ap (λ (b : Bool). is_there (cond b left (mid.peering peer.0))) (same peer.0) ∙ there) where
-  same : (n : ℕ) → nat_eq n n ≡ true
-  same n = eq-eqb n n refl
+there_put peer left mid put puts there = ap (λ (e : EdgeState). has_end e peer) puts ∙ (ap (λ (b : Bool). is_there (cond b left (mid.peering peer.0))) (same_number peer.0) ∙ there)
 
 -- an event happened to a session, which stands as it did
 pub tidy_happened : (plan : Plan) (peer : EdgeId) (before left : Option Peering) (up : Bool) (old mid put new : EdgeState) (marks : Option EndMarks) → IfSome marks (IsTidy plan old) → up ≡ was_up (old.peering peer.0)

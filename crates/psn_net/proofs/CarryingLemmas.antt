@@ -24,6 +24,7 @@ use Rattle.edge_model.proofs.CopyLemmas.{found_end}
 use Rattle.edge_model.proofs.PacketLemmas.{wire_end_is}
 use Rattle.edge_model.proofs.SyncLemmas.{ends_here_is}
 use Rattle.provider_edge.specs.Lists.{EdgeLists, seen}
+use Rattle.provider_edge.proofs.EffectLemmas.{below_edges}
 use Rattle.network_model.specs.Calm.{first_forwards, inner_stitched, last_forwards}
 use Rattle.network_model.specs.State.{NetworkState}
 use Rattle.psn_net.specs.Carrying.{forwards_if}
@@ -35,15 +36,11 @@ row_of : (plan : Plan) (wire : ℕ) (row : WirePlan) → IsChecked plan → slic
 row_of plan wire row checked is =
     subst (IsWireOf plan) (get_or_from_slice_get plan.wires wire row row is) (All-get_or (IsWireOf plan) plan.wires wire row (slice_get_within plan.wires wire row is) checked.wires)
 
--- the terminal edges of a path are of the plan where all its edges are
-edge_within : (plan : Plan) (edge : EdgeId) → is_edge_of plan edge ≡ true → edge.0 < length plan.edges
-edge_within plan edge is = grind (arith, nat_tests, is)
-
 path_first : (plan : Plan) (path : List EdgeId) (first : EdgeId) → list_all (is_edge_of plan) path ≡ true → first_edge path ≡ Some first → first.0 < length plan.edges
 path_first plan [] first all at = absurd (cc (at))
 path_first plan (edge ∷ rest) first all at =
     let same : edge ≡ first = cc (at) in
-    subst (λ (e : EdgeId). e.0 < length plan.edges) same (edge_within plan edge (and_parts (is_edge_of plan edge) (list_all (is_edge_of plan) rest) all).0)
+    subst (λ (e : EdgeId). e.0 < length plan.edges) same (below_edges plan edge (and_parts (is_edge_of plan edge) (list_all (is_edge_of plan) rest) all).0)
 
 path_last : (plan : Plan) (path : List EdgeId) (last : EdgeId) → list_all (is_edge_of plan) path ≡ true → last_edge path ≡ Some last → last.0 < length plan.edges
 path_last plan [] last all at = absurd (cc (at))
@@ -120,7 +117,7 @@ rest_within plan wire row first rest checked is at = rest_of plan row.path first
 -- one of them is an edge of the plan
 each_of : (plan : Plan) (path : List EdgeId) (place : ℕ) (d : EdgeId) → list_all (is_edge_of plan) path ≡ true → place < length path → (get_or path place d).0 < length plan.edges
 each_of plan [] place d all within = absurd (omega (arith, within))
-each_of plan (edge ∷ rest) zero d all within = edge_within plan edge (and_parts (is_edge_of plan edge) (list_all (is_edge_of plan) rest) all).0
+each_of plan (edge ∷ rest) zero d all within = below_edges plan edge (and_parts (is_edge_of plan edge) (list_all (is_edge_of plan) rest) all).0
 each_of plan (edge ∷ rest) (suc place) d all within = each_of plan rest place d (and_parts (is_edge_of plan edge) (list_all (is_edge_of plan) rest) all).1 (omega (arith, within))
 
 pub each_within : (plan : Plan) (path : List EdgeId) (place : ℕ) (d : EdgeId) → list_all (is_edge_of plan) path ≡ true → place < length path - 1 → (get_or path place d).0 < length plan.edges

@@ -2,6 +2,7 @@
 use Rattle.std.proofs.Common.{◌≡◌, ◌++◌, ◌∷◌, ◌&&◌, ◌||◌, ◌∙◌, [], ℕ, suc, arith, subst, Bool, true, false, List, drop, take, refl, ap, sym, nat_eq, append_assoc, inl, inr}
 use Rattle.std.proofs.lemmas.Bool.{cases_Bool, eqb-true}
 use Rattle.std.specs.List.{All, list_any}
+use Rattle.net_values.proofs.BoolLemmas.{second_fails}
 use Rattle.net_base.specs.declared.plan.Plan.{Plan}
 use Rattle.net_base.specs.declared.plan.places.EdgeId.{EdgeId}
 use Rattle.net_base.specs.declared.plan.wire_plan.WirePlan.{WirePlan}
@@ -27,12 +28,8 @@ joins_none edge [] once = refl
 joins_none edge (last ∷ []) once = refl
 joins_none edge (first ∷ next ∷ rest) once =
     neither (nat_eq edge first.0 && nat_eq edge next.0) (joins edge edge (next ∷ rest)) (both_off (nat_eq edge first.0) (nat_eq edge next.0) repeats)
-    (joins_none edge (next ∷ rest) (right (list_any (λ (e : EdgeId). nat_eq e.0 first.0) (next ∷ rest)) (has_repeat (next ∷ rest)) once))
+    (joins_none edge (next ∷ rest) (second_fails (list_any (λ (e : EdgeId). nat_eq e.0 first.0) (next ∷ rest)) (has_repeat (next ∷ rest)) once))
   where
-    right : (a b : Bool) → a || b ≡ false → b ≡ false
-    right true b e = absurd (cc (e))
-    right false b e = e
-
     neither : (x c : Bool) → x ≡ false → c ≡ false → (x || x) || c ≡ false
     neither x c p q = rw (p, q) refl
 

@@ -2,6 +2,7 @@
 use Rattle.std.proofs.Common.{◌≡◌, ◌==◌, ◌<◌, ◌≤◌, ◌-◌, ◌&&◌, ◌||◌, ◌∙◌, ◌∷◌, [], ℕ, Bool, true, false, List, cond, refl, ap, sym, subst, arith, nat_lt, length, drop, slice_index_or, take, take_all}
 use Rattle.std.proofs.lemmas.Bool.Decides.{nat_tests}
 use Rattle.std.specs.List.{list_any}
+use Rattle.net_values.proofs.BoolLemmas.{or_false, or_assoc}
 use Rattle.net_base.specs.declared.plan.Plan.{Plan}
 use Rattle.net_base.specs.declared.plan.places.EdgeId.{EdgeId}
 use Rattle.net_base.specs.declared.plan.wire_plan.WirePlan.{WirePlan}
@@ -43,14 +44,6 @@ both_marked old mid new x y first second a b =
     by false q false false true = refl
     by false q false false false = refl
 
-or_assoc : (p q r : Bool) → (p || q) || r ≡ p || (q || r)
-or_assoc true q r = refl
-or_assoc false q r = refl
-
-or_none : (p : Bool) → p || false ≡ p
-or_none true = refl
-or_none false = refl
-
 -- the first segment of a path was marked, and the rest is to come
 pub path_more : (old new : IndexLists) (path : List EdgeId) (first : EdgeId) (rest : List EdgeId) → path ≡ first ∷ rest
     → ((a b : ℕ) → has_mark new a b ≡ (has_mark old a b || joins_first a b first rest))
@@ -64,7 +57,7 @@ path_split [] d some = absurd (omega (arith, some))
 path_split (first ∷ rest) d some = sym (ap (λ (more : List EdgeId). first ∷ more) (take_all (length (first ∷ rest) - 1) rest (omega arith)))
 
 pub path_end : (index : IndexLists) (a b : ℕ) → has_mark index a b || joins a b [] ≡ has_mark index a b
-path_end index a b = or_none (has_mark index a b)
+path_end index a b = or_false (has_mark index a b)
 
 pub below_first : (size : ℕ) (first : EdgeId) (rest : List EdgeId) → are_below size (first ∷ rest) ≡ true → first.0 < size
 below_first size first rest h = by (nat_lt first.0 size) refl h
@@ -90,7 +83,7 @@ wire_more old new row rest h a b =
     ap (λ (p : Bool). p || list_any (λ (w : WirePlan). joins a b w.path) rest) (h a b) ∙ or_assoc (has_mark old a b) (joins a b row.path) (list_any (λ (w : WirePlan). joins a b w.path) rest)
 
 pub wire_end : (index : IndexLists) (a b : ℕ) → has_mark index a b || list_any (λ (w : WirePlan). joins a b w.path) [] ≡ has_mark index a b
-wire_end index a b = or_none (has_mark index a b)
+wire_end index a b = or_false (has_mark index a b)
 
 pub path_below : (plan : Plan) (row : WirePlan) (size : ℕ) → size ≡ length plan.edges → IsWireOf plan row → are_below size row.path ≡ true
 path_below plan row size is wire = subst (λ (n : ℕ). are_below n row.path ≡ true) (sym is) wire.edges

@@ -1,6 +1,8 @@
 -- An event changes what may be delivered only between two edges of which its entries tell, or which it sets.
 use Rattle.std.proofs.Common.{◌≡◌, ◌<◌, ◌+◌, ◌++◌, ◌&&◌, ◌||◌, ◌∙◌, drop, take, subst, ℕ, zero, suc, Bool, true, false, not, List, [], ◌∷◌, Option, Some, None, cond, refl, ap, sym, nat_eq, length, inl, inr}
-use Rattle.std.proofs.lemmas.Bool.{cases_Bool, eq-eqb, eqb-true}
+use Rattle.std.proofs.lemmas.Bool.{cases_Bool, eqb-true, and_parts, or_parts, or_from}
+use Rattle.net_values.proofs.BoolLemmas.{and_turned, second_fails_of_both}
+use Rattle.net_values.proofs.NumberLemmas.{same_number}
 use Rattle.net_base.specs.declared.plan.Plan.{Plan}
 use Rattle.net_base.specs.declared.plan.circuit_plan.CircuitPlan.{CircuitPlan}
 use Rattle.net_base.specs.declared.plan.places.CircuitId.{CircuitId}
@@ -53,42 +55,18 @@ then_at i j a b c first next = record { there = next.there ∙ first.there; back
 
 -- ---- tests
 
-or_none : (a b : Bool) → a || b ≡ false → (a ≡ false) × (b ≡ false)
-or_none true b h = absurd (cc (h))
-or_none false b h = (refl, h)
-
-none_or : (a b : Bool) → a ≡ false → b ≡ false → a || b ≡ false
-none_or a b h g = rw (h, g) refl
-
-and_both : (a b : Bool) → a && b ≡ true → (a ≡ true) × (b ≡ true)
-and_both true b h = (refl, h)
-and_both false b h = absurd (cc (h))
-
-and_other : (a b : Bool) → a ≡ true → a && b ≡ false → b ≡ false
-and_other true b e h = h
-and_other false b e h = absurd (cc (e))
-
-and_swap : (a b : Bool) → a && b ≡ b && a
-and_swap true true = refl
-and_swap true false = refl
-and_swap false true = refl
-and_swap false false = refl
-
 or_swap : (a b : Bool) → a || b ≡ b || a
 or_swap true true = refl
 or_swap true false = refl
 or_swap false true = refl
 or_swap false false = refl
 
-at_one : (me : ℕ) → nat_eq me me ≡ true
-at_one me = eq-eqb me me refl
-
 -- ---- what entries tell of two edges they tell in either order
 
 pair_swap : (one other i j : ℕ) → is_pair one other j i ≡ is_pair one other i j
 pair_swap one other i j = by (nat_eq j one) (nat_eq i other) (nat_eq j other) (nat_eq i one) where
   by : (p q r s : Bool) → (p && q) || (r && s) ≡ (s && r) || (q && p)
-  by p q r s = or_swap (p && q) (r && s) ∙ (ap (λ (x : Bool). x || (p && q)) (and_swap r s) ∙ ap (λ (x : Bool). (s && r) || x) (and_swap p q))
+  by p q r s = or_swap (p && q) (r && s) ∙ (ap (λ (x : Bool). x || (p && q)) (and_turned r s) ∙ ap (λ (x : Bool). (s && r) || x) (and_turned p q))
 
 told_by_swap : (e : Entry) (i j : ℕ) → is_told_by e j i ≡ is_told_by e i j
 told_by_swap (entry.Said from to octets) i j = pair_swap from.0 to.0 i j
@@ -103,25 +81,25 @@ told_swap (e ∷ es) i j = ap (λ (b : Bool). b || is_told es j i) (told_by_swap
 untold_both : (xs ys : List Entry) (i j : ℕ) → is_told (xs ++ ys) i j ≡ false → (is_told xs i j ≡ false) × (is_told ys i j ≡ false)
 untold_both [] ys i j h = (refl, h)
 untold_both (x ∷ xs) ys i j h =
-    let first = or_none (is_told_by x i j) (is_told (xs ++ ys) i j) h in
+    let first = or_parts (is_told_by x i j) (is_told (xs ++ ys) i j) h in
     let rest = untold_both xs ys i j first.1 in
-    (none_or (is_told_by x i j) (is_told xs i j) first.0 rest.0, rest.1)
+    (or_from (is_told_by x i j) (is_told xs i j) first.0 rest.0, rest.1)
 
 -- ---- an edge's work goes into the network
 
 -- where the entries of an edge tell nothing of it and a peer, the edge was silent towards the peer
 not_told : (me peer k : ℕ) → is_pair me peer me k ≡ false → nat_eq k peer ≡ false
-not_told me peer k h = and_other (nat_eq me me) (nat_eq k peer) (at_one me) (or_none (nat_eq me me && nat_eq k peer) (nat_eq me peer && nat_eq k me) h).0
+not_told me peer k h = second_fails_of_both (nat_eq me me) (nat_eq k peer) (same_number me) (or_parts (nat_eq me me && nat_eq k peer) (nat_eq me peer && nat_eq k me) h).0
 
 silent_to : (me : EdgeId) (k origin hops : ℕ) (es : List Effect) (n : NetworkState) → is_told (all_entries_of me origin hops es n) me.0 k ≡ false → are_all (is_silent k) es ≡ true
 silent_to me k origin hops [] n none = refl
 silent_to me k origin hops (effect.Said peer octets ∷ es) n none =
     let next : NetworkState = absorb_one me origin hops (effect.Said peer octets) n in
-    let both = or_none (is_pair me.0 peer.0 me.0 k) (is_told (all_entries_of me origin hops es next) me.0 k) none in
+    let both = or_parts (is_pair me.0 peer.0 me.0 k) (is_told (all_entries_of me origin hops es next) me.0 k) none in
     let away : nat_eq k peer.0 ≡ false = not_told me.0 peer.0 k both.0 in
     rw away (silent_to me k origin hops es next both.1)
 silent_to me k origin hops (effect.Session peer state ∷ es) n none =
-    let both = or_none (is_pair me.0 peer.0 me.0 k) (is_told (all_entries_of me origin hops es n) me.0 k) none in
+    let both = or_parts (is_pair me.0 peer.0 me.0 k) (is_told (all_entries_of me origin hops es n) me.0 k) none in
     let away : nat_eq k peer.0 ≡ false = not_told me.0 peer.0 k both.0 in
     rw away (silent_to me k origin hops es n both.1)
 silent_to me k origin hops (e ∷ es) n none = silent_to me k origin hops es (absorb_one me origin hops e n) none
@@ -136,13 +114,13 @@ pipe_apart : (from to : EdgeId) (octets : List ℕ) (n : NetworkState) (i j : �
 unfolding with_pipe
 pipe_apart from to octets n i j h = elim (cases_Bool (nat_eq i from.0)) [
   | inl here ↦
-      (let away : nat_eq j to.0 ≡ false = and_other (nat_eq i from.0) (nat_eq j to.0) here h in
+      (let away : nat_eq j to.0 ≡ false = second_fails_of_both (nat_eq i from.0) (nat_eq j to.0) here h in
       rw here (rw away (ap (λ (k : ℕ). n.pipes k j) (sym (eqb-true i from.0 here)))))
   | inr other ↦ rw other refl
 ]
 
 first_apart : (one other i j : ℕ) → is_pair one other i j ≡ false → nat_eq i one && nat_eq j other ≡ false
-first_apart one other i j h = (or_none (nat_eq i one && nat_eq j other) (nat_eq i other && nat_eq j one) h).0
+first_apart one other i j h = (or_parts (nat_eq i one && nat_eq j other) (nat_eq i other && nat_eq j one) h).0
 
 not_closing : (a b : Bool) → (b ≡ true → not a ≡ true) → a && b ≡ false
 not_closing true true h = let wrong : false ≡ true = h refl in absurd (cc (wrong))
@@ -154,7 +132,7 @@ one_pipe : (me : EdgeId) (origin hops : ℕ) (e : Effect) (n : NetworkState) (i 
 unfolding with_packet
 one_pipe me origin hops (effect.Said peer octets) n i j none leaves = by (stands n peer.0 me.0) where
   apart : nat_eq i me.0 && nat_eq j peer.0 ≡ false
-  apart = first_apart me.0 peer.0 i j (or_none (is_pair me.0 peer.0 i j) false none).0
+  apart = first_apart me.0 peer.0 i j (or_parts (is_pair me.0 peer.0 i j) false none).0
 
   by : (b : Bool) → (cond b (with_pipe me peer (n.pipes me.0 peer.0 ++ octets) n) n).pipes i j ≡ n.pipes i j
   by true = pipe_apart me peer (n.pipes me.0 peer.0 ++ octets) n i j apart
@@ -169,8 +147,8 @@ all_pipes me origin hops [] n i j none leaves = refl
 all_pipes me origin hops (e ∷ es) n i j none leaves =
     let next : NetworkState = absorb_one me origin hops e n in
     let both = untold_both (entries_told me origin hops e n) (all_entries_of me origin hops es next) i j none in
-    all_pipes me origin hops es next i j both.1 (λ here. (and_both (leaves_open i e) (are_all (leaves_open i) es) (leaves here)).1)
-    ∙ one_pipe me origin hops e n i j both.0 (λ here. (and_both (leaves_open i e) (are_all (leaves_open i) es) (leaves here)).0)
+    all_pipes me origin hops es next i j both.1 (λ here. (and_parts (leaves_open i e) (are_all (leaves_open i) es) (leaves here)).1)
+    ∙ one_pipe me origin hops e n i j both.0 (λ here. (and_parts (leaves_open i e) (are_all (leaves_open i) es) (leaves here)).0)
 
 -- ---- what stands
 
@@ -294,7 +272,7 @@ deliver_at plan from to count n i j apart = by (is_deliverable n from.0 to.0) (i
 restart_at : (me : EdgeId) (n : NetworkState) (i j : ℕ) → is_with me.0 i j ≡ false → IsKeptAt i j n (restart_event me n).state
 unfolding changes with_edge with_kept without_octets_to
 restart_at me n i j apart =
-    let both = or_none (nat_eq i me.0) (nat_eq j me.0) apart in
+    let both = or_parts (nat_eq i me.0) (nat_eq j me.0) apart in
     record { there = rw both.0 refl; back = rw both.1 refl; pipe = rw both.1 refl }
 
 -- ---- ticks, frames, circuits and packets
@@ -401,7 +379,7 @@ pub indexed_beside : (old now : NetLists) (index : IndexLists) (e : Event) (told
     → now.trace ≡ old.trace ++ (step old.plan (seen old) e).entries → told ≡ length old.trace → IsIndexedBeside now index (may_change e (drop told now.trace))
 indexed_beside old now index e told indexed planned stepped traced at = record {
   each = λ i j a b h.
-      let both = or_none (is_set e i j) (is_told (drop told now.trace) i j) h in
+      let both = or_parts (is_set e i j) (is_told (drop told now.trace) i j) h in
       indexed.each i j (within i a) (within j b)
       ∙ sym (ap (λ (s : NetworkState). is_deliverable s i j) stepped
       ∙ deliverable_at (seen old) (brings old.plan e (seen old)).state i j (brings_at old.plan e (seen old) i j both.0 (sym (ap (λ (es : List Entry). is_told es i j) entries) ∙ both.1)));

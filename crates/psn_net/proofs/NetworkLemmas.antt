@@ -1,9 +1,9 @@
 -- An edge's work lies in the lists as in the maps.
-use Rattle.std.proofs.Common.{◌≡◌, ◌==◌, ◌<◌, ◌≤◌, ◌+◌, ◌++◌, ◌∷◌, [], ℕ, suc, zero, Bool, true, false, List, Option, Some, None, Result, Ok, Err, OnOk, OnErr, cond, refl, ap, sym, subst, arith, length, slice_index_or, slice_set, nat_eq, append_assoc, length-append, inl, inr, ◌∙◌}
+use Rattle.std.proofs.Common.{◌≡◌, ◌==◌, ◌<◌, ◌≤◌, ◌+◌, ◌++◌, ◌∷◌, [], ℕ, Bool, true, false, List, Option, Some, None, Result, Ok, Err, OnOk, OnErr, cond, refl, ap, sym, subst, arith, length, slice_index_or, slice_set, nat_eq, append_assoc, length-append, inl, inr, ◌∙◌}
 use Rattle.std.proofs.lemmas.Bool.{cases_Bool, cases_order, eq-eqb, eqb-true}
-use Rattle.std.proofs.lemmas.Bool.Decides.{nat_tests}
 use Rattle.net_base.specs.declared.plan.places.EdgeId.{EdgeId}
 use Rattle.net_values.specs.declared.no_memory.NoMemory.{NoMemory}
+use Rattle.net_values.proofs.RowLemmas.{same_read, set_length, index_end}
 use Rattle.provider_edge.specs.Lists.{EdgeLists}
 use Rattle.provider_edge.specs.Lists as edge
 use Rattle.net_base.specs.declared.plan.circuit_plan.CircuitPlan.{CircuitPlan}
@@ -65,18 +65,13 @@ driving n me now calls effects input h planned took =
       begins : edge_step (edge_lists n me.0).plan taken_all input (beginning (edge.seen (edge_lists n me.0)) []) ≡ edge_step n.plan taken_all input (begin_at (seen n) me)
       begins = ap (λ (p : Plan). edge_step p taken_all input (beginning (edge.seen (edge_lists n me.0)) [])) planned
 
-same_default : {X : Type 0} (xs : List X) (i : ℕ) (d e : X) → i < length xs → slice_index_or xs i d ≡ slice_index_or xs i e
-same_default [] i d e below = absurd (omega arith)
-same_default (x ∷ xs) zero d e below = refl
-same_default (x ∷ xs) (suc i) d e below = same_default xs i d e (omega arith)
-
 -- the same of the edge that was looked up, over a link that had no calls
 pub driving_at : (n : NetLists) (me : EdgeId) (found now : EdgeLists) (before calls : List LinkCall) (effects : Effects) (input : Input)
     → me.0 < length n.edges → (edge_lists n me.0).plan ≡ n.plan → found ≡ slice_index_or n.edges me.0 found → before ≡ []
     → edge.worked now calls effects ≡ edge_step found.plan taken_all input (beginning (edge.seen found) before)
     → HasDriven me n (record n { edges = slice_set n.edges me.0 now }) (edge_step n.plan taken_all input (begin_at (seen n) me)) effects
 driving_at n me found now before calls effects input h planned is none took =
-    let same : found ≡ edge_lists n me.0 = is ∙ same_default n.edges me.0 found (no_edge n.plan me.0) h in
+    let same : found ≡ edge_lists n me.0 = is ∙ same_read n.edges me.0 found (no_edge n.plan me.0) h in
     driving n me now calls effects input h planned
     (took ∙ (ap (λ (e : EdgeLists). edge_step e.plan taken_all input (beginning (edge.seen e) before)) same
     ∙ ap (λ (l : List LinkCall). edge_step (edge_lists n me.0).plan taken_all input (beginning (edge.seen (edge_lists n me.0)) l)) none))
@@ -84,13 +79,8 @@ driving_at n me found now before calls effects input h planned is none took =
 pub fitting_at : (n : NetLists) (me : EdgeId) (found : EdgeLists) (effects : List Effect)
     → me.0 < length n.edges → (edge_lists n me.0).plan ≡ n.plan → found ≡ slice_index_or n.edges me.0 found → AllFit found.plan effects → AllFit n.plan effects
 fitting_at n me found effects h planned is fit =
-    let same : found ≡ edge_lists n me.0 = is ∙ same_default n.edges me.0 found (no_edge n.plan me.0) h in
+    let same : found ≡ edge_lists n me.0 = is ∙ same_read n.edges me.0 found (no_edge n.plan me.0) h in
     subst (λ (p : Plan). AllFit p effects) (ap (λ (e : EdgeLists). e.plan) same ∙ planned) fit
-
-set_length : {X : Type 0} (xs : List X) (i : ℕ) (v : X) → length (slice_set xs i v) ≡ length xs
-set_length [] i v = refl
-set_length (x ∷ xs) zero v = refl
-set_length (x ∷ xs) (suc i) v = ap suc (set_length xs i v)
 
 -- an entry more, or none
 pub told_network : (n : NetLists) (now : List Entry) (entry : Entry) (result : Result (Unit {0}) NoMemory) → IsNetwork n
@@ -128,7 +118,7 @@ edge_kept n me found now is below at kept stays = record {
   ticks_told = is.ticks_told;
 } where
   by : (b : Bool) (k : ℕ) → k < length n.edges → (cond b now (edge_lists n k)).plan ≡ n.plan
-  by true k within = kept ∙ (ap (λ (e : EdgeLists). e.plan) (at ∙ same_default n.edges me.0 found (no_edge n.plan me.0) below) ∙ is.planned me.0 below)
+  by true k within = kept ∙ (ap (λ (e : EdgeLists). e.plan) (at ∙ same_read n.edges me.0 found (no_edge n.plan me.0) below) ∙ is.planned me.0 below)
   by false k within = is.planned k within
 
   edge_id : ℕ → EdgeId
@@ -136,7 +126,7 @@ edge_kept n me found now is below at kept stays = record {
 
   place_by : (b : Bool) (k : ℕ) → (k == me.0) ≡ b → (cond b now (edge_lists n k)).me ≡ record { 0 = k }
   place_by true k here =
-      stays ∙ (ap (λ (e : EdgeLists). e.me) (at ∙ same_default n.edges me.0 found (no_edge n.plan me.0) below) ∙ (is.placed me.0 ∙ ap edge_id (sym (eqb-true k me.0 here))))
+      stays ∙ (ap (λ (e : EdgeLists). e.me) (at ∙ same_read n.edges me.0 found (no_edge n.plan me.0) below) ∙ (is.placed me.0 ∙ ap edge_id (sym (eqb-true k me.0 here))))
   place_by false k apart = is.placed k
 
 -- an edge that stays as it is
@@ -264,12 +254,6 @@ opened_network plan own count edges pipes packets trace checked planned counted 
       frames_told = omega arith;
       ticks_told = subst (λ (u : UnderWay). u.ticks ≤ length trace) (sym sent) (omega arith);
     }
-
-index_end : {X : Type 0} (xs : List X) (x d : X) (k : ℕ) → slice_index_or (xs ++ x ∷ []) k d ≡ cond (nat_eq k (length xs)) x (slice_index_or xs k d)
-index_end [] x d zero = refl
-index_end [] x d (suc k) = grind (arith, nat_tests)
-index_end (y ∷ ys) x d zero = grind (arith, nat_tests)
-index_end (y ∷ ys) x d (suc k) = grind (arith, nat_tests, index_end ys x d k)
 
 pub open_none : (plan : Plan) → AreOpen plan 0 []
 open_none plan = record { len = refl; planned = λ k below. refl; empty = λ k. no_edge_seen plan (record { 0 = k }) }

@@ -8,6 +8,7 @@ use Rattle.std.specs.List.Sorted.{IsStrictlySortedBy}
 use Rattle.std.specs.Map.{keys_of, remove_entry}
 use Rattle.std.specs.declared.cmp.Ordering.TheVariants.{Less, Equal, Greater}
 use Rattle.std.specs.Ordering.{is_eq, is_gt, nat_cmp, ordering_then}
+use Rattle.net_values.proofs.NumberLemmas.{equal_turned, less_apart, below_apart}
 use Rattle.network_model.specs.declared.packet.Packet.{Packet}
 use Rattle.network_model.specs.State.{all_older, older, without_number}
 use Rattle.psn_net.specs.declared.carried.Carried.{Carried}
@@ -74,10 +75,7 @@ pub ruleset kept_steps = (found_kept, removed_kept, still_kept, values_added, mo
 -- ---- the set of when they were sent
 
 pub sending_at : (a b : Sending) → is_at (sending_order a) b ≡ (a.since == b.since) && (a.number == b.number)
-sending_at a b = by (nat_lt a.since b.since) (a.since == b.since) (nat_lt a.number b.number) (a.number == b.number) (before a.since b.since) (before a.number b.number) where
-  before : (x y : ℕ) → nat_lt x y ≡ true → (x == y) ≡ false
-  before x y h = grind (arith, nat_tests, h)
-
+sending_at a b = by (nat_lt a.since b.since) (a.since == b.since) (nat_lt a.number b.number) (a.number == b.number) (less_apart a.since b.since) (less_apart a.number b.number) where
   by : (l e m f : Bool) → (l ≡ true → e ≡ false) → (m ≡ true → f ≡ false) → is_eq (ordering_then (cond l Less (cond e Equal Greater)) (cond m Less (cond f Equal Greater))) ≡ e && f
   by true e m f h g = rw (h refl) refl
   by false false m f h g = refl
@@ -98,11 +96,8 @@ index_added es es2 ss ss2 n c index free kept has = record {
       has s
       ∙ (ap (λ (b : Bool). cond b true (list_any (is_at (sending_order s)) ss)) (sending_at (record { since = c.since; number = n }) s)
       ∙ (by s (c.since == s.since) refl (n == s.number) refl
-      ∙ sym (ap (is_since s.since) (kept s.number ∙ ap (λ (b : Bool). cond b (Some c) (kept_under s.number es)) (same_number n s.number ∙ turned s.number n)))));
+      ∙ sym (ap (is_since s.since) (kept s.number ∙ ap (λ (b : Bool). cond b (Some c) (kept_under s.number es)) (same_number n s.number ∙ equal_turned s.number n)))));
 } where
-  turned : (x y : ℕ) → (x == y) ≡ (y == x)
-  turned x y = grind (arith, nat_tests)
-
   by : (s : Sending) (a : Bool) → (c.since == s.since) ≡ a → (b : Bool) → (n == s.number) ≡ b
       → cond (a && b) true (list_any (is_at (sending_order s)) ss) ≡ is_since s.since (cond b (Some c) (kept_under s.number es))
   by s true at true here = sym at
@@ -120,11 +115,8 @@ index_removed es es2 ss ss2 n c index there kept has = record {
       has s
       ∙ (ap (λ (b : Bool). cond b false (list_any (is_at (sending_order s)) ss)) (sending_at (record { since = c.since; number = n }) s)
       ∙ (by s (c.since == s.since) refl (n == s.number) refl
-      ∙ sym (ap (is_since s.since) (kept s.number ∙ ap (λ (b : Bool). cond b None (kept_under s.number es)) (same_number n s.number ∙ turned s.number n)))));
+      ∙ sym (ap (is_since s.since) (kept s.number ∙ ap (λ (b : Bool). cond b None (kept_under s.number es)) (same_number n s.number ∙ equal_turned s.number n)))));
 } where
-  turned : (x y : ℕ) → (x == y) ≡ (y == x)
-  turned x y = grind (arith, nat_tests)
-
   by : (s : Sending) (a : Bool) → (c.since == s.since) ≡ a → (b : Bool) → (n == s.number) ≡ b
       → cond (a && b) false (list_any (is_at (sending_order s)) ss) ≡ is_since s.since (cond b None (kept_under s.number es))
   by s true at true here = refl
@@ -156,13 +148,10 @@ rest_kept e es n below t aged = by (kept_under n es) refl aged where
   later : (c : Carried) → kept_under n es ≡ Some c → e.0 < n
   later c is = below_kept e.0 n es c below is
 
-  apart : (x y : ℕ) → x < y → (x == y) ≡ false
-  apart x y h = grind (arith, nat_tests, h)
-
   by : (o : Option Carried) → kept_under n es ≡ o → is_aged_under t o ≡ true → (is_aged_under t (kept_under n (e ∷ es)) ≡ true) × (e.0 < n)
   by None is old = absurd (cc (old))
   by (Some c) is old = (
-    ap (λ (b : Bool). is_aged_under t (cond b (Some e.1) (kept_under n es))) (same_number n e.0 ∙ apart e.0 n (later c is)) ∙ (ap (is_aged_under t) is ∙ old),
+    ap (λ (b : Bool). is_aged_under t (cond b (Some e.1) (kept_under n es))) (same_number n e.0 ∙ below_apart e.0 n (later c is)) ∙ (ap (is_aged_under t) is ∙ old),
     later c is,
   )
 

@@ -16,9 +16,7 @@ use Rattle.net_base.specs.declared.trace.state_name.StateName.TheVariants as nam
 use Rattle.net_base.specs.plan.Paths.{are_joined}
 use Rattle.net_base.specs.plan.Places.{wire_row}
 use Rattle.ldp_grammar.specs.declared.message.Message.{Message}
-use Rattle.pw_tlvs.specs.declared.pw_fec.PwFec.{PwFec}
 use Rattle.pw_tlvs.specs.declared.pw_status.PwStatus.{PwStatus}
-use Rattle.pw_signalling.specs.End.{EndState}
 use Rattle.pw_signalling.specs.Rows.{bound, group_stated, group_unbound, stated, unbound}
 use Rattle.session_core.specs.declared.reply.Reply.{Reply}
 use Rattle.session_core.specs.Phase.{Phase}
@@ -32,8 +30,7 @@ use Rattle.edge_model.specs.Clear.{withdrawing_at}
 use Rattle.edge_model.specs.Connection.{connected_input, connects_between, lost_input, opened_with}
 use Rattle.edge_model.specs.declared.effect.Effect.{Effect}
 use Rattle.edge_model.specs.declared.effect.Effect.TheVariants as effect
-use Rattle.edge_model.specs.declared.end_place.EndPlace.{EndPlace}
-use Rattle.edge_model.specs.EndPlaces.{end_named, ends_here, passes}
+use Rattle.edge_model.specs.EndPlaces.{ends_here, passes}
 use Rattle.edge_model.specs.Frame.{frame_input, is_own}
 use Rattle.edge_model.specs.Labels.{meeting}
 use Rattle.edge_model.specs.Hear.{hears_on, octets_input}
@@ -45,13 +42,15 @@ use Rattle.edge_model.specs.Role.{down_at, status_to_tell}
 use Rattle.edge_model.specs.Session.{clears_ends, comes_of, ends, had_put, had_said, happens, happens_to, happens_with_ends, is_same_phase, losing_ends, says, says_to, tells_change, went_on, with_session}
 use Rattle.edge_model.specs.Signal.{end_of_fec, with_end_changed, with_named, with_released}
 use Rattle.edge_model.specs.Spokes.{choosing}
-use Rattle.edge_model.specs.State.{EdgeState, Peering, has_end, is_on, is_there, with_addresses, with_bits, with_chosen, with_circuit, with_end, with_ends_beside, with_learned, with_next_label, with_peering, with_priority, with_renewed, with_ticks, with_kept, with_told_down, with_wire}
+use Rattle.edge_model.specs.State.{EdgeState, Peering, has_end, is_on, is_there, with_addresses, with_bits, with_chosen, with_end, with_ends_beside, with_learned, with_next_label, with_peering, with_priority, with_ticks, with_kept, with_told_down}
 use Rattle.edge_model.specs.Tick.{counted, forgetting, tick_input, ticks_sessions}
 use Rattle.edge_model.specs.Wire.{is_own_spoke, priority_input, status_input, turned_wire, wire_input}
 use Rattle.edge_model.specs.Work.{Work, beginning, changes, gives, idles, next_answer, puts}
 use Rattle.edge_model.proofs.BridgeLemmas.{BridgesInput, BridgesOnly, PingsInput, forgetting_only, frame_bridges, is_of_bridging, packet_bridges, ping_bridges}
 use Rattle.edge_model.proofs.SessionLemmas.{GivesOnly, are_all, are_all-append}
 use Rattle.edge_model.proofs.WalkLemmas.{HearSteps, MendSteps, hears_on_holds, mends_holds, ticks_hold}
+use Rattle.edge_model.proofs.AgainLemmas.{there_spoken}
+use Rattle.edge_model.proofs.FitLemmas.{named_keeps, turned_wire_keeps, changed_keeps, released_keeps, turned_keeps}
 
 -- neither octets for a peer nor a state of the session with it
 abbrev pub is_silent : ℕ → Effect → Bool
@@ -131,10 +130,6 @@ peering_tells k peer kept work same = record {
   there = λ h. put_there k peer kept work.edge.peering same;
   leaves = λ h. refl;
 }
-
-there_spoken : (kept : Option Peering) → is_there (option_map having_spoken kept) ≡ is_there kept
-there_spoken None = refl
-there_spoken (Some kept) = refl
 
 spoken_tells : (k : ℕ) (peer : EdgeId) (work : Work) → TellsOf k work (changes (with_spoken peer) work)
 unfolding changes with_peering with_spoken
@@ -262,34 +257,9 @@ advice_tells told k peer reply work =
 
 -- ---- what leaves the sessions as they were
 
-changed_keeps : (change : EndState → EndState) (place : Option EndPlace) (edge : EdgeState) → (with_end_changed change place edge).peering ≡ edge.peering
-unfolding with_end
-changed_keeps change None edge = refl
-changed_keeps change (Some place) edge = refl
-
-released_keeps : (label : Option ℕ) (place : Option EndPlace) (edge : EdgeState) → (with_released label place edge).peering ≡ edge.peering
-unfolding with_end with_kept
-released_keeps label None edge = refl
-released_keeps label (Some place) edge = refl
-
-named_keeps : (plan : Plan) (peer : EdgeId) (fec : PwFec) (one all : EndState → EndState) (pw_id : Option ℕ) (edge : EdgeState) → (with_named plan peer fec one all pw_id edge).peering ≡ edge.peering
-unfolding with_ends_beside
-named_keeps plan peer fec one all None edge = refl
-named_keeps plan peer fec one all (Some pw_id) edge = changed_keeps one (end_named plan edge.me peer pw_id) edge
-
 forgetting_keeps : (plan : Plan) (wire : WireId) (work : Work) → (forgetting_wire plan wire (wire_row plan wire) work.edge).peering ≡ work.edge.peering
 unfolding changes
 forgetting_keeps plan wire work = (forgetting_only plan wire (wire_row plan wire) work).edge.peering
-
-turned_keeps : (plan : Plan) (circuit : CircuitId) (row : CircuitPlan) (on : Bool) (edge : EdgeState) → (turned plan circuit row on edge).peering ≡ edge.peering
-unfolding with_addresses with_circuit
-turned_keeps plan circuit row true edge = refl
-turned_keeps plan circuit row false edge = refl
-
-turned_wire_keeps : (wire : WireId) (on : Bool) (edge : EdgeState) → (turned_wire wire on edge).peering ≡ edge.peering
-unfolding with_renewed with_wire
-turned_wire_keeps wire true edge = refl
-turned_wire_keeps wire false edge = refl
 
 -- ---- all that an edge does
 

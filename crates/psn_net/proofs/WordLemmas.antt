@@ -2,16 +2,15 @@
 use Rattle.std.proofs.Common.{◌≡◌, ◌≢◌, ◌<◌, ◌≤◌, ◌+◌, ◌*◌, ◌^◌, ◌%◌, ◌&&◌, ℕ, zero, suc, Bool, true, false, Some, None, cond, refl, bit_or, bit_and, nat_eq, nat_lt, ap, arith, eq-eqb, w64}
 use Rattle.std.proofs.lemmas.Bool.Decides.{nat_tests}
 use Rattle.std.proofs.lemmas.Nat.Bits.{bit_at_set_same, bit_at_set_other, bit_at_clear_same, bit_at_clear_other, bit_at-trailing_zeros, bit_at-zero}
+use Rattle.std.proofs.lemmas.Bool.{and_from, and_right}
 use Rattle.std.specs.Int.{bit_at, bit_not, trailing_zeros}
+use Rattle.net_values.proofs.BoolLemmas.{and_false}
 use Rattle.network_model.specs.Delivery.{first_from}
 use Rattle.psn_net.specs.PairIndex.{in_word}
 
 pub on_same : (word k : ℕ) → k < 64 → in_word (bit_or word (1 * 2 ^ k % 2 ^ 64)) k ≡ true
 unfolding in_word
-on_same word k h = both (nat_lt k 64) _ (grind (arith, nat_tests)) (eq-eqb _ _ (bit_at_set_same w64 word k h))
-  where
-    both : (a b : Bool) → a ≡ true → b ≡ true → a && b ≡ true
-    both a b p q = rw (p, q) refl
+on_same word k h = and_from (nat_lt k 64) _ (grind (arith, nat_tests)) (eq-eqb _ _ (bit_at_set_same w64 word k h))
 
 pub on_other : (word k i : ℕ) → k < 64 → i ≢ k → in_word (bit_or word (1 * 2 ^ k % 2 ^ 64)) i ≡ in_word word i
 unfolding in_word
@@ -19,11 +18,7 @@ on_other word k i h ne = ap (λ (n : ℕ). nat_lt i 64 && nat_eq n 1) (bit_at_se
 
 pub off_same : (word k : ℕ) → k < 64 → in_word (bit_and word (bit_not w64 (1 * 2 ^ k % 2 ^ 64))) k ≡ false
 unfolding in_word
-off_same word k h = second (nat_lt k 64) _ (ap (λ (n : ℕ). nat_eq n 1) (bit_at_clear_same w64 word k h))
-  where
-    second : (a b : Bool) → b ≡ false → a && b ≡ false
-    second true b q = q
-    second false b q = refl
+off_same word k h = and_right (nat_lt k 64) _ (ap (λ (n : ℕ). nat_eq n 1) (bit_at_clear_same w64 word k h))
 
 pub off_other : (word k i : ℕ) → k < 64 → i ≢ k → in_word (bit_and word (bit_not w64 (1 * 2 ^ k % 2 ^ 64))) i ≡ in_word word i
 unfolding in_word
@@ -51,11 +46,7 @@ first_none test place (suc n) h = let e = h place in let r = first_none test (pl
 
 pub none_in_zero : (i : ℕ) → in_word 0 i ≡ false
 unfolding in_word
-none_in_zero i = second (nat_lt i 64) _ (ap (λ (n : ℕ). nat_eq n 1) (bit_at-zero i))
-  where
-    second : (a b : Bool) → b ≡ false → a && b ≡ false
-    second true b q = q
-    second false b q = refl
+none_in_zero i = and_right (nat_lt i 64) _ (ap (λ (n : ℕ). nat_eq n 1) (bit_at-zero i))
 
 pub none_on : (size : ℕ) → first_from (in_word 0) 0 size ≡ None
 none_on size = first_none (in_word 0) 0 size none_in_zero
@@ -66,11 +57,7 @@ on word k h e = rw e (grind (arith, nat_tests))
 
 not_on : (word k : ℕ) → bit_at word k ≡ 0 → in_word word k ≡ false
 unfolding in_word
-not_on word k e = rw e (second (nat_lt k 64))
-  where
-    second : (a : Bool) → a && false ≡ false
-    second true = refl
-    second false = refl
+not_on word k e = rw e (and_false (nat_lt k 64))
 
 lowest_lit : (word : ℕ) → 0 < word → word < 2 ^ 64 → in_word word (trailing_zeros w64 word) ≡ true
 lowest_lit word p f = on word (trailing_zeros w64 word) (bit_at-trailing_zeros w64 word p f).0 (bit_at-trailing_zeros w64 word p f).1

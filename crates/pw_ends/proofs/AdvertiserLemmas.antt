@@ -1,7 +1,7 @@
 -- The end that advertises a label is the one that owns it, where it has not withdrawn it.
 use Rattle.std.proofs.Common.{◌≡◌, ◌<◌, ◌∙◌, ℕ, zero, suc, Bool, true, false, List, [], ◌∷◌, Option, Some, None, length, get_or, map, position, ap, sym, subst, arith, inl, inr}
 use Rattle.std.specs.List.{find}
-use Rattle.std.proofs.lemmas.Bool.{cases_order, eqb-true, false_from_ne_true, true≢false}
+use Rattle.std.proofs.lemmas.Bool.{cases_order, false_from_ne_true, true≢false}
 use Rattle.std.proofs.lemmas.List.Quantifiers.{position-Some}
 use Rattle.hvpls_spokes.proofs.SearchLemmas.{find_is, find_none}
 use Rattle.pw_ends.proofs.NoneLemmas.{fails_all}
@@ -11,9 +11,10 @@ use Rattle.edge_model.specs.declared.end_place.EndPlace.{EndPlace}
 use Rattle.edge_model.specs.Packet.{advertises_label}
 use Rattle.pw_ends.specs.Ends.{EndLists, end_in, end_there, is_label, no_place, owns_label, place_of}
 use Rattle.pw_ends.specs.Kept.{AreApart, Differ, OwnApart, own_of}
-use Rattle.pw_ends.proofs.KeptLemmas.{own_at, own_count}
-use Rattle.pw_ends.proofs.OwnerLemmas.{all_at, away}
+use Rattle.pw_ends.proofs.KeptLemmas.{own_at}
+use Rattle.pw_ends.proofs.OwnerLemmas.{all_at, away, count_own}
 use Rattle.pw_ends.proofs.SlotLemmas.{seen_at}
+use Rattle.pw_ends.proofs.LabelLemmas.{label_is}
 
 -- an end that advertises a label owns it
 advertises_own : (label : ℕ) (local : LocalPart) → advertises_label label local ≡ true → is_label label (own_label local) ≡ true
@@ -26,10 +27,6 @@ differ_at [] i j apart below within = absurd (omega (arith, within))
 differ_at (o ∷ os) i zero apart below within = absurd (omega (arith, below))
 differ_at (o ∷ os) zero (suc j) apart below within = all_at (Differ o) os j apart.0 (omega (arith, within))
 differ_at (o ∷ os) (suc i) (suc j) apart below within = differ_at os i j apart.1 (omega (arith, below)) (omega (arith, within))
-
-label_is : (label : ℕ) (own : Option ℕ) → is_label label own ≡ true → own ≡ Some label
-label_is label None is = absurd (cc (is))
-label_is label (Some own) is = ap Some (eqb-true own label is)
 
 module _ (lists : EndLists) (label : ℕ) (apart : AreApart lists.places) (count : length lists.ends ≡ length lists.places) where
   -- the end at the place advertises the label
@@ -63,7 +60,7 @@ module _ (lists : EndLists) (label : ℕ) (apart : AreApart lists.places) (count
       later : (i : ℕ) → owns_label label (get_or lists.ends slot fresh) ≡ true → slot < i → i < length lists.ends → owns_label label (get_or lists.ends i fresh) ≡ false
       later i here above within =
           let own : get_or (map own_of lists.ends) slot None ≡ Some label = own_at lists.ends slot ∙ label_is label (own_of (get_or lists.ends slot fresh)) here in
-          let differ : Differ (get_or (map own_of lists.ends) slot None) (get_or (map own_of lists.ends) i None) = differ_at (map own_of lists.ends) slot i own_apart above (omega (arith, within, own_count lists.ends)) in
+          let differ : Differ (get_or (map own_of lists.ends) slot None) (get_or (map own_of lists.ends) i None) = differ_at (map own_of lists.ends) slot i own_apart above (omega (arith, within, count_own lists.ends)) in
           ap (is_label label) (sym (own_at lists.ends i)) ∙ away label (get_or (map own_of lists.ends) i None) (subst (λ (o : Option ℕ). Differ o (get_or (map own_of lists.ends) i None)) own differ)
 
   pub advertiser_none : position (owns_label label) lists.ends ≡ None → None ≡ find tells lists.places

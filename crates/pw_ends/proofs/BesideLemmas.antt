@@ -36,7 +36,7 @@ slot_further p k xs = slot_from_position k p xs ∙ mapped k (position_or_len p 
 passed_over : (p : EndPlace → Bool) (k : ℕ) (xs : List EndPlace) → k ≤ length xs → ((n : ℕ) (d : EndPlace) → n < k → p (get_or xs n d) ≡ false) → position p xs ≡ option_map (λ n. k + n) (position p (drop k xs))
 passed_over p k xs bound before = sym (slot_from_start p xs) ∙ (slot_passed p 0 k xs bound before ∙ (ap (λ n. slot_from n p (drop k xs)) (zero-add k) ∙ slot_further p k (drop k xs)))
 
-earlier : (wire : WireId) (x y : EndPlace) → PrecedesEnd x y → end_precedes_wire wire y ≡ true → end_precedes_wire wire x ≡ true
+pub earlier : (wire : WireId) (x y : EndPlace) → PrecedesEnd x y → end_precedes_wire wire y ≡ true → end_precedes_wire wire x ≡ true
 earlier wire x y order under = grind (arith, nat_tests, order.wires, under)
 
 not_at : (wire : WireId) (peer : ℕ) (x : EndPlace) → end_precedes_wire wire x ≡ true → is_at wire.0 peer x ≡ false
@@ -78,7 +78,7 @@ pub beside_within : (lists : EndLists) (wire peer : ℕ) (found : Option ℕ) �
 beside_within lists wire peer found is = subst (λ (o : Option ℕ). IfSome o (λ slot. slot < length lists.places)) (sym is) (slot_in (is_at wire peer) lists.places)
 
 -- of an end that is not there nothing was told
-look_none : (places : List EndPlace) (ends : List EndState) (wire peer : ℕ) → find (is_at wire peer) places ≡ None → look places ends wire peer ≡ fresh
+pub look_none : (places : List EndPlace) (ends : List EndState) (wire peer : ℕ) → find (is_at wire peer) places ≡ None → look places ends wire peer ≡ fresh
 look_none [] ends wire peer none = refl
 look_none (place ∷ places) [] wire peer none = refl
 look_none (place ∷ places) (end ∷ ends) wire peer none = by (is_at wire peer place) none (look_none places ends wire peer)

@@ -1,20 +1,17 @@
 -- Bits of the word of marks.
 use Rattle.std.proofs.Common.{◌≡◌, ◌≢◌, ◌<◌, ◌≤◌, ◌*◌, ◌^◌, ◌%◌, ◌||◌, ◌==◌, ◌∙◌, ℕ, Bool, true, false, not, cond, refl, bit_or, bit_and, nat_eq, nat_lt, ap, arith, eq-eqb, inl, inr, w64}
-use Rattle.std.proofs.lemmas.Bool.{cases_Bool}
+use Rattle.std.proofs.lemmas.Bool.{cases_Bool, or_right}
 use Rattle.std.proofs.lemmas.Bool.Decides.{nat_tests}
 use Rattle.std.proofs.lemmas.Nat.Bits.{bit_at_set_same, bit_at_set_other, bit_at_clear_same, bit_at_clear_other, bit_at-zero}
 use Rattle.std.specs.Int.{bit_at, bit_not}
+use Rattle.net_values.proofs.BoolLemmas.{or_false}
 use Rattle.pw_ends.specs.declared.peer_marks.PeerMarks.{PeerMarks}
 use Rattle.pw_ends.specs.Marks.{has_mark}
 
 -- no bit is on
 pub unmarked : (marks : PeerMarks) (k : ℕ) → marks.word ≡ 0 → has_mark marks k ≡ not (nat_lt k 64)
 unfolding has_mark
-unmarked marks k none = ap (λ (word : ℕ). not (nat_lt k 64) || nat_eq (bit_at word k) 1) none ∙ (ap (λ (n : ℕ). not (nat_lt k 64) || nat_eq n 1) (bit_at-zero k) ∙ alone (not (nat_lt k 64)))
-  where
-    alone : (a : Bool) → (a || false) ≡ a
-    alone true = refl
-    alone false = refl
+unmarked marks k none = ap (λ (word : ℕ). not (nat_lt k 64) || nat_eq (bit_at word k) 1) none ∙ (ap (λ (n : ℕ). not (nat_lt k 64) || nat_eq n 1) (bit_at-zero k) ∙ or_false (not (nat_lt k 64)))
 
 -- one bit is set
 pub bit_set : (marks now : PeerMarks) (peer k : ℕ) → peer < 64 → now.word ≡ bit_or marks.word (1 * 2 ^ peer % 2 ^ 64) → has_mark now k ≡ (k == peer || has_mark marks k)
@@ -30,12 +27,8 @@ bit_set marks now peer k within is = elim (cases_Bool (k == peer)) [
     unequal : (k == peer) ≡ false → k ≢ peer
     unequal apart = grind (arith, nat_tests)
 
-    second : (a b : Bool) → b ≡ true → (a || b) ≡ true
-    second true b is = refl
-    second false b is = is
-
     at_peer : k ≡ peer → (not (nat_lt k 64) || nat_eq (bit_at (bit_or marks.word (1 * 2 ^ peer % 2 ^ 64)) k) 1) ≡ true
-    at_peer same = rw same (second (not (nat_lt peer 64)) _ (eq-eqb _ _ (bit_at_set_same w64 marks.word peer within)))
+    at_peer same = rw same (or_right (not (nat_lt peer 64)) _ (eq-eqb _ _ (bit_at_set_same w64 marks.word peer within)))
 
 -- one past the 64 is marked already
 pub bit_past : (marks : PeerMarks) (peer k : ℕ) → 64 ≤ peer → has_mark marks k ≡ (k == peer || has_mark marks k)

@@ -1,18 +1,10 @@
 -- Items by their numbers: what is found where one is put at its place, and where those of a number are taken out.
-use Rattle.std.proofs.Common.{◌≡◌, ◌==◌, ℕ, Bool, true, false, not, cond, nat_lt, List, [], ◌∷◌, Option, Some, None, filter, map, refl, ap, arith, inl, inr}
+use Rattle.std.proofs.Common.{◌≡◌, ◌==◌, ℕ, Bool, true, false, not, cond, nat_lt, List, [], ◌∷◌, Option, Some, None, filter, map, refl, ap, inl, inr}
 use Rattle.std.specs.List.{find}
 use Rattle.std.proofs.lemmas.Bool.{cases_Bool}
-use Rattle.std.proofs.lemmas.Bool.Decides.{nat_tests}
+use Rattle.net_values.proofs.NumberLemmas.{equal_to_one, elsewhere}
+use Rattle.net_values.proofs.OptionLemmas.{something}
 use Rattle.label_space.specs.Kept.{put_by}
-
-something : {X : Type 0} (x : X) → Some x ≡ None → ⊥
-something x is = cc
-
-both_equal : {P : Type 0} (a b c : ℕ) → (a == c) ≡ true → (b == c) ≡ true → (a == b) ≡ false → P
-both_equal a b c one two other = grind (arith, nat_tests)
-
-elsewhere : (a b c : ℕ) → (a == b) ≡ true → (b == c) ≡ false → (a == c) ≡ false
-elsewhere a b c here other = grind (arith, nat_tests)
 
 module _ {X : Type 0} (number : X → ℕ) where
   -- an item of a number that none has is found, and all others as before
@@ -30,7 +22,7 @@ module _ {X : Type 0} (number : X → ℕ) where
       by : (b : Bool) → (number x == n) ≡ b → (number x == number new) ≡ false → find (λ y. number y == n) (put_by number new xs) ≡ cond (number new == n) (Some new) (find (λ y. number y == n) xs)
           → cond b (Some x) (find (λ y. number y == n) (put_by number new xs)) ≡ cond (number new == n) (Some new) (cond b (Some x) (find (λ y. number y == n) xs))
       by true is other rest = elim (cases_Bool (number new == n)) [
-        | inl clash ↦ both_equal (number x) (number new) n is clash other
+        | inl clash ↦ equal_to_one (number x) (number new) n is clash other
         | inr unlike ↦ rw unlike refl
       ]
       by false is other rest = rest

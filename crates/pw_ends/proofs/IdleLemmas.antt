@@ -3,6 +3,7 @@ use Rattle.std.proofs.Common.{◌≡◌, ◌<◌, ◌≤◌, ◌+◌, ◌∙◌,
 use Rattle.pw_signalling.specs.AnyEnd.{end_of}
 use Rattle.pw_signalling.specs.declared.pw_end.PwEnd.{PwEnd}
 use Rattle.pw_signalling.specs.End.{EndState, fresh}
+use Rattle.pw_ends.proofs.KeptLemmas.{all_seen}
 
 -- one end more is idle
 pub idle_more : (ends : List PwEnd) (slot : ℕ) (end : PwEnd) → slot < length ends → end_of end ≡ fresh → take slot (map end_of ends) ≡ replicate slot fresh → take (slot + 1) (map end_of (set ends slot end)) ≡ replicate (slot + 1) fresh
@@ -29,13 +30,9 @@ idle_more ends slot end within is so_far =
 pub idle_all : (ends : List PwEnd) (slot count : ℕ) → length ends ≡ count → count ≤ slot → slot ≤ count → take slot (map end_of ends) ≡ replicate slot fresh → map end_of ends ≡ replicate count fresh
 idle_all ends slot count long past within so_far =
     let whole : slot ≡ count = omega (arith, past, within) in
-    let seen : length (map end_of ends) ≡ count = mapped ends ∙ long in
+    let seen : length (map end_of ends) ≡ count = all_seen ends ∙ long in
     sym (taken (map end_of ends) slot (omega (arith, seen, past))) ∙ (so_far ∙ ap (λ (n : ℕ). replicate n fresh) whole)
   where
-    mapped : (es : List PwEnd) → length (map end_of es) ≡ length es
-    mapped [] = refl
-    mapped (e ∷ es) = ap suc (mapped es)
-
     taken : (xs : List EndState) (n : ℕ) → length xs ≤ n → take n xs ≡ xs
     taken [] zero past = refl
     taken [] (suc n) past = refl

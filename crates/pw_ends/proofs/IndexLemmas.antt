@@ -1,10 +1,11 @@
 -- Slots by the peer and the PW ID.
-use Rattle.std.proofs.Common.{◌≡◌, ◌<◌, ◌≤◌, ◌∙◌, ◌+◌, ◌==◌, ◌&&◌, not, cond, ℕ, zero, suc, Bool, true, false, List, [], ◌∷◌, length, drop, get_or, Option, Some, None, IfSome, position, nat_lt, refl, sym, subst, ap, arith, zero-add}
+use Rattle.std.proofs.Common.{◌≡◌, ◌<◌, ◌≤◌, ◌∙◌, ◌+◌, ◌==◌, ◌&&◌, cond, ℕ, zero, suc, Bool, true, false, List, [], ◌∷◌, length, drop, get_or, Option, Some, None, IfSome, position, nat_lt, refl, sym, subst, ap, arith, zero-add}
 use Rattle.std.specs.Prelude.{option_and_then, slice_get}
 use Rattle.std.specs.List.{find, position_or_len}
 use Rattle.std.specs.Map.{lookup}
-use Rattle.std.proofs.lemmas.Bool.Decides.{nat_tests}
 use Rattle.std.proofs.lemmas.List.{drop_more}
+use Rattle.std.proofs.lemmas.Bool.{ltb-true}
+use Rattle.net_values.proofs.OptionLemmas.{within_of, placed}
 use Rattle.edge_model.specs.declared.end_place.EndPlace.{EndPlace}
 use Rattle.pw_ends.specs.Ends.{no_place}
 use Rattle.pw_ends.specs.Names.{FindsSlots, end_name_of, has_name, is_name}
@@ -13,10 +14,6 @@ use Rattle.pw_ends.specs.Names.{FindsSlots, end_name_of, has_name, is_name}
 abbrev pub slot_from : ℕ → (EndPlace → Bool) → List EndPlace → Option ℕ
 slot_from i p [] = None
 slot_from i p (x ∷ xs) = cond (p x) (Some i) (slot_from (i + 1) p xs)
-
-placed : (passes : Bool) (i n len : ℕ) → cond passes (Some i) (cond (nat_lt n len) (Some (i + 1 + n)) None) ≡ cond (nat_lt (cond (not passes) (1 + n) 0) (suc len)) (Some (i + cond (not passes) (1 + n) 0)) None
-placed true i n len = grind (arith, nat_tests)
-placed false i n len = grind (arith, nat_tests)
 
 -- the same by its number
 pub slot_from_position : (i : ℕ) (p : EndPlace → Bool) (xs : List EndPlace) → slot_from i p xs ≡ cond (nat_lt (position_or_len p xs) (length xs)) (Some (i + position_or_len p xs)) None
@@ -74,16 +71,9 @@ found_from p i (x ∷ xs) all is = by (p x) refl (found_from p (i + 1) xs all (t
 pub found_at : (p : EndPlace → Bool) (xs : List EndPlace) → option_and_then (slice_get xs) (position p xs) ≡ find p xs
 found_at p xs = ap (λ o. option_and_then (slice_get xs) o) (sym (slot_from_start p xs)) ∙ found_from p 0 xs xs refl
 
-within_of : (test : Bool) (n len : ℕ) → (test ≡ true → n < len) → IfSome (cond test (Some n) None) (λ slot. slot < len)
-within_of true n len below = below refl
-within_of false n len below = tt
-
-below_of : (n len : ℕ) → nat_lt n len ≡ true → n < len
-below_of n len test = grind (arith, nat_tests)
-
 -- a slot is one of the list
 pub slot_in : (p : EndPlace → Bool) (xs : List EndPlace) → IfSome (position p xs) (λ slot. slot < length xs)
-slot_in p xs = within_of _ _ _ (below_of (position_or_len p xs) (length xs))
+slot_in p xs = within_of _ _ _ (ltb-true (position_or_len p xs) (length xs))
 
 -- what a slot of the list has
 got : (xs : List EndPlace) (slot : ℕ) → slot < length xs → slice_get xs slot ≡ Some (get_or xs slot no_place)

@@ -1,10 +1,11 @@
 -- What the ends own, and what their label space has.
-use Rattle.std.proofs.Common.{◌≡◌, ◌≢◌, ◌<◌, ◌≤◌, ◌+◌, ◌∙◌, ◌==◌, ◌⊎◌, ℕ, zero, suc, Bool, true, false, not, cond, List, [], ◌∷◌, Option, Some, None, length, get_or, set, map, replicate, refl, ap, sym, subst, arith, inl, inr}
+use Rattle.std.proofs.Common.{◌≡◌, ◌≢◌, ◌<◌, ◌≤◌, ◌+◌, ◌∙◌, ◌⊎◌, ℕ, zero, suc, Bool, true, false, not, cond, List, [], ◌∷◌, Option, Some, None, length, get_or, set, map, replicate, refl, ap, sym, subst, arith, inl, inr}
 use Rattle.std.specs.Prelude.{filter}
 use Rattle.std.specs.List.{AllByRecursion, find}
 use Rattle.std.proofs.lemmas.Bool.{cases_Bool}
-use Rattle.std.proofs.lemmas.Bool.Decides.{nat_tests}
 use Rattle.std.proofs.lemmas.List.{map-set, length-set}
+use Rattle.net_values.proofs.NumberLemmas.{same_number}
+use Rattle.net_values.proofs.OptionLemmas.{something}
 use Rattle.net_base.specs.declared.plan.places.EdgeId.{EdgeId}
 use Rattle.net_base.specs.declared.plan.places.SegKey.{SegKey}
 use Rattle.label_space.specs.declared.kept.Kept.{Kept}
@@ -15,6 +16,7 @@ use Rattle.label_space.specs.Laws.{Among, AreApart as AreNumbersApart, Free, Iss
 use Rattle.label_space.proofs.LabelLemmas.{owner_of-find, owner_of-kept, owner_of-put}
 use Rattle.label_space.proofs.LawLemmas.{labels_are_used_again}
 use Rattle.label_space.proofs.OrderLemmas.{long_filtered, long_put}
+use Rattle.label_space.proofs.SlotLemmas.{none_found}
 use Rattle.pw_signalling.specs.AnyEnd.{end_of}
 use Rattle.pw_signalling.specs.declared.binding.Binding.{Binding}
 use Rattle.pw_signalling.specs.declared.pw_end.PwEnd.{PwEnd}
@@ -31,7 +33,7 @@ use Rattle.pw_ends.specs.Ends.{CanHold, EndLists, HasKind, Holds, IsIdle, end_in
 use Rattle.pw_ends.specs.Kept.{AreApart, AreKept, Differ, IsOwned, IsOwner, OwnApart, OwnTheirs, count_owned, freed_one, one_owned, own_of, segment_of}
 use Rattle.pw_ends.specs.Owned.{OwnedList, slot_of, with_owner, without_one}
 use Rattle.pw_ends.proofs.HoldLemmas.{holding_at, holding_none, holding_set, holds_stay}
-use Rattle.pw_ends.proofs.OwnerLemmas.{all_at, differ_sym, index_changed, index_count, index_issued, index_opened, set_same, unindexed}
+use Rattle.pw_ends.proofs.OwnerLemmas.{all_at, differ_sym, index_changed, index_count, index_issued, index_opened, set_same, unindexed, count_own}
 use Rattle.pw_ends.proofs.SegmentLemmas.{owner_in, owners_changed, owners_issued, owners_none}
 use Rattle.pw_ends.proofs.SlotLemmas.{seen_at}
 
@@ -58,9 +60,6 @@ count_less (o ∷ os) (suc slot) within none = omega (arith, one_most o, count_l
 
 -- ---- owners
 
-something : {X : Type 0} (x : X) → Some x ≡ None → ⊥
-something x is = cc
-
 -- the owner of a label goes
 filter_less : (label : ℕ) (xs : List Owner) → owner_of label xs ≢ None → length (filter (λ o. not (owns label o)) xs) < length xs
 filter_less label [] some = absurd (some refl)
@@ -77,14 +76,6 @@ put_some label xs owner none some = λ gone. by (owns label owner) (sym (owner_o
   by : (b : Bool) → cond b (Some (owner.key, owner.side)) (owner_of label xs) ≡ None → ⊥
   by true is = something {X = SegKey × ℕ} (owner.key, owner.side) is
   by false is = some is
-
--- a label without an owner is found nowhere
-pub found_none : (label : ℕ) (xs : List Owner) → owner_of label xs ≡ None → find (owns label) xs ≡ None
-found_none label [] none = refl
-found_none label (x ∷ xs) none = elim (cases_Bool (owns label x)) [
-  | inl here ↦ absurd (something {X = SegKey × ℕ} (x.key, x.side) (rw here at none))
-  | inr other ↦ rw other (found_none label xs (rw other at none))
-]
 
 -- ---- a label is freed
 
@@ -181,16 +172,13 @@ theirs_issued own_list labels slot label key side peer theirs within at given =
     let owner : Owner = record { label = label; key = key; side = side; peer = peer } in
     let none : owner_of label labels.owners ≡ None = given_unowned labels label theirs.numbers given in
     let count : count_owned (set own_list slot (Some label)) + 0 ≡ count_owned own_list + 1 = rw at at (count_set own_list slot (Some label) within) in
-    let is : owner_of label (put_by owned_label owner labels.owners) ≡ Some (key, side) = owner_of-put owner labels.owners none label ∙ rw (equal label) refl in
+    let is : owner_of label (put_by owned_label owner labels.owners) ≡ Some (key, side) = owner_of-put owner labels.owners none label ∙ rw (same_number label) refl in
     record {
       owned = all_set (IsOwned (put_by owned_label owner labels.owners)) own_list slot (Some label) (all_issued labels.owners owner own_list none theirs.owned) (λ gone. something {X = SegKey × ℕ} (key, side) (sym is ∙ gone));
       apart = apart_new labels.owners label own_list slot none theirs.owned theirs.apart;
       few = omega (arith, theirs.few, count, long_put owned_label owner labels.owners);
       numbers = subst (λ (r : Option ℕ). AreNumbersApart (given_to key side peer r labels)) given (labels_are_used_again.apart labels (Issue key side peer ∷ []) theirs.numbers);
     }
-  where
-    equal : (n : ℕ) → (n == n) ≡ true
-    equal n = grind (arith, nat_tests)
 
 -- ---- an end is changed
 
@@ -287,11 +275,6 @@ ends_at P [] slot all within = absurd (omega (arith, within))
 ends_at P (e ∷ es) zero all within = all.0
 ends_at P (e ∷ es) (suc slot) all within = ends_at P es slot all.1 (omega (arith, within))
 
--- there are as many labels, or none, as ends
-pub own_count : (ends : List EndState) → length (map own_of ends) ≡ length ends
-own_count [] = refl
-own_count (e ∷ es) = ap suc (own_count es)
-
 -- the label that the end of a slot owns
 pub own_at : (ends : List EndState) (slot : ℕ) → get_or (map own_of ends) slot None ≡ own_of (get_or ends slot fresh)
 own_at [] slot = refl
@@ -301,7 +284,7 @@ own_at (e ∷ es) (suc slot) = own_at es slot
 -- the label space has what the end of a slot owns as the label of its segment and side
 pub owner_seen : (lists : EndLists) (index : OwnedList) (slot : ℕ) → AreKept lists.places lists.ends lists.labels index → slot < length lists.places → IsOwner lists.labels.owners (place_of lists slot) (own_label (end_in lists slot).local)
 owner_seen lists index slot kept within =
-    let short : slot < length (map own_of lists.ends) = subst (λ (n : ℕ). slot < n) (sym (own_count lists.ends ∙ kept.count)) within in
+    let short : slot < length (map own_of lists.ends) = subst (λ (n : ℕ). slot < n) (sym (count_own lists.ends ∙ kept.count)) within in
     let own : get_or (map own_of lists.ends) slot None ≡ own_label (end_in lists slot).local = own_at lists.ends slot ∙ ap own_of (sym (seen_at lists slot kept.apart kept.count within)) in
     subst (IsOwner lists.labels.owners (place_of lists slot)) own (owner_in lists.labels.owners lists.places (map own_of lists.ends) slot kept.owners within short)
 
@@ -320,7 +303,7 @@ theirs_changed own_list labels slot (Some label) None theirs within at either = 
 theirs_changed own_list labels slot (Some label) (Some other) theirs within at (inl same) = rw (set_same own_list slot None (Some other) within (same ∙ sym at)) theirs
 theirs_changed own_list labels slot (Some label) (Some other) theirs within at (inr none) = absurd (something {X = ℕ} other none)
 
-all_seen : (es : List PwEnd) → length (map end_of es) ≡ length es
+pub all_seen : (es : List PwEnd) → length (map end_of es) ≡ length es
 all_seen [] = refl
 all_seen (e ∷ es) = ap suc (all_seen es)
 
@@ -352,7 +335,7 @@ pub kept_changed : (c : EndChange) (places : List EndPlace) (ends : List EndStat
 kept_changed c places ends labels index slot kept within =
     let old : EndState = get_or ends slot fresh in
     let short : slot < length ends = subst (λ (n : ℕ). slot < n) (sym kept.count) within in
-    let short_own : slot < length (map own_of ends) = subst (λ (n : ℕ). slot < n) (sym (own_count ends)) short in
+    let short_own : slot < length (map own_of ends) = subst (λ (n : ℕ). slot < n) (sym (count_own ends)) short in
     let now : get_or (changed_in (changed c) slot ends) slot fresh ≡ changed c old = set_at ends slot (changed c old) short in
     let theirs = theirs_changed (map own_of ends) labels slot (own_of old) (own_of (changed c old)) kept.owns short_own (own_at ends slot) (stays_or_none c old) in
     let owners = owners_changed (map own_of ends) labels places slot (own_of old) (own_of (changed c old)) kept.owns.apart kept.owners short_own (own_at ends slot) (stays_or_none c old) in
@@ -385,7 +368,7 @@ pub kept_bound : (binding : Binding) (places : List EndPlace) (ends now : List E
 kept_bound binding places ends now labels index slot kept within is holds =
     let old : EndState = get_or ends slot fresh in
     let short : slot < length ends = subst (λ (n : ℕ). slot < n) (sym kept.count) within in
-    let short_own : slot < length (map own_of ends) = subst (λ (n : ℕ). slot < n) (sym (own_count ends)) short in
+    let short_own : slot < length (map own_of ends) = subst (λ (n : ℕ). slot < n) (sym (count_own ends)) short in
     let same : map own_of (changed_in (bound binding) slot ends) ≡ map own_of ends = map-set own_of ends slot (bound binding old) ∙ set_same (map own_of ends) slot None (own_of old) short_own (sym (own_at ends slot)) in
     rw is (record {
       count = length-set ends slot (bound binding old) ∙ kept.count;
@@ -408,10 +391,10 @@ idle_none (Withdrawing label) idle = absurd idle
 -- an idle end leaves room for its label
 pub room_for : (places : List EndPlace) (ends : List EndState) (labels : LabelNumbers) (index : OwnedList) (slot : ℕ) → AreKept places ends labels index → slot < length places → IsIdle (get_or ends slot fresh).local → length labels.owners < labels.room
 room_for places ends labels index slot kept within idle =
-    let short : slot < length (map own_of ends) = subst (λ (n : ℕ). slot < n) (sym (own_count ends ∙ kept.count)) within in
+    let short : slot < length (map own_of ends) = subst (λ (n : ℕ). slot < n) (sym (count_own ends ∙ kept.count)) within in
     let none : get_or (map own_of ends) slot None ≡ None = own_at ends slot ∙ idle_none (get_or ends slot fresh).local idle in
     let less : count_owned (map own_of ends) < length (map own_of ends) = count_less (map own_of ends) slot short none in
-    omega (arith, kept.owns.few, less, own_count ends, kept.count, kept.room)
+    omega (arith, kept.owns.few, less, count_own ends, kept.count, kept.room)
 
 -- and room among the labels with their slots
 pub index_room : (places : List EndPlace) (ends : List EndState) (labels : LabelNumbers) (index : OwnedList) (slot : ℕ) → AreKept places ends labels index → slot < length places → IsIdle (get_or ends slot fresh).local → length index.labels < index.room
@@ -437,7 +420,7 @@ kept_issued key side peer label told places ends labels index slot kept within i
     let old : EndState = get_or ends slot fresh in
     let new : EndState = advertised label told old in
     let short : slot < length ends = subst (λ (n : ℕ). slot < n) (sym kept.count) within in
-    let short_own : slot < length (map own_of ends) = subst (λ (n : ℕ). slot < n) (sym (own_count ends)) short in
+    let short_own : slot < length (map own_of ends) = subst (λ (n : ℕ). slot < n) (sym (count_own ends)) short in
     let none : get_or (map own_of ends) slot None ≡ None = own_at ends slot ∙ idle_none old.local idle in
     let nobody : owner_of label labels.owners ≡ None = given_unowned labels label kept.owns.numbers given in
     let owned : map own_of (changed_in (advertised label told) slot ends) ≡ set (map own_of ends) slot (Some label) =
@@ -447,7 +430,7 @@ kept_issued key side peer label told places ends labels index slot kept within i
       apart = kept.apart;
       room = kept.room;
       owns = rw owned (theirs_issued (map own_of ends) labels slot label key side peer kept.owns short_own none given);
-      owners = rw (owned, of_segment, of_side, of_peer) (owners_issued (map own_of ends) labels places slot label kept.owners (found_none label labels.owners nobody));
+      owners = rw (owned, of_segment, of_side, of_peer) (owners_issued (map own_of ends) labels places slot label kept.owners (none_found label labels.owners nobody));
       kinds = all_set (λ (end : EndState). HasKind end.local) ends slot new kept.kinds (advertised_kind label told old.local idle kind);
       slots = rw owned (index_issued (map own_of ends) labels index slot label key side peer kept.slots (all_new labels.owners label (map own_of ends) nobody kept.owns.owned) (index_unowned places ends labels index label kept given) short_own none);
       holds = holding_set places ends slot new kept.holds (holding_at places ends slot kept.holds within short);

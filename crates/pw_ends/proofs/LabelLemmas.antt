@@ -3,6 +3,7 @@ use Rattle.std.proofs.Common.{◌≡◌, ◌<◌, ◌∙◌, ◌==◌, ℕ, Bool
 use Rattle.std.specs.List.{find}
 use Rattle.std.proofs.lemmas.Bool.{cases_Bool, eqb-true}
 use Rattle.std.proofs.lemmas.List.Quantifiers.{position-Some}
+use Rattle.net_values.proofs.OptionLemmas.{something}
 use Rattle.hvpls_spokes.proofs.SearchLemmas.{find_is, find_none}
 use Rattle.net_base.specs.declared.plan.places.SegKey.{SegKey}
 use Rattle.label_space.specs.declared.owner.Owner.{Owner}
@@ -19,9 +20,6 @@ use Rattle.pw_ends.proofs.KeptLemmas.{owner_seen}
 use Rattle.pw_ends.proofs.NoneLemmas.{fails_all}
 use Rattle.pw_ends.proofs.OwnerLemmas.{owner_found}
 use Rattle.pw_ends.proofs.SlotLemmas.{seen_at}
-
-something : {X : Type 0} (x : X) → Some x ≡ None → ⊥
-something x is = cc
 
 pub label_is : (label : ℕ) (own : Option ℕ) → is_label label own ≡ true → own ≡ Some label
 label_is label None is = absurd (cc (is))

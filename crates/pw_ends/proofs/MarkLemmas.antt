@@ -1,7 +1,8 @@
 -- Of a neighbour without a mark nothing was told: what sets marks and takes them away.
 use Rattle.std.proofs.Common.{◌≡◌, ◌⊎◌, ◌<◌, ◌∙◌, ◌==◌, ◌||◌, nat_lt, ℕ, zero, suc, Bool, true, false, not, cond, List, [], ◌∷◌, length, get_or, set, replicate, refl, ap, sym, subst, arith, inl, inr}
-use Rattle.std.proofs.lemmas.Bool.{cases_Bool}
+use Rattle.std.proofs.lemmas.Bool.{cases_Bool, true≢false}
 use Rattle.std.proofs.lemmas.Bool.Decides.{nat_tests}
+use Rattle.net_values.proofs.BoolLemmas.{second_fails}
 use Rattle.net_base.specs.declared.plan.places.EdgeId.{EdgeId}
 use Rattle.pw_signalling.specs.End.{EndState, fresh}
 use Rattle.pw_signalling.specs.Rows.{lost}
@@ -12,22 +13,15 @@ use Rattle.pw_ends.specs.Ends.{EndLists, changed_beside, look, no_place, seen_en
 use Rattle.pw_ends.specs.Kept.{AreUntold}
 use Rattle.pw_ends.proofs.SlotLemmas.{look_beside}
 
-neither : (a b : Bool) → (a || b) ≡ false → b ≡ false
-neither true b is = absurd (cc (is))
-neither false b is = is
-
 -- where there is no mark after one is set, there was none
 unmarked : (marks now : ℕ → Bool) (peer k : ℕ) → now k ≡ (k == peer || marks k) → now k ≡ false → marks k ≡ false
-unmarked marks now peer k more is = neither (k == peer) (marks k) (sym more ∙ is)
+unmarked marks now peer k more is = second_fails (k == peer) (marks k) (sym more ∙ is)
 
 -- a mark that is set is there
 marked : (marks now : ℕ → Bool) (peer : ℕ) → now peer ≡ (peer == peer || marks peer) → now peer ≡ false → ⊥
-marked marks now peer more is = differ (sym (ap (λ (b : Bool). b || marks peer) same) ∙ (sym more ∙ is)) where
+marked marks now peer more is = true≢false (sym (ap (λ (b : Bool). b || marks peer) same) ∙ (sym more ∙ is)) where
   same : (peer == peer) ≡ true
   same = grind (arith, nat_tests)
-
-  differ : true ≡ false → ⊥
-  differ is = cc
 
 -- one mark more
 untold_more : (marks now : ℕ → Bool) (peer : ℕ) (places : List EndPlace) (ends : List EndState) → ((k : ℕ) → now k ≡ (k == peer || marks k)) → AreUntold marks places ends → AreUntold now places ends
@@ -85,11 +79,6 @@ lost_none marks peer (p ∷ ps) (e ∷ es) untold none = two (by (cases_Bool (p.
 
     two : {x y : EndState} {xs ys : List EndState} → x ≡ y → xs ≡ ys → (x ∷ xs) ≡ (y ∷ ys)
     two first rest = λ i. first i ∷ rest i
-
--- a mark that is not there
-pub unlike : (mark : Bool) → not mark ≡ true → mark ≡ false
-unlike true is = absurd (cc (is))
-unlike false is = refl
 
 pub seen_untold : (marks : ℕ → Bool) (peer : EdgeId) (lists : EndLists) → AreUntold marks lists.places lists.ends → length lists.ends ≡ length lists.places → marks peer.0 ≡ false → changed_beside peer lost (seen_ends lists) ≡ seen_ends lists
 unfolding seen_ends

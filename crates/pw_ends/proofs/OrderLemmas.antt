@@ -16,6 +16,7 @@ use Rattle.edge_model.specs.EndPlaces.{end_place_at, end_places, is_end_of_wire,
 use Rattle.pw_ends.specs.Ends.{no_place}
 use Rattle.pw_ends.specs.Order.{AreEndsInOrder, PrecedesEnd, end_follows_wire, end_precedes_wire}
 use Rattle.pw_ends.proofs.PlaceLemmas.{from_later}
+use Rattle.pw_ends.proofs.BesideLemmas.{earlier}
 
 -- ---- the ends of one wire
 
@@ -73,9 +74,6 @@ places_in_order plan me = from_in_order me 0 plan.wires
 
 -- ---- the search of a wire
 
-before_wire : (wire : WireId) (x y : EndPlace) → PrecedesEnd x y → end_precedes_wire wire y ≡ true → end_precedes_wire wire x ≡ true
-before_wire wire x y order under = grind (arith, nat_tests, order.wires, under)
-
 not_before : (wire : WireId) (x : EndPlace) → is_of_wire wire x ≡ true → end_precedes_wire wire x ≡ false
 not_before wire x here = grind (arith, nat_tests, here)
 
@@ -90,14 +88,14 @@ pub of_wire_behind : (wire : WireId) (places : List EndPlace) (k : ℕ) → AreE
     → (IsPartitionedBy (end_precedes_wire wire) places → IsPartitionPoint (λ x. end_precedes_wire wire x ≡ true) (λ x. end_precedes_wire wire x ≡ false) places k)
     → position (is_of_wire wire) places ≡ place_if (is_of_wire wire) k (slice_get places k)
 of_wire_behind wire places k ordered bound ends =
-    (first_behind PrecedesEnd (end_precedes_wire wire) (is_of_wire wire) places k ordered (before_wire wire) (not_before wire) (same_wire wire) bound ends).place
+    (first_behind PrecedesEnd (end_precedes_wire wire) (is_of_wire wire) places k ordered (earlier wire) (not_before wire) (same_wire wire) bound ends).place
 
 -- and it is terminal where any of them is
 pub terminal_behind : (wire : WireId) (places : List EndPlace) (k : ℕ) → AreEndsInOrder places → k ≤ length places
     → (IsPartitionedBy (end_precedes_wire wire) places → IsPartitionPoint (λ x. end_precedes_wire wire x ≡ true) (λ x. end_precedes_wire wire x ≡ false) places k)
     → position (is_end_of_wire wire) places ≡ place_if (is_end_of_wire wire) k (slice_get places k)
 terminal_behind wire places k ordered bound ends =
-    (first_behind PrecedesEnd (end_precedes_wire wire) (is_end_of_wire wire) places k ordered (before_wire wire)
+    (first_behind PrecedesEnd (end_precedes_wire wire) (is_end_of_wire wire) places k ordered (earlier wire)
     (λ x here. not_before wire x (and_parts (is_of_wire wire x) x.terminal here).0)
     same_end
     bound ends).place
@@ -129,7 +127,7 @@ pub slots_before : (wire : WireId) (places : List EndPlace) (k : ℕ) → AreEnd
     → (IsPartitionedBy (end_precedes_wire wire) places → IsPartitionPoint (λ x. end_precedes_wire wire x ≡ true) (λ x. end_precedes_wire wire x ≡ false) places k)
     → (slot : ℕ) → slot < length places → (slot < k) ↔ ((get_or places slot no_place).wire.0 < wire.0)
 slots_before wire places k ordered bound ends slot within =
-    let at = before_point (end_precedes_wire wire) places k ordered (before_wire wire) bound ends slot within in (
+    let at = before_point (end_precedes_wire wire) places k ordered (earlier wire) bound ends slot within in (
       λ under. ltb-true _ _ (at.0 under),
       λ less. at.1 (lt-ltb _ _ less),
     )

@@ -1,20 +1,18 @@
 -- The labels that are owned rise: so each is found by halves, and one more stands at its place.
-use Rattle.std.proofs.Common.{◌≡◌, ◌<◌, ◌≤◌, ◌+◌, ◌==◌, ℕ, Bool, true, false, List, [], ◌∷◌, Some, None, length, filter, slice_get, arith, inl, inr}
+use Rattle.std.proofs.Common.{◌≡◌, ◌<◌, ◌≤◌, ◌+◌, ◌==◌, ℕ, Bool, true, false, List, [], ◌∷◌, None, length, filter, slice_get, arith, inl, inr}
 use Rattle.std.specs.List.{All, AllByRecursion, AllPairs, find}
 use Rattle.std.specs.List.Sorted.{IsPartitionedBy, IsPartitionPoint}
 use Rattle.std.proofs.lemmas.Bool.{cases_Bool}
 use Rattle.std.proofs.lemmas.Bool.Decides.{nat_tests}
 use Rattle.std.proofs.lemmas.List.Elements.{All-cons, All-nil}
 use Rattle.std.proofs.lemmas.List.Kept.{AllPairs-cons}
+use Rattle.net_values.proofs.OptionLemmas.{something}
 use Rattle.hvpls_spokes.specs.Search.{kept_if}
 use Rattle.hvpls_spokes.proofs.SearchLemmas.{first_behind}
 use Rattle.label_space.specs.Kept.{AreRisingBy, put_by}
 use Rattle.label_space.proofs.OrderLemmas.{long_filtered, long_put, rising_filtered, rising_put}
 use Rattle.pw_ends.specs.declared.owned_labels.OwnedLabel.{OwnedLabel}
 use Rattle.pw_ends.specs.Owned.{AreRising, IsOwnedList, has_label, is_earlier, label_in, slot_of}
-
-something : {X : Type 0} (x : X) → Some x ≡ None → ⊥
-something x is = cc
 
 abbrev Rises : OwnedLabel → OwnedLabel → Type 0
 Rises first second = first.label < second.label

@@ -1,10 +1,11 @@
 -- The slots by labels: each label that is owned has the slot of its owner, before and after the calls.
-use Rattle.std.proofs.Common.{◌≡◌, ◌<◌, ◌+◌, ◌∙◌, ◌==◌, ◌⊎◌, ℕ, zero, suc, Bool, true, false, not, cond, nat_lt, IfSome, List, [], ◌∷◌, Option, Some, None, length, get_or, set, map, filter, option_map, position, replicate, refl, ap, sym, subst, arith, inl, inr}
+use Rattle.std.proofs.Common.{◌≡◌, ◌<◌, ◌+◌, ◌∙◌, ◌==◌, ◌⊎◌, ℕ, zero, suc, Bool, true, false, not, cond, IfSome, List, [], ◌∷◌, Option, Some, None, length, get_or, set, map, filter, option_map, position, replicate, refl, ap, sym, subst, arith, inl, inr}
 use Rattle.std.specs.List.{AllByRecursion, find, position_or_len}
 use Rattle.std.proofs.lemmas.Bool.{cases_Bool, eqb-true, ne_eqb, lt-ltb}
-use Rattle.std.proofs.lemmas.Bool.Decides.{nat_tests}
 use Rattle.std.proofs.lemmas.List.{length-set}
 use Rattle.std.proofs.lemmas.List.Quantifiers.{position-Some}
+use Rattle.net_values.proofs.NumberLemmas.{same_number as same, not_below_itself}
+use Rattle.net_values.proofs.OptionLemmas.{something}
 use Rattle.net_base.specs.declared.plan.places.EdgeId.{EdgeId}
 use Rattle.net_base.specs.declared.plan.places.SegKey.{SegKey}
 use Rattle.label_space.specs.declared.owner.Owner.{Owner}
@@ -21,15 +22,6 @@ use Rattle.pw_ends.specs.Owned.{OwnedList, has_label, label_in, slot_of, with_ow
 use Rattle.pw_ends.proofs.FindLemmas.{find_left, find_left_other, find_put, numbers_left, numbers_put}
 
 -- ---- small facts
-
-something : {X : Type 0} (x : X) → Some x ≡ None → ⊥
-something x is = cc
-
-same : (n : ℕ) → (n == n) ≡ true
-same n = grind (arith, nat_tests)
-
-not_below : (n : ℕ) → nat_lt n n ≡ false
-not_below n = grind (arith, nat_tests)
 
 pub differ_sym : (a b : Option ℕ) → Differ a b → Differ b a
 differ_sym None None differ = tt
@@ -104,7 +96,7 @@ number_away label (o ∷ os) away =
 
 -- where none owns the label it is found at no slot
 pub position_away : (label : ℕ) (owns : List (Option ℕ)) → AllByRecursion (λ own. is_label label own ≡ false) owns → position (is_label label) owns ≡ None
-position_away label owns away = rw (number_away label owns away, not_below (length owns)) refl
+position_away label owns away = rw (number_away label owns away, not_below_itself (length owns)) refl
 
 number_left : (label : ℕ) (owns : List (Option ℕ)) (slot : ℕ) → OwnApart owns → slot < length owns → get_or owns slot None ≡ Some label → position_or_len (is_label label) (set owns slot None) ≡ length owns
 number_left label [] slot apart within at = absurd (omega (arith, within))
@@ -118,7 +110,7 @@ number_left label (o ∷ os) (suc slot) apart within at =
 
 -- no end owns a label that its owner has left
 position_left : (label : ℕ) (owns : List (Option ℕ)) (slot : ℕ) → OwnApart owns → slot < length owns → get_or owns slot None ≡ Some label → position (is_label label) (set owns slot None) ≡ None
-position_left label owns slot apart within at = rw (number_left label owns slot apart within at, length-set owns slot None, not_below (length owns)) refl
+position_left label owns slot apart within at = rw (number_left label owns slot apart within at, length-set owns slot None, not_below_itself (length owns)) refl
 
 -- no end owns a label
 abbrev no_label : Option ℕ
@@ -134,7 +126,7 @@ pub index_opened : (room count first : ℕ) → IsIndex (replicate count None) (
 index_opened room count first = record {
   room = refl;
   same = refl;
-  slot = λ label. sym (rw (number_opened label count, not_below (length (replicate count no_label))) refl);
+  slot = λ label. sym (rw (number_opened label count, not_below_itself (length (replicate count no_label))) refl);
 }
 
 -- ---- a label is given
@@ -215,7 +207,7 @@ number_own : (label : ℕ) (ends : List EndState) → position_or_len (is_label 
 number_own label [] = refl
 number_own label (e ∷ es) = ap (λ (n : ℕ). cond (not (owns_label label e)) (1 + n) 0) (number_own label es)
 
-count_own : (ends : List EndState) → length (map own_of ends) ≡ length ends
+pub count_own : (ends : List EndState) → length (map own_of ends) ≡ length ends
 count_own [] = refl
 count_own (e ∷ es) = ap suc (count_own es)
 

@@ -1,9 +1,11 @@
 -- Where a plan has ends of an edge: no two of one wire beside one neighbour.
-use Rattle.std.proofs.Common.{◌≡◌, ◌<◌, ◌≤◌, ◌+◌, ◌*◌, ◌++◌, ◌∙◌, ◌==◌, ◌&&◌, ◌||◌, ℕ, zero, suc, Bool, true, false, cond, List, [], ◌∷◌, length, get_or, refl, sym, subst, arith, inl, inr}
+use Rattle.std.proofs.Common.{◌≡◌, ◌<◌, ◌≤◌, ◌+◌, ◌*◌, ◌++◌, ◌∙◌, ◌==◌, ◌&&◌, ℕ, zero, suc, Bool, true, false, cond, List, [], ◌∷◌, length, get_or, refl, sym, subst, arith, inl, inr}
 use Rattle.std.specs.List.{All, AllByRecursion, list_any}
-use Rattle.std.proofs.lemmas.Bool.{cases_Bool}
+use Rattle.std.proofs.lemmas.Bool.{cases_Bool, eqb-true}
 use Rattle.std.proofs.lemmas.Bool.Decides.{nat_tests}
 use Rattle.std.proofs.lemmas.List.Elements.{All-head, All-tail}
+use Rattle.net_values.proofs.BoolLemmas.{second_fails, first_fails}
+use Rattle.net_values.proofs.NumberLemmas.{equal_turned}
 use Rattle.net_base.specs.declared.plan.Plan.{Plan}
 use Rattle.net_base.specs.declared.plan.edge_plan.EdgePlan.{EdgePlan}
 use Rattle.net_base.specs.declared.plan.places.EdgeId.{EdgeId}
@@ -16,46 +18,29 @@ use Rattle.edge_model.specs.declared.end_place.EndPlace.{EndPlace}
 use Rattle.edge_model.specs.EndPlaces.{end_place_at, end_places, is_at, places_along, places_at, places_from}
 use Rattle.pw_ends.specs.Kept.{AreApart}
 
-left : (a b : Bool) → (a || b) ≡ false → a ≡ false
-left true b neither = neither
-left false b neither = refl
-
-right : (a b : Bool) → (a || b) ≡ false → b ≡ false
-right true b neither = absurd (cc)
-right false b neither = neither
-
 -- the edge stands on the path
 abbrev stands : ℕ → List EdgeId → Bool
 stands edge path = list_any (λ e. e.0 == edge) path
-
-swapped : (a b : ℕ) → (a == b) ≡ (b == a)
-swapped a b = elim (cases_Bool (a == b)) [
-  | inl equal ↦ grind (arith, nat_tests, equal)
-  | inr other ↦ grind (arith, nat_tests, other)
-]
 
 -- an edge that does not stand on a path has no end there
 none_along : (wire : WireId) (row : WirePlan) (me : EdgeId) (segment : ℕ) (path : List EdgeId) → stands me.0 path ≡ false → places_along wire row me segment path ≡ []
 none_along wire row me segment [] away = refl
 none_along wire row me segment (last ∷ []) away = refl
 none_along wire row me segment (first ∷ next ∷ rest) away =
-    let one : (me.0 == first.0) ≡ false = swapped me.0 first.0 ∙ left (first.0 == me.0) (stands me.0 (next ∷ rest)) away in
-    let more : stands me.0 (next ∷ rest) ≡ false = right (first.0 == me.0) (stands me.0 (next ∷ rest)) away in
-    let two : (me.0 == next.0) ≡ false = swapped me.0 next.0 ∙ left (next.0 == me.0) (stands me.0 rest) more in
+    let one : (me.0 == first.0) ≡ false = equal_turned me.0 first.0 ∙ first_fails (first.0 == me.0) (stands me.0 (next ∷ rest)) away in
+    let more : stands me.0 (next ∷ rest) ≡ false = second_fails (first.0 == me.0) (stands me.0 (next ∷ rest)) away in
+    let two : (me.0 == next.0) ≡ false = equal_turned me.0 next.0 ∙ first_fails (next.0 == me.0) (stands me.0 rest) more in
     rw (one, two) (none_along wire row me (segment + 1) (next ∷ rest) more)
-
-equal_of : (a b : ℕ) → (a == b) ≡ true → a ≡ b
-equal_of a b equal = grind (arith, nat_tests)
 
 -- the ends beyond a segment whose second edge is this one
 beyond : (wire : WireId) (row : WirePlan) (me first next : EdgeId) (segment : ℕ) (rest : List EdgeId) → (me.0 == next.0) ≡ true → has_repeat (first ∷ next ∷ rest) ≡ false → AreApart (end_place_at wire row me segment 1 first ∷ places_along wire row me (segment + 1) (next ∷ rest))
 beyond wire row me first next segment [] here once = (tt, tt)
 beyond wire row me first next segment (r ∷ rs) here once =
-    let more : has_repeat (next ∷ r ∷ rs) ≡ false = right (stands first.0 (next ∷ r ∷ rs)) (has_repeat (next ∷ r ∷ rs)) once in
-    let away : stands next.0 (r ∷ rs) ≡ false = left (stands next.0 (r ∷ rs)) (has_repeat (r ∷ rs)) more in
-    let me_away : stands me.0 (r ∷ rs) ≡ false = subst (λ (n : ℕ). stands n (r ∷ rs) ≡ false) (sym (equal_of me.0 next.0 here)) away in
-    let others : stands first.0 (next ∷ r ∷ rs) ≡ false = left (stands first.0 (next ∷ r ∷ rs)) (has_repeat (next ∷ r ∷ rs)) once in
-    let differ : (r.0 == first.0) ≡ false = left (r.0 == first.0) (stands first.0 rs) (right (next.0 == first.0) (stands first.0 (r ∷ rs)) others) in
+    let more : has_repeat (next ∷ r ∷ rs) ≡ false = second_fails (stands first.0 (next ∷ r ∷ rs)) (has_repeat (next ∷ r ∷ rs)) once in
+    let away : stands next.0 (r ∷ rs) ≡ false = first_fails (stands next.0 (r ∷ rs)) (has_repeat (r ∷ rs)) more in
+    let me_away : stands me.0 (r ∷ rs) ≡ false = subst (λ (n : ℕ). stands n (r ∷ rs) ≡ false) (sym (eqb-true me.0 next.0 here)) away in
+    let others : stands first.0 (next ∷ r ∷ rs) ≡ false = first_fails (stands first.0 (next ∷ r ∷ rs)) (has_repeat (next ∷ r ∷ rs)) once in
+    let differ : (r.0 == first.0) ≡ false = first_fails (r.0 == first.0) (stands first.0 rs) (second_fails (next.0 == first.0) (stands first.0 (r ∷ rs)) others) in
     rw (here, none_along wire row me (segment + 1 + 1) (r ∷ rs) me_away) ((apart wire first r differ, tt), (tt, tt))
   where
     apart : (wire : WireId) (first r : EdgeId) → (r.0 == first.0) ≡ false → (wire.0 == wire.0 && r.0 == first.0) ≡ false
@@ -69,12 +54,12 @@ along_apart wire row me segment [] once = tt
 along_apart wire row me segment (last ∷ []) once = tt
 along_apart wire row me segment (first ∷ next ∷ rest) once = elim (cases_Bool (me.0 == first.0)) [
   | inl here ↦
-      (let away : stands first.0 (next ∷ rest) ≡ false = left (stands first.0 (next ∷ rest)) (has_repeat (next ∷ rest)) once in
-      let me_away : stands me.0 (next ∷ rest) ≡ false = subst (λ (n : ℕ). stands n (next ∷ rest) ≡ false) (sym (equal_of me.0 first.0 here)) away in
+      (let away : stands first.0 (next ∷ rest) ≡ false = first_fails (stands first.0 (next ∷ rest)) (has_repeat (next ∷ rest)) once in
+      let me_away : stands me.0 (next ∷ rest) ≡ false = subst (λ (n : ℕ). stands n (next ∷ rest) ≡ false) (sym (eqb-true me.0 first.0 here)) away in
       rw (here, none_along wire row me (segment + 1) (next ∷ rest) me_away) (tt, tt))
   | inr other ↦ elim (cases_Bool (me.0 == next.0)) [
     | inl there ↦ rw (other, there) (beyond wire row me first next segment rest there once)
-    | inr no_one ↦ rw (other, no_one) (along_apart wire row me (segment + 1) (next ∷ rest) (right (stands first.0 (next ∷ rest)) (has_repeat (next ∷ rest)) once))
+    | inr no_one ↦ rw (other, no_one) (along_apart wire row me (segment + 1) (next ∷ rest) (second_fails (stands first.0 (next ∷ rest)) (has_repeat (next ∷ rest)) once))
   ]
 ]
 

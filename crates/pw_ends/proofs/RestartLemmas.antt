@@ -2,13 +2,17 @@
 use Rattle.std.proofs.Common.{◌≡◌, ◌<◌, ◌+◌, ◌∙◌, ◌==◌, ◌⊎◌, ℕ, Bool, true, false, cond, List, [], ◌∷◌, Option, Some, None, length, map, option_map, replicate, refl, ap, sym, subst, arith, inl, inr}
 use Rattle.std.specs.List.{AllByRecursion, find}
 use Rattle.std.proofs.lemmas.Bool.{cases_order, eqb-true}
+use Rattle.std.proofs.lemmas.Option.{same_Some}
+use Rattle.net_values.proofs.NumberLemmas.{same_number as same, above_apart}
+use Rattle.net_values.proofs.OptionLemmas.{something}
 use Rattle.label_space.specs.declared.owner.Owner.{Owner}
 use Rattle.label_space.specs.Kept.{AreRisingBy}
 use Rattle.label_space.specs.Labels.{LabelNumbers, emptied, owned_label, owner_of, owns}
 use Rattle.label_space.specs.Laws.{Restarted}
 use Rattle.label_space.proofs.LabelLemmas.{apart_owners, owner_of-find, unkept_all}
 use Rattle.label_space.proofs.LawLemmas.{labels_are_used_again}
-use Rattle.label_space.proofs.OrderLemmas.{above_apart, rising_put, same}
+use Rattle.label_space.proofs.OrderLemmas.{rising_put}
+use Rattle.label_space.proofs.SlotLemmas.{none_found}
 use Rattle.pw_signalling.specs.AnyEnd.{end_of}
 use Rattle.pw_signalling.specs.declared.pw_end.PwEnd.{PwEnd}
 use Rattle.pw_signalling.specs.End.{EndState, fresh}
@@ -21,19 +25,13 @@ use Rattle.pw_ends.specs.Kept.{AreKept, AreMarked, AreOwners, Differ, IsOwner, O
 use Rattle.pw_ends.specs.Owned.{OwnedList}
 use Rattle.pw_ends.proofs.FindLemmas.{find_put}
 use Rattle.pw_ends.proofs.HoldLemmas.{holding_none}
-use Rattle.pw_ends.proofs.KeptLemmas.{count_fresh, found_none, none_apart, none_kind, none_own, none_owned, own_count, seen_count}
+use Rattle.pw_ends.proofs.KeptLemmas.{count_fresh, none_apart, none_kind, none_own, none_owned, seen_count}
 use Rattle.pw_ends.proofs.LabelLemmas.{label_is, unowned}
 use Rattle.pw_ends.proofs.MarkLemmas.{untold_opened}
-use Rattle.pw_ends.proofs.OwnerLemmas.{away, index_opened, position_away}
+use Rattle.pw_ends.proofs.OwnerLemmas.{away, index_opened, position_away, count_own}
 use Rattle.pw_ends.proofs.SegmentLemmas.{owners_none}
 use Rattle.pw_ends.proofs.SlotLemmas.{seen_opened}
 use Rattle.pw_ends.proofs.WaitLemmas.{AreSeen, are_seen}
-
-something : {X : Type 0} (x : X) → Some x ≡ None → ⊥
-something x is = cc
-
-some_is : {X : Type 0} (a b : X) → Some a ≡ Some b → a ≡ b
-some_is a b is = cc
 
 -- ---- two rising lists with the same owners are equal
 
@@ -55,7 +53,7 @@ owners_same from to (x ∷ xs) [] rising others found = absurd (something x (sym
 owners_same from to (x ∷ xs) (y ∷ ys) rising others found = two (one (cases_order x.label y.label)) (owners_same (x.label + 1) (y.label + 1) xs ys rising.1 others.1 (λ label. rest label (owns label x) refl))
   where
     equal : x.label ≡ y.label → x ≡ y
-    equal is = some_is x y (sym (first_found x xs) ∙ (found x.label ∙ (ap (λ (n : ℕ). find (owns n) (y ∷ ys)) is ∙ first_found y ys)))
+    equal is = same_Some x y (sym (first_found x xs) ∙ (found x.label ∙ (ap (λ (n : ℕ). find (owns n) (y ∷ ys)) is ∙ first_found y ys)))
 
     one : (x.label ≡ y.label) ⊎ ((x.label < y.label) ⊎ (y.label < x.label)) → x ≡ y
     one (inl is) = equal is
@@ -134,8 +132,8 @@ owners_are places ends labels index kept =
     seen_owners (look places ends) places ends (are_seen places ends kept.apart kept.count)
     ∙ owners_same 0 0 (owners_in places (map own_of ends)) labels.owners (rising_in places (map own_of ends) kept.owns.apart) kept.owns.numbers.rising
     (λ label. found_in label places (map own_of ends) kept.owns.apart
-    ∙ for_found label labels.owners places (map own_of ends) kept.owners (own_count ends ∙ kept.count)
-    (λ none. found_none label labels.owners (unowned label index.labels labels.owners kept.slots.same (kept.slots.slot label ∙ position_away label (map own_of ends) none))))
+    ∙ for_found label labels.owners places (map own_of ends) kept.owners (count_own ends ∙ kept.count)
+    (λ none. none_found label labels.owners (unowned label index.labels labels.owners kept.slots.same (kept.slots.slot label ∙ position_away label (map own_of ends) none))))
 
 -- ---- what is kept
 

@@ -3,7 +3,8 @@
 use Rattle.std.proofs.Common.{◌≡◌, ◌<◌, ◌∙◌, ◌==◌, ◌⊎◌, ℕ, zero, suc, Bool, true, false, not, cond, List, [], ◌∷◌, Option, Some, None, length, get_or, set, filter, replicate, refl, ap, sym, arith, inl, inr}
 use Rattle.std.specs.List.{AllByRecursion, find}
 use Rattle.std.proofs.lemmas.Bool.{eqb-true, ne_eqb}
-use Rattle.std.proofs.lemmas.Bool.Decides.{nat_tests}
+use Rattle.net_values.proofs.NumberLemmas.{same_number}
+use Rattle.net_values.proofs.OptionLemmas.{something}
 use Rattle.label_space.specs.declared.owner.Owner.{Owner}
 use Rattle.label_space.specs.Kept.{put_by}
 use Rattle.label_space.specs.Labels.{LabelNumbers, freed_of, owned_label, owns}
@@ -13,12 +14,6 @@ use Rattle.pw_ends.specs.Ends.{no_place}
 use Rattle.pw_ends.specs.Kept.{AreOwners, Differ, IsOwner, OwnApart, freed_one}
 use Rattle.pw_ends.proofs.FindLemmas.{find_left_other, find_put}
 use Rattle.pw_ends.proofs.OwnerLemmas.{all_at, differ_sym, set_same}
-
-something : {X : Type 0} (x : X) → Some x ≡ None → ⊥
-something x is = cc
-
-same : (n : ℕ) → (n == n) ≡ true
-same n = grind (arith, nat_tests)
 
 -- ---- a label is given
 
@@ -50,7 +45,7 @@ pub owners_issued : (own_list : List (Option ℕ)) (labels : LabelNumbers) (plac
     → AreOwners (put_by owned_label (owner_at (get_or places slot no_place) label) labels.owners) places (set own_list slot (Some label))
 owners_issued own_list labels places slot label are none =
     let owner : Owner = owner_at (get_or places slot no_place) label in
-    let is : find (owns label) (put_by owned_label owner labels.owners) ≡ Some owner = find_put owned_label owner labels.owners none label ∙ rw (same label) refl in
+    let is : find (owns label) (put_by owned_label owner labels.owners) ≡ Some owner = find_put owned_label owner labels.owners none label ∙ rw (same_number label) refl in
     owners_set (put_by owned_label owner labels.owners) places own_list slot label (owners_put labels.owners owner places own_list none are) is
 
 -- ---- a label is freed
@@ -84,13 +79,13 @@ owners_unset xs (p ∷ ps) (o ∷ os) (suc slot) are = (are.0, owners_unset xs p
 pub owners_changed : (own_list : List (Option ℕ)) (labels : LabelNumbers) (places : List EndPlace) (slot : ℕ) (before after : Option ℕ) → OwnApart own_list → AreOwners labels.owners places own_list → slot < length own_list → get_or own_list slot None ≡ before → (after ≡ before) ⊎ (after ≡ None)
     → AreOwners (freed_one (left_label before after) labels).owners places (set own_list slot after)
 owners_changed own_list labels places slot None None apart are within at either = rw (set_same own_list slot None None within (sym at)) are
-owners_changed own_list labels places slot None (Some label) apart are within at (inl same) = absurd (something {X = ℕ} label same)
+owners_changed own_list labels places slot None (Some label) apart are within at (inl same_number) = absurd (something {X = ℕ} label same_number)
 owners_changed own_list labels places slot None (Some label) apart are within at (inr none) = absurd (something {X = ℕ} label none)
 owners_changed own_list labels places slot (Some label) None apart are within at either = by (find (owns label) labels.owners) refl where
   by : (r : Option Owner) → find (owns label) labels.owners ≡ r → AreOwners (freed_of label r labels).owners places (set own_list slot None)
   by None none = owners_unset labels.owners places own_list slot are
   by (Some owner) found = owners_freed labels.owners label places own_list slot apart are within at
-owners_changed own_list labels places slot (Some label) (Some other) apart are within at (inl same) = rw (set_same own_list slot None (Some other) within (same ∙ sym at)) are
+owners_changed own_list labels places slot (Some label) (Some other) apart are within at (inl same_number) = rw (set_same own_list slot None (Some other) within (same_number ∙ sym at)) are
 owners_changed own_list labels places slot (Some label) (Some other) apart are within at (inr none) = absurd (something {X = ℕ} other none)
 
 -- ---- opened

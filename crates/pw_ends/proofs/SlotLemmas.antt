@@ -4,6 +4,7 @@ use Rattle.std.specs.List.{AllByRecursion}
 use Rattle.std.proofs.lemmas.Bool.{cases_Bool}
 use Rattle.std.proofs.lemmas.List.{length-set}
 use Rattle.std.proofs.lemmas.Bool.Decides.{nat_tests}
+use Rattle.net_values.proofs.NumberLemmas.{same_number}
 use Rattle.net_base.specs.declared.plan.places.EdgeId.{EdgeId}
 use Rattle.net_base.specs.declared.plan.places.WireId.{WireId}
 use Rattle.pw_signalling.specs.End.{EndState, fresh}
@@ -21,12 +22,9 @@ use Rattle.pw_ends.specs.Kept.{AreApart}
 
 -- ---- one end
 
-same : (n : ℕ) → (n == n) ≡ true
-same n = grind (arith, nat_tests)
-
 -- an end is at its own wire and neighbour
 at_itself : (place : EndPlace) → is_at place.wire.0 place.peer.0 place ≡ true
-at_itself place = rw (same place.wire.0, same place.peer.0) refl
+at_itself place = rw (same_number place.wire.0, same_number place.peer.0) refl
 
 -- an end at another slot is elsewhere
 apart_at : (place : EndPlace) (places : List EndPlace) (slot : ℕ) → AllByRecursion (λ other. is_at other.wire.0 other.peer.0 place ≡ false) places → slot < length places → is_at (get_or places slot no_place).wire.0 (get_or places slot no_place).peer.0 place ≡ false

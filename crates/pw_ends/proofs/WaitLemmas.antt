@@ -2,6 +2,8 @@
 use Rattle.std.proofs.Common.{◌≡◌, ◌≢◌, ◌<◌, ◌≤◌, ◌+◌, ◌∙◌, ◌==◌, ℕ, zero, suc, Bool, true, false, cond, List, [], ◌∷◌, Option, Some, None, length, get_or, set, drop, map, option_map, refl, ap, sym, subst, arith}
 use Rattle.std.specs.List.{AllByRecursion, find}
 use Rattle.std.proofs.lemmas.Bool.Decides.{nat_tests}
+use Rattle.net_values.proofs.NumberLemmas.{same_number}
+use Rattle.net_values.proofs.OptionLemmas.{something}
 use Rattle.net_base.specs.declared.plan.places.EdgeId.{EdgeId}
 use Rattle.net_base.specs.declared.plan.places.SegKey.{SegKey}
 use Rattle.net_base.specs.declared.plan.places.WireId.{WireId}
@@ -11,12 +13,14 @@ use Rattle.label_space.specs.declared.owner.Owner.{Owner}
 use Rattle.label_space.specs.Kept.{kept_at}
 use Rattle.label_space.specs.Labels.{LabelNumbers, freed_of, owner_of, owns}
 use Rattle.label_space.proofs.LabelLemmas.{owner_of-find, unkept_owned}
-use Rattle.pw_signalling.specs.End.{EndState, LocalPart, Idle, Advertised, Withdrawing, fresh}
+use Rattle.pw_signalling.specs.End.{EndState, fresh}
 use Rattle.pw_signalling.specs.Laws.{own_label}
-use Rattle.pw_signalling.specs.Rows.{group_unbound, is_in_group, lost, renew_part, renewed, unbound, withdraw_part, withdrawn}
+use Rattle.pw_signalling.specs.Rows.{group_unbound, is_in_group, lost, renewed, unbound, withdrawn}
+use Rattle.pw_signalling.proofs.LawLemmas.{renewed_label, withdrawn_label}
 use Rattle.edge_model.specs.declared.end_place.EndPlace.{EndPlace}
 use Rattle.edge_model.specs.EndPlaces.{is_at}
 use Rattle.edge_model.specs.Labels.{keeps_lost, keeps_one, left_label, owner_at, unless_kept}
+use Rattle.edge_model.proofs.ReleaseLemmas.{left_none}
 use Rattle.pw_ends.specs.declared.end_change.EndChange.{EndChange}
 use Rattle.pw_ends.specs.declared.which_ends.WhichEnds.{WhichEnds}
 use Rattle.pw_ends.specs.declared.which_ends.WhichEnds.TheVariants as which
@@ -24,12 +28,10 @@ use Rattle.pw_ends.specs.Changes.{changed, changed_in, is_meant, keeps_changed, 
 use Rattle.pw_ends.specs.Ends.{EndLists, end_in, look, no_place, place_of, seen_ends}
 use Rattle.pw_ends.specs.Kept.{AreApart, AreKept, AreUntold, IsOwner, freed_one, own_of}
 use Rattle.pw_ends.specs.Owned.{OwnedList}
-use Rattle.pw_ends.proofs.KeptLemmas.{own_at, own_count}
+use Rattle.pw_ends.proofs.KeptLemmas.{own_at}
 use Rattle.pw_ends.proofs.SegmentLemmas.{owner_in}
 use Rattle.pw_ends.proofs.SlotLemmas.{seen_at}
-
-something : {X : Type 0} (x : X) → Some x ≡ None → ⊥
-something x is = cc
+use Rattle.pw_ends.proofs.OwnerLemmas.{count_own}
 
 -- ---- one end is changed
 
@@ -50,7 +52,7 @@ freed_kept place labels (Some label) None unkept owner = kept_freed place labels
 pub kept_left : (places : List EndPlace) (ends : List EndState) (labels : LabelNumbers) (index : OwnedList) (slot : ℕ) (after : Option ℕ) → AreKept places ends labels index → slot < length places
     → (freed_one (left_label (own_of (get_or ends slot fresh)) after) labels).kept ≡ keeps_one (left_label (own_of (get_or ends slot fresh)) after) (get_or places slot no_place).peer labels.kept
 kept_left places ends labels index slot after kept within =
-    let short : slot < length (map own_of ends) = subst (λ (n : ℕ). slot < n) (sym (own_count ends ∙ kept.count)) within in
+    let short : slot < length (map own_of ends) = subst (λ (n : ℕ). slot < n) (sym (count_own ends ∙ kept.count)) within in
     let owner : IsOwner labels.owners (get_or places slot no_place) (own_of (get_or ends slot fresh)) = subst (IsOwner labels.owners (get_or places slot no_place)) (own_at ends slot) (owner_in labels.owners places (map own_of ends) slot kept.owners within short) in
     freed_kept (get_or places slot no_place) labels (own_of (get_or ends slot fresh)) after (λ label owned. unkept_owned labels.next label labels.owners labels.kept kept.owns.numbers.left owned) owner
 
@@ -141,11 +143,8 @@ AreSeen (place ∷ places) (end ∷ ends) seen = (seen place.wire.0 place.peer.0
 pub are_seen : (places : List EndPlace) (ends : List EndState) → AreApart places → length ends ≡ length places → AreSeen places ends (look places ends)
 are_seen [] ends apart count = tt
 are_seen (p ∷ ps) [] apart count = absurd (omega (arith, count))
-are_seen (p ∷ ps) (e ∷ es) apart count = (rw (same p.wire.0, same p.peer.0) refl, behind ps es apart.0 (are_seen ps es apart.1 (omega (arith, count))))
+are_seen (p ∷ ps) (e ∷ es) apart count = (rw (same_number p.wire.0, same_number p.peer.0) refl, behind ps es apart.0 (are_seen ps es apart.1 (omega (arith, count))))
   where
-    same : (n : ℕ) → (n == n) ≡ true
-    same n = grind (arith, nat_tests)
-
     behind : (qs : List EndPlace) (fs : List EndState) → AllByRecursion (λ other. is_at other.wire.0 other.peer.0 p ≡ false) qs → AreSeen qs fs (look ps es) → AreSeen qs fs (look (p ∷ ps) (e ∷ es))
     behind [] fs away seen = tt
     behind (q ∷ qs) [] away seen = absurd seen
@@ -168,16 +167,12 @@ keeps_all peer seen (p ∷ ps) kept =
     ap (λ (own : Option ℕ). keeps_changed peer lost seen ps (cond (p.peer.0 == peer.0) (keeps_one own p.peer kept) kept)) (left_all (own_label (seen p.wire.0 p.peer.0).local))
     ∙ keeps_all peer seen ps (cond (p.peer.0 == peer.0) (keeps_one (own_label (seen p.wire.0 p.peer.0).local) p.peer kept) kept)
 
-left_same : (own : Option ℕ) → left_label own own ≡ None
-left_same None = refl
-left_same (Some label) = refl
-
 -- a change after which each end owns what it owned lets no number wait
 pub keeps_none : (which : WhichEnds) (change : EndState → EndState) (places : List EndPlace) (ends : List EndState) (kept : List Kept) → ((end : EndState) → own_of (change end) ≡ own_of end) → keeps_meant which change places ends kept ≡ kept
 keeps_none which change [] ends kept same = refl
 keeps_none which change (p ∷ ps) [] kept same = refl
 keeps_none which change (p ∷ ps) (e ∷ es) kept same =
-    let none : left_label (own_of e) (own_of (change e)) ≡ None = ap (left_label (own_of e)) (same e) ∙ left_same (own_of e) in
+    let none : left_label (own_of e) (own_of (change e)) ≡ None = ap (left_label (own_of e)) (same e) ∙ left_none (own_of e) in
     ap (λ (own : Option ℕ). keeps_meant which change ps es (cond (is_meant which p) (keeps_one own p.peer kept) kept)) none
     ∙ (ap (keeps_meant which change ps es) (either (is_meant which p)) ∙ keeps_none which change ps es kept same)
   where
@@ -214,18 +209,10 @@ seen_stays marks peer lists apart untold count none kept = lost_untold marks pee
 -- ---- changes after which each end owns what it owned
 
 own_withdrawn : (e : EndState) → own_of (withdrawn e) ≡ own_of e
-own_withdrawn e = part e.local where
-  part : (local : LocalPart) → own_label (withdraw_part local) ≡ own_label local
-  part (Idle declined) = refl
-  part (Advertised own told) = refl
-  part (Withdrawing own) = refl
+own_withdrawn e = withdrawn_label e.local
 
 own_renewed : (e : EndState) → own_of (renewed e) ≡ own_of e
-own_renewed e = part e.local where
-  part : (local : LocalPart) → own_label (renew_part local) ≡ own_label local
-  part (Idle declined) = refl
-  part (Advertised own told) = refl
-  part (Withdrawing own) = refl
+own_renewed e = renewed_label e.local
 
 own_unbound : (group : ℕ) (e : EndState) → own_of (group_unbound group e) ≡ own_of e
 own_unbound group e = elim (is_in_group group e.remote) as (λ v. own_of (cond v (unbound None e) e) ≡ own_of e) [
@@ -234,7 +221,7 @@ own_unbound group e = elim (is_in_group group e.remote) as (λ v. own_of (cond v
 ]
 
 pub withdrawn_none : (e : EndState) (peer : EdgeId) (kept : List Kept) → keeps_one (left_label (own_label e.local) (own_label (withdrawn e).local)) peer kept ≡ kept
-withdrawn_none e peer kept = ap (λ (own : Option ℕ). keeps_one own peer kept) (ap (left_label (own_of e)) (own_withdrawn e) ∙ left_same (own_of e))
+withdrawn_none e peer kept = ap (λ (own : Option ℕ). keeps_one own peer kept) (ap (left_label (own_of e)) (own_withdrawn e) ∙ left_none (own_of e))
 
 pub renewed_none : (wire : WireId) (places : List EndPlace) (ends : List EndState) (kept : List Kept) → keeps_meant (which.OfWire wire) renewed places ends kept ≡ kept
 renewed_none wire places ends kept = keeps_none (which.OfWire wire) renewed places ends kept own_renewed
@@ -242,7 +229,7 @@ renewed_none wire places ends kept = keeps_none (which.OfWire wire) renewed plac
 pub unbound_none : (peer : EdgeId) (group : ℕ) (seen : ℕ → ℕ → EndState) (places : List EndPlace) (kept : List Kept) → keeps_changed peer (group_unbound group) seen places kept ≡ kept
 unbound_none peer group seen [] kept = refl
 unbound_none peer group seen (p ∷ ps) kept =
-    let none : left_label (own_of (seen p.wire.0 p.peer.0)) (own_of (group_unbound group (seen p.wire.0 p.peer.0))) ≡ None = ap (left_label (own_of (seen p.wire.0 p.peer.0))) (own_unbound group (seen p.wire.0 p.peer.0)) ∙ left_same (own_of (seen p.wire.0 p.peer.0)) in
+    let none : left_label (own_of (seen p.wire.0 p.peer.0)) (own_of (group_unbound group (seen p.wire.0 p.peer.0))) ≡ None = ap (left_label (own_of (seen p.wire.0 p.peer.0))) (own_unbound group (seen p.wire.0 p.peer.0)) ∙ left_none (own_of (seen p.wire.0 p.peer.0)) in
     ap (λ (own : Option ℕ). keeps_changed peer (group_unbound group) seen ps (cond (p.peer.0 == peer.0) (keeps_one own p.peer kept) kept)) none
     ∙ (ap (keeps_changed peer (group_unbound group) seen ps) (either (p.peer.0 == peer.0)) ∙ unbound_none peer group seen ps kept)
   where

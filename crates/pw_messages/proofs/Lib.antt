@@ -1,2 +1,3 @@
+pub mod CommonLemmas
 pub mod EncodedLemmas
 pub mod TellLemmas

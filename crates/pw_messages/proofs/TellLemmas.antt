@@ -1,8 +1,6 @@
 -- What is told of a pseudowire can be written.
 use Rattle.std.proofs.Common.{◌≡◌, ◌≤◌, ◌+◌, ◌++◌, ◌∙◌, ℕ, true, List, [], ◌∷◌, Option, Some, None, length, flat_map, refl, ap, arith}
 use Rattle.std.proofs.lemmas.Bool.Decides.{nat_tests}
-use Rattle.std.proofs.lemmas.List.{length-append}
-use Rattle.std.proofs.lemmas.Grind.{flat_map-append}
 use Rattle.net_base.specs.declared.plan.offer.Offer.{Offer}
 use Rattle.net_values.specs.declared.mac.Mac.{Mac}
 use Rattle.net_base.specs.plan.Accepted.{IsOffer}
@@ -16,21 +14,12 @@ use Rattle.pw_signalling.specs.declared.told.Told.{Told}
 use Rattle.ldp_grammar.specs.declared.message.Message.TheVariants.{AddressWithdraw, LabelMapping}
 use Rattle.ldp_grammar.specs.Octets.{four}
 use Rattle.ldp_grammar.specs.Rows.{fec, label, mac_list}
-use Rattle.ldp_grammar.specs.Tlvs.{Tlv, spell_tlv}
+use Rattle.ldp_grammar.specs.Tlvs.{spell_tlv}
 use Rattle.ldp_grammar.specs.Written.{ignorable, message_octets, point_tlvs, status_tlvs, tlv}
+use Rattle.ldp_grammar.proofs.ShortLemmas.{first_length, both_length, states_short}
 use Rattle.pw_messages.specs.Content.{bare_fec_of}
 
-first_length : (t : Tlv) (ts : List Tlv) → length (flat_map spell_tlv (t ∷ ts)) ≡ 4 + length t.value + length (flat_map spell_tlv ts)
-first_length t ts = omega (arith, length-append t.value (flat_map spell_tlv ts))
-
-both_length : (ts us : List Tlv) → length (flat_map spell_tlv (ts ++ us)) ≡ length (flat_map spell_tlv ts) + length (flat_map spell_tlv us)
-both_length ts us = ap length (flat_map-append spell_tlv ts us) ∙ length-append (flat_map spell_tlv ts) (flat_map spell_tlv us)
-
-states_short : (state : Option PwStatus) → length (flat_map spell_tlv (status_tlvs state)) ≤ 8
-states_short None = omega arith
-states_short (Some state) = omega arith
-
-vlan_within : (vlan : Option ℕ) → is_told_within 0 4095 vlan ≡ true → has_vlan vlan ≡ true
+pub vlan_within : (vlan : Option ℕ) → is_told_within 0 4095 vlan ≡ true → has_vlan vlan ≡ true
 vlan_within None within = refl
 vlan_within (Some n) within = grind (arith, nat_tests)
 

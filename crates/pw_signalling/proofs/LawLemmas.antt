@@ -99,12 +99,12 @@ told_label status (Idle declined) = refl
 told_label status (Advertised own told) = refl
 told_label status (Withdrawing own) = refl
 
-withdrawn_label : (local : LocalPart) → own_label (withdraw_part local) ≡ own_label local
+pub withdrawn_label : (local : LocalPart) → own_label (withdraw_part local) ≡ own_label local
 withdrawn_label (Idle declined) = refl
 withdrawn_label (Advertised own told) = refl
 withdrawn_label (Withdrawing own) = refl
 
-renewed_label : (local : LocalPart) → own_label (renew_part local) ≡ own_label local
+pub renewed_label : (local : LocalPart) → own_label (renew_part local) ≡ own_label local
 renewed_label (Idle declined) = refl
 renewed_label (Advertised own told) = refl
 renewed_label (Withdrawing own) = refl

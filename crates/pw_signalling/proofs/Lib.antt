@@ -1,3 +1,4 @@
+pub mod CommonLemmas
 pub mod EndsLemmas
 pub mod LawLemmas
 pub mod StandbyLemmas

@@ -1,7 +1,8 @@
 -- Contents that are compared field by field.
-use Rattle.std.proofs.Common.{◌≡◌, ◌≤◌, ◌==◌, ◌&&◌, ◌↔◌, nat_eq, ℕ, Bool, true, false, List, [], ◌∷◌, Option, Some, None, length, refl, ap, arith}
+use Rattle.std.proofs.Common.{◌≡◌, ◌≤◌, ◌==◌, ◌&&◌, ◌↔◌, nat_eq, ℕ, Bool, true, List, [], ◌∷◌, Option, Some, None, length, refl, ap, arith}
 use Rattle.std.proofs.lemmas.Bool.Decides.{Decides-eqb, nat_tests}
 use Rattle.std.proofs.lemmas.Slice.Eq.{bytes_eq-Decides}
+use Rattle.std.proofs.lemmas.Bool.{and_parts}
 use Rattle.std.specs.Bool.{Decides, beq}
 use Rattle.std.specs.Cmp.{booleans_Decides}
 use Rattle.std.specs.Cmp.Lexicographic.{pointwise, pointwise_decides}
@@ -29,10 +30,6 @@ same_three (a ∷ c ∷ e ∷ g ∷ xs) (b ∷ d ∷ f ∷ ys) few less = absurd
 
 -- ---- the same fields are the same content
 
-both : (p q : Bool) → p && q ≡ true → (p ≡ true) × (q ≡ true)
-both true q h = (refl, h)
-both false q h = absurd (cc (h))
-
 joined : {p q : Bool} → p ≡ true → q ≡ true → p && q ≡ true
 joined {p} {q} first second = rw (first, second) refl
 
@@ -44,9 +41,6 @@ options_decide E each (Some x) (Some y) = (λ h. ap Some ((each x y).0 h), λ h.
   inside : Some x ≡ Some y → x ≡ y
   inside h = cc (h)
 
-numbers_decide : (x y : ℕ) → Decides (nat_eq x y) (x ≡ y)
-numbers_decide x y = Decides-eqb x y
-
 addresses_decide : (one other : Addr) → Decides (is_same_address one other) (one ≡ other)
 addresses_decide one other = (λ h. ap (λ (octets : List ℕ). record { 0 = octets }) ((bytes_eq-Decides one.0 other.0).0 h), λ h. (bytes_eq-Decides one.0 other.0).1 (ap (λ (a : Addr). a.0) h))
 
@@ -54,17 +48,17 @@ points_decide : (one other : Point) → Decides (is_same_point one other) (one �
 points_decide one other = (there, back) where
   there : is_same_point one other ≡ true → one ≡ other
   there h =
-      let parts = both (option_eq nat_eq one.pw_id other.pw_id && option_eq is_same_address one.local other.local) (option_eq is_same_address one.remote other.remote) h in
-      let front = both (option_eq nat_eq one.pw_id other.pw_id) (option_eq is_same_address one.local other.local) parts.0 in
+      let parts = and_parts (option_eq nat_eq one.pw_id other.pw_id && option_eq is_same_address one.local other.local) (option_eq is_same_address one.remote other.remote) h in
+      let front = and_parts (option_eq nat_eq one.pw_id other.pw_id) (option_eq is_same_address one.local other.local) parts.0 in
       λ i. record {
-        pw_id = (options_decide nat_eq numbers_decide one.pw_id other.pw_id).0 front.0 i;
+        pw_id = (options_decide nat_eq Decides-eqb one.pw_id other.pw_id).0 front.0 i;
         local = (options_decide is_same_address addresses_decide one.local other.local).0 front.1 i;
         remote = (options_decide is_same_address addresses_decide one.remote other.remote).0 parts.1 i;
       }
 
   back : one ≡ other → is_same_point one other ≡ true
   back h =
-      joined (joined ((options_decide nat_eq numbers_decide one.pw_id other.pw_id).1 (ap (λ (p : Point). p.pw_id) h))
+      joined (joined ((options_decide nat_eq Decides-eqb one.pw_id other.pw_id).1 (ap (λ (p : Point). p.pw_id) h))
       ((options_decide is_same_address addresses_decide one.local other.local).1 (ap (λ (p : Point). p.local) h)))
       ((options_decide is_same_address addresses_decide one.remote other.remote).1 (ap (λ (p : Point). p.remote) h))
 
@@ -72,28 +66,28 @@ channels_decide : (one other : ℕ × ℕ) → Decides (are_same_channels one ot
 channels_decide one other = (there, back) where
   there : are_same_channels one other ≡ true → one ≡ other
   there h =
-      let parts = both (one.0 == other.0) (one.1 == other.1) h in
-      λ i. ((numbers_decide one.0 other.0).0 parts.0 i, (numbers_decide one.1 other.1).0 parts.1 i)
+      let parts = and_parts (one.0 == other.0) (one.1 == other.1) h in
+      λ i. ((Decides-eqb one.0 other.0).0 parts.0 i, (Decides-eqb one.1 other.1).0 parts.1 i)
 
   back : one ≡ other → are_same_channels one other ≡ true
-  back h = joined ((numbers_decide one.0 other.0).1 (ap (λ (p : ℕ × ℕ). p.0) h)) ((numbers_decide one.1 other.1).1 (ap (λ (p : ℕ × ℕ). p.1) h))
+  back h = joined ((Decides-eqb one.0 other.0).1 (ap (λ (p : ℕ × ℕ). p.0) h)) ((Decides-eqb one.1 other.1).1 (ap (λ (p : ℕ × ℕ). p.1) h))
 
 module _ (one other : Told) where
   there : is_same_but_status one other ≡ true → without_status one ≡ without_status other
   there h =
-      let whole = both (((beq one.c other.c && one.kind == other.kind) && one.group == other.group) && has_same_params one other) (pointwise is_same_point one.points other.points) h in
-      let half = both ((beq one.c other.c && one.kind == other.kind) && one.group == other.group) (has_same_params one other) whole.0 in
-      let head = both (beq one.c other.c && one.kind == other.kind) (one.group == other.group) half.0 in
-      let front = both (beq one.c other.c) (one.kind == other.kind) head.0 in
-      let params = both (has_same_texts one other) (has_same_numbers one other) half.1 in
-      let texts = both (has_same_channels one other) (bytes_eq one.description other.description) params.0 in
-      let numbers = both (option_eq nat_eq one.mtu other.mtu) (option_eq nat_eq one.vlan other.vlan) params.1 in
+      let whole = and_parts (((beq one.c other.c && one.kind == other.kind) && one.group == other.group) && has_same_params one other) (pointwise is_same_point one.points other.points) h in
+      let half = and_parts ((beq one.c other.c && one.kind == other.kind) && one.group == other.group) (has_same_params one other) whole.0 in
+      let head = and_parts (beq one.c other.c && one.kind == other.kind) (one.group == other.group) half.0 in
+      let front = and_parts (beq one.c other.c) (one.kind == other.kind) head.0 in
+      let params = and_parts (has_same_texts one other) (has_same_numbers one other) half.1 in
+      let texts = and_parts (has_same_channels one other) (bytes_eq one.description other.description) params.0 in
+      let numbers = and_parts (option_eq nat_eq one.mtu other.mtu) (option_eq nat_eq one.vlan other.vlan) params.1 in
       λ i. record {
         c = (booleans_Decides one.c other.c).0 front.0 i;
-        kind = (numbers_decide one.kind other.kind).0 front.1 i;
-        group = (numbers_decide one.group other.group).0 head.1 i;
-        mtu = (options_decide nat_eq numbers_decide one.mtu other.mtu).0 numbers.0 i;
-        vlan = (options_decide nat_eq numbers_decide one.vlan other.vlan).0 numbers.1 i;
+        kind = (Decides-eqb one.kind other.kind).0 front.1 i;
+        group = (Decides-eqb one.group other.group).0 head.1 i;
+        mtu = (options_decide nat_eq Decides-eqb one.mtu other.mtu).0 numbers.0 i;
+        vlan = (options_decide nat_eq Decides-eqb one.vlan other.vlan).0 numbers.1 i;
         vccv = (options_decide are_same_channels channels_decide one.vccv other.vccv).0 texts.0 i;
         description = (bytes_eq-Decides one.description other.description).0 texts.1 i;
         status = None;
@@ -102,10 +96,10 @@ module _ (one other : Told) where
 
   back : without_status one ≡ without_status other → is_same_but_status one other ≡ true
   back h =
-      joined (joined (joined (joined ((booleans_Decides one.c other.c).1 (ap (λ (t : Told). t.c) h)) ((numbers_decide one.kind other.kind).1 (ap (λ (t : Told). t.kind) h)))
-      ((numbers_decide one.group other.group).1 (ap (λ (t : Told). t.group) h)))
+      joined (joined (joined (joined ((booleans_Decides one.c other.c).1 (ap (λ (t : Told). t.c) h)) ((Decides-eqb one.kind other.kind).1 (ap (λ (t : Told). t.kind) h)))
+      ((Decides-eqb one.group other.group).1 (ap (λ (t : Told). t.group) h)))
       (joined (joined ((options_decide are_same_channels channels_decide one.vccv other.vccv).1 (ap (λ (t : Told). t.vccv) h)) ((bytes_eq-Decides one.description other.description).1 (ap (λ (t : Told). t.description) h)))
-      (joined ((options_decide nat_eq numbers_decide one.mtu other.mtu).1 (ap (λ (t : Told). t.mtu) h)) ((options_decide nat_eq numbers_decide one.vlan other.vlan).1 (ap (λ (t : Told). t.vlan) h)))))
+      (joined ((options_decide nat_eq Decides-eqb one.mtu other.mtu).1 (ap (λ (t : Told). t.mtu) h)) ((options_decide nat_eq Decides-eqb one.vlan other.vlan).1 (ap (λ (t : Told). t.vlan) h)))))
       ((pointwise_decides points_decide one.points other.points).1 (ap (λ (t : Told). t.points) h))
 
   -- two contents are the same but for the status exactly where they are the same without it

@@ -1,5 +1,6 @@
-mod Examples
+pub mod CommonLemmas
 pub mod ExactLemmas
+mod Examples
 pub mod FaultLemmas
 pub mod FecLemmas
 pub mod FoundLemmas

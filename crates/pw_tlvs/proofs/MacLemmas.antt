@@ -6,9 +6,9 @@ use Rattle.std.proofs.lemmas.List.{append-nil, take_all}
 use Rattle.std.proofs.lemmas.Slice.{drop-append-drop}
 use Rattle.std.proofs.Math.Seq.{take-add, take-append_seam}
 use Rattle.net_values.specs.declared.mac.Mac.{Mac}
+use Rattle.net_values.proofs.RowLemmas.{same_front}
 use Rattle.pw_tlvs.specs.declared.field_fault.FieldFault.{FieldFault}
 use Rattle.pw_tlvs.specs.Macs.{mac_octets, AreMacs, IsMacsFault}
-use Rattle.pw_tlvs.proofs.SubTlvLemmas.{same_front}
 
 -- addresses stand before a place
 pub record AreMacsUpTo (octets : List ℕ) (at : ℕ) (list : List Mac) : Type 0 where

@@ -9,6 +9,7 @@ use Rattle.std.proofs.lemmas.List.{append-nil, take-append-drop, length-take-le,
 use Rattle.byteorder.specs.Endian.{big_number}
 use Rattle.net_values.specs.declared.field.Field.TheVariants as field
 use Rattle.net_values.specs.declared.mac.Mac.{Mac}
+use Rattle.net_values.proofs.RowLemmas.{empty_of_length}
 use Rattle.pw_tlvs.specs.declared.field_fault.FieldFault.{FieldFault}
 use Rattle.pw_tlvs.specs.declared.field_fault.FieldFault.TheVariants.{Size, Value, Repeated}
 use Rattle.pw_tlvs.specs.declared.registry.Registry.{Registry}
@@ -245,14 +246,10 @@ element_with octets pw_id params begun whole information =
     told (Pw (record { c = nat_le 0x8000 (big_number 2 (drop 1 octets)); kind = big_number 2 (drop 1 octets) % 0x8000; group = big_number 4 (drop 4 octets); pw_id = pw_id; params = params }))
     (record { begun = begun; c = refl; kind = refl; whole = whole; group = refl; information = information })
 
-no_octets : (l : List ℕ) → length l ≡ 0 → l ≡ []
-no_octets [] none = refl
-no_octets (x ∷ l) none = absurd (omega arith)
-
 -- an element whose information length counts all that follows
 element_reading : (octets : List ℕ) → IsPwid octets → (IsTooShort (information_length octets) → ⊥) → length octets ≡ 8 + information_length octets → Reading (IsFecValue octets) (IsFecFault octets)
 element_reading octets begun long whole = elim (cases_lt (information_length octets) 1) [
-  | inl none ↦ element_with octets None no_params begun whole (no_octets (drop 8 octets) (omega (arith, length-drop 8 octets, whole, none)), refl)
+  | inl none ↦ element_with octets None no_params begun whole (empty_of_length (drop 8 octets) (omega (arith, length-drop 8 octets, whole, none)), refl)
   | inr some ↦ elim (cases_lt (information_length octets) 4) [
     | inl few ↦ absurd (long (some, omega (arith, few)))
     | inr four ↦ elim (parameters_reading (drop 12 octets)) [

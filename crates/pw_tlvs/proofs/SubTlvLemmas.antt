@@ -7,22 +7,13 @@ use Rattle.std.proofs.lemmas.List.Elements.{filter-append}
 use Rattle.std.proofs.lemmas.Bool.{eq-eqb}
 use Rattle.std.proofs.lemmas.Bool.Decides.{eqb_tells}
 use Rattle.std.specs.List.{AllByRecursion, flat_map}
+use Rattle.net_values.proofs.RowLemmas.{same_front}
 use Rattle.pw_tlvs.specs.declared.field_fault.FieldFault.{FieldFault}
 use Rattle.pw_tlvs.specs.declared.registry.Registry.{Registry}
 use Rattle.pw_tlvs.specs.declared.registry.Registry.TheVariants.{InterfaceParameter, SwitchingPointPart}
 use Rattle.pw_tlvs.specs.declared.row.Row.{Row}
 use Rattle.pw_tlvs.specs.Faults.{fault_place, PrecedesIn, IsFirstIn}
 use Rattle.pw_tlvs.specs.SubTlvs.{SubTlv, counted_in, spell, sub_tlv_row, row_fits, allows, IsGood, values, AreGood, AreSubTlvs, IsWrong, lone, outside, misfit, excess, again, IsNamed, IsFirstWrong}
-
-pub same_front : (xs ys more rest : List ℕ) → length xs ≡ length ys → xs ++ more ≡ ys ++ rest → (xs ≡ ys) × (more ≡ rest)
-same_front [] [] more rest len e = (refl, e)
-same_front [] (y ∷ ys) more rest len e = absurd (omega (arith, len))
-same_front (x ∷ xs) [] more rest len e = absurd (omega (arith, len))
-same_front (x ∷ xs) (y ∷ ys) more rest len e =
-    let head : x ≡ y = cc in
-    let tail : xs ++ more ≡ ys ++ rest = cc in
-    let (front, back) = same_front xs ys more rest (omega (arith, len)) tail in
-    ((λ i. head i ∷ front i), back)
 
 -- the sub-TLV at the front of some octets is known by them
 pub same_spelled : (registry : Registry) (p q : SubTlv) (x y : List ℕ) → spell registry p ++ x ≡ spell registry q ++ y → (p ≡ q) × (x ≡ y)

@@ -1,8 +1,9 @@
 -- What holds of a FEC that can be written.
-use Rattle.std.proofs.Common.{◌≡◌, ◌≤◌, ◌&&◌, ℕ, true, List, [], ◌∷◌, Option, Some, None, length, nat_eq, nat_le, eqb-true, refl, arith}
+use Rattle.std.proofs.Common.{◌≡◌, ◌≤◌, ◌&&◌, ℕ, true, Option, Some, None, length, nat_eq, nat_le, refl, arith}
 use Rattle.std.specs.Prelude.{is_none, IfSome, IfNone}
 use Rattle.std.proofs.lemmas.Bool.{and_parts}
 use Rattle.std.proofs.lemmas.Bool.Decides.{nat_tests}
+use Rattle.net_values.proofs.RowLemmas.{empty_of_test}
 use Rattle.pw_tlvs.specs.declared.if_params.IfParams.{IfParams}
 use Rattle.pw_tlvs.specs.declared.pw_fec.PwFec.{PwFec}
 use Rattle.pw_tlvs.specs.Fec.{no_params}
@@ -18,17 +19,13 @@ none_is : {A : Type 0} (o : Option A) → is_none o ≡ true → o ≡ None
 none_is None e = refl
 none_is (Some x) e = absurd (cc)
 
-empty_is : (xs : List ℕ) → nat_eq (length xs) 0 ≡ true → xs ≡ []
-empty_is [] e = refl
-empty_is (x ∷ xs) e = absurd (omega (arith, eqb-true _ _ e))
-
 untold : (params : IfParams) → tells_nothing params ≡ true → params ≡ no_params
 untold params e =
     let front = and_parts (is_none params.mtu && nat_eq (length params.description) 0) (is_none params.vlan && is_none params.vccv) e in
     let left = and_parts (is_none params.mtu) (nat_eq (length params.description) 0) front.0 in
     let right = and_parts (is_none params.vlan) (is_none params.vccv) front.1 in
     let mtu = none_is params.mtu left.0 in
-    let description = empty_is params.description left.1 in
+    let description = empty_of_test params.description left.1 in
     let vlan = none_is params.vlan right.0 in
     let vccv = none_is params.vccv right.1 in
     λ i. record { mtu = mtu i; description = description i; vlan = vlan i; vccv = vccv i }

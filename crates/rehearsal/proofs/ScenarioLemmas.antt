@@ -1,10 +1,11 @@
 -- The network has no fault, and the commands speak of what is in it.
-use Rattle.std.proofs.Common.{◌≡◌, ◌<◌, ◌+◌, ◌++◌, ◌&&◌, ◌==◌, ◌∙◌, ℕ, Bool, zero, suc, true, false, List, [], ◌∷◌, length, Option, Some, None, All, refl, sym, ap, subst, arith, if◌then◌else◌}
+use Rattle.std.proofs.Common.{◌≡◌, ◌<◌, ◌+◌, ◌++◌, ◌==◌, ◌∙◌, ℕ, Bool, zero, suc, true, false, List, [], ◌∷◌, length, Option, Some, None, All, refl, sym, ap, subst, arith, if◌then◌else◌}
 use Rattle.std.specs.Fmt.{digits}
 use Rattle.std.specs.List.{list_all}
 use Rattle.std.specs.Option.{option_or}
 use Rattle.std.proofs.lemmas.Bool.Decides.{nat_tests}
 use Rattle.std.proofs.lemmas.List.Elements.{All-nil, All-cons, All-append, All-head, All-tail}
+use Rattle.std.proofs.lemmas.Bool.{and_parts}
 use Rattle.net_base.specs.declared.plan.Plan.{Plan}
 use Rattle.net_base.specs.declared.plan.places.EdgeId.{EdgeId}
 use Rattle.net_base.specs.declared.plan.plan_fault.PlanFault.{PlanFault}
@@ -71,10 +72,6 @@ no_fault = none_of_two (row_fault plan) _ no_row_fault (none_of_two (repeat_faul
 is_checked : IsChecked plan
 is_checked = checked plan limits no_fault
 
-both : (a b : Bool) → (a && b) ≡ true → (a ≡ true) × (b ≡ true)
-both true b e = (refl, e)
-both false b e = absurd (cc)
-
 edge_within : (edge : EdgeId) → is_edge_of plan edge ≡ true → edge.0 < length plan.edges
 edge_within edge e = grind (arith, nat_tests, e)
 
@@ -82,8 +79,8 @@ connect_planned : (path : List EdgeId) → list_all (is_edge_of plan) path ≡ t
 connect_planned [] e = All-nil (IsPlanned plan)
 connect_planned (from ∷ []) e = All-nil (IsPlanned plan)
 connect_planned (from ∷ to ∷ []) e =
-    let first = both (is_edge_of plan from) _ e in
-    let second = both (is_edge_of plan to) _ first.1 in
+    let first = and_parts (is_edge_of plan from) _ e in
+    let second = and_parts (is_edge_of plan to) _ first.1 in
     All-cons (IsPlanned plan) (One (Connect from to)) [] (edge_within from first.0, edge_within to second.0) (All-nil (IsPlanned plan))
 connect_planned (from ∷ to ∷ more ∷ rest) e = All-nil (IsPlanned plan)
 

@@ -2,11 +2,10 @@
 use Rattle.std.proofs.Common.{◌≡◌, ◌<◌, ◌≤◌, ◌^◌, ◌++◌, ◌==◌, ◌&&◌, ◌∙◌, not, ℕ, zero, suc, codes, Bool, true, false, List, [], ◌∷◌, Option, Some, None, Result, IfSome, cond, length, map, nat_eq, nat_le, nat_lt, get_or, slice_get, slice_index, option_map, unwrap_or, is_some, refl, sym, ap, subst, arith, append_assoc}
 use Rattle.std.proofs.lemmas.List.{length-map}
 use Rattle.std.proofs.lemmas.List.Quantifiers.{position-Some}
-use Rattle.std.proofs.lemmas.Bool.{eq-eqb, leb-true, lt-ltb}
-use Rattle.std.proofs.lemmas.Bool.Decides.{Decides-ltb, nat_tests}
+use Rattle.std.proofs.lemmas.Bool.{eq-eqb, leb-true, lt-ltb, and_parts}
+use Rattle.std.proofs.lemmas.Bool.Decides.{Decides-ltb}
 use Rattle.std.proofs.lemmas.Fmt.{decimal-digits_value}
 use Rattle.std.proofs.lemmas.Slice.Eq.{bytes_eq-Decides}
-use Rattle.std.proofs.lemmas.Str.Parse.{IsNumeralModel, IsDigitsTest, numerals_by_fold}
 use Rattle.std.specs.Fmt.{decimal}
 use Rattle.std.specs.List.{list_all}
 use Rattle.std.specs.Str.{bytes_eq}
@@ -40,6 +39,7 @@ use Rattle.report_entries.proofs.DigitLemmas.{octets_again}
 use Rattle.report_entries.proofs.FoundLemmas.{few_words}
 use Rattle.report_entries.proofs.NamedLemmas.{by_word, mapped, then, weaker}
 use Rattle.report_entries.proofs.TraceLemmas.{cut_joined}
+use Rattle.event_laws.proofs.ValueLemmas.{row_name, numerals}
 
 -- ---- words
 
@@ -48,26 +48,6 @@ by_text Q word text x y first second = by (bytes_eq word text) refl where
   by : (b : Bool) → bytes_eq word text ≡ b → IfSome (cond b x y) Q
   by true same = first (sym ((bytes_eq-Decides word text).0 same))
   by false other = second
-
-both : (a b : Bool) → (a && b) ≡ true → (a ≡ true) × (b ≡ true)
-both true b is = (refl, is)
-both false b is = absurd (cc is)
-
-tells_digits : IsDigitsTest (λ ds. list_all is_digit_of ds ≡ true)
-tells_digits = record {
-  empty = refl;
-  parts = λ c cs e. let parts = both (is_digit_of c) (list_all is_digit_of cs) e in (in_range c parts.0, parts.1);
-  more = λ c cs k e. rw (is_digit c k) e;
-}
-  where
-    in_range : (c : ℕ) → is_digit_of c ≡ true → (48 ≤ c) × (c ≤ 57)
-    in_range c e = grind (arith, nat_tests, e)
-
-    is_digit : (c : ℕ) → (48 ≤ c) × (c ≤ 57) → is_digit_of c ≡ true
-    is_digit c k = grind (arith, nat_tests, k.0, k.1)
-
-numerals : IsNumeralModel (λ ds. list_all is_digit_of ds ≡ true) (value_from 0)
-numerals = numerals_by_fold _ tells_digits value_from (record { empty = λ n. refl; more = λ n c cs k. refl })
 
 -- no zero stands in front of others
 lone_zero : (word : List ℕ) → not (slice_index word 0 == 48 && nat_lt 1 (length word)) ≡ true → 0 < length word → get_or word 0 0 ≡ 48 → length word ≡ 1
@@ -81,8 +61,8 @@ lone_zero (d ∷ e ∷ rest) is some lead = absurd (by (nat_eq d 48) (nat_lt 1 (
 
 decimal_is : (word : List ℕ) → is_decimal word ≡ true → value_from 0 word < 2 ^ 64 → decimal (value_from 0 word) ≡ word
 decimal_is word is few =
-    let parts = both (nat_lt 0 (length word) && list_all is_digit_of word) (not (slice_index word 0 == 48 && nat_lt 1 (length word))) is in
-    let front = both (nat_lt 0 (length word)) (list_all is_digit_of word) parts.0 in
+    let parts = and_parts (nat_lt 0 (length word) && list_all is_digit_of word) (not (slice_index word 0 == 48 && nat_lt 1 (length word))) is in
+    let front = and_parts (nat_lt 0 (length word)) (list_all is_digit_of word) parts.0 in
     let some : 0 < length word = (Decides-ltb 0 (length word)).0 front.0 in
     decimal-digits_value numerals word front.1 some (lone_zero word parts.1 some) few
 
@@ -142,12 +122,6 @@ state_again word = by_text (λ x. state_name x ≡ word) word (codes "NonExisten
     (by_text (λ x. state_name x ≡ word) word (codes "Ended:LinkFault") _ _ (λ same. same)
     (by_text (λ x. state_name x ≡ word) word (codes "Ended:BadIdentifier") _ _ (λ same. same) (tt))))))))))))))))
 
--- a name's place has this name
-row_at : {Y : Type 0} (f : Y → List ℕ) (rows : List Y) (i : ℕ) → i < length rows → name_or_empty (option_map f (slice_get rows i)) ≡ get_or (map f rows) i []
-row_at f [] i lt = absurd (omega (arith, lt))
-row_at f (row ∷ rows) zero lt = refl
-row_at f (row ∷ rows) (suc i) lt = row_at f rows i (omega (arith, lt))
-
 row_again : {Y : Type 0} (f : Y → List ℕ) (rows : List Y) (word : List ℕ) → IfSome (place_in (map f rows) word) (λ n. name_or_empty (option_map f (slice_get rows n)) ≡ word)
 row_again f rows word = by (place_in (map f rows) word) refl where
   by : (o : Option ℕ) → place_in (map f rows) word ≡ o → IfSome o (λ n. name_or_empty (option_map f (slice_get rows n)) ≡ word)
@@ -155,7 +129,7 @@ row_again f rows word = by (place_in (map f rows) word) refl where
   by (Some n) at =
       let found = position-Some (bytes_eq word) (map f rows) n [] at in
       let within : n < length rows = omega (arith, found.0, length-map rows f) in
-      row_at f rows n within ∙ sym ((bytes_eq-Decides word (get_or (map f rows) n [])).0 found.1)
+      row_name f rows n within ∙ sym ((bytes_eq-Decides word (get_or (map f rows) n [])).0 found.1)
 
 as_edge : ℕ → EdgeId
 as_edge n = record { 0 = n }

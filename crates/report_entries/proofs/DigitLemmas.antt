@@ -1,6 +1,6 @@
 -- Octets are written in one way without capital letters.
 use Rattle.std.proofs.Common.{◌≡◌, ◌<◌, ◌≤◌, ◌+◌, ◌*◌, ◌/◌, ◌%◌, ◌==◌, ◌&&◌, ◌||◌, not, cond, ℕ, zero, suc, Bool, true, false, List, [], ◌∷◌, Option, Some, None, IfSome, slice_index, option_and_then, option_map, unwrap_or, nat_lt, refl, arith, inl, inr}
-use Rattle.std.proofs.lemmas.Bool.{cases_lt, eqb-true}
+use Rattle.std.proofs.lemmas.Bool.{cases_lt, eqb-true, and_parts}
 use Rattle.std.proofs.lemmas.Bool.Decides.{Decides-ltb, nat_tests}
 use Rattle.std.specs.List.{list_all}
 use Rattle.hex.specs.Hex.{encode_with, lower_digits}
@@ -8,10 +8,6 @@ use Rattle.command_text.specs.Hex.{digit_value, unhex}
 use Rattle.text_pieces.specs.Pieces.{hex}
 use Rattle.report_reading.specs.Named.{AreOctets}
 use Rattle.report_entries.specs.Reading.{is_small, octets_in}
-
-both : (a b : Bool) → (a && b) ≡ true → (a ≡ true) × (b ≡ true)
-both true b is = (refl, is)
-both false b is = absurd (cc is)
 
 -- the test of the numbers below a bound, which computes
 all_below : (ℕ → Bool) → ℕ → Bool
@@ -22,7 +18,7 @@ below_at : (test : ℕ → Bool) (n k : ℕ) → all_below test n ≡ true → k
 unfolding all_below
 below_at test zero k is lt = absurd (omega (arith, lt))
 below_at test (suc n) k is lt =
-    let parts = both (test n) (all_below test n) is in
+    let parts = and_parts (test n) (all_below test n) is in
     elim (cases_lt k n) [
       | inl under ↦ below_at test n k parts.1 under
       | inr top ↦
@@ -58,7 +54,7 @@ fair_at octet small None is = tt
 fair_at octet small (Some value) is = by (is_small octet) small is where
   by : (b : Bool) → b ≡ true → (not b || (nat_lt value 16 && (slice_index lower_digits value == octet))) ≡ true → IsDigit octet value
   by true same at =
-      let parts = both (nat_lt value 16) (slice_index lower_digits value == octet) at in
+      let parts = and_parts (nat_lt value 16) (slice_index lower_digits value == octet) at in
       ((Decides-ltb value 16).0 parts.0, eqb-true (slice_index lower_digits value) octet parts.1)
   by false same at = absurd (cc same)
 
@@ -98,8 +94,8 @@ unhex_again [] small = (none, refl) where
   none k d lt = absurd (omega (arith, lt))
 unhex_again (a ∷ []) small = tt
 unhex_again (a ∷ b ∷ rest) small =
-    let first = both (is_small a) (list_all is_small (b ∷ rest)) small in
-    let next = both (is_small b) (list_all is_small rest) first.1 in
+    let first = and_parts (is_small a) (list_all is_small (b ∷ rest)) small in
+    let next = and_parts (is_small b) (list_all is_small rest) first.1 in
     pair_again a b rest (digit_value a) (digit_value b) (unhex rest) (digit_again a first.0) (digit_again b next.0) (unhex_again rest next.1)
 
 -- octets that are read are written so

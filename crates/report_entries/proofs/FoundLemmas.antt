@@ -1,11 +1,12 @@
 -- An entry is read from its words.
-use Rattle.std.proofs.Common.{◌≡◌, ◌<◌, ◌≤◌, ◌^◌, ◌++◌, ◌∙◌, ℕ, suc, codes, Bool, true, false, List, [], ◌∷◌, Option, Some, None, cond, length, map, nat_lt, option_map, slice_get, refl, sym, ap, subst, arith, inl, inr}
-use Rattle.std.proofs.lemmas.Bool.{cases_Bool, le-leb}
+use Rattle.std.proofs.Common.{◌≡◌, ◌<◌, ◌≤◌, ◌^◌, ◌++◌, ◌∙◌, ℕ, suc, codes, Bool, true, false, List, [], ◌∷◌, Option, Some, None, cond, length, map, nat_lt, option_map, slice_get, refl, sym, ap, subst, arith}
+use Rattle.std.proofs.lemmas.Bool.{le-leb}
 use Rattle.std.proofs.lemmas.Bool.Decides.{Decides-ltb}
 use Rattle.std.proofs.lemmas.Slice.Eq.{bytes_eq-Decides}
 use Rattle.std.specs.List.{position, position_or_len}
 use Rattle.std.specs.Str.{bytes_eq}
 use Rattle.std.specs.Fmt.{decimal}
+use Rattle.net_values.proofs.RowLemmas.{octets_apart_test}
 use Rattle.net_base.specs.declared.plan.Plan.{Plan}
 use Rattle.net_base.specs.declared.plan.circuit_plan.CircuitPlan.{CircuitPlan}
 use Rattle.net_base.specs.declared.plan.edge_plan.EdgePlan.{EdgePlan}
@@ -161,12 +162,6 @@ module _ (plan : Plan) (names : HasNames plan) where
   event_found (event.Priority edge wire priority) is = rw (edge_found edge is.0, wire_found wire is.1.0, within_found 0 255 priority is.1.1 (omega arith)) refl
   event_found (event.Ping edge wire) is = rw (edge_found edge is.0, wire_found wire is.1) refl
 
-not_same : (a b : List ℕ) → (a ≡ b → ⊥) → bytes_eq a b ≡ false
-not_same a b apart = elim (cases_Bool (bytes_eq a b)) [
-  | inl same ↦ absurd (apart ((bytes_eq-Decides a b).0 same))
-  | inr other ↦ other
-]
-
 -- a word that is no name has no place among them
 no_place : {Y : Type 0} (f : Y → List ℕ) (rows : List Y) (word : List ℕ) → ((i : ℕ) → i < length rows → bytes_eq word (name_or_empty (option_map f (slice_get rows i))) ≡ false) → place_in (map f rows) word ≡ None
 no_place f rows word none = place_of_none (bytes_eq word) (map f rows) (all_apart f rows word none) where
@@ -183,7 +178,7 @@ no_place f rows word none = place_of_none (bytes_eq word) (map f rows) (all_apar
 no_circuit : (plan : Plan) → HasNamesApart plan → (a : WireId) → IsWire plan a → circuit_in (names_of plan) (wire_name plan a) ≡ None
 unfolding circuit_in
 no_circuit plan apart a is = ap as_circuit (no_place (λ (row : CircuitPlan). row.name) plan.circuits (wire_name plan a)
-    (λ i lt. not_same (wire_name plan a) (circuit_name plan (record { 0 = i })) (λ same. apart.apart (record { 0 = i }) a lt is (sym same))))
+    (λ i lt. octets_apart_test (wire_name plan a) (circuit_name plan (record { 0 = i })) (λ same. apart.apart (record { 0 = i }) a lt is (sym same))))
 
 pub few_words : (plan : Plan) (x : Entry) → length (entry_words plan x) ≤ 9
 few_words plan (entry.Did done) = few_event plan done where
@@ -216,10 +211,10 @@ few_words plan (entry.Pong edge wire sequence) = omega arith
 
 module _ (plan : Plan) (names : HasNames plan) (apart : HasNamesApart plan) where
   no_dash_circuit : (a : CircuitId) → IsCircuit plan a → bytes_eq (circuit_name plan a) (codes "-") ≡ false
-  no_dash_circuit a is = not_same (circuit_name plan a) (codes "-") (apart.circuits a is)
+  no_dash_circuit a is = octets_apart_test (circuit_name plan a) (codes "-") (apart.circuits a is)
 
   no_dash_wire : (a : WireId) → IsWire plan a → bytes_eq (wire_name plan a) (codes "-") ≡ false
-  no_dash_wire a is = not_same (wire_name plan a) (codes "-") (apart.wires a is)
+  no_dash_wire a is = octets_apart_test (wire_name plan a) (codes "-") (apart.wires a is)
 
   arrival_found : (a : Arrival) → IsArrival plan a → arrival_in (names_of plan) (arrival_name plan a) ≡ Some a
   unfolding arrival_in

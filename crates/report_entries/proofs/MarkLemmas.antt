@@ -1,6 +1,7 @@
 -- The first octet that is a mark cuts a text.
 use Rattle.std.proofs.Common.{◌≡◌, ◌<◌, ◌+◌, ◌==◌, ℕ, zero, suc, Bool, true, false, List, [], ◌∷◌, Some, None, length, nat_lt, take, drop, refl, ap, add-one, arith, if◌then◌else◌}
-use Rattle.std.proofs.lemmas.Bool.Decides.{nat_tests}
+use Rattle.std.proofs.lemmas.Bool.{lt-ltb}
+use Rattle.net_values.proofs.NumberLemmas.{not_below_itself}
 use Rattle.memchr.specs.Find.{Nowhere, Passes, is_byte}
 use Rattle.report_entries.specs.Cut.{before_mark, behind_mark}
 
@@ -38,16 +39,10 @@ behind_at mark (c ∷ cs) zero within none is = rw (is) refl
 behind_at mark (c ∷ cs) (suc k) within none is =
     rw (first_other mark c cs k none) (behind_at mark cs k (omega (arith, within)) (behind_first mark c cs k none) is)
 
-is_less : (a b : ℕ) → a < b → nat_lt a b ≡ true
-is_less a b less = grind (arith, nat_tests, less)
-
-is_itself : (a : ℕ) → nat_lt a a ≡ false
-is_itself a = grind (arith, nat_tests)
-
 pub back_at : (mark : ℕ) (text : List ℕ) (at : ℕ) → at < length text → Nowhere (Passes (is_byte mark) text) 0 at → Passes (is_byte mark) text at
     → behind_mark mark text ≡ (if nat_lt at (length text) then Some (drop (at + 1) text) else None)
-back_at mark text at within none is = rw (is_less at (length text) within, add-one at) (behind_at mark text at within none is)
+back_at mark text at within none is = rw (lt-ltb at (length text) within, add-one at) (behind_at mark text at within none is)
 
 pub back_none : (mark : ℕ) (text : List ℕ) → Nowhere (Passes (is_byte mark) text) 0 (length text)
     → behind_mark mark text ≡ (if nat_lt (length text) (length text) then Some (drop (length text + 1) text) else None)
-back_none mark text none = rw (is_itself (length text)) (none_behind mark text none)
+back_none mark text none = rw (not_below_itself (length text)) (none_behind mark text none)

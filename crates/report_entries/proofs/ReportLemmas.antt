@@ -3,6 +3,7 @@ use Rattle.std.proofs.Common.{◌≡◌, ◌≤◌, ◌+◌, ◌++◌, ◌&&◌,
 use Rattle.std.proofs.lemmas.Bool.{cases_Bool}
 use Rattle.std.proofs.lemmas.Slice.Eq.{bytes_eq-Decides}
 use Rattle.std.specs.Str.{bytes_eq}
+use Rattle.net_values.proofs.RowLemmas.{octets_apart_test, octets_unlike}
 
 pub other_line : (written line : List ℕ) → (length written ≡ length line + 1 → ⊥) → bytes_eq written (line ++ codes "\n") ≡ false
 other_line written line apart = elim (cases_Bool (bytes_eq written (line ++ codes "\n"))) [
@@ -20,15 +21,6 @@ parted (x ∷ front) back (y ∷ line) end long same =
     let rest = parted front back line end (omega (arith, long)) behind in
     (ap (λ (n : ℕ). n ∷ front) first ∙ ap (λ (l : List ℕ). y ∷ l) rest.0, rest.1)
 
-no_line : (written other : List ℕ) → (written ≡ other → ⊥) → bytes_eq written other ≡ false
-no_line written other apart = elim (cases_Bool (bytes_eq written other)) [
-  | inl same ↦ absurd (apart ((bytes_eq-Decides written other).0 same))
-  | inr unequal ↦ unequal
-]
-
-unequal : (a b : List ℕ) → bytes_eq a b ≡ false → a ≡ b → ⊥
-unequal a b other same = absurd (cc (sym other ∙ (bytes_eq-Decides a b).1 same))
-
 joined_again : (n : ℕ) (octets : List ℕ) → octets ≡ take n octets ++ drop n octets
 joined_again zero octets = refl
 joined_again (suc n) [] = refl
@@ -44,8 +36,8 @@ parts_same written front back line is long = by (bytes_eq front line) (bytes_eq 
   by : (a b : Bool) → bytes_eq front line ≡ a → bytes_eq back (codes "\n") ≡ b → bytes_eq written (line ++ codes "\n") ≡ (a && b)
   by true true first last =
       (bytes_eq-Decides written (line ++ codes "\n")).1 (is ∙ (ap (λ (l : List ℕ). l ++ back) ((bytes_eq-Decides front line).0 first) ∙ ap (λ (l : List ℕ). line ++ l) ((bytes_eq-Decides back (codes "\n")).0 last)))
-  by true false first last = no_line written (line ++ codes "\n") (λ same. unequal back (codes "\n") last (parted front back line (codes "\n") long (sym is ∙ same)).1)
-  by false b first last = no_line written (line ++ codes "\n") (λ same. unequal front line first (parted front back line (codes "\n") long (sym is ∙ same)).0)
+  by true false first last = octets_apart_test written (line ++ codes "\n") (λ same. octets_unlike back (codes "\n") last (parted front back line (codes "\n") long (sym is ∙ same)).1)
+  by false b first last = octets_apart_test written (line ++ codes "\n") (λ same. octets_unlike front line first (parted front back line (codes "\n") long (sym is ∙ same)).0)
 
 pub same_line : (written front back line : List ℕ) → length written ≡ length line + 1 → front ≡ take (length line) written → back ≡ drop (length line) written → bytes_eq written (line ++ codes "\n") ≡ (bytes_eq front line && bytes_eq back (codes "\n"))
 same_line written front back line long first last = parts_same written front back line (joined_again (length line) written ∙ (ap (λ (l : List ℕ). l ++ drop (length line) written) (sym first) ∙ ap (λ (l : List ℕ). front ++ l) (sym last)))

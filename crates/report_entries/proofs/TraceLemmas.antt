@@ -1,8 +1,9 @@
 -- A report that was read tells a trace.
-use Rattle.std.proofs.Common.{◌≡◌, ◌+◌, ◌++◌, ◌∙◌, ℕ, zero, suc, codes, Bool, true, false, List, [], ◌∷◌, Option, Some, None, Result, Ok, Err, cond, length, nat_eq, refl, sym, ap, subst, arith, append_assoc}
+use Rattle.std.proofs.Common.{◌≡◌, ◌+◌, ◌++◌, ◌∙◌, ℕ, zero, suc, codes, Bool, true, false, List, [], ◌∷◌, Option, Some, None, Result, Ok, Err, cond, length, nat_eq, refl, sym, ap, subst, append_assoc}
 use Rattle.std.proofs.lemmas.Bool.{eqb-true}
 use Rattle.std.proofs.lemmas.Slice.Eq.{bytes_eq-Decides}
 use Rattle.std.specs.Str.{bytes_eq}
+use Rattle.net_values.proofs.RowLemmas.{empty_of_test}
 use Rattle.net_base.specs.declared.plan.Plan.{Plan}
 use Rattle.net_base.specs.declared.trace.entry.Entry.{Entry}
 use Rattle.command_text.specs.Planned.{names_of}
@@ -57,10 +58,6 @@ record IsReadOn (plan : Plan) (tally : Tally) (text : List ℕ) (trace : List En
 ok_same : {x y : List Entry} → known x ≡ known y → x ≡ y
 ok_same e = cc e
 
-empty : (l : List ℕ) → nat_eq (length l) 0 ≡ true → l ≡ []
-empty [] is = refl
-empty (x ∷ l) is = absurd (omega (arith, eqb-true (length (x ∷ l)) 0 is))
-
 no_more : (plan : Plan) (tally : Tally) (text more : List ℕ) (trace : List Entry) → trace ≡ [] → behind_mark 10 text ≡ Some more → is_last tally (before_mark 10 text) ≡ true → more ≡ [] → IsReadOn plan tally text trace
 no_more plan tally text more [] is cut right none = record {
   line = before_mark 10 text;
@@ -72,7 +69,7 @@ no_more plan tally text more (x ∷ xs) is cut right none = absurd (cc is)
 one_line : (plan : Plan) (tally : Tally) (text more : List ℕ) (trace : List Entry) → behind_mark 10 text ≡ Some more → is_last tally (before_mark 10 text) ≡ true → cond (nat_eq (length more) 0) (Ok []) (Err (tally.lines + 2)) ≡ Ok trace → IsReadOn plan tally text trace
 one_line plan tally text more trace cut right ends = by (nat_eq (length more) 0) refl ends where
   by : (b : Bool) → nat_eq (length more) 0 ≡ b → cond b (Ok []) (Err (tally.lines + 2)) ≡ Ok trace → IsReadOn plan tally text trace
-  by true none at = no_more plan tally text more trace (sym (ok_same at)) cut right (empty more none)
+  by true none at = no_more plan tally text more trace (sym (ok_same at)) cut right (empty_of_test more none)
   by false some at = no_error (tally.lines + 2) trace at
 
 one_more : (plan : Plan) (tally : Tally) (text more : List ℕ) (entry : Entry) (trace : List Entry) → behind_mark 10 text ≡ Some more → line_entry plan (before_mark 10 text) ≡ Some entry → IsReadOn plan (counted entry tally) more trace → IsReadOn plan tally text (entry ∷ trace)

@@ -1,7 +1,6 @@
 -- No circuit of a checked plan has the name of a wire, and neither is a dash.
-use Rattle.std.proofs.Common.{◌≡◌, ◌<◌, ◌+◌, ◌++◌, ◌∙◌, ℕ, zero, suc, codes, true, false, List, [], ◌∷◌, length, map, get_or, slice_get, option_map, refl, sym, ap, subst, arith, length-append}
+use Rattle.std.proofs.Common.{◌≡◌, ◌<◌, ◌+◌, ◌++◌, ◌∙◌, ℕ, codes, false, List, [], length, map, get_or, refl, sym, ap, subst, arith, length-append}
 use Rattle.std.proofs.lemmas.List.{get_or-append-add, get_or_append_left, length-map}
-use Rattle.std.proofs.lemmas.Slice.Eq.{bytes_eq-Decides}
 use Rattle.std.specs.Str.{bytes_eq}
 use Rattle.net_base.specs.declared.plan.Plan.{Plan}
 use Rattle.net_base.specs.declared.plan.circuit_plan.CircuitPlan.{CircuitPlan}
@@ -11,17 +10,12 @@ use Rattle.net_base.specs.declared.plan.places.WireId.{WireId}
 use Rattle.net_base.specs.plan.Accepted.{IsChecked, NonePair}
 use Rattle.net_base.specs.plan.NameFaults.{circuit_names, edge_names, service_names, wire_names}
 use Rattle.net_values.specs.Name.{IsName}
-use Rattle.report_text.specs.Words.{circuit_name, name_or_empty, wire_name}
+use Rattle.net_values.proofs.BoolLemmas.{clash}
+use Rattle.net_values.proofs.RowLemmas.{octets_unlike}
+use Rattle.report_text.specs.Words.{circuit_name, wire_name}
 use Rattle.event_laws.specs.Law.{HasNames}
+use Rattle.event_laws.proofs.ValueLemmas.{row_name}
 use Rattle.report_reading.specs.Named.{HasNamesApart, IsCircuit, IsWire}
-
-clash : {P : Type 0} → false ≡ true → P
-clash e = absurd (cc)
-
-row_name : {Y : Type 0} (f : Y → List ℕ) (rows : List Y) (i : ℕ) → i < length rows → name_or_empty (option_map f (slice_get rows i)) ≡ get_or (map f rows) i []
-row_name f [] i lt = absurd (omega arith)
-row_name f (row ∷ rows) zero lt = refl
-row_name f (row ∷ rows) (suc i) lt = row_name f rows i (omega arith)
 
 -- of two lists one behind the other
 across : (a b : List (List ℕ)) (i j : ℕ) → NonePair bytes_eq (a ++ b) → i < length a → j < length b → bytes_eq (get_or a i []) (get_or b j []) ≡ false
@@ -30,15 +24,12 @@ across a b i j none lt under =
     ∙ (ap (λ (w : List ℕ). bytes_eq (get_or (a ++ b) i []) w) (sym (get_or-append-add a b j []))
     ∙ none i (length a + j) [] (omega (arith, lt)) (omega (arith, under, length-append a b)))
 
-name_same : (a b : List ℕ) → bytes_eq a b ≡ false → a ≡ b → ⊥
-name_same a b apart same = clash (sym apart ∙ (bytes_eq-Decides a b).1 same)
-
 no_dash : (name : List ℕ) → IsName name → name ≡ codes "-" → ⊥
 no_dash name is same = clash (subst IsName same is)
 
 pub names_apart : (plan : Plan) → IsChecked plan → HasNames plan → HasNamesApart plan
 names_apart plan checked names = record {
-  apart = λ circuit wire here there same. name_same (circuit_name plan circuit) (wire_name plan wire) (
+  apart = λ circuit wire here there same. octets_unlike (circuit_name plan circuit) (wire_name plan wire) (
       ap (λ (w : List ℕ). bytes_eq w (wire_name plan wire)) (circuit_is circuit here)
       ∙ (ap (λ (w : List ℕ). bytes_eq (get_or (circuit_names plan.circuits) circuit.0 []) w) (wire_is wire there)
       ∙ (ap (λ (w : List ℕ). bytes_eq w (get_or (wire_names plan.wires) wire.0 [])) (sym (get_or-append-add front (circuit_names plan.circuits) circuit.0 []))

@@ -1,7 +1,8 @@
 -- Entries are the same only where their words are.
-use Rattle.std.proofs.Common.{◌≡◌, ◌∙◌, ℕ, codes, true, false, List, [], ◌∷◌, Option, Some, None, nat_eq, refl, sym, ap, arith}
-use Rattle.std.proofs.lemmas.Bool.{eq-eqb}
+use Rattle.std.proofs.Common.{◌≡◌, ◌∙◌, ℕ, codes, false, List, [], ◌∷◌, Option, Some, None, nat_eq, refl, sym, ap, arith}
 use Rattle.std.specs.Fmt.{decimal}
+use Rattle.net_values.proofs.BoolLemmas.{clash}
+use Rattle.net_values.proofs.NumberLemmas.{same_number}
 use Rattle.net_base.specs.declared.plan.Plan.{Plan}
 use Rattle.net_base.specs.declared.trace.entry.Entry.{Entry}
 use Rattle.net_base.specs.declared.trace.entry.Entry.TheVariants as entry
@@ -14,12 +15,6 @@ use Rattle.report_text.specs.Words.{arrival_name, cause_name, circuit_name, edge
 use Rattle.event_laws.specs.Law.{HasNames}
 use Rattle.report_reading.specs.Named.{HasNamesApart, IsNamed, IsNamedEvent, IsNumber, IsPacket}
 use Rattle.report_reading.proofs.ValueLemmas.{within_number, arrival_same, cause_same, circuit_same, edge_same, end_same, number_same, octets_same, state_same, switch_same, wire_same}
-
-clash : {P : Type 0} → false ≡ true → P
-clash e = absurd (cc)
-
-same_number : (n : ℕ) → nat_eq n n ≡ true
-same_number n = eq-eqb n n refl
 
 packet_number : (n : ℕ) → IsPacket n → IsNumber n
 packet_number n is = within_number 1 18446744073709551615 n is (omega arith)

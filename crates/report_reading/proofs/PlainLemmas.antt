@@ -3,10 +3,9 @@ use Rattle.std.proofs.Common.{◌≡◌, ◌<◌, ◌≤◌, ◌/◌, ◌%◌, �
 use Rattle.std.proofs.lemmas.List.{length-map}
 use Rattle.std.specs.Fmt.{decimal}
 use Rattle.std.specs.List.{list_all}
-use Rattle.std.proofs.lemmas.Bool.{cases_lt}
+use Rattle.std.proofs.lemmas.Bool.{cases_lt, and_parts as parts}
 use Rattle.std.proofs.lemmas.Bool.Decides.{nat_tests}
 use Rattle.std.proofs.lemmas.Fmt.{digits_decimal}
-use Rattle.std.proofs.lemmas.Str.Parse.{IsNumeralModel, IsDigitsTest, numerals_by_fold}
 use Rattle.hex.specs.Hex.{encode_with, lower_digits}
 use Rattle.net_base.specs.declared.plan.Plan.{Plan}
 use Rattle.net_base.specs.declared.plan.circuit_plan.CircuitPlan.{CircuitPlan}
@@ -29,7 +28,7 @@ use Rattle.net_base.specs.declared.trace.state_name.Reason.TheVariants as reason
 use Rattle.net_base.specs.declared.trace.state_name.StateName.{StateName}
 use Rattle.net_base.specs.declared.trace.state_name.StateName.TheVariants as state
 use Rattle.net_values.specs.Name.{IsName, is_name_octet_of}
-use Rattle.command_text.specs.Words.{is_digit_of, value_from}
+use Rattle.command_text.specs.Words.{is_digit_of}
 use Rattle.text_pieces.specs.Pieces.{hex}
 use Rattle.std.proofs.lemmas.List.Sums.{count_by-le-length}
 use Rattle.report_text.specs.declared.ending.Ending.{Ending}
@@ -39,13 +38,10 @@ use Rattle.report_text.specs.Report.{entry_words, is_counted, last_words}
 use Rattle.report_reading.specs.Read.{IsEnding}
 use Rattle.report_text.specs.Words.{arrival_name, cause_name, circuit_name, edge_name, event_words, name_or_empty, state_name, switch_name, wire_end_name, wire_name}
 use Rattle.event_laws.specs.Law.{AreNames, HasNames}
+use Rattle.event_laws.proofs.ValueLemmas.{row_name, numerals}
 use Rattle.read_lines.specs.Plain.{HasWords, IsPlain, IsPlainLine, is_plain}
 use Rattle.report_reading.proofs.ValueLemmas.{within_number}
 use Rattle.report_reading.specs.Named.{AreOctets, IsArrival, IsCircuit, IsEdge, IsNamed, IsNamedEvent, IsNumber, IsWire}
-
-parts : (a b : Bool) → (a && b) ≡ true → (a ≡ true) × (b ≡ true)
-parts true b e = (refl, e)
-parts false b e = cc e
 
 plain_by : (test : ℕ → Bool) → ((c : ℕ) → test c ≡ true → is_plain c ≡ true) → (word : List ℕ) → list_all test word ≡ true → IsPlain word
 plain_by test none [] e = tt
@@ -61,22 +57,6 @@ digit_plain c e = grind (arith, nat_tests, e)
 
 name_plain : (c : ℕ) → is_name_octet_of c ≡ true → is_plain c ≡ true
 name_plain c e = grind (arith, nat_tests, e)
-
-tells_digits : IsDigitsTest (λ ds. list_all is_digit_of ds ≡ true)
-tells_digits = record {
-  empty = refl;
-  parts = λ c cs e. let both = parts (is_digit_of c) (list_all is_digit_of cs) e in (in_range c both.0, both.1);
-  more = λ c cs k e. rw (is_digit c k) e;
-}
-  where
-    in_range : (c : ℕ) → is_digit_of c ≡ true → (48 ≤ c) × (c ≤ 57)
-    in_range c e = grind (arith, nat_tests, e)
-
-    is_digit : (c : ℕ) → (48 ≤ c) × (c ≤ 57) → is_digit_of c ≡ true
-    is_digit c k = grind (arith, nat_tests, k.0, k.1)
-
-numerals : IsNumeralModel (λ ds. list_all is_digit_of ds ≡ true) (value_from 0)
-numerals = numerals_by_fold _ tells_digits value_from (record { empty = λ n. refl; more = λ n c cs k. refl })
 
 pub number_plain : (n : ℕ) → IsNumber n → IsPlain (decimal n)
 number_plain n h = plain_by is_digit_of digit_plain (decimal n) (digits_decimal numerals n h)
@@ -107,11 +87,6 @@ octets_plain [] fit = tt
 octets_plain (octet ∷ octets) fit =
     let h : octet < 256 = fit 0 0 (omega arith) in
     (hex_plain (octet / 16) (omega arith), (hex_plain (octet % 16) (omega arith), octets_plain octets (λ k d lt. fit (suc k) d (omega arith))))
-
-row_name : {Y : Type 0} (f : Y → List ℕ) (rows : List Y) (i : ℕ) → i < length rows → name_or_empty (option_map f (slice_get rows i)) ≡ get_or (map f rows) i []
-row_name f [] i lt = absurd (omega arith)
-row_name f (row ∷ rows) zero lt = refl
-row_name f (row ∷ rows) (suc i) lt = row_name f rows i (omega arith)
 
 whole_name : (name : List ℕ) → IsName name → IsPlain name
 whole_name name is = plain_by is_name_octet_of name_plain name (parts (nat_le 1 (length name) && nat_le (length name) 32) (list_all is_name_octet_of name) is).1

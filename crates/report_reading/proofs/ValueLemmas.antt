@@ -1,6 +1,7 @@
 -- Words are the same only where what they tell is.
 use Rattle.std.proofs.Common.{◌≡◌, ◌<◌, ◌^◌, ◌∙◌, ℕ, codes, Bool, List, [], ◌∷◌, Option, Some, None, option_and_then, slice_get, refl, sym, ap, arith}
 use Rattle.std.specs.Fmt.{decimal}
+use Rattle.net_values.proofs.OptionLemmas.{some_same}
 use Rattle.net_base.specs.declared.plan.Plan.{Plan}
 use Rattle.net_base.specs.declared.plan.circuit_plan.CircuitPlan.{CircuitPlan}
 use Rattle.net_base.specs.declared.plan.edge_plan.EdgePlan.{EdgePlan}
@@ -26,9 +27,6 @@ use Rattle.report_text.specs.Words.{arrival_name, cause_name, circuit_name, edge
 use Rattle.event_laws.specs.Law.{HasNames}
 use Rattle.event_laws.proofs.ValueLemmas.{number_said, octets_read, row_said, switch_said}
 use Rattle.report_reading.specs.Named.{AreOctets, HasNamesApart, IsArrival, IsCircuit, IsEdge, IsNumber, IsWire, IsWithin}
-
-some_same : {A : Type 0} {a b : A} → Some a ≡ Some b → a ≡ b
-some_same e = cc (e)
 
 -- what is read of a word is one value
 read_same : {A B : Type 0} (read : B → Option A) (a b : A) (x y : B) → read x ≡ Some a → read y ≡ Some b → x ≡ y → a ≡ b

@@ -1,11 +1,12 @@
 -- Parts of a text by the first octet that parts it.
 use Rattle.std.proofs.Common.{◌≡◌, ◌<◌, ◌≤◌, ◌∙◌, ◌+◌, ◌-◌, ◌==◌, not, nat_eq, ℕ, zero, suc, Bool, true, false, cond, List, [], ◌∷◌, length, take, drop, slice_get, nat_lt, Option, Some, None, count_by, if◌then◌else◌, refl, sym, ap, arith, inl, inr}
 use Rattle.std.proofs.lemmas.Bool.{cases_Bool, cases_lt, eqb-true, false_from_ne_true}
-use Rattle.std.proofs.lemmas.Bool.Decides.{Decides-ltb, nat_tests}
+use Rattle.std.proofs.lemmas.Bool.Decides.{Decides-ltb}
 use Rattle.std.proofs.lemmas.List.{drop-drop, take_all}
 use Rattle.std.proofs.lemmas.List.Sums.{prefix_len-le-length}
 use Rattle.std.proofs.lemmas.List.Recursion.{is_count_by}
 use Rattle.std.specs.List.{position, position_or_len, after_first}
+use Rattle.net_values.proofs.OptionLemmas.{found_at, none_of}
 use Rattle.script_text.specs.Parts.{before_part, parted, first_part, after_part}
 use Rattle.script_text.specs.Script.{space, bad_word, is_word, spaced, words_of}
 
@@ -29,16 +30,8 @@ part_after by text e =
 pub no_part_before : (by : ℕ) (text : List ℕ) → position_or_len (λ octet. octet == by) text ≡ length text → first_part by text ≡ text
 no_part_before by text e = take_all (place_in by text) text (omega (arith, e))
 
-some_of : (test : Bool) (n at : ℕ) → Some at ≡ cond test (Some n) None → at ≡ n
-some_of true n at e = cc
-some_of false n at e = absurd (cc)
-
-none_of : (test : Bool) (n len : ℕ) → nat_lt n len ≡ test → n ≤ len → None ≡ cond test (Some n) None → len ≡ n
-none_of true n len is within e = absurd (cc)
-none_of false n len is within e = grind (arith, nat_tests)
-
 pub place_of_some : (by : ℕ) (text : List ℕ) (at : ℕ) → Some at ≡ position (λ octet. octet == by) text → at ≡ position_or_len (λ octet. octet == by) text
-place_of_some by text at e = some_of (nat_lt (place_in by text) (length text)) (place_in by text) at e
+place_of_some by text at e = found_at (nat_lt (place_in by text) (length text)) (place_in by text) at e
 
 pub place_of_none : (by : ℕ) (text : List ℕ) → None ≡ position (λ octet. octet == by) text → length text ≡ position_or_len (λ octet. octet == by) text
 place_of_none by text e = none_of (nat_lt (place_in by text) (length text)) (place_in by text) (length text) refl (place_le by text) e

@@ -1,6 +1,9 @@
 -- The work of an edge goes into the network, and what is told of it shows the network that it leaves.
-use Rattle.std.proofs.Common.{◌≡◌, ◌++◌, ◌&&◌, ◌||◌, ◌∙◌, not, ℕ, Bool, true, false, List, [], ◌∷◌, Option, Some, None, cond, nat_eq, refl, sym, ap, subst, inl, inr}
+use Rattle.std.proofs.Common.{◌≡◌, ◌++◌, ◌&&◌, ◌∙◌, not, ℕ, Bool, true, false, List, [], ◌∷◌, Option, Some, None, cond, nat_eq, refl, sym, ap, subst, inl, inr}
 use Rattle.std.proofs.lemmas.Bool.{cases_Bool, eqb-true}
+use Rattle.net_values.proofs.BoolLemmas.{and_false}
+use Rattle.net_values.proofs.NumberLemmas.{same_number}
+use Rattle.net_values.proofs.RowLemmas.{silent_either}
 use Rattle.net_base.specs.declared.plan.Plan.{Plan}
 use Rattle.net_base.specs.declared.plan.circuit_plan.CircuitPlan.{CircuitPlan}
 use Rattle.net_base.specs.declared.plan.places.CircuitId.{CircuitId}
@@ -11,22 +14,18 @@ use Rattle.edge_model.specs.declared.effect.Effect.TheVariants as effect
 use Rattle.edge_model.specs.State.{EdgeState, Peering, is_there}
 use Rattle.edge_model.specs.Work.{Work}
 use Rattle.flight_laws.specs.Meeting.{closes}
-use Rattle.flight_laws.proofs.PipeLemmas.{all_apart, all_edges, all_from, all_to, one_edges}
+use Rattle.flight_laws.proofs.PipeLemmas.{all_apart, all_edges, all_from, all_to}
 use Rattle.flight_laws.proofs.SettleLemmas.{edge_else, edge_pipes, edge_there}
-use Rattle.flight_laws.proofs.WorkLemmas.{closes-append, same_place}
+use Rattle.flight_laws.proofs.WorkLemmas.{closes-append}
 use Rattle.network_model.specs.Absorb.{absorb, absorb_all, absorb_one, all_entries_of}
 use Rattle.network_model.specs.State.{NetworkState, held, held_by, stands, with_edge, with_packet, with_pipe}
+use Rattle.network_model.proofs.CommonLemmas.{one_edges}
 use Rattle.seen_network.specs.Seen.{Seen, is_up}
 use Rattle.seen_laws.specs.Shows.{IsReady, Shows, tolds}
 use Rattle.seen_laws.specs.Work.{Tells, ended, up_after}
 use Rattle.seen_laws.proofs.SeenLemmas.{SeesPackets, ShownBy, all_show, all_way}
 
 -- ---- the pipe of an edge to itself, which has no end
-
-joined_own : (one others : Bool) (pipe : List ℕ) → cond others [] (cond one [] pipe) ≡ cond (one || others) [] pipe
-joined_own true true pipe = refl
-joined_own true false pipe = refl
-joined_own false others pipe = refl
 
 one_own : (me : EdgeId) (origin hops : ℕ) (e : Effect) (network : NetworkState) → stands network me.0 me.0 ≡ false → (absorb_one me origin hops e network).pipes me.0 me.0 ≡ cond (closes me.0 (e ∷ [])) [] (network.pipes me.0 me.0)
 unfolding with_packet with_pipe
@@ -36,10 +35,10 @@ one_own me origin hops (effect.Said peer octets) network alone = elim (cases_Boo
 ]
   where
     by : (b : Bool) → nat_eq me.0 peer.0 ≡ false → (cond b (with_pipe me peer (network.pipes me.0 peer.0 ++ octets) network) network).pipes me.0 me.0 ≡ network.pipes me.0 me.0
-    by true other = rw (same_place me.0, other) refl
+    by true other = rw (same_number me.0, other) refl
     by false other = refl
 one_own me origin hops (effect.Closed peer) network alone = elim (cases_Bool (nat_eq me.0 peer.0)) [
-  | inl same ↦ rw (same, same_place me.0) refl
+  | inl same ↦ rw (same, same_number me.0) refl
   | inr other ↦ rw other refl
 ]
 one_own me origin hops (effect.Sent peer wire came octets) network alone = refl
@@ -55,7 +54,7 @@ all_own me origin hops (e ∷ es) network alone =
     let next : NetworkState = absorb_one me origin hops e network in
     all_own me origin hops es next (ap (λ (edges : ℕ → EdgeState). is_there ((edges me.0).peering me.0)) (one_edges me origin hops e network) ∙ alone)
     ∙ (ap (λ (l : List ℕ). cond (closes me.0 es) [] l) (one_own me origin hops e network alone)
-    ∙ (joined_own (closes me.0 (e ∷ [])) (closes me.0 es) (network.pipes me.0 me.0) ∙ ap (λ (b : Bool). cond b [] (network.pipes me.0 me.0)) (sym (closes-append me.0 (e ∷ []) es))))
+    ∙ (silent_either (closes me.0 (e ∷ [])) (closes me.0 es) (network.pipes me.0 me.0) ∙ ap (λ (b : Bool). cond b [] (network.pipes me.0 me.0)) (sym (closes-append me.0 (e ∷ []) es))))
 
 -- ---- all of the work
 
@@ -148,13 +147,9 @@ module _ (plan : Plan) (network : NetworkState) (me : EdgeId) (origin hops : ℕ
 
 -- ---- work that tells what it makes of the edge
 
-pub gone_false : (b : Bool) → (b && false) ≡ false
-gone_false true = refl
-gone_false false = refl
-
 pub rest_of : (gone : Bool) (old new : Option Peering) → is_there new ≡ (is_there old && not gone) → (is_there new ≡ true → held_by new ≡ held_by old) → cond gone [] (held_by old) ≡ held_by new
 rest_of true old None there kept = refl
-rest_of true old (Some x) there kept = absurd (cc (there ∙ gone_false (is_there old)))
+rest_of true old (Some x) there kept = absurd (cc (there ∙ and_false (is_there old)))
 rest_of false None None there kept = refl
 rest_of false (Some y) None there kept = absurd (cc there)
 rest_of false old (Some x) there kept = sym (kept refl)

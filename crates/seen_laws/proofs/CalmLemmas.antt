@@ -1,6 +1,7 @@
 -- A service is seen calm exactly where it is calm, in every state of a run.
-use Rattle.std.proofs.Common.{◌≡◌, ◌+◌, ◌==◌, ◌&&◌, ◌||◌, ◌∙◌, not, ℕ, zero, suc, Bool, true, false, List, [], ◌∷◌, Some, length, slice_get, refl, sym, ap, arith, inl, inr, zero-add}
+use Rattle.std.proofs.Common.{◌≡◌, ◌+◌, ◌==◌, ◌&&◌, ◌||◌, ◌∙◌, not, ℕ, zero, suc, Bool, true, false, List, [], ◌∷◌, Some, length, slice_get, refl, sym, ap, inl, inr, zero-add}
 use Rattle.std.proofs.lemmas.Bool.{cases_Bool}
+use Rattle.net_values.proofs.NumberLemmas.{next_place, add_zero}
 use Rattle.net_base.specs.declared.plan.Plan.{Plan}
 use Rattle.net_base.specs.declared.plan.places.ServiceId.{ServiceId}
 use Rattle.net_base.specs.declared.plan.wire_plan.WirePlan.{WirePlan}
@@ -28,26 +29,14 @@ below_same (suc n) f g same = rw (same n, below_same n f g same) refl
 any_same : (f g : ℕ → WirePlan → Bool) (place : ℕ) (rows : List WirePlan) → ((k : ℕ) (row : WirePlan) → slice_get rows k ≡ Some row → f (place + k) row ≡ g (place + k) row) → any_wire f place rows ≡ any_wire g place rows
 any_same f g place [] same = refl
 any_same f g place (row ∷ rows) same =
-    let here : f place row ≡ g place row = ap (λ (n : ℕ). f n row) (none_more place) ∙ (same 0 row refl ∙ ap (λ (n : ℕ). g n row) (sym (none_more place))) in
-    rw (here, any_same f g (place + 1) rows (λ k other is. ap (λ (n : ℕ). f n other) (one_more place k) ∙ (same (suc k) other is ∙ ap (λ (n : ℕ). g n other) (sym (one_more place k))))) refl
-  where
-    none_more : (n : ℕ) → n ≡ n + 0
-    none_more n = omega arith
-
-    one_more : (n k : ℕ) → (n + 1) + k ≡ n + suc k
-    one_more n k = omega arith
+    let here : f place row ≡ g place row = ap (λ (n : ℕ). f n row) (add_zero place) ∙ (same 0 row refl ∙ ap (λ (n : ℕ). g n row) (sym (add_zero place))) in
+    rw (here, any_same f g (place + 1) rows (λ k other is. ap (λ (n : ℕ). f n other) (next_place place k) ∙ (same (suc k) other is ∙ ap (λ (n : ℕ). g n other) (sym (next_place place k))))) refl
 
 count_same : (f g : ℕ → WirePlan → Bool) (place : ℕ) (rows : List WirePlan) → ((k : ℕ) (row : WirePlan) → slice_get rows k ≡ Some row → f (place + k) row ≡ g (place + k) row) → count_wires f place rows ≡ count_wires g place rows
 count_same f g place [] same = refl
 count_same f g place (row ∷ rows) same =
-    let here : f place row ≡ g place row = ap (λ (n : ℕ). f n row) (none_more place) ∙ (same 0 row refl ∙ ap (λ (n : ℕ). g n row) (sym (none_more place))) in
-    rw (here, count_same f g (place + 1) rows (λ k other is. ap (λ (n : ℕ). f n other) (one_more place k) ∙ (same (suc k) other is ∙ ap (λ (n : ℕ). g n other) (sym (one_more place k))))) refl
-  where
-    none_more : (n : ℕ) → n ≡ n + 0
-    none_more n = omega arith
-
-    one_more : (n k : ℕ) → (n + 1) + k ≡ n + suc k
-    one_more n k = omega arith
+    let here : f place row ≡ g place row = ap (λ (n : ℕ). f n row) (add_zero place) ∙ (same 0 row refl ∙ ap (λ (n : ℕ). g n row) (sym (add_zero place))) in
+    rw (here, count_same f g (place + 1) rows (λ k other is. ap (λ (n : ℕ). f n other) (next_place place k) ∙ (same (suc k) other is ∙ ap (λ (n : ℕ). g n other) (sym (next_place place k))))) refl
 
 -- what is seen on its way is on its way
 quiet_same : (plan : Plan) (network : NetworkState) (seen : Seen) (service : ServiceId) → Shows plan network seen → is_seen_quiet plan seen service ≡ is_quiet plan network service

@@ -5,6 +5,8 @@ use Rattle.std.proofs.lemmas.Bool.{cases_Bool, eqb-true}
 use Rattle.std.proofs.lemmas.Bool.Decides.{nat_tests}
 use Rattle.std.proofs.lemmas.List.Elements.{All-head, All-tail}
 use Rattle.std.specs.List.{All, list_any}
+use Rattle.net_values.proofs.BoolLemmas.{clash}
+use Rattle.net_values.proofs.NumberLemmas.{same_number, apart_back, none_below}
 use Rattle.net_base.specs.declared.plan.Plan.{Plan}
 use Rattle.net_base.specs.declared.plan.edge_plan.EdgePlan.{EdgePlan}
 use Rattle.net_base.specs.declared.plan.places.EdgeId.{EdgeId}
@@ -32,14 +34,12 @@ use Rattle.flight_laws.specs.Meeting.{closes}
 use Rattle.flight_laws.proofs.ConnectLemmas.{ConnectsOn, connected_is, mended_on, none_there}
 use Rattle.flight_laws.proofs.PipeLemmas.{all_edges}
 use Rattle.flight_laws.proofs.PlanLemmas.{both_in, ends_are, joined_apart, joined_turned}
-use Rattle.flight_laws.proofs.SettleLemmas.{apart_turned, edge_else, edge_pipes, edge_there}
-use Rattle.flight_laws.proofs.WorkLemmas.{same_place}
+use Rattle.flight_laws.proofs.SettleLemmas.{edge_else, edge_pipes, edge_there}
 use Rattle.seen_network.specs.Seen.{Seen, is_up, with_standing}
 use Rattle.seen_laws.specs.Events.{HasGone, IsShown, NoneAlone, WasIdle}
 use Rattle.seen_laws.specs.Shows.{AreUpTo, IsReady, Shows, copy_of, tolds}
 use Rattle.seen_laws.specs.Work.{Tells, ended, up_after}
 use Rattle.seen_laws.proofs.AbsorbLemmas.{absorb_shows, on_still, rest_of}
-use Rattle.seen_laws.proofs.EventLemmas.{clash}
 use Rattle.seen_laws.proofs.InputLemmas.{mends_tell, none}
 use Rattle.seen_laws.proofs.SeenLemmas.{told-append, tolds-append, work_told}
 use Rattle.seen_laws.proofs.TellLemmas.{gives_tell, happens_with_ends_tells, tells_then}
@@ -125,8 +125,8 @@ unfolding changes with_kept with_peering
 connects_is plan network me peer one other checked types ordered apart here there none_yet = record {
   tells = tells_then none first said work (opened_tells peer first) (tells_then none said started work (happens_with_ends_tells none taken_all peer table.Start said) (mends_tell plan taken_all started));
   there = λ k. elim (cases_Bool (nat_eq k peer.0)) [
-    | inl same ↦ subst (λ (n : ℕ). is_there (work.edge.peering n) ≡ is_there (first.edge.peering n)) (sym (eqb-true k peer.0 same)) (ap is_there opened.opened.shows.keeps ∙ rw (same_place peer.0) refl)
-    | inr away ↦ mends_stands plan taken_all (record { 0 = k }) started (λ i. refl) ∙ (ap is_there ((connects_works taken_all (λ n. nat_eq n peer.0) peer kept (begin_at network me) (same_place peer.0)).edge.others k away) ∙ rw away refl)
+    | inl same ↦ subst (λ (n : ℕ). is_there (work.edge.peering n) ≡ is_there (first.edge.peering n)) (sym (eqb-true k peer.0 same)) (ap is_there opened.opened.shows.keeps ∙ rw (same_number peer.0) refl)
+    | inr away ↦ mends_stands plan taken_all (record { 0 = k }) started (λ i. refl) ∙ (ap is_there ((connects_works taken_all (λ n. nat_eq n peer.0) peer kept (begin_at network me) (same_number peer.0)).edge.others k away) ∙ rw away refl)
   ];
 }
   where
@@ -196,7 +196,7 @@ module _ (plan : Plan) (network : NetworkState) (seen : Seen) (shows : Shows pla
     (kept other : Peering) (nothing : kept.held ≡ []) (nothing' : other.held ≡ []) (one two : Work) (here : Connects network from to kept one) (there : Connects network to from other two)
     (none_yet : (network.edges from.0).peering to.0 ≡ None) (none_yet' : (network.edges to.0).peering from.0 ≡ None) where
   away : nat_eq to.0 from.0 ≡ false
-  away = apart_turned from.0 to.0 apart
+  away = apart_back from.0 to.0 apart
 
   abbrev both : Seen
   both = with_standing to.0 from.0 true (with_standing from.0 to.0 true seen)
@@ -213,14 +213,14 @@ module _ (plan : Plan) (network : NetworkState) (seen : Seen) (shows : Shows pla
 
   from_stands : (k : ℕ) → both.stands from.0 k ≡ is_there ((stood network from to kept).edge.peering k)
   unfolding with_standing changes with_kept with_peering
-  from_stands k = rw (apart, same_place from.0) (by (nat_eq k to.0)) where
+  from_stands k = rw (apart, same_number from.0) (by (nat_eq k to.0)) where
     by : (b : Bool) → cond b true (seen.stands from.0 k) ≡ is_there (cond b (Some kept) ((network.edges from.0).peering k))
     by true = refl
     by false = shows.standing from.0 k
 
   to_stands : (k : ℕ) → both.stands to.0 k ≡ is_there ((stood network to from other).edge.peering k)
   unfolding with_standing changes with_kept with_peering
-  to_stands k = rw (away, same_place to.0) (by (nat_eq k from.0)) where
+  to_stands k = rw (away, same_number to.0) (by (nat_eq k from.0)) where
     by : (b : Bool) → cond b true (seen.stands to.0 k) ≡ is_there (cond b (Some other) ((network.edges to.0).peering k))
     by true = refl
     by false = shows.standing to.0 k
@@ -263,7 +263,7 @@ module _ (plan : Plan) (network : NetworkState) (seen : Seen) (shows : Shows pla
   first_ready : IsReady plan start from one both
   unfolding with_standing
   first_ready = record {
-    alone = rw (apart, same_place from.0) (shows.standing from.0 from.0 ∙ alone from.0);
+    alone = rw (apart, same_number from.0) (shows.standing from.0 from.0 ∙ alone from.0);
     near = λ k. ap (λ (b : Bool). b && not (ended k one.effects)) (from_stands k) ∙ sym (told_stands network from to kept nothing one here none_yet k);
     far = both_far;
     inward = λ k. rw (shows.pipes k from.0, start_pipes k from.0, told_shut network from to kept nothing one here none_yet k) refl;
@@ -311,7 +311,7 @@ module _ (plan : Plan) (network : NetworkState) (seen : Seen) (shows : Shows pla
 
   to_alone : both.stands to.0 to.0 ≡ false
   unfolding with_standing
-  to_alone = rw (away, same_place to.0) (shows.standing to.0 to.0 ∙ alone to.0)
+  to_alone = rw (away, same_number to.0) (shows.standing to.0 to.0 ∙ alone to.0)
 
   second_ready : IsReady plan middle to two between
   second_ready = record {
@@ -440,9 +440,7 @@ some_joined plan a b (row ∷ rows) all some = by (joins a b row.path) refl some
   by false not_here some rest = rest some
 
 no_row : {A : Type 0} {P : Type 0} (rows : List A) (place : ℕ) → nat_lt place (length rows) ≡ true → slice_get rows place ≡ None → P
-no_row [] place within is = absurd (no place within) where
-  no : (n : ℕ) → nat_lt n 0 ≡ true → ⊥
-  no n h = grind (arith, nat_tests, h)
+no_row [] place within is = absurd (none_below place within)
 no_row (row ∷ rows) Rattle.std.proofs.Common.zero within is = absurd (cc is)
 no_row (row ∷ rows) (Rattle.std.proofs.Common.suc place) within is = no_row rows place (less place (length rows) within) is where
   less : (a b : ℕ) → nat_lt (Rattle.std.proofs.Common.suc a) (Rattle.std.proofs.Common.suc b) ≡ true → nat_lt a b ≡ true
@@ -457,7 +455,7 @@ connect_shown plan network seen shows alone checked types ordered from to = can 
   rows joined none_yet none_yet' (Some one) (Some other) here there =
       let apart = joined_apart plan from.0 to.0 checked joined in
       connecting_shown plan network seen shows alone from to apart (opened_with one other) (opened_with other one) refl refl _ _ (connects_is plan network from to one other checked types ordered apart here there none_yet)
-      (connects_is plan network to from other one checked types ordered (apart_turned from.0 to.0 apart) there here none_yet') none_yet none_yet'
+      (connects_is plan network to from other one checked types ordered (apart_back from.0 to.0 apart) there here none_yet') none_yet none_yet'
   rows joined none_yet none_yet' None second here there = no_row plan.edges from.0 (some_joined plan from.0 to.0 plan.wires checked.wires joined).0 here
   rows joined none_yet none_yet' (Some one) None here there = no_row plan.edges to.0 (some_joined plan from.0 to.0 plan.wires checked.wires joined).1 there
 

@@ -6,6 +6,8 @@ use Rattle.net_base.specs.declared.plan.Plan.{Plan}
 use Rattle.net_base.specs.declared.plan.places.EdgeId.{EdgeId}
 use Rattle.net_base.specs.declared.trace.event.Event.TheVariants.{Deliver}
 use Rattle.net_values.specs.Octets.{AreOctets}
+use Rattle.net_values.proofs.BoolLemmas.{first_holds, clash}
+use Rattle.net_values.proofs.NumberLemmas.{same_number, apart_back}
 use Rattle.ldp_grammar.proofs.OctetLemmas.{octets_before}
 use Rattle.edge_model.specs.Hear.{hears, octets_input}
 use Rattle.edge_model.specs.Mend.{mends}
@@ -20,17 +22,15 @@ use Rattle.flight_laws.specs.Meeting.{closes}
 use Rattle.flight_laws.specs.Pair.{ArePaired, StandsIf}
 use Rattle.flight_laws.proofs.EventLemmas.{stands_apart}
 use Rattle.flight_laws.proofs.SaidLemmas.{all_octets}
-use Rattle.flight_laws.proofs.SettleLemmas.{apart_turned}
-use Rattle.flight_laws.proofs.WorkLemmas.{same_place}
 use Rattle.seen_network.specs.Seen.{Seen, cut, delivers, with_octets, with_rest}
 use Rattle.seen_laws.specs.Events.{IsShown, NoneAlone, WasIdle}
 use Rattle.seen_laws.specs.Shows.{IsReady, Shows}
 use Rattle.seen_laws.specs.Work.{Tells, ended}
 use Rattle.seen_laws.proofs.AbsorbLemmas.{on_still, rest_of}
-use Rattle.seen_laws.proofs.EventLemmas.{IsButFor, clash, losing_ready, work_shown}
+use Rattle.seen_laws.proofs.EventLemmas.{IsButFor, losing_ready, work_shown}
 use Rattle.seen_laws.proofs.HeardLemmas.{HoldsRest, KeepsHeld, hears_rest, mends_keep_held}
 use Rattle.seen_laws.proofs.InputLemmas.{hears_tell, mends_tell, none}
-use Rattle.seen_laws.proofs.TellLemmas.{any, was_there}
+use Rattle.seen_laws.proofs.TellLemmas.{any}
 
 -- ---- the octets of a connection are octets, and its maximum is one that a session can have
 
@@ -45,7 +45,7 @@ open_way plan network from to kept ordered apart at = record {
 }
   where
     pair : ArePaired (ends_at plan to from) (ends_at plan from to) ((network.edges to).peering from) ((network.edges from).peering to) (flight network to from) (flight network from to)
-    pair = ordered.two to from (apart_turned from to apart)
+    pair = ordered.two to from (apart_back from to apart)
 
     stands : StandsIf (ends_at plan to from) (ends_at plan from to) (Some kept)
     stands = subst (StandsIf (ends_at plan to from) (ends_at plan from to)) at pair.talk.here
@@ -101,7 +101,7 @@ module _ (plan : Plan) (network : NetworkState) (seen : Seen) (shows : Shows pla
     mend_tells = mends_tell plan taken_all heard
 
     stood_heard : (k : ℕ) → is_there (work.edge.peering k) ≡ true → is_there (heard.edge.peering k) ≡ true
-    stood_heard k there = was_there (is_there (heard.edge.peering k)) (not (ended k mend_tells.more)) (sym (mend_tells.stands k) ∙ there)
+    stood_heard k there = first_holds (is_there (heard.edge.peering k)) (not (ended k mend_tells.more)) (sym (mend_tells.stands k) ∙ there)
 
     stood : (k : ℕ) → is_there (work.edge.peering k) ≡ (is_there ((network.edges to.0).peering k) && not (ended k work.effects))
     stood k = tells.stands k ∙ ap (λ (es : List _). is_there ((network.edges to.0).peering k) && not (ended k es)) (sym tells.given)
@@ -111,13 +111,13 @@ module _ (plan : Plan) (network : NetworkState) (seen : Seen) (shows : Shows pla
 
     at_peer : (gone : Bool) (new : Option Peering) → is_there new ≡ (is_there ((network.edges to.0).peering from.0) && not gone) → (is_there new ≡ true → held_by new ≡ cut octets) → cond gone [] (cut octets) ≡ held_by new
     at_peer true None there held = refl
-    at_peer true (Some x) there held = clash (sym (Rattle.seen_laws.proofs.AbsorbLemmas.gone_false (is_there ((network.edges to.0).peering from.0))) ∙ sym there)
+    at_peer true (Some x) there held = clash (sym (Rattle.net_values.proofs.BoolLemmas.and_false (is_there ((network.edges to.0).peering from.0))) ∙ sym there)
     at_peer false None there held = clash (there ∙ rw is refl)
     at_peer false (Some x) there held = sym (held refl)
 
     same_rest : (k : ℕ) → cond (ended k work.effects) [] (taken.rests to.0 k) ≡ held_by (work.edge.peering k)
     unfolding with_octets with_rest
-    same_rest k = rw (same_place to.0) (by (nat_eq k from.0) refl) where
+    same_rest k = rw (same_number to.0) (by (nat_eq k from.0) refl) where
       by : (b : Bool) → nat_eq k from.0 ≡ b → cond (ended k work.effects) [] (cond b (cut (seen.rests to.0 from.0 ++ take count (seen.pipes from.0 to.0))) (seen.rests to.0 k)) ≡ held_by (work.edge.peering k)
       by true same = subst (λ (n : ℕ). cond (ended n work.effects) [] (cut (seen.rests to.0 from.0 ++ take count (seen.pipes from.0 to.0))) ≡ held_by (work.edge.peering n)) (sym (eqb-true k from.0 same))
           (rw (shows.rests to.0 from.0 ∙ ap held_by is, shows.pipes from.0 to.0)

@@ -22,7 +22,7 @@ use Rattle.edge_model.specs.Hear.{hears_on, octets_input}
 use Rattle.edge_model.specs.Mend.{mends}
 use Rattle.edge_model.specs.Packet.{packet_input}
 use Rattle.edge_model.specs.Session.{happens_with_ends}
-use Rattle.edge_model.specs.State.{EdgeState, Peering, empty_edge, has_end, with_addresses, with_bits, with_circuit, with_priority, with_renewed, with_wire}
+use Rattle.edge_model.specs.State.{EdgeState, Peering, empty_edge, has_end, with_bits, with_priority}
 use Rattle.edge_model.specs.Ping.{ping_input}
 use Rattle.edge_model.specs.Tick.{counted, forgetting, tick_input, ticks_sessions}
 use Rattle.edge_model.specs.Wire.{is_own_spoke, priority_input, status_input, turned_wire, wire_input}
@@ -44,16 +44,7 @@ use Rattle.network_model.specs.Tick.{tick_at, ticks_from}
 use Rattle.network_model.specs.Wire.{priority_event, status_event, wire_event}
 use Rattle.network_model.proofs.AbsorbLemmas.{all_keep}
 use Rattle.network_model.proofs.EdgeLemmas.{HoldsOfEach}
-
-turned_me : (plan : Plan) (circuit : CircuitId) (on : Bool) (row : CircuitPlan) (work : Work) → (changes (turned plan circuit row on) work).edge.me ≡ work.edge.me
-unfolding changes with_circuit with_addresses
-turned_me plan circuit true row work = refl
-turned_me plan circuit false row work = refl
-
-turned_wire_me : (wire : WireId) (on : Bool) (work : Work) → (changes (turned_wire wire on) work).edge.me ≡ work.edge.me
-unfolding changes with_wire with_renewed
-turned_wire_me wire true work = refl
-turned_wire_me wire false work = refl
+use Rattle.flight_laws.proofs.MendedRunLemmas.{turned_me, turned_wire_me}
 
 -- something holds of each edge at its place: an edge that has mended has it, and it is kept where bridges learn, where pings are numbered
 -- and where the edge restarts

@@ -1,6 +1,7 @@
 -- What each event tells shows what it makes of the network: all but a connection that comes up.
-use Rattle.std.proofs.Common.{◌≡◌, ◌&&◌, ◌∙◌, not, ℕ, Bool, true, false, List, [], Option, Some, None, cond, nat_eq, refl, sym, ap, subst, inl, inr}
+use Rattle.std.proofs.Common.{◌≡◌, ◌&&◌, ◌∙◌, not, ℕ, Bool, true, false, List, [], cond, nat_eq, refl, sym, ap, subst, inl, inr}
 use Rattle.std.proofs.lemmas.Bool.{cases_Bool, eqb-true}
+use Rattle.net_values.proofs.BoolLemmas.{clash, and_false}
 use Rattle.net_base.specs.declared.plan.Plan.{Plan}
 use Rattle.net_base.specs.declared.plan.places.EdgeId.{EdgeId}
 use Rattle.net_base.specs.declared.plan.places.WireId.{WireId}
@@ -10,7 +11,7 @@ use Rattle.net_base.specs.plan.Places.{wire_row}
 use Rattle.edge_model.specs.Circuit.{is_same}
 use Rattle.edge_model.specs.EndPlaces.{ends_here, passes}
 use Rattle.edge_model.specs.Mend.{mends}
-use Rattle.edge_model.specs.State.{EdgeState, Peering, is_there, with_bits, with_priority}
+use Rattle.edge_model.specs.State.{EdgeState, is_there, with_bits, with_priority}
 use Rattle.edge_model.specs.Wire.{is_own_spoke, turned_wire}
 use Rattle.edge_model.specs.Work.{Work, changes, idles}
 use Rattle.edge_model.proofs.BridgeLemmas.{ping_bridges}
@@ -20,16 +21,15 @@ use Rattle.network_model.specs.Ping.{ping_event, ping_work}
 use Rattle.network_model.specs.State.{NetworkState, held_by, stands, with_edge}
 use Rattle.network_model.specs.Wire.{priority_event, status_event, wire_event}
 use Rattle.flight_laws.proofs.EventLemmas.{losing_is}
+use Rattle.flight_laws.proofs.CircuitLemmas.{idles_are}
+use Rattle.flight_laws.proofs.RuledDeliverLemmas.{no_octets_by}
 use Rattle.seen_network.specs.Seen.{Seen, end_goes, happened, with_octets, with_rest, with_standing}
 use Rattle.seen_laws.specs.Events.{HasGone, IsShown, NoneAlone, WasIdle}
 use Rattle.seen_laws.specs.Shows.{AreUpTo, IsReady, Shows}
 use Rattle.seen_laws.specs.Work.{Tells, ended, up_after}
-use Rattle.seen_laws.proofs.AbsorbLemmas.{BeginsFrom, absorb_shows, gone_false, on_still, rest_of, works_ready}
+use Rattle.seen_laws.proofs.AbsorbLemmas.{BeginsFrom, absorb_shows, on_still, rest_of, works_ready}
 use Rattle.seen_laws.proofs.InputLemmas.{bits_tell, bridged_tells, lost_gone, lost_tells, none, priority_tells, then_mends, wire_tells}
 use Rattle.seen_laws.proofs.SeenLemmas.{work_told}
-
-pub clash : {P : Type 0} → false ≡ true → P
-clash e = absurd (cc)
 
 -- the edge as it is before an input
 pub begins_at : (network : NetworkState) (me : EdgeId) → BeginsFrom network me (begin_at network me)
@@ -58,14 +58,10 @@ goes_or plan event network seen false after goes = WasIdle refl
 pub answer_shown : (plan : Plan) (event : Event) (network : NetworkState) (seen : Seen) (me : EdgeId) (work : Work) → (work.idle ≡ false → IsReady plan network me work (happened event seen)) → IsShown plan event network seen (answer me 0 0 work network)
 answer_shown plan event network seen me work ready = idle_or plan event network seen work.idle (absorb me 0 0 work network) (λ goes. work_shown plan event network network seen me 0 0 work (ready goes))
 
-idled : (work : Work) → (idles work).idle ≡ true
-unfolding idles
-idled work = refl
-
 -- an input that applies, and after which the edge mends
 pub applied : (b : Bool) (done work : Work) (P : Work → Type 0) → P done → (cond b done (idles work)).idle ≡ false → P (cond b done (idles work))
 applied true done work P here goes = here
-applied false done work P here goes = clash (sym goes ∙ idled work)
+applied false done work P here goes = clash (sym goes ∙ idles_are work)
 
 -- ---- what is set
 
@@ -130,7 +126,7 @@ module _ (plan : Plan) (network : NetworkState) (me peer : EdgeId) (old seen : S
 
   -- at another neighbour all is as before
   other_pair : (k : ℕ) → nat_eq k peer.0 ≡ false → nat_eq me.0 me.0 && nat_eq k peer.0 ≡ false
-  other_pair k other = rw other (gone_false (nat_eq me.0 me.0))
+  other_pair k other = rw other (and_false (nat_eq me.0 me.0))
 
   not_me : (a b : ℕ) → nat_eq a me.0 ≡ false → nat_eq a me.0 && nat_eq b peer.0 ≡ false
   not_me a b away = rw away refl
@@ -139,7 +135,7 @@ module _ (plan : Plan) (network : NetworkState) (me peer : EdgeId) (old seen : S
   lost_ready = record {
     alone = but.stands me.0 me.0 (other_pair me.0 apart) ∙ (shows.standing me.0 me.0 ∙ alone me.0);
     near = λ k. elim (cases_Bool (nat_eq k peer.0)) [
-      | inl same ↦ subst (λ (n : ℕ). (seen.stands me.0 n && not (ended n work.effects)) ≡ is_there (work.edge.peering n)) (sym (eqb-true k peer.0 same)) (rw (told_gone, gone) (gone_false (seen.stands me.0 peer.0)))
+      | inl same ↦ subst (λ (n : ℕ). (seen.stands me.0 n && not (ended n work.effects)) ≡ is_there (work.edge.peering n)) (sym (eqb-true k peer.0 same)) (rw (told_gone, gone) (and_false (seen.stands me.0 peer.0)))
       | inr other ↦ ap (λ (b : Bool). b && not (ended k work.effects)) (but.stands me.0 k (other_pair k other) ∙ shows.standing me.0 k) ∙ sym (stood k)
     ];
     far = λ a b away. but.stands a b (not_me a b away) ∙ shows.standing a b;
@@ -148,9 +144,9 @@ module _ (plan : Plan) (network : NetworkState) (me peer : EdgeId) (old seen : S
           (rw (told_gone, closed peer.0 ∙ told_gone) refl)
       | inr other ↦ rw (but.pipes k me.0 (rw other refl), shows.pipes k me.0, closed k) refl
     ];
-    outward = λ a b away. but.pipes a b (rw away (gone_false (nat_eq a peer.0))) ∙ shows.pipes a b;
+    outward = λ a b away. but.pipes a b (rw away (and_false (nat_eq a peer.0))) ∙ shows.pipes a b;
     rest = λ k. elim (cases_Bool (nat_eq k peer.0)) [
-      | inl same ↦ subst (λ (n : ℕ). cond (ended n work.effects) [] (seen.rests me.0 n) ≡ held_by (work.edge.peering n)) (sym (eqb-true k peer.0 same)) (rw told_gone (sym (nothing (work.edge.peering peer.0) gone)))
+      | inl same ↦ subst (λ (n : ℕ). cond (ended n work.effects) [] (seen.rests me.0 n) ≡ held_by (work.edge.peering n)) (sym (eqb-true k peer.0 same)) (rw told_gone (sym (no_octets_by (work.edge.peering peer.0) gone)))
       | inr other ↦ ap (λ (l : List ℕ). cond (ended k work.effects) [] l) (but.rests me.0 k (other_pair k other) ∙ shows.rests me.0 k) ∙ rest_of (ended k work.effects) ((network.edges me.0).peering k) (work.edge.peering k) (stood k) (tells.kept k refl)
     ];
     rests = λ a b away. but.rests a b (not_me a b away) ∙ shows.rests a b;
@@ -163,10 +159,6 @@ module _ (plan : Plan) (network : NetworkState) (me peer : EdgeId) (old seen : S
     where
       closed : (k : ℕ) → Rattle.flight_laws.specs.Meeting.closes k work.effects ≡ ended k work.effects
       closed k = ap (Rattle.flight_laws.specs.Meeting.closes k) tells.given ∙ (tells.shut k ∙ ap (ended k) (sym tells.given))
-
-      nothing : (o : Option Peering) → is_there o ≡ false → held_by o ≡ []
-      nothing None is = refl
-      nothing (Some kept) is = clash (sym is)
 
 goes_but : (me peer : ℕ) (seen : Seen) → IsButFor me peer seen (end_goes me peer seen)
 unfolding with_octets with_standing with_rest

@@ -4,6 +4,8 @@ use Rattle.std.proofs.lemmas.Bool.{cases_Bool, eqb-true}
 use Rattle.net_base.specs.declared.plan.Plan.{Plan}
 use Rattle.net_base.specs.declared.plan.places.EdgeId.{EdgeId}
 use Rattle.net_values.specs.Octets.{AreOctets}
+use Rattle.net_values.proofs.BoolLemmas.{first_holds}
+use Rattle.net_values.proofs.NumberLemmas.{same_number}
 use Rattle.ldp_codec.specs.Decoded.{refusal_of}
 use Rattle.ldp_grammar.specs.declared.pdu.Pdu.{Pdu}
 use Rattle.ldp_stream.specs.FrontOf.{Front, More, Got, Bad, front_of}
@@ -23,7 +25,7 @@ use Rattle.network_model.specs.State.{held_by}
 use Rattle.seen_network.specs.Seen.{cut}
 use Rattle.seen_laws.specs.Work.{Tells, ended}
 use Rattle.seen_laws.proofs.CutLemmas.{got_cut, more_stay}
-use Rattle.seen_laws.proofs.TellLemmas.{any, happens_with_ends_tells, hear_tells, was_there}
+use Rattle.seen_laws.proofs.TellLemmas.{any, happens_with_ends_tells, hear_tells}
 
 -- ---- work that reads nothing of what is held leaves it as it is
 
@@ -78,13 +80,10 @@ unfolding changes with_peering
 holds_rest peer octets None work is whole = record { stood = λ k there. there; rest = λ there. gone (work.edge.peering peer.0) is there; others = λ k apart there. refl }
 holds_rest peer octets (Some kept) work is whole = record {
   stood = λ k there. before k there;
-  rest = λ there. here (nat_eq peer.0 peer.0) (same peer.0) ∙ sym whole;
+  rest = λ there. here (nat_eq peer.0 peer.0) (same_number peer.0) ∙ sym whole;
   others = λ k apart there. rw apart refl;
 }
   where
-    same : (n : ℕ) → nat_eq n n ≡ true
-    same n = grind (arith, Rattle.std.proofs.lemmas.Bool.Decides.nat_tests)
-
     here : (b : Bool) → b ≡ true → held_by (cond b (Some (record kept { held = octets })) (work.edge.peering peer.0)) ≡ octets
     here true e = refl
     here false e = absurd (cc e)
@@ -112,7 +111,7 @@ few_rest plan told peer (suc n) octets work few are fits = within (λ rest next.
       again rest next (omega (arith, shorter, few)) (front_is_read.behind kept.session.max_pdu octets rest pdu are most stands) (hears_pdu_fits plan told peer.0 peer pdu work fits) in
       let tells : Tells any work next = hears_pdu_holds plan told (Tells any) (hear_tells plan told) peer pdu work in
       record {
-        stood = λ k there. was_there (is_there (work.edge.peering k)) (not (ended k tells.more)) (sym (tells.stands k) ∙ later.stood k there);
+        stood = λ k there. first_holds (is_there (work.edge.peering k)) (not (ended k tells.more)) (sym (tells.stands k) ∙ later.stood k there);
         rest = λ there. later.rest there ∙ sym (got_cut kept.session.max_pdu octets rest pdu are most stands);
         others = λ k apart there. later.others k apart there ∙ (pdu_keeps_held plan told peer pdu work).kept k (later.stood k there);
       }
@@ -120,7 +119,7 @@ few_rest plan told peer (suc n) octets work few are fits = within (λ rest next.
       let refused : Work = happens_with_ends told peer (Refused (refusal_of fault)) work in
       let tells : Tells any work refused = happens_with_ends_tells any told peer (Refused (refusal_of fault)) work in
       record {
-        stood = λ k there. was_there (is_there (work.edge.peering k)) (not (ended k tells.more)) (sym (tells.stands k) ∙ there);
+        stood = λ k there. first_holds (is_there (work.edge.peering k)) (not (ended k tells.more)) (sym (tells.stands k) ∙ there);
         rest = λ there. gone (refused.edge.peering peer.0) (refused_gone told peer (refusal_of fault) work) there;
         others = λ k apart there. (happens_keep_held told peer (Refused (refusal_of fault)) work).kept k there;
       }

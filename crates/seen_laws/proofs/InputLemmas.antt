@@ -45,7 +45,7 @@ lost_tells plan told peer work = then_mends plan told work (happens_with_ends to
 
 ended_gone : (peer : EdgeId) (why : Rattle.net_base.specs.declared.trace.state_name.Reason.Reason) (work : Work) → (ends peer why work).edge.peering peer.0 ≡ None
 unfolding gives changes with_peering
-ended_gone peer why work = rw (Rattle.flight_laws.proofs.WorkLemmas.same_place peer.0) refl
+ended_gone peer why work = rw (Rattle.net_values.proofs.NumberLemmas.same_number peer.0) refl
 
 closed_gone : (told : Answers) (peer : EdgeId) (work : Work) → (happens_with_ends told peer (Closed reason.Closed) work).edge.peering peer.0 ≡ None
 closed_gone told peer work = ap (λ (peering : ℕ → Option Peering). peering peer.0) (clears_keep peer (happens told peer (Closed reason.Closed) work)) ∙ to (work.edge.peering peer.0) refl where

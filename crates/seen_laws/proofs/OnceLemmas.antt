@@ -2,6 +2,11 @@
 use Rattle.std.proofs.Common.{◌≡◌, ◌≤◌, ◌<◌, ◌+◌, ◌++◌, ◌==◌, ◌&&◌, ◌||◌, ◌∙◌, not, ℕ, zero, suc, Bool, true, false, List, [], ◌∷◌, Option, Some, None, Result, Ok, Err, cond, drop, length, map, take, option_map, nat_eq, nat_lt, refl, sym, ap, subst, arith, append_assoc}
 use Rattle.std.specs.List.{All, find, list_any}
 use Rattle.std.specs.Str.{bytes_eq}
+use Rattle.std.proofs.lemmas.Bool.{and_parts}
+use Rattle.net_values.proofs.BoolLemmas.{clash, or_later, and_false}
+use Rattle.net_values.proofs.NumberLemmas.{same_number}
+use Rattle.net_values.proofs.OptionLemmas.{same_number_held}
+use Rattle.net_values.proofs.RowLemmas.{front_all}
 use Rattle.net_base.specs.declared.plan.Plan.{Plan}
 use Rattle.net_base.specs.declared.plan.circuit_plan.CircuitPlan.{CircuitPlan}
 use Rattle.net_base.specs.declared.plan.places.CircuitId.{CircuitId}
@@ -34,11 +39,9 @@ use Rattle.network_model.specs.Step.{brings, step}
 use Rattle.network_model.specs.Window.{Window, all_spare, has_copies, is_copy, is_flooded_frame, is_sourced, is_unlearned, packet_teaches, some_teach, spares, teaches}
 use Rattle.flight_laws.specs.Laws.{IsRun, network_after}
 use Rattle.flight_laws.proofs.RunLemmas.{run_ordered}
-use Rattle.flight_laws.proofs.WorkLemmas.{same_place}
 use Rattle.network_model.proofs.RunLemmas.{after-append, along-append}
 use Rattle.network_model.proofs.PacketListLemmas.{run_numbered}
 use Rattle.flood_laws.proofs.RunLemmas.{runs_serve_once}
-use Rattle.flood_laws.proofs.SoFarLemmas.{front_all}
 use Rattle.seen_network.specs.Once.{OnceSeen, SeenServed, SeenWindow, SeenWithin, all_spared, entered_as, is_row_of, is_seen_copy, is_seen_site, is_sourced_by, spares_seen, times_seen}
 use Rattle.seen_network.specs.Seen.{BeginsEvent, Seen, happened_or, is_idle_behind, seen_from, seen_in, told}
 use Rattle.seen_network.proofs.ReadLemmas.{idle_behind}
@@ -46,12 +49,8 @@ use Rattle.seen_laws.specs.Shows.{Shows, copy_of}
 use Rattle.seen_laws.specs.Sources.{KnowsSources}
 use Rattle.seen_laws.proofs.CalmLemmas.{calm_same}
 use Rattle.seen_laws.proofs.SyncRunLemmas.{run_synced}
-use Rattle.seen_laws.proofs.AbsorbLemmas.{gone_false}
 use Rattle.seen_laws.proofs.RunLemmas.{along_begins, run_shows, step_shows}
 use Rattle.seen_laws.proofs.SplitLemmas.{IsCutAt, IsCutBehind, NoEvent, StandsBefore, brings_quiet, cut_at, cut_behind, cut_window}
-
-clash : {P : Type 0} → false ≡ true → P
-clash e = absurd (cc)
 
 -- ---- what left
 
@@ -109,7 +108,7 @@ none_named origin number [] none = refl
 none_named origin number (p ∷ ps) none = by (nat_eq p.number number) none (λ rest. none_named origin number ps rest) where
   by : (b : Bool) → cond b (Some p) (find (λ packet. packet.number == number) ps) ≡ None → (find (λ packet. packet.number == number) ps ≡ None → list_any (is_copy origin number) ps ≡ false) → (nat_eq p.origin origin && b) || list_any (is_copy origin number) ps ≡ false
   by true some rest = absurd (cc some)
-  by false rest_none rest = rw (gone_false (nat_eq p.origin origin)) (rest rest_none)
+  by false rest_none rest = rw (and_false (nat_eq p.origin origin)) (rest rest_none)
 
 -- nothing is told of an event behind the next one
 none_told : (more : List Entry) → BeginsEvent more → is_idle_behind more ≡ false
@@ -175,15 +174,12 @@ entered_own circuit own (entry.Session edge peer name ∷ more) origin begins is
 entered_own circuit own (entry.Wire edge wire down ∷ more) origin begins is = begins
 entered_own circuit own (entry.Pong edge wire sequence ∷ more) origin begins is = begins
 
-same_some : (a b : ℕ) → Some a ≡ Some b → a ≡ b
-same_some a b e = cc (e)
-
 entered_is : (plan : Plan) (network : NetworkState) (circuit : CircuitId) (octets : List ℕ) (more : List Entry) (origin : ℕ) → BeginsEvent more
     → entered_as circuit ((brings plan (Frame circuit octets) network).entries ++ more) ≡ Some origin → origin ≡ next_origin network
 entered_is plan network circuit octets more origin begins is = by (circuit_row plan circuit) is where
   goes : (row : CircuitPlan) (b : Bool) → entered_as circuit ((cond b (idle network) (entering network circuit octets row (frame_work plan network circuit octets row))).entries ++ more) ≡ Some origin → origin ≡ next_origin network
   goes row true at = absurd (entered_own circuit [] more origin begins at)
-  goes row false at = same_some origin (next_origin network) (sym at ∙ rw (same_place circuit.0) refl)
+  goes row false at = same_number_held origin (next_origin network) (sym at ∙ rw (same_number circuit.0) refl)
 
   by : (row : Option CircuitPlan) → entered_as circuit ((frame_event plan circuit octets row network).entries ++ more) ≡ Some origin → origin ≡ next_origin network
   by None at = absurd (entered_own circuit [] more origin begins at)
@@ -299,10 +295,7 @@ spared_along plan before (e ∷ es) seen origin is shows =
 
 list_more : {A : Type 0} (test : A → Bool) (xs ys : List A) → list_any test ys ≡ true → list_any test (xs ++ ys) ≡ true
 list_more test [] ys some = some
-list_more test (x ∷ xs) ys some = or_more (test x) (list_more test xs ys some) where
-  or_more : (b : Bool) {c : Bool} → c ≡ true → b || c ≡ true
-  or_more true e = refl
-  or_more false e = e
+list_more test (x ∷ xs) ys some = or_later (test x) (list_more test xs ys some)
 
 list_first : {A : Type 0} (test : A → Bool) (xs ys : List A) → list_any test xs ≡ true → list_any test (xs ++ ys) ≡ true
 list_first test [] ys some = clash some
@@ -310,10 +303,6 @@ list_first test (x ∷ xs) ys some = by (test x) some (λ rest. list_first test 
   by : (b : Bool) → b || list_any test xs ≡ true → (list_any test xs ≡ true → list_any test (xs ++ ys) ≡ true) → b || list_any test (xs ++ ys) ≡ true
   by true some rest = refl
   by false some rest = rest some
-
-and_parts : (a b : Bool) → a && b ≡ true → (a ≡ true) × (b ≡ true)
-and_parts true b h = (refl, h)
-and_parts false b h = clash h
 
 -- a frame of a station enters, and is told as it does
 pub frame_seen : (plan : Plan) (network : NetworkState) (service : ServiceId) (address : List ℕ) (circuit : CircuitId) (octets : List ℕ) → ((k : ℕ) → (network.edges k).me ≡ record { 0 = k })
@@ -338,7 +327,7 @@ frame_seen plan network service address circuit octets placed taught = by (circu
     parts = and_parts (nat_eq row.service.0 service.0) (Rattle.edge_model.specs.State.is_on (network.edges row.edge.0) circuit) site
 
     own : is_own (network.edges row.edge.0) row ≡ true
-    own = ap (λ (m : Rattle.net_base.specs.declared.plan.places.EdgeId.EdgeId). nat_eq row.edge.0 m.0) (placed row.edge.0) ∙ same_place row.edge.0
+    own = ap (λ (m : Rattle.net_base.specs.declared.plan.places.EdgeId.EdgeId). nat_eq row.edge.0 m.0) (placed row.edge.0) ∙ same_number row.edge.0
 
     taken : Work
     taken = received plan taken_all (arrival.Circuit circuit) row.service (port_at plan (network.edges row.edge.0) circuit row) (inner_at plan circuit octets) (begin_at network row.edge)

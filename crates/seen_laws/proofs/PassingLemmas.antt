@@ -2,6 +2,7 @@
 use Rattle.std.proofs.Common.{◌≡◌, ◌+◌, ◌==◌, ◌++◌, ◌&&◌, ◌∙◌, not, ℕ, zero, suc, Bool, true, false, List, [], ◌∷◌, Option, Some, None, cond, length, map, nat_eq, refl, sym, ap, subst, arith, inl, inr}
 use Rattle.std.proofs.lemmas.Bool.{cases_Bool, eqb-true}
 use Rattle.std.specs.List.{find}
+use Rattle.net_values.proofs.NumberLemmas.{same_number}
 use Rattle.net_base.specs.declared.plan.Plan.{Plan}
 use Rattle.net_base.specs.declared.plan.circuit_plan.CircuitPlan.{CircuitPlan}
 use Rattle.net_base.specs.declared.plan.places.CircuitId.{CircuitId}
@@ -28,7 +29,6 @@ use Rattle.network_model.specs.State.{NetworkState, with_copy, with_edge, with_f
 use Rattle.network_model.specs.Tick.{tick_at, tick_event, ticks_from}
 use Rattle.network_model.proofs.PacketListLemmas.{AreNumbered}
 use Rattle.flight_laws.proofs.SettleLemmas.{edge_else, edge_there}
-use Rattle.flight_laws.proofs.WorkLemmas.{same_place}
 use Rattle.seen_network.specs.Seen.{Seen, SeenCopy, copy_goes, origin_among, repeats, with_copies, with_on, without_copy, without_edge}
 use Rattle.seen_laws.specs.Events.{HasGone, IsShown, NoneAlone, WasIdle}
 use Rattle.seen_laws.specs.Shows.{AreTold, IsReady, Shows, copy_of, tolds}
@@ -46,14 +46,14 @@ module _ (plan : Plan) (network : NetworkState) (seen : Seen) (shows : Shows pla
   restart_ready : (me : EdgeId) → IsReady plan (without_octets_to me network) me (restart_input (begin_at network me)) (without_edge me.0 seen)
   unfolding changes with_kept with_learned without_ends without_peerings without_edge without_octets_to
   restart_ready me = record {
-    alone = rw (same_place me.0) refl;
-    near = λ k. rw (same_place me.0) refl;
+    alone = rw (same_number me.0) refl;
+    near = λ k. rw (same_number me.0) refl;
     far = λ a b apart. rw apart (shows.standing a b);
-    inward = λ k. rw (same_place me.0) refl;
+    inward = λ k. rw (same_number me.0) refl;
     outward = λ a b other. rw other (shows.pipes a b);
-    rest = λ k. rw (same_place me.0) refl;
+    rest = λ k. rw (same_number me.0) refl;
     rests = λ a b apart. rw apart (shows.rests a b);
-    up = λ wire. rw (same_place me.0) refl;
+    up = λ wire. rw (same_number me.0) refl;
     ups = λ a wire apart. rw apart (shows.up a wire);
     on = on_still plan (without_octets_to me network) me (restart_input (begin_at network me)) (without_edge me.0 seen) shows.on refl;
     under_way = shows.under_way;
@@ -129,7 +129,7 @@ module _ (plan : Plan) (network : NetworkState) (seen : Seen) (shows : Shows pla
     at_edge a same = ap (λ (n : ℕ). ((with_edge row.edge (mends plan taken_all done).edge network).edges n).circuit_on other.0) (eqb-true a row.edge.0 same) ∙ ap (λ (e : EdgeState). e.circuit_on other.0) (edge_there row.edge (mends plan taken_all done).edge network)
 
     by : (b : Bool) → nat_eq other.0 circuit.0 ≡ b → cond b on (seen.on other.0) ≡ ((with_edge row.edge (mends plan taken_all done).edge network).edges line.edge.0).circuit_on other.0
-    by true same = sym (at_edge line.edge.0 (ap (λ (n : ℕ). nat_eq n row.edge.0) (sym (row_of same)) ∙ same_place row.edge.0) ∙ (here ∙ ap (λ (b : Bool). cond b on ((network.edges row.edge.0).circuit_on other.0)) same))
+    by true same = sym (at_edge line.edge.0 (ap (λ (n : ℕ). nat_eq n row.edge.0) (sym (row_of same)) ∙ same_number row.edge.0) ∙ (here ∙ ap (λ (b : Bool). cond b on ((network.edges row.edge.0).circuit_on other.0)) same))
     by false apart = elim (cases_Bool (nat_eq line.edge.0 row.edge.0)) [
       | inl same ↦ shows.on other line at ∙ (ap (λ (n : ℕ). (network.edges n).circuit_on other.0) (eqb-true line.edge.0 row.edge.0 same)
           ∙ sym (at_edge line.edge.0 same ∙ (here ∙ ap (λ (b : Bool). cond b on ((network.edges row.edge.0).circuit_on other.0)) apart)))

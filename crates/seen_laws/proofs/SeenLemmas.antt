@@ -1,6 +1,9 @@
 -- What the entries of an edge's work show.
 use Rattle.std.proofs.Common.{◌≡◌, ◌+◌, ◌++◌, ◌&&◌, ◌||◌, ◌∙◌, not, ℕ, Bool, true, false, List, [], ◌∷◌, Option, cond, map, nat_eq, refl, sym, ap, subst, arith, append_assoc, inl, inr}
 use Rattle.std.proofs.lemmas.Bool.{cases_Bool, eqb-true}
+use Rattle.net_values.proofs.BoolLemmas.{and_not, and_not_false}
+use Rattle.net_values.proofs.NumberLemmas.{same_number}
+use Rattle.net_values.proofs.RowLemmas.{silent_either}
 use Rattle.net_base.specs.declared.plan.places.EdgeId.{EdgeId}
 use Rattle.net_base.specs.declared.trace.entry.Entry.{Entry}
 use Rattle.net_base.specs.declared.trace.entry.Entry.TheVariants as entry
@@ -9,10 +12,12 @@ use Rattle.net_base.specs.declared.trace.state_name.StateName.TheVariants as sta
 use Rattle.edge_model.specs.declared.effect.Effect.{Effect}
 use Rattle.edge_model.specs.declared.effect.Effect.TheVariants as effect
 use Rattle.flight_laws.specs.Meeting.{said_to}
-use Rattle.flight_laws.proofs.WorkLemmas.{said-append, same_end, same_place}
+use Rattle.flight_laws.proofs.WorkLemmas.{said-append, same_end}
 use Rattle.network_model.specs.Absorb.{absorb_all, absorb_one, all_entries_of, entries_told}
 use Rattle.network_model.specs.State.{NetworkState, with_packet, with_pipe}
+use Rattle.network_model.proofs.AbsorbLemmas.{pipe_sends_none}
 use Rattle.seen_network.specs.Seen.{Seen, SeenCopy, copy_comes, end_goes, is_up, said_towards, session_told, told, with_copies, with_octets, with_rest, with_standing, with_up, without_copy}
+use Rattle.seen_network.proofs.CommonLemmas.{session_way, said_way}
 use Rattle.seen_laws.specs.Shows.{AreTold, AreUpTo, copy_of, tolds}
 use Rattle.seen_laws.specs.Work.{ended, up_after}
 use Rattle.seen_laws.proofs.CopyLemmas.{below_behind, below_more, none_without, without_below}
@@ -53,20 +58,6 @@ work_told me origin hops (effect.Closed peer ∷ es) network = work_told me orig
 
 -- ---- what effects show
 
-none_not : (b : Bool) → b ≡ (b && not false)
-none_not true = refl
-none_not false = refl
-
-and_not : (b x y : Bool) → (b && not x) && not y ≡ (b && not (x || y))
-and_not true true y = refl
-and_not true false y = refl
-and_not false x y = refl
-
-emptied : (x y : Bool) (octets : List ℕ) → cond y [] (cond x [] octets) ≡ cond (x || y) [] octets
-emptied true true octets = refl
-emptied true false octets = refl
-emptied false y octets = refl
-
 joined : (b : Bool) (pipe first more : List ℕ) → cond b (cond b (pipe ++ first) pipe ++ more) (cond b (pipe ++ first) pipe) ≡ cond b (pipe ++ (first ++ more)) pipe
 joined true pipe first more = append_assoc pipe first more
 joined false pipe first more = refl
@@ -93,16 +84,16 @@ pub shown_then : (me : ℕ) (es fs : List Effect) (a b c : Seen) → ShownBy me 
 shown_then me es fs a b c first next = record {
   near = λ k. next.near k ∙ (ap (λ (x : Bool). x && not (ended k fs)) (first.near k) ∙ (and_not (a.stands me k) (ended k es) (ended k fs) ∙ ap (λ (x : Bool). a.stands me k && not x) (sym (ended-append k es fs))));
   far = λ x y apart. next.far x y apart ∙ first.far x y apart;
-  rest = λ k. next.rest k ∙ (ap (λ (l : List ℕ). cond (ended k fs) [] l) (first.rest k) ∙ (emptied (ended k es) (ended k fs) (a.rests me k) ∙ ap (λ (x : Bool). cond x [] (a.rests me k)) (sym (ended-append k es fs))));
+  rest = λ k. next.rest k ∙ (ap (λ (l : List ℕ). cond (ended k fs) [] l) (first.rest k) ∙ (silent_either (ended k es) (ended k fs) (a.rests me k) ∙ ap (λ (x : Bool). cond x [] (a.rests me k)) (sym (ended-append k es fs))));
   rests = λ x y apart. next.rests x y apart ∙ first.rests x y apart;
   inward = λ k away. next.inward k away
-      ∙ (ap (λ (l : List ℕ). cond (ended k fs) [] l) (first.inward k away) ∙ (emptied (ended k es) (ended k fs) (a.pipes k me) ∙ ap (λ (x : Bool). cond x [] (a.pipes k me)) (sym (ended-append k es fs))));
+      ∙ (ap (λ (l : List ℕ). cond (ended k fs) [] l) (first.inward k away) ∙ (silent_either (ended k es) (ended k fs) (a.pipes k me) ∙ ap (λ (x : Bool). cond x [] (a.pipes k me)) (sym (ended-append k es fs))));
   outward = λ k away. next.outward k away
       ∙ (rw (first.far k me away, first.outward k away)
       (joined (a.stands k me) (a.pipes me k) (said_to k es) (said_to k fs)) ∙ ap (λ (l : List ℕ). cond (a.stands k me) (a.pipes me k ++ l) (a.pipes me k)) (sym (said-append k es fs)));
   apart = λ x y one other. next.apart x y one other ∙ first.apart x y one other;
   own = λ alone. next.own (first.near me ∙ rw alone refl)
-      ∙ (ap (λ (l : List ℕ). cond (ended me fs) [] l) (first.own alone) ∙ (emptied (ended me es) (ended me fs) (a.pipes me me) ∙ ap (λ (x : Bool). cond x [] (a.pipes me me)) (sym (ended-append me es fs))));
+      ∙ (ap (λ (l : List ℕ). cond (ended me fs) [] l) (first.own alone) ∙ (silent_either (ended me es) (ended me fs) (a.pipes me me) ∙ ap (λ (x : Bool). cond x [] (a.pipes me me)) (sym (ended-append me es fs))));
   up = λ wire. next.up wire ∙ (ap (up_after wire fs) (first.up wire) ∙ sym (up-append wire es fs (a.up me wire)));
   ups = λ x wire apart. next.ups x wire apart ∙ first.ups x wire apart;
   on = next.on ∙ first.on;
@@ -112,7 +103,7 @@ shown_then me es fs a b c first next = record {
 pub shows_none : (me : ℕ) (es : List Effect) (old new : Seen) → ((k : ℕ) → ended k es ≡ false) → ((k : ℕ) → said_to k es ≡ []) → ((wire : ℕ) (up : Bool) → up_after wire es up ≡ up)
     → new.stands ≡ old.stands → new.pipes ≡ old.pipes → new.rests ≡ old.rests → new.up ≡ old.up → new.on ≡ old.on → ShownBy me es old new
 shows_none me es old new shuts silent still stands pipes rests ups on = record {
-  near = λ k. ap (λ (f : ℕ → ℕ → Bool). f me k) stands ∙ (none_not (old.stands me k) ∙ ap (λ (x : Bool). old.stands me k && not x) (sym (shuts k)));
+  near = λ k. ap (λ (f : ℕ → ℕ → Bool). f me k) stands ∙ (and_not_false (old.stands me k) ∙ ap (λ (x : Bool). old.stands me k && not x) (sym (shuts k)));
   far = λ a b apart. ap (λ (f : ℕ → ℕ → Bool). f a b) stands;
   rest = λ k. ap (λ (f : ℕ → ℕ → List ℕ). f me k) rests ∙ ap (λ (x : Bool). cond x [] (old.rests me k)) (sym (shuts k));
   rests = λ a b apart. ap (λ (f : ℕ → ℕ → List ℕ). f a b) rests;
@@ -145,14 +136,14 @@ said_shows me peer octets seen = by (seen.stands peer.0 me.0) refl where
 
   by : (up : Bool) → seen.stands peer.0 me.0 ≡ up → ShownBy me.0 (effect.Said peer octets ∷ []) seen (cond up (with_octets me.0 peer.0 (seen.pipes me.0 peer.0 ++ octets) seen) seen)
   by true is = record {
-    near = λ k. none_not (seen.stands me.0 k);
+    near = λ k. and_not_false (seen.stands me.0 k);
     far = λ a b apart. refl;
     rest = λ k. refl;
     rests = λ a b apart. refl;
     inward = λ k away. rw away refl;
-    outward = λ k away. rw (same_place me.0) (out k (nat_eq k peer.0) true is refl);
+    outward = λ k away. rw (same_number me.0) (out k (nat_eq k peer.0) true is refl);
     apart = λ a b one other. rw one refl;
-    own = λ alone. rw (same_place me.0) (elim (cases_Bool (nat_eq me.0 peer.0)) [
+    own = λ alone. rw (same_number me.0) (elim (cases_Bool (nat_eq me.0 peer.0)) [
       | inl same ↦ absurd (cc (sym alone ∙ (ap (λ (n : ℕ). seen.stands n me.0) (eqb-true me.0 peer.0 same) ∙ is)))
       | inr other ↦ rw other refl
     ]);
@@ -161,7 +152,7 @@ said_shows me peer octets seen = by (seen.stands peer.0 me.0) refl where
     on = refl;
   }
   by false is = record {
-    near = λ k. none_not (seen.stands me.0 k);
+    near = λ k. and_not_false (seen.stands me.0 k);
     far = λ a b apart. refl;
     rest = λ k. refl;
     rests = λ a b apart. refl;
@@ -182,9 +173,9 @@ said_shows me peer octets seen = by (seen.stands peer.0 me.0) refl where
 ended_shows : (me peer : EdgeId) (why : Rattle.net_base.specs.declared.trace.state_name.Reason.Reason) (seen : Seen) → ShownBy me.0 (effect.Session peer (state.Ended why) ∷ []) seen (end_goes me.0 peer.0 seen)
 unfolding with_octets with_standing with_rest
 ended_shows me peer why seen = record {
-  near = λ k. rw (same_place me.0) (gone (nat_eq k peer.0) (seen.stands me.0 k));
+  near = λ k. rw (same_number me.0) (gone (nat_eq k peer.0) (seen.stands me.0 k));
   far = λ a b apart. rw apart refl;
-  rest = λ k. rw (same_place me.0) (emptied_by (nat_eq k peer.0) (seen.rests me.0 k));
+  rest = λ k. rw (same_number me.0) (emptied_by (nat_eq k peer.0) (seen.rests me.0 k));
   rests = λ a b apart. rw apart refl;
   inward = λ k away. there k (nat_eq k peer.0);
   outward = λ k away. kept me.0 k (nat_eq me.0 peer.0) away ∙ silent_pipe (seen.stands k me.0) (seen.pipes me.0 k);
@@ -206,7 +197,7 @@ ended_shows me peer why seen = record {
     emptied_by false octets = refl
 
     there : (k : ℕ) (b : Bool) → cond (b && nat_eq me.0 me.0) [] (seen.pipes k me.0) ≡ cond (b || false) [] (seen.pipes k me.0)
-    there k true = rw (same_place me.0) refl
+    there k true = rw (same_number me.0) refl
     there k false = refl
 
     kept : (a b : ℕ) (same : Bool) → nat_eq b me.0 ≡ false → cond (same && nat_eq b me.0) [] (seen.pipes a b) ≡ seen.pipes a b
@@ -217,7 +208,7 @@ ended_shows me peer why seen = record {
 wire_shows : (me : EdgeId) (wire : Rattle.net_base.specs.declared.plan.places.WireId.WireId) (down : Option Rattle.net_base.specs.declared.trace.down.Down.Down) (seen : Seen) → ShownBy me.0 (effect.Wire wire down ∷ []) seen (with_up me.0 wire.0 (is_up down) seen)
 unfolding with_up
 wire_shows me wire down seen = record {
-  near = λ k. none_not (seen.stands me.0 k);
+  near = λ k. and_not_false (seen.stands me.0 k);
   far = λ a b apart. refl;
   rest = λ k. refl;
   rests = λ a b apart. refl;
@@ -225,7 +216,7 @@ wire_shows me wire down seen = record {
   outward = λ k away. silent_pipe (seen.stands k me.0) (seen.pipes me.0 k);
   apart = λ a b one other. refl;
   own = λ alone. refl;
-  up = λ w. rw (same_place me.0) refl;
+  up = λ w. rw (same_number me.0) refl;
   ups = λ a w apart. rw apart refl;
   on = refl;
 }
@@ -267,27 +258,6 @@ pub sent_more : (xs : List Rattle.network_model.specs.declared.packet.Packet.Pac
 sent_more [] x = refl
 sent_more (y ∷ ys) x = ap (λ (l : List SeenCopy). copy_of y ∷ l) (sent_more ys x)
 
-session_way : (edge peer : ℕ) (name : StateName) (seen : Seen) → (session_told edge peer name seen).under_way ≡ seen.under_way
-unfolding with_octets with_standing with_rest
-session_way edge peer state.NonExistent seen = refl
-session_way edge peer state.Initialized seen = refl
-session_way edge peer state.OpenSent seen = refl
-session_way edge peer state.OpenRec seen = refl
-session_way edge peer state.Operational seen = refl
-session_way edge peer (state.Ended why) seen = refl
-
-said_way : (from to : ℕ) (octets : List ℕ) (seen : Seen) → (said_towards from to octets seen).under_way ≡ seen.under_way
-unfolding with_octets
-said_way from to octets seen = by (seen.stands to from) where
-  by : (b : Bool) → (cond b (with_octets from to (seen.pipes from to ++ octets) seen) seen).under_way ≡ seen.under_way
-  by true = refl
-  by false = refl
-
-put_way : (from to : EdgeId) (octets : List ℕ) (network : NetworkState) (b : Bool) → (cond b (with_pipe from to octets network) network).under_way ≡ network.under_way
-unfolding with_pipe
-put_way from to octets network true = refl
-put_way from to octets network false = refl
-
 put_sent : (from to : EdgeId) (octets : List ℕ) (network : NetworkState) (b : Bool) → (cond b (with_pipe from to octets network) network).sent ≡ network.sent
 unfolding with_pipe
 put_sent from to octets network true = refl
@@ -296,7 +266,7 @@ put_sent from to octets network false = refl
 one_way : (me : EdgeId) (origin hops : ℕ) (e : Effect) (network : NetworkState) (seen : Seen) → AreUpTo network.sent seen.under_way → seen.under_way ≡ map copy_of network.under_way
     → (tolds (entries_told me origin hops e network) seen).under_way ≡ map copy_of (absorb_one me origin hops e network).under_way
 unfolding with_copies with_up with_packet
-one_way me origin hops (effect.Said peer octets) network seen below same = said_way me.0 peer.0 octets seen ∙ (same ∙ ap (map copy_of) (sym (put_way me peer _ network _)))
+one_way me origin hops (effect.Said peer octets) network seen below same = said_way me.0 peer.0 octets seen ∙ (same ∙ ap (map copy_of) (sym (pipe_sends_none me peer _ network _)))
 one_way me origin hops (effect.Session peer name) network seen below same = session_way me.0 peer.0 name seen ∙ same
 one_way me origin hops (effect.Wire wire down) network seen below same = same
 one_way me origin hops (effect.Sent peer wire came octets) network seen below same =
@@ -304,7 +274,7 @@ one_way me origin hops (effect.Sent peer wire came octets) network seen below sa
 one_way me origin hops (effect.Left circuit octets) network seen below same = same
 one_way me origin hops (effect.Dropped cause) network seen below same = same
 one_way me origin hops (effect.Pong wire sequence) network seen below same = same
-one_way me origin hops (effect.Closed peer) network seen below same = same ∙ ap (map copy_of) (sym (put_way peer me [] network true))
+one_way me origin hops (effect.Closed peer) network seen below same = same ∙ ap (map copy_of) (sym (pipe_sends_none peer me [] network true))
 
 -- a new number is the highest one
 one_counted : (me : EdgeId) (origin hops : ℕ) (e : Effect) (network : NetworkState) (seen : Seen) → AreUpTo network.sent seen.under_way

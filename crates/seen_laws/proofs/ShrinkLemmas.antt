@@ -1,5 +1,5 @@
 -- What a bridge has not learned it does not learn but by a frame.
-use Rattle.std.proofs.Common.{◌≡◌, ◌+◌, ◌&&◌, ◌||◌, ◌∙◌, not, ℕ, zero, suc, Bool, true, false, List, [], ◌∷◌, Option, Some, None, cond, filter, length, nat_eq, refl, sym, ap, slice_get}
+use Rattle.std.proofs.Common.{◌≡◌, ◌+◌, ◌&&◌, ◌∙◌, not, ℕ, zero, suc, Bool, true, false, List, Option, Some, None, cond, filter, length, nat_eq, refl, sym, ap, slice_get}
 use Rattle.std.proofs.lemmas.Bool.{eqb-true}
 use Rattle.net_base.specs.declared.plan.Plan.{Plan}
 use Rattle.net_base.specs.declared.plan.circuit_plan.CircuitPlan.{CircuitPlan}
@@ -16,8 +16,9 @@ use Rattle.net_base.specs.plan.Paths.{are_joined}
 use Rattle.net_base.specs.plan.Places.{wire_row}
 use Rattle.net_values.specs.declared.mac.Mac.{Mac}
 use Rattle.ldp_grammar.specs.declared.message.Message.{Message}
-use Rattle.mac_table.specs.Addresses.{has_address, is_of}
+use Rattle.mac_table.specs.Addresses.{has_address}
 use Rattle.mac_table.specs.declared.mac_entry.MacEntry.{MacEntry}
+use Rattle.mac_table.proofs.AddressLemmas.{absent-filter}
 use Rattle.pw_signalling.specs.declared.told.Told.{Told}
 use Rattle.pw_signalling.specs.End.{EndState}
 use Rattle.pw_signalling.specs.Rows.{bound, group_stated, group_unbound, stated, telling, unbound, withdrawn}
@@ -48,14 +49,6 @@ use Rattle.edge_model.proofs.BridgeLemmas.{PingsInput, ping_bridges}
 use Rattle.edge_model.proofs.SessionLemmas.{advice_works, any, connects_works, happens_with_ends_works, says_works}
 use Rattle.edge_model.proofs.WalkLemmas.{HearSteps, MendSteps, hears_on_holds, mends_holds}
 
-absent_filter : (p : MacEntry → Bool) (xs : List MacEntry) (address : Mac) → has_address xs address ≡ false → has_address (filter p xs) address ≡ false
-absent_filter p [] address absent = refl
-absent_filter p (x ∷ xs) address absent = by (is_of address x) absent (p x) (λ rest. absent_filter p xs address rest) refl where
-  by : (b : Bool) → b || has_address xs address ≡ false → (c : Bool) → (has_address xs address ≡ false → has_address (filter p xs) address ≡ false) → is_of address x ≡ b → has_address (cond c (x ∷ filter p xs) (filter p xs)) address ≡ false
-  by true absent c rest is = absurd (cc absent)
-  by false absent true rest is = rw is (rest absent)
-  by false absent false rest is = rest absent
-
 -- no address comes into the tables
 pub record Shrinks (old new : EdgeState) : Type 0 where
   pub gone : (service : ℕ) (address : Mac) → has_address (old.learned service) address ≡ false → has_address (new.learned service) address ≡ false
@@ -78,7 +71,7 @@ addresses_shrink : (service : ServiceId) (p : MacEntry → Bool) (edge : EdgeSta
 unfolding with_addresses
 addresses_shrink service p edge = record { gone = λ k address absent. by k address absent (nat_eq k service.0) refl } where
   by : (k : ℕ) (address : Mac) → has_address (edge.learned k) address ≡ false → (b : Bool) → nat_eq k service.0 ≡ b → has_address (cond b (filter p (edge.learned service.0)) (edge.learned k)) address ≡ false
-  by k address absent true same = absent_filter p (edge.learned service.0) address (ap (λ (n : ℕ). has_address (edge.learned n) address) (sym (eqb-true k service.0 same)) ∙ absent)
+  by k address absent true same = absent-filter p (edge.learned service.0) address (ap (λ (n : ℕ). has_address (edge.learned n) address) (sym (eqb-true k service.0 same)) ∙ absent)
   by k address absent false other = absent
 
 port_shrinks : (service : ServiceId) (port : Option ℕ) (edge : EdgeState) → Shrinks edge (with_addresses service (without_port port (addresses_of edge service)) edge)
@@ -207,7 +200,7 @@ ticks_shrink plan told place (suc count) work =
 
 aged_absent : (now : ℕ) (row : Option ServicePlan) (entries : List MacEntry) (address : Mac) → has_address entries address ≡ false → has_address (aged now row entries) address ≡ false
 aged_absent now None entries address absent = absent
-aged_absent now (Some row) entries address absent = absent_filter _ entries address absent
+aged_absent now (Some row) entries address absent = absent-filter _ entries address absent
 
 aging_shrinks : (plan : Plan) (edge : EdgeState) → Shrinks edge (forgetting plan edge)
 unfolding with_learned

@@ -3,6 +3,7 @@ use Rattle.std.proofs.Common.{◌≡◌, ◌<◌, ◌+◌, ◌++◌, ◌||◌, �
 use Rattle.std.proofs.lemmas.Bool.{cases_Bool, eqb-true}
 use Rattle.std.proofs.lemmas.List.Folds.{list_any-append}
 use Rattle.std.specs.List.{AllByRecursion, list_any}
+use Rattle.net_values.proofs.BoolLemmas.{clash, second_fails, first_fails}
 use Rattle.net_base.specs.declared.plan.Plan.{Plan}
 use Rattle.net_base.specs.declared.plan.circuit_plan.CircuitPlan.{CircuitPlan}
 use Rattle.net_base.specs.declared.plan.places.CircuitId.{CircuitId}
@@ -35,7 +36,6 @@ use Rattle.network_model.specs.Tick.{tick_at, ticks_from}
 use Rattle.network_model.specs.Window.{packet_teaches, teaches}
 use Rattle.network_model.specs.Wire.{priority_event, status_event, wire_event}
 use Rattle.network_model.proofs.AbsorbLemmas.{all_keep}
-use Rattle.network_model.proofs.CalmLemmas.{none_first, none_later}
 use Rattle.network_model.proofs.PacketListLemmas.{all_send, packet_holds, packets_of}
 use Rattle.network_model.proofs.RunLemmas.{after-append}
 use Rattle.flight_laws.specs.Laws.{IsRun, network_after}
@@ -47,9 +47,6 @@ use Rattle.seen_laws.specs.Sources.{KnowsSources}
 use Rattle.seen_laws.proofs.OnceLemmas.{frame_seen, front_run, once_seen}
 use Rattle.seen_laws.proofs.ShrinkLemmas.{Shrinks, circuit_shrinks, connected_shrinks, lost_shrinks, octets_shrink, ping_shrinks, priority_shrinks, restart_shrinks, status_shrinks, tick_shrinks, wire_shrinks}
 use Rattle.seen_laws.proofs.SyncRunLemmas.{run_synced}
-
-clash : {P : Type 0} → false ≡ true → P
-clash e = absurd (cc)
 
 module _ (plan : Plan) (service : ServiceId) (address : List ℕ) where
   abbrev Absent : EdgeState → Type 0
@@ -177,9 +174,9 @@ module _ (plan : Plan) (service : ServiceId) (address : List ℕ) where
   -- what lives on carries what it carried
   older_none : (packets : List Packet) → list_any (packet_teaches plan service address) packets ≡ false → list_any (packet_teaches plan service address) (all_older packets) ≡ false
   older_none [] none = refl
-  older_none (p ∷ ps) none = by (lives_on p) (older_none ps (none_later (packet_teaches plan service address p) (list_any (packet_teaches plan service address) ps) none)) where
+  older_none (p ∷ ps) none = by (lives_on p) (older_none ps (second_fails (packet_teaches plan service address p) (list_any (packet_teaches plan service address) ps) none)) where
     by : (b : Bool) → list_any (packet_teaches plan service address) (all_older ps) ≡ false → list_any (packet_teaches plan service address) (cond b (older p ∷ all_older ps) (all_older ps)) ≡ false
-    by true rest = ap (λ (b : Bool). b || list_any (packet_teaches plan service address) (all_older ps)) (none_first (packet_teaches plan service address p) (list_any (packet_teaches plan service address) ps) none) ∙ rest
+    by true rest = ap (λ (b : Bool). b || list_any (packet_teaches plan service address) (all_older ps)) (first_fails (packet_teaches plan service address p) (list_any (packet_teaches plan service address) ps) none) ∙ rest
     by false rest = rest
 
   older_unlearned : (network : NetworkState) → Unlearned network → Unlearned (with_older network)
@@ -218,11 +215,11 @@ module _ (plan : Plan) (service : ServiceId) (address : List ℕ) where
   none_without number [] none = refl
   none_without number (p ∷ ps) none = by (nat_eq p.number number) (none_without number ps later) where
     later : list_any (packet_teaches plan service address) ps ≡ false
-    later = none_later (packet_teaches plan service address p) (list_any (packet_teaches plan service address) ps) none
+    later = second_fails (packet_teaches plan service address p) (list_any (packet_teaches plan service address) ps) none
 
     by : (b : Bool) → list_any (packet_teaches plan service address) (without_number number ps) ≡ false → list_any (packet_teaches plan service address) (cond b ps (p ∷ without_number number ps)) ≡ false
     by true rest = later
-    by false rest = ap (λ (b : Bool). b || list_any (packet_teaches plan service address) (without_number number ps)) (none_first (packet_teaches plan service address p) (list_any (packet_teaches plan service address) ps) none) ∙ rest
+    by false rest = ap (λ (b : Bool). b || list_any (packet_teaches plan service address) (without_number number ps)) (first_fails (packet_teaches plan service address p) (list_any (packet_teaches plan service address) ps) none) ∙ rest
 
   discard_unlearned : (found : Option Packet) (network : NetworkState) → Unlearned network → Unlearned (discard_event found network).state
   unfolding without_packet
@@ -232,8 +229,8 @@ module _ (plan : Plan) (service : ServiceId) (address : List ℕ) where
   each_none : (packets : List Packet) → list_any (packet_teaches plan service address) packets ≡ false → AllByRecursion (λ packet. packet_teaches plan service address packet ≡ false) packets
   each_none [] none = tt
   each_none (p ∷ ps) none = (
-    none_first (packet_teaches plan service address p) (list_any (packet_teaches plan service address) ps) none,
-    each_none ps (none_later (packet_teaches plan service address p) (list_any (packet_teaches plan service address) ps) none),
+    first_fails (packet_teaches plan service address p) (list_any (packet_teaches plan service address) ps) none,
+    each_none ps (second_fails (packet_teaches plan service address p) (list_any (packet_teaches plan service address) ps) none),
   )
 
   again_unlearned : (number : ℕ) (found : Option Packet) (network : NetworkState) → packet_at network number ≡ found → Unlearned network → Unlearned (again_event found network).state
@@ -285,8 +282,8 @@ module _ (plan : Plan) (service : ServiceId) (address : List ℕ) where
   along_unlearned before (e ∷ es) is none unlearned =
       subst (λ (l : List Event). Unlearned (network_after plan l)) (append_assoc before (e ∷ []) es)
       (along_unlearned (before ++ e ∷ []) es (subst (IsRun plan) (sym (append_assoc before (e ∷ []) es)) is)
-      (ap (λ (n : NetworkState). list_any (is_sourced_by plan service address) (entries_along plan n es)) after_is ∙ none_later (list_any (is_sourced_by plan service address) own) (list_any (is_sourced_by plan service address) rest) parts)
-      (subst Unlearned (sym after_is) (event_unlearned before e (front_run plan (before ++ e ∷ es) before (e ∷ es) is refl) (none_first (list_any (is_sourced_by plan service address) own) (list_any (is_sourced_by plan service address) rest) parts) unlearned)))
+      (ap (λ (n : NetworkState). list_any (is_sourced_by plan service address) (entries_along plan n es)) after_is ∙ second_fails (list_any (is_sourced_by plan service address) own) (list_any (is_sourced_by plan service address) rest) parts)
+      (subst Unlearned (sym after_is) (event_unlearned before e (front_run plan (before ++ e ∷ es) before (e ∷ es) is refl) (first_fails (list_any (is_sourced_by plan service address) own) (list_any (is_sourced_by plan service address) rest) parts) unlearned)))
     where
       own : List Entry
       own = (brings plan e (network_after plan before)).entries

@@ -1,5 +1,6 @@
 -- A trace of a run is cut at an event where the list of events is cut.
 use Rattle.std.proofs.Common.{◌≡◌, ◌+◌, ◌++◌, ◌∙◌, ℕ, zero, suc, Bool, true, false, List, [], ◌∷◌, Option, Some, None, cond, drop, length, take, refl, sym, ap, subst}
+use Rattle.net_values.proofs.RowLemmas.{head_same, tail_same}
 use Rattle.net_base.specs.declared.plan.Plan.{Plan}
 use Rattle.net_base.specs.declared.plan.circuit_plan.CircuitPlan.{CircuitPlan}
 use Rattle.net_base.specs.declared.plan.places.EdgeId.{EdgeId}
@@ -8,6 +9,7 @@ use Rattle.net_base.specs.declared.trace.entry.Entry.TheVariants as entry
 use Rattle.net_base.specs.declared.trace.event.Event.{Event}
 use Rattle.net_base.specs.declared.trace.event.Event.TheVariants.{Connect, Deliver, Lose, Restart, Tick, Frame, Arrive, Discard, Again, Wire, Circuit, Status, Priority, Ping}
 use Rattle.net_base.specs.plan.Places.{circuit_row}
+use Rattle.net_base.proofs.CommonLemmas.{same_entries}
 use Rattle.edge_model.specs.Circuit.{circuit_input}
 use Rattle.edge_model.specs.Connection.{restart_input}
 use Rattle.edge_model.specs.Tick.{tick_input}
@@ -125,12 +127,6 @@ brings_quiet plan (Ping me wire) network = answer_quiet me (ping_work plan netwo
 
 -- ---- lists
 
-head_same : {A : Type 0} (x y : A) (xs ys : List A) → x ∷ xs ≡ y ∷ ys → x ≡ y
-head_same x y xs ys e = cc (e)
-
-tail_same : {A : Type 0} (x y : A) (xs ys : List A) → x ∷ xs ≡ y ∷ ys → xs ≡ ys
-tail_same x y xs ys e = cc (e)
-
 event_same : (a b : Event) → entry.Did a ≡ entry.Did b → a ≡ b
 event_same a b e = cc (e)
 
@@ -201,12 +197,9 @@ cut_at plan network (x ∷ xs) (b ∷ before) event behind e =
       earlier = x ∷ later.earlier;
       later = later.later;
       split = ap (λ (l : List Event). x ∷ l) later.split;
-      front = both (sym (head_same _ _ _ _ e)) (stands.front_is ∙ ap (λ (l : List Entry). own ++ l) later.front);
+      front = same_entries (sym (head_same _ _ _ _ e)) (stands.front_is ∙ ap (λ (l : List Entry). own ++ l) later.front);
       rest = later.rest;
     }
-  where
-    both : {x y : Entry} {xs ys : List Entry} → x ≡ y → xs ≡ ys → x ∷ xs ≡ y ∷ ys
-    both p q = λ i. p i ∷ q i
 
 -- and behind some events
 pub record IsCutBehind (plan : Plan) (network : NetworkState) (events : List Event) (front behind : List Entry) : Type 0 where
@@ -227,11 +220,8 @@ cut_behind plan network (x ∷ xs) (y ∷ front) behind begins e =
       during = x ∷ later.during;
       later = later.later;
       split = ap (λ (l : List Event). x ∷ l) later.split;
-      front_is = both (head_same _ _ _ _ e) (stands.front_is ∙ ap (λ (l : List Entry). own ++ l) later.front_is);
+      front_is = same_entries (head_same _ _ _ _ e) (stands.front_is ∙ ap (λ (l : List Entry). own ++ l) later.front_is);
     }
-  where
-    both : {x y : Entry} {xs ys : List Entry} → x ≡ y → xs ≡ ys → x ∷ xs ≡ y ∷ ys
-    both p q = λ i. p i ∷ q i
 
 -- the entries behind an event, up to the end of some events
 pub cut_window : (plan : Plan) (event : Event) (network : NetworkState) (events : List Event) (front behind : List Entry) → BeginsEvent behind

@@ -1,6 +1,7 @@
 -- All that an edge does tells what it makes of connections and wires.
 use Rattle.std.proofs.Common.{◌≡◌, ◌++◌, ◌&&◌, ◌||◌, ◌∙◌, not, ℕ, Bool, true, false, List, [], ◌∷◌, Option, Some, None, cond, option_map, nat_eq, refl, sym, ap, append-nil, append_assoc, inl, inr}
 use Rattle.std.proofs.lemmas.Bool.{cases_Bool, eqb-true}
+use Rattle.net_values.proofs.BoolLemmas.{first_holds, or_append, and_not, and_not_false}
 use Rattle.net_base.specs.declared.plan.Plan.{Plan}
 use Rattle.net_base.specs.declared.plan.places.EdgeId.{EdgeId}
 use Rattle.net_base.specs.declared.plan.places.WireId.{WireId}
@@ -37,6 +38,7 @@ use Rattle.edge_model.specs.Work.{Work, changes, gives, next_answer, puts}
 use Rattle.pw_messages.specs.LinkAnswers.{Answers}
 use Rattle.edge_model.proofs.BridgeLemmas.{ForgetsOnly, forgetting_only, withdrawing_only}
 use Rattle.edge_model.proofs.WalkLemmas.{HearSteps, MendSteps}
+use Rattle.edge_model.proofs.AgainLemmas.{there_spoken}
 use Rattle.flight_laws.specs.Meeting.{closes}
 use Rattle.flight_laws.proofs.WorkLemmas.{closes-append}
 use Rattle.network_model.specs.State.{held_by}
@@ -44,10 +46,6 @@ use Rattle.seen_network.specs.Seen.{is_up}
 use Rattle.seen_laws.specs.Work.{Tells, ended, is_ended, up_after}
 
 -- ---- joined effects
-
-or_append : (a b c : Bool) → a || (b || c) ≡ (a || b) || c
-or_append true b c = refl
-or_append false b c = refl
 
 pub ended-append : (place : ℕ) (es fs : List Effect) → ended place (es ++ fs) ≡ (ended place es || ended place fs)
 ended-append place [] fs = refl
@@ -74,19 +72,6 @@ up-append wire (effect.Closed peer ∷ es) fs up = up-append wire es fs up
 
 -- ---- no work, and one after another
 
-none_ended : (b : Bool) → b ≡ (b && not false)
-none_ended true = refl
-none_ended false = refl
-
-and_not : (b x y : Bool) → (b && not x) && not y ≡ (b && not (x || y))
-and_not true true y = refl
-and_not true false y = refl
-and_not false x y = refl
-
-pub was_there : (b x : Bool) → b && x ≡ true → b ≡ true
-was_there true x is = refl
-was_there false x is = absurd (cc is)
-
 module _ (heard : ℕ → Bool) where
   pub tells_not : (work : Work) → Tells heard work work
   tells_not work = record {
@@ -94,10 +79,10 @@ module _ (heard : ℕ → Bool) where
     given = sym (append-nil work.effects);
     me = refl;
     circuits = refl;
-    stands = λ k. none_ended (is_there (work.edge.peering k));
+    stands = λ k. and_not_false (is_there (work.edge.peering k));
     shut = λ k. refl;
     up = λ wire. refl;
-    kept = λ k apart there. refl;
+    kept = λ k apart there_spoken. refl;
   }
 
   pub tells_then : (a b c : Work) → Tells heard a b → Tells heard b c → Tells heard a c
@@ -113,8 +98,8 @@ module _ (heard : ℕ → Bool) where
         ∙ ap (λ (x : Bool). is_there (a.edge.peering k) && not x) (sym (ended-append k first.more next.more))));
     shut = λ k. closes-append k first.more next.more ∙ (rw (first.shut k, next.shut k) (sym (ended-append k first.more next.more)));
     up = λ wire. next.up wire ∙ (ap (up_after wire next.more) (first.up wire) ∙ sym (up-append wire first.more next.more (is_up (a.edge.told_down wire))));
-    kept = λ k apart there.
-        next.kept k apart there ∙ first.kept k apart (was_there (is_there (b.edge.peering k)) (not (ended k next.more)) (sym (next.stands k) ∙ there));
+    kept = λ k apart there_spoken.
+        next.kept k apart there_spoken ∙ first.kept k apart (first_holds (is_there (b.edge.peering k)) (not (ended k next.more)) (sym (next.stands k) ∙ there_spoken));
   }
 
   -- ---- single operations
@@ -128,21 +113,21 @@ module _ (heard : ℕ → Bool) where
     given = sym (append-nil work.effects);
     me = me;
     circuits = circuits;
-    stands = λ k. ap (λ (p : ℕ → Option Peering). is_there (p k)) peering ∙ none_ended (is_there (work.edge.peering k));
+    stands = λ k. ap (λ (p : ℕ → Option Peering). is_there (p k)) peering ∙ and_not_false (is_there (work.edge.peering k));
     shut = λ k. refl;
     up = λ wire. ap (λ (d : ℕ → Option Down). is_up (d wire)) downs;
-    kept = λ k apart there. ap (λ (p : ℕ → Option Peering). held_by (p k)) peering;
+    kept = λ k apart there_spoken. ap (λ (p : ℕ → Option Peering). held_by (p k)) peering;
   }
 
   -- what is kept for a peer becomes something else, with what was held of it
   peering_tells : (peer : EdgeId) (kept : Option Peering) (work : Work) → is_there kept ≡ is_there (work.edge.peering peer.0) → held_by kept ≡ held_by (work.edge.peering peer.0) → Tells heard work (changes (with_peering peer kept) work)
   unfolding changes with_peering
-  peering_tells peer kept work there held = record {
+  peering_tells peer kept work there_spoken held = record {
     more = [];
     given = sym (append-nil work.effects);
     me = refl;
     circuits = refl;
-    stands = λ k. same_there k ∙ none_ended (is_there (work.edge.peering k));
+    stands = λ k. same_there k ∙ and_not_false (is_there (work.edge.peering k));
     shut = λ k. refl;
     up = λ wire. refl;
     kept = λ k apart is. same_held k;
@@ -150,7 +135,7 @@ module _ (heard : ℕ → Bool) where
     where
       same_there : (k : ℕ) → is_there (cond (nat_eq k peer.0) kept (work.edge.peering k)) ≡ is_there (work.edge.peering k)
       same_there k = elim (cases_Bool (nat_eq k peer.0)) [
-        | inl same ↦ rw same (there ∙ ap (λ (n : ℕ). is_there (work.edge.peering n)) (sym (eqb-true k peer.0 same)))
+        | inl same ↦ rw same (there_spoken ∙ ap (λ (n : ℕ). is_there (work.edge.peering n)) (sym (eqb-true k peer.0 same)))
         | inr other ↦ rw other refl
       ]
 
@@ -168,10 +153,10 @@ module _ (heard : ℕ → Bool) where
     given = refl;
     me = refl;
     circuits = refl;
-    stands = λ k. rw (none k) (none_ended (is_there (work.edge.peering k)));
+    stands = λ k. rw (none k) (and_not_false (is_there (work.edge.peering k)));
     shut = λ k. shuts k ∙ sym (none k);
     up = λ wire. sym (still wire (is_up (work.edge.told_down wire)));
-    kept = λ k apart there. refl;
+    kept = λ k apart there_spoken. refl;
   }
 
   puts_tell : (peer : EdgeId) (bytes : List ℕ) (taken : Bool) (work : Work) → Tells heard work (puts peer bytes taken work)
@@ -181,19 +166,15 @@ module _ (heard : ℕ → Bool) where
     given = sym (append-nil work.effects);
     me = refl;
     circuits = refl;
-    stands = λ k. none_ended (is_there (work.edge.peering k));
+    stands = λ k. and_not_false (is_there (work.edge.peering k));
     shut = λ k. refl;
     up = λ wire. refl;
-    kept = λ k apart there. refl;
+    kept = λ k apart there_spoken. refl;
   }
 
   spoken_tells : (peer : EdgeId) (work : Work) → Tells heard work (changes (with_spoken peer) work)
   unfolding changes with_spoken
-  spoken_tells peer work = peering_tells peer (option_map having_spoken (work.edge.peering peer.0)) work (there (work.edge.peering peer.0)) (held (work.edge.peering peer.0)) where
-    there : (kept : Option Peering) → is_there (option_map having_spoken kept) ≡ is_there kept
-    there None = refl
-    there (Some kept) = refl
-
+  spoken_tells peer work = peering_tells peer (option_map having_spoken (work.edge.peering peer.0)) work (there_spoken (work.edge.peering peer.0)) (held (work.edge.peering peer.0)) where
     held : (kept : Option Peering) → held_by (option_map having_spoken kept) ≡ held_by kept
     held None = refl
     held (Some kept) = refl
@@ -209,7 +190,7 @@ module _ (heard : ℕ → Bool) where
     stands = gone;
     shut = λ k. refl;
     up = λ wire. refl;
-    kept = λ k apart there. held k there;
+    kept = λ k apart there_spoken. held k there_spoken;
   }
     where
       gone : (k : ℕ) → is_there (cond (nat_eq k peer.0) None (work.edge.peering k)) ≡ (is_there (work.edge.peering k) && not (nat_eq k peer.0 || false))
@@ -221,10 +202,10 @@ module _ (heard : ℕ → Bool) where
         by false (Some kept) = refl
 
       held : (k : ℕ) → is_there (cond (nat_eq k peer.0) None (work.edge.peering k)) ≡ true → held_by (cond (nat_eq k peer.0) None (work.edge.peering k)) ≡ held_by (work.edge.peering k)
-      held k there = by (nat_eq k peer.0) (work.edge.peering k) there where
+      held k there_spoken = by (nat_eq k peer.0) (work.edge.peering k) there_spoken where
         by : (b : Bool) (o : Option Peering) → is_there (cond b None o) ≡ true → held_by (cond b None o) ≡ held_by o
-        by true o there = absurd (cc there)
-        by false o there = refl
+        by true o there_spoken = absurd (cc there_spoken)
+        by false o there_spoken = refl
 
   said_tells : (peer : EdgeId) (bytes : List ℕ) (work : Work) → Tells heard work (gives (effect.Said peer bytes) work)
   said_tells peer bytes work = gives_tell (effect.Said peer bytes) work (λ k. refl) (λ k. refl) (λ wire up. refl)
@@ -357,10 +338,10 @@ module _ (heard : ℕ → Bool) where
     given = only.effects ∙ sym (append-nil a.effects);
     me = only.edge.me;
     circuits = only.edge.circuits;
-    stands = λ k. ap (λ (p : ℕ → Option Peering). is_there (p k)) only.edge.peering ∙ none_ended (is_there (a.edge.peering k));
+    stands = λ k. ap (λ (p : ℕ → Option Peering). is_there (p k)) only.edge.peering ∙ and_not_false (is_there (a.edge.peering k));
     shut = λ k. refl;
     up = λ wire. ap (λ (d : ℕ → Option Down). is_up (d wire)) only.edge.downs;
-    kept = λ k apart there. ap (λ (p : ℕ → Option Peering). held_by (p k)) only.edge.peering;
+    kept = λ k apart there_spoken. ap (λ (p : ℕ → Option Peering). held_by (p k)) only.edge.peering;
   }
 
   -- why a wire is down is told
@@ -371,10 +352,10 @@ module _ (heard : ℕ → Bool) where
     given = refl;
     me = refl;
     circuits = refl;
-    stands = λ k. none_ended (is_there (work.edge.peering k));
+    stands = λ k. and_not_false (is_there (work.edge.peering k));
     shut = λ k. refl;
     up = λ w. by (nat_eq w wire.0) (work.edge.told_down w);
-    kept = λ k apart there. refl;
+    kept = λ k apart there_spoken. refl;
   }
     where
       by : (b : Bool) (old : Option Down) → is_up (cond b down old) ≡ cond b (is_up down) (is_up old)
@@ -432,7 +413,7 @@ holds_tells peer kept octets work is = record {
   given = sym (append-nil work.effects);
   me = refl;
   circuits = refl;
-  stands = λ k. there k ∙ none_ended (is_there (work.edge.peering k));
+  stands = λ k. there k ∙ and_not_false (is_there (work.edge.peering k));
   shut = λ k. refl;
   up = λ wire. refl;
   kept = λ k apart standing. absurd (cc apart);

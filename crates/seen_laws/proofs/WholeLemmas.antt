@@ -1,8 +1,11 @@
 -- In a quiet service a wire that is up at both terminal edges is stitched between them: each switching point has both sides advertised
 -- and bound.
-use Rattle.std.proofs.Common.{◌≡◌, ◌≤◌, ◌==◌, ◌&&◌, ◌||◌, ◌∙◌, arith, length, not, ℕ, Bool, true, false, List, [], ◌∷◌, Option, Some, None, cond, is_some, nat_eq, refl, sym, ap, subst}
+use Rattle.std.proofs.Common.{◌≡◌, ◌≤◌, ◌==◌, ◌&&◌, ◌||◌, ◌∙◌, arith, length, not, ℕ, Bool, true, false, List, [], ◌∷◌, Option, Some, None, is_some, nat_eq, refl, sym, ap, subst}
 use Rattle.std.proofs.lemmas.Bool.{eqb-true, eq-eqb}
-use Rattle.std.specs.List.{AllByRecursion, find, list_all, list_any}
+use Rattle.std.specs.List.{AllByRecursion, list_all}
+use Rattle.net_values.proofs.BoolLemmas.{clash, or_later}
+use Rattle.net_values.proofs.NumberLemmas.{same_number}
+use Rattle.net_values.proofs.RowLemmas.{found_is_any}
 use Rattle.net_base.specs.declared.plan.Plan.{Plan}
 use Rattle.net_base.specs.declared.plan.places.EdgeId.{EdgeId}
 use Rattle.net_base.specs.declared.plan.places.ServiceId.{ServiceId}
@@ -34,20 +37,12 @@ use Rattle.flight_laws.specs.Across.{PassesOn, TellsAcross}
 use Rattle.flight_laws.specs.Binding.{advertised_by, is_idle}
 use Rattle.flight_laws.specs.Laws.{AreSettled}
 use Rattle.flight_laws.proofs.PlaceLemmas.{IsFound, NamedEnd, end_of, find_holds}
-use Rattle.packet_laws.proofs.PackLemmas.{wire_checked}
+use Rattle.flight_laws.proofs.RuledMendLemmas.{wire_fits}
 use Rattle.flood_laws.proofs.FarLemmas.{are_settled, far_advertises, joined_by}
-use Rattle.flight_laws.proofs.WorkLemmas.{same_place}
 use Rattle.seen_network.specs.Calm.{is_seen_up, last_up}
 use Rattle.seen_network.specs.Seen.{Seen, is_up}
 use Rattle.seen_laws.proofs.MateLemmas.{GoesBack, Mates, OfEach, OfFirst, OfLast, from_first, from_last, mates_of, of_joined}
 use Rattle.seen_laws.proofs.SyncRunLemmas.{IsSyncedAt}
-
-clash : {P : Type 0} → false ≡ true → P
-clash e = absurd (cc)
-
-or_right : (b : Bool) {c : Bool} → c ≡ true → b || c ≡ true
-or_right true e = refl
-or_right false e = e
 
 -- ---- an end that forwards
 
@@ -76,18 +71,6 @@ none_up : (down : Option Down) → is_up down ≡ true → down ≡ None
 none_up None is = refl
 none_up (Some why) is = clash is
 
-found_any : {A : Type 0} (test other : A → Bool) (xs : List A) (x : A) → find test xs ≡ Some x → other x ≡ true → list_any other xs ≡ true
-found_any test other [] x is passes = absurd (cc is)
-found_any test other (y ∷ ys) x is passes = by (test y) is (λ rest. found_any test other ys x rest passes) where
-  by : (b : Bool) → cond b (Some y) (find test ys) ≡ Some x → (find test ys ≡ Some x → list_any other ys ≡ true) → other y || list_any other ys ≡ true
-  by true at rest =
-      let same : y ≡ x = cc (at) in
-      rw (ap other same ∙ passes) refl
-  by false at rest = more (other y) (rest at) where
-    more : (b : Bool) {c : Bool} → c ≡ true → b || c ≡ true
-    more true e = refl
-    more false e = e
-
 -- ---- a wire of a quiet service
 
 module _ (plan : Plan) (network : NetworkState) (service : ServiceId) (wire : WireId) (row : WirePlan) (checked : IsChecked plan) (quiet : is_quiet plan network service ≡ true)
@@ -95,7 +78,7 @@ module _ (plan : Plan) (network : NetworkState) (service : ServiceId) (wire : Wi
     (across : (me from to : EdgeId) → mate row me.0 from.0 ≡ Some to → TellsAcross plan me from to wire row (network.edges me.0))
     (synced : (k : ℕ) → IsSyncedAt plan k (network.edges k)) where
   row_is : IsWireOf plan row
-  row_is = wire_checked plan wire row checked is
+  row_is = wire_fits plan wire row checked is
 
   -- an edge advertises to a neighbour
   abbrev Tells : ℕ → ℕ → Type 0
@@ -146,7 +129,7 @@ module _ (plan : Plan) (network : NetworkState) (service : ServiceId) (wire : Wi
 
     pub here : ends_here plan (network.edges e.0).me wire ≡ true
     here = ap (λ (m : EdgeId). ends_here plan m wire) me_is
-        ∙ found_any (is_named n row.pw_id) (is_end_of_wire wire) (end_places plan e) named.place named.named (rw (eq-eqb named.place.wire.0 wire.0 (ap (λ (w : WireId). w.0) named.wire_is), at_end) refl)
+        ∙ found_is_any (is_named n row.pw_id) (is_end_of_wire wire) (end_places plan e) named.place named.named (rw (eq-eqb named.place.wire.0 wire.0 (ap (λ (w : WireId). w.0) named.wire_is), at_end) refl)
 
     pub forwards_told : end_forwards plan (network.edges e.0) wire ≡ is_up ((network.edges e.0).told_down wire.0)
     forwards_told = forwards_as_told plan (network.edges e.0) wire (synced e.0).synced here ∙ same_up ((network.edges e.0).told_down wire.0) where
@@ -187,7 +170,7 @@ module _ (plan : Plan) (network : NetworkState) (service : ServiceId) (wire : Wi
   -- what is seen of the wire is so
   module _ (seen : Seen) (shown_up : (a : ℕ) → seen.up a wire.0 ≡ is_up ((network.edges a).told_down wire.0)) where
     first_joined : (x y : EdgeId) (rest : List EdgeId) → joins x.0 y.0 (x ∷ y ∷ rest) ≡ true
-    first_joined x y rest = rw (same_place x.0, same_place y.0) refl
+    first_joined x y rest = rw (same_number x.0, same_number y.0) refl
 
     -- ---- the last edge of a part of the path
 
@@ -195,10 +178,7 @@ module _ (plan : Plan) (network : NetworkState) (service : ServiceId) (wire : Wi
     last_pair x y = sym (joins_turned (x ∷ y ∷ []) x.0 y.0) ∙ first_joined x y []
 
     ends_last : (y : EdgeId) → is_last y.0 row.path ≡ true → is_terminal row y ≡ true
-    ends_last y last = more (is_first y.0 row.path) last where
-      more : (b : Bool) {c : Bool} → c ≡ true → b || c ≡ true
-      more true e = refl
-      more false e = e
+    ends_last y last = or_later (is_first y.0 row.path) last
 
     ends_first : (x : EdgeId) → is_first x.0 row.path ≡ true → is_terminal row x ≡ true
     ends_first x first = rw first refl
@@ -206,17 +186,17 @@ module _ (plan : Plan) (network : NetworkState) (service : ServiceId) (wire : Wi
     last_told : (path : List EdgeId) → ((a b : ℕ) → joins a b path ≡ true → joins a b row.path ≡ true) → ((e : ℕ) → is_last e path ≡ true → is_last e row.path ≡ true) → last_up seen wire.0 path ≡ true → OfLast (λ a b. Tells a b) path
     last_told [] within ends up = tt
     last_told (only ∷ []) within ends up = tt
-    last_told (x ∷ y ∷ []) within ends up = (live y x (within y.0 x.0 (last_pair x y)) (ends_last y (ends y.0 (same_place y.0))) (sym (shown_up y.0) ∙ up)).1
-    last_told (x ∷ y ∷ z ∷ rest) within ends up = last_told (y ∷ z ∷ rest) (λ a b joined. within a b (or_right ((a == x.0 && b == y.0) || (b == x.0 && a == y.0)) joined)) ends up
+    last_told (x ∷ y ∷ []) within ends up = (live y x (within y.0 x.0 (last_pair x y)) (ends_last y (ends y.0 (same_number y.0))) (sym (shown_up y.0) ∙ up)).1
+    last_told (x ∷ y ∷ z ∷ rest) within ends up = last_told (y ∷ z ∷ rest) (λ a b joined. within a b (or_later ((a == x.0 && b == y.0) || (b == x.0 && a == y.0)) joined)) ends up
 
     last_same : (path : List EdgeId) → ((a b : ℕ) → joins a b path ≡ true → joins a b row.path ≡ true) → ((e : ℕ) → is_last e path ≡ true → is_last e row.path ≡ true) → (x y : EdgeId) (rest : List EdgeId) → path ≡ x ∷ y ∷ rest
         → last_up seen wire.0 (x ∷ y ∷ rest) ≡ last_forwards plan network wire.0 (x ∷ y ∷ rest)
     last_same path within ends x y [] at =
         let joined : joins y.0 x.0 row.path ≡ true = within y.0 x.0 (ap (joins y.0 x.0) at ∙ last_pair x y) in
-        let terminal : is_terminal row y ≡ true = ends_last y (ends y.0 (ap (is_last y.0) at ∙ same_place y.0)) in
+        let terminal : is_terminal row y ≡ true = ends_last y (ends y.0 (ap (is_last y.0) at ∙ same_number y.0)) in
         shown_up y.0 ∙ sym (forwards_told y x joined terminal)
     last_same path within ends x y (z ∷ rest) at =
-        last_same (y ∷ z ∷ rest) (λ a b joined. within a b (ap (joins a b) at ∙ or_right ((a == x.0 && b == y.0) || (b == x.0 && a == y.0)) joined)) (λ e last. ends e (ap (is_last e) at ∙ last)) y z rest refl
+        last_same (y ∷ z ∷ rest) (λ a b joined. within a b (ap (joins a b) at ∙ or_later ((a == x.0 && b == y.0) || (b == x.0 && a == y.0)) joined)) (λ e last. ends e (ap (is_last e) at ∙ last)) y z rest refl
 
     -- ---- the switching points
 
@@ -268,7 +248,7 @@ module _ (plan : Plan) (network : NetworkState) (service : ServiceId) (wire : Wi
         joined = ap (joins x.0 y.0) at ∙ first_joined x y rest
 
         first : is_terminal row x ≡ true
-        first = ends_first x (ap (is_first x.0) at ∙ same_place x.0)
+        first = ends_first x (ap (is_first x.0) at ∙ same_number x.0)
 
         first_same : seen.up x.0 wire.0 ≡ end_forwards plan (network.edges x.0) wire
         first_same = shown_up x.0 ∙ sym (forwards_told x y joined first)

@@ -6,6 +6,7 @@ use Rattle.std.specs.BTreeMap.{is_at}
 use Rattle.std.specs.List.{list_any}
 use Rattle.std.specs.Map.{lookup}
 use Rattle.std.specs.Ordering.{nat_cmp}
+use Rattle.net_values.proofs.NumberLemmas.{equal_turned}
 use Rattle.net_base.specs.declared.trace.state_name.StateName.{StateName}
 use Rattle.net_base.specs.declared.trace.state_name.StateName.TheVariants as state
 use Rattle.seen_network.specs.Once.{has_seen, is_seen_copy, names_seen}
@@ -74,9 +75,6 @@ few_more counts most few o = omega (arith, few o)
 abbrev one_if : Bool → ℕ
 one_if b = cond b 1 0
 
-same_turned : (a b : ℕ) → (a == b) ≡ (b == a)
-same_turned a b = grind (arith, nat_tests)
-
 -- one that goes
 among_without : (number n : ℕ) (copies : List SeenCopy) → HaveOwnNumbers copies → origin_among n (without_copy number copies) ≡ cond (n == number) None (origin_among n copies)
 among_without number n [] own = by (n == number) where
@@ -111,7 +109,7 @@ some_of number o gone (c ∷ cs) some = by (c.number == number) some (λ rest. s
       → cond (o == gone) 1 0 ≤ cond (c.origin == o) 1 0 + copies_of o cs
   by true is rest =
       let same : c.origin ≡ gone = cc (is) in
-      let turn : one_if (c.origin == o) ≡ one_if (o == gone) = ap one_if (same_turned c.origin o ∙ ap (λ (m : ℕ). o == m) same) in
+      let turn : one_if (c.origin == o) ≡ one_if (o == gone) = ap one_if (equal_turned c.origin o ∙ ap (λ (m : ℕ). o == m) same) in
       omega (arith, turn)
   by false is rest = omega (arith, rest is)
 
@@ -122,7 +120,7 @@ copies_without number o gone (c ∷ cs) some = by (c.number == number) some (λ 
       → copies_of o (cond b cs (c ∷ without_copy number cs)) + cond (o == gone) 1 0 ≡ cond (c.origin == o) 1 0 + copies_of o cs
   by true is rest =
       let same : c.origin ≡ gone = cc (is) in
-      let turn : one_if (c.origin == o) ≡ one_if (o == gone) = ap one_if (same_turned c.origin o ∙ ap (λ (m : ℕ). o == m) same) in
+      let turn : one_if (c.origin == o) ≡ one_if (o == gone) = ap one_if (equal_turned c.origin o ∙ ap (λ (m : ℕ). o == m) same) in
       omega (arith, turn)
   by false is rest = omega (arith, rest is)
 
@@ -139,7 +137,7 @@ own_without number (c ∷ cs) own = by (c.number == number) (own_without number 
 
 -- one more behind them
 among_more : (n : ℕ) (copies : List SeenCopy) (c : SeenCopy) → origin_among c.number copies ≡ None → origin_among n (copies ++ c ∷ []) ≡ cond (n == c.number) (Some c.origin) (origin_among n copies)
-among_more n [] c none = ap (λ (b : Bool). cond b (Some c.origin) None) (same_turned c.number n)
+among_more n [] c none = ap (λ (b : Bool). cond b (Some c.origin) None) (equal_turned c.number n)
 among_more n (d ∷ ds) c none = by (d.number == c.number) refl none (d.number == n) refl (n == c.number) refl (λ rest. among_more n ds c rest) where
   by : (a : Bool) → (d.number == c.number) ≡ a → cond a (Some d.origin) (origin_among c.number ds) ≡ None → (b : Bool) → (d.number == n) ≡ b → (e : Bool) → (n == c.number) ≡ e
       → (origin_among c.number ds ≡ None → origin_among n (ds ++ c ∷ []) ≡ cond (n == c.number) (Some c.origin) (origin_among n ds))
@@ -150,7 +148,7 @@ among_more n (d ∷ ds) c none = by (d.number == c.number) refl none (d.number =
   by false h none false g e k rest = rest none ∙ ap (λ (b : Bool). cond b (Some c.origin) (origin_among n ds)) k
 
 copies_more : (o : ℕ) (copies : List SeenCopy) (c : SeenCopy) → copies_of o (copies ++ c ∷ []) ≡ copies_of o copies + cond (o == c.origin) 1 0
-copies_more o [] c = let turn : one_if (c.origin == o) ≡ one_if (o == c.origin) = ap one_if (same_turned c.origin o) in omega (arith, turn)
+copies_more o [] c = let turn : one_if (c.origin == o) ≡ one_if (o == c.origin) = ap one_if (equal_turned c.origin o) in omega (arith, turn)
 copies_more o (d ∷ ds) c = omega (arith, copies_more o ds c)
 
 own_more : (copies : List SeenCopy) (c : SeenCopy) → origin_among c.number copies ≡ None → HaveOwnNumbers copies → HaveOwnNumbers (copies ++ c ∷ [])

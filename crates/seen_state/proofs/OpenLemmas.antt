@@ -1,19 +1,19 @@
 -- Before the first entry.
 use Rattle.std.proofs.Common.{◌≡◌, ◌<◌, ◌∙◌, [], ℕ, zero, suc, arith, true, false, refl, ap, length, replicate, slice_index_or}
+use Rattle.net_values.proofs.RowLemmas.{replicate_length, replicate_default}
 use Rattle.seen_network.specs.Seen.{nothing_seen}
 use Rattle.seen_state.specs.declared.sizes.Sizes.{Sizes}
 use Rattle.seen_state.specs.PeerEnd.{no_end}
 use Rattle.seen_state.specs.Sight.{EdgeSeen, IsWhole, Shows, no_edge, shown}
-use Rattle.seen_state.proofs.RowLemmas.{replicate_at, replicate_length}
 
 ends_none : (n m w : ℕ) (i j : ℕ) → slice_index_or (slice_index_or (replicate n (record { ends = replicate m no_end; up = replicate w false })) i no_edge).ends j no_end ≡ no_end
 ends_none zero m w i j = refl
-ends_none (suc n) m w zero j = replicate_at m no_end j
+ends_none (suc n) m w zero j = replicate_default m no_end j
 ends_none (suc n) m w (suc i) j = ends_none n m w i j
 
 none_up : (n m w : ℕ) (i j : ℕ) → slice_index_or (slice_index_or (replicate n (record { ends = replicate m no_end; up = replicate w false })) i no_edge).up j false ≡ false
 none_up zero m w i j = refl
-none_up (suc n) m w zero j = replicate_at w false j
+none_up (suc n) m w zero j = replicate_default w false j
 none_up (suc n) m w (suc i) j = none_up n m w i j
 
 row_at : (n : ℕ) (e : EdgeSeen) (k : ℕ) → k < n → slice_index_or (replicate n e) k no_edge ≡ e
@@ -38,7 +38,7 @@ opened_shows sizes = λ z. record {
   pipes = λ i j. (ends_none sizes.edges sizes.edges sizes.wires j i z).way;
   rests = λ i j. (ends_none sizes.edges sizes.edges sizes.wires i j z).rest;
   up = λ i j. none_up sizes.edges sizes.edges sizes.wires i j z;
-  on = λ i. replicate_at sizes.circuits true i z;
+  on = λ i. replicate_default sizes.circuits true i z;
   under_way = [];
 }
 

@@ -1,23 +1,9 @@
 -- Rows of like values.
-use Rattle.std.proofs.Common.{◌≡◌, ◌==◌, ◌<◌, ◌≤◌, ◌+◌, ◌++◌, ◌∷◌, ◌∙◌, [], ℕ, zero, suc, Bool, true, false, List, nat_lt, cond, refl, ap, arith, length, replicate, slice_index_or, slice_set}
+use Rattle.std.proofs.Common.{◌≡◌, ◌==◌, ◌<◌, ◌≤◌, ◌+◌, ◌∷◌, ◌∙◌, [], ℕ, zero, suc, Bool, true, false, List, nat_lt, cond, refl, arith, length, slice_index_or, slice_set}
 use Rattle.std.proofs.lemmas.Bool.Decides.{nat_tests}
-
-pub replicate_more : {X : Type 0} (n : ℕ) (x : X) → replicate n x ++ x ∷ [] ≡ replicate (n + 1) x
-replicate_more n x = let q : n + 1 ≡ suc n = omega arith in rw q (one_more n x) where
-  one_more : {X : Type 0} (n : ℕ) (x : X) → replicate n x ++ x ∷ [] ≡ replicate (suc n) x
-  one_more zero x = refl
-  one_more (suc n) x = ap (λ xs. x ∷ xs) (one_more n x)
+use Rattle.std.proofs.lemmas.List.{replicate_more}
 
 pub ruleset replicate_steps = (replicate_more)
-
-pub replicate_length : {X : Type 0} (n : ℕ) (x : X) → length (replicate n x) ≡ n
-replicate_length zero x = refl
-replicate_length (suc n) x = ap suc (replicate_length n x)
-
-pub replicate_at : {X : Type 0} (n : ℕ) (x : X) (k : ℕ) → slice_index_or (replicate n x) k x ≡ x
-replicate_at zero x k = refl
-replicate_at (suc n) x zero = refl
-replicate_at (suc n) x (suc k) = replicate_at n x k
 
 pub set_at : {X : Type 0} (d : X) (xs : List X) (i : ℕ) (v : X) (k : ℕ) → i < length xs → slice_index_or (slice_set xs i v) k d ≡ cond (k == i) v (slice_index_or xs k d)
 set_at d (x ∷ xs) zero v zero h = refl

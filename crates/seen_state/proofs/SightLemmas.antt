@@ -2,6 +2,7 @@
 use Rattle.std.proofs.Common.{◌≡◌, ◌==◌, ◌<◌, ◌+◌, ◌&&◌, ◌++◌, ◌∷◌, ◌∙◌, [], ℕ, Bool, true, false, List, Option, Some, None, cond, refl, ap, sym, subst, arith, length, take, drop, slice_index_or, slice_set}
 use Rattle.std.proofs.lemmas.Bool.{eqb-true}
 use Rattle.std.proofs.lemmas.List.{get_or_default}
+use Rattle.net_values.proofs.BoolLemmas.{and_turned}
 use Rattle.seen_network.specs.Seen.{Seen, SeenCopy, at, at_both, cut, delivers, end_goes, said_towards, repeats, with_copies, with_octets, with_on, with_rest, with_standing, with_up, without_copy, without_edge}
 use Rattle.seen_state.specs.PeerEnd.{EndSeen, no_end, taken}
 use Rattle.seen_state.specs.Sight.{EdgeSeen, IsWhole, Shows, SightLists, edge_seen, end_seen, no_edge, shown}
@@ -45,12 +46,6 @@ same_both m a b v is i j = by (i == a) refl (j == b) refl where
   by true here false away = refl
   by true here true at = sym is ∙ (ap (λ (k : ℕ). m k b) (sym (eqb-true i a here)) ∙ ap (λ (k : ℕ). m i k) (sym (eqb-true j b at)))
 
-swap : (a b : Bool) → (a && b) ≡ (b && a)
-swap true true = refl
-swap true false = refl
-swap false true = refl
-swap false false = refl
-
 -- with an end all of which is another one
 abbrev put_all : ℕ → ℕ → EndSeen → Seen → Seen
 put_all me peer v seen = record seen { stands = at_both seen.stands me peer v.stands; pipes = at_both seen.pipes peer me v.way; rests = at_both seen.rests me peer v.rest }
@@ -60,7 +55,7 @@ shown_end : (s : SightLists) (copies : List SeenCopy) (me peer : ℕ) (v : EndSe
 unfolding shown
 shown_end s copies me peer v h g = λ z. record {
   stands = λ i j. read_end (λ (e : EndSeen). e.stands) s me peer v i j h g z;
-  pipes = λ i j. (read_end (λ (e : EndSeen). e.way) s me peer v j i h g ∙ ap (λ (b : Bool). cond b v.way (end_seen s j i).way) (swap (j == me) (i == peer))) z;
+  pipes = λ i j. (read_end (λ (e : EndSeen). e.way) s me peer v j i h g ∙ ap (λ (b : Bool). cond b v.way (end_seen s j i).way) (and_turned (j == me) (i == peer))) z;
   rests = λ i j. read_end (λ (e : EndSeen). e.rest) s me peer v i j h g z;
   up = λ i j. ap (λ (u : List Bool). slice_index_or u j false) (up_kept s me peer v i h) z;
   on = λ i. slice_index_or s.on i true;

@@ -1,6 +1,7 @@
 -- Traces cut before events.
 use Rattle.std.proofs.Common.{◌≡◌, ◌==◌, ◌+◌, ◌&&◌, ◌||◌, ◌++◌, ◌∷◌, ◌∙◌, ◌⊎◌, inl, inr, [], ℕ, Bool, true, false, not, List, Option, Some, cond, refl, ap, sym, subst}
 use Rattle.std.specs.List.{list_any}
+use Rattle.net_values.proofs.RowLemmas.{head_same, tail_same}
 use Rattle.net_base.specs.declared.plan.Plan.{Plan}
 use Rattle.net_base.specs.declared.plan.places.CircuitId.{CircuitId}
 use Rattle.net_base.specs.declared.plan.places.ServiceId.{ServiceId}
@@ -152,14 +153,8 @@ abbrev tail_of : {X : Type 0} → List X → List X
 tail_of [] = []
 tail_of (x ∷ xs) = xs
 
-same_head : {X : Type 0} (x y : X) (xs ys : List X) → x ∷ xs ≡ y ∷ ys → x ≡ y
-same_head x y xs ys e = ap (head_or x) e
-
-same_tail : {X : Type 0} (x y : X) (xs ys : List X) → x ∷ xs ≡ y ∷ ys → xs ≡ ys
-same_tail x y xs ys e = ap tail_of e
-
 -- no event stands among entries without one
-no_event_in : (front : List Entry) (event : Event) (rest : List Entry) → HasNoEvent (front ++ entry.Did event ∷ rest) → ⊥
+pub no_event_in : (front : List Entry) (event : Event) (rest : List Entry) → HasNoEvent (front ++ entry.Did event ∷ rest) → ⊥
 no_event_in [] event rest none = none
 no_event_in (entry.Did other ∷ front) event rest none = none
 no_event_in (entry.Idle ∷ front) event rest none = no_event_in front event rest none
@@ -210,20 +205,20 @@ pub event_at : (done : List Entry) (last : Event) (tail before : List Entry) (ev
     → StandsBefore done (entry.Did last ∷ tail) before event rest ⊎ IsLast done last tail before event rest
 event_at [] last tail [] event rest none e = inr (record {
   front = refl;
-  same = sym (ap (event_or last) (same_head (entry.Did last) (entry.Did event) tail rest e));
-  back = sym (same_tail (entry.Did last) (entry.Did event) tail rest e);
+  same = sym (ap (event_or last) (head_same (entry.Did last) (entry.Did event) tail rest e));
+  back = sym (tail_same (entry.Did last) (entry.Did event) tail rest e);
 })
 event_at [] last tail (b ∷ before) event rest none e =
-    absurd (no_event_in before event rest (subst HasNoEvent (same_tail (entry.Did last) b tail (before ++ entry.Did event ∷ rest) e) none))
+    absurd (no_event_in before event rest (subst HasNoEvent (tail_same (entry.Did last) b tail (before ++ entry.Did event ∷ rest) e) none))
 event_at (d ∷ done) last tail [] event rest none e = inl (record {
   between = done;
-  front = ap (λ (x : Entry). x ∷ done) (same_head d (entry.Did event) (done ++ entry.Did last ∷ tail) rest e);
-  back = sym (same_tail d (entry.Did event) (done ++ entry.Did last ∷ tail) rest e);
+  front = ap (λ (x : Entry). x ∷ done) (head_same d (entry.Did event) (done ++ entry.Did last ∷ tail) rest e);
+  back = sym (tail_same d (entry.Did event) (done ++ entry.Did last ∷ tail) rest e);
 })
 event_at (d ∷ done) last tail (b ∷ before) event rest none e =
-    by (event_at done last tail before event rest none (same_tail d b (done ++ entry.Did last ∷ tail) (before ++ entry.Did event ∷ rest) e)) where
+    by (event_at done last tail before event rest none (tail_same d b (done ++ entry.Did last ∷ tail) (before ++ entry.Did event ∷ rest) e)) where
       same : d ≡ b
-      same = same_head d b (done ++ entry.Did last ∷ tail) (before ++ entry.Did event ∷ rest) e
+      same = head_same d b (done ++ entry.Did last ∷ tail) (before ++ entry.Did event ∷ rest) e
 
       by : StandsBefore done (entry.Did last ∷ tail) before event rest ⊎ IsLast done last tail before event rest
           → StandsBefore (d ∷ done) (entry.Did last ∷ tail) (b ∷ before) event rest ⊎ IsLast (d ∷ done) last tail (b ∷ before) event rest
@@ -256,7 +251,7 @@ first_of_two (entry.Session edge peer name ∷ es) last begins = absurd begins
 first_of_two (entry.Wire edge wire down ∷ es) last begins = absurd begins
 first_of_two (entry.Pong edge wire sequence ∷ es) last begins = absurd begins
 
-append_none : (xs : List Entry) → xs ++ [] ≡ xs
+pub append_none : (xs : List Entry) → xs ++ [] ≡ xs
 append_none [] = refl
 append_none (x ∷ xs) = ap (λ ys. x ∷ ys) (append_none xs)
 
@@ -266,17 +261,17 @@ cut_at between [] after last tail none begins e =
     inl (record { left = between; front = refl; back = sym e; begins = first_of_two between (entry.Did last ∷ tail) (subst BeginsEvent (sym e) begins) })
 cut_at [] (d ∷ during) after last tail none begins e = inr (record { front = whole; back = nothing }) where
   rest : tail ≡ during ++ after
-  rest = same_tail (entry.Did last) d tail (during ++ after) e
+  rest = tail_same (entry.Did last) d tail (during ++ after) e
 
   nothing : after ≡ []
   nothing = ends_bare during after (subst HasNoEvent rest none) begins
 
   whole : d ∷ during ≡ entry.Did last ∷ tail
-  whole = (λ z. sym (same_head (entry.Did last) d tail (during ++ after) e) z ∷ sym (rest ∙ (ap (λ ys. during ++ ys) nothing ∙ append_none during)) z)
+  whole = (λ z. sym (head_same (entry.Did last) d tail (during ++ after) e) z ∷ sym (rest ∙ (ap (λ ys. during ++ ys) nothing ∙ append_none during)) z)
 cut_at (b ∷ between) (d ∷ during) after last tail none begins e =
-    by (cut_at between during after last tail none begins (same_tail b d (between ++ entry.Did last ∷ tail) (during ++ after) e)) where
+    by (cut_at between during after last tail none begins (tail_same b d (between ++ entry.Did last ∷ tail) (during ++ after) e)) where
       same : b ≡ d
-      same = same_head b d (between ++ entry.Did last ∷ tail) (during ++ after) e
+      same = head_same b d (between ++ entry.Did last ∷ tail) (during ++ after) e
 
       by : CutBefore between during after (entry.Did last ∷ tail) ⊎ CutBehind between during after (entry.Did last ∷ tail)
           → CutBefore (b ∷ between) (d ∷ during) after (entry.Did last ∷ tail) ⊎ CutBehind (b ∷ between) (d ∷ during) after (entry.Did last ∷ tail)

@@ -11,21 +11,14 @@ use Rattle.net_base.specs.declared.trace.event.Event.{Event}
 use Rattle.net_base.specs.declared.trace.event.Event.TheVariants.{Frame}
 use Rattle.net_base.specs.trace.Frame.{destination_of}
 use Rattle.net_values.specs.declared.mac.Mac.{Mac}
+use Rattle.net_values.proofs.BoolLemmas.{first_holds, second_holds, and_true}
 use Rattle.seen_network.specs.Once.{SeenWindow, all_spared, has_seen, is_seen_flooded, is_sourced_by, spares_seen}
 use Rattle.seen_network.specs.Seen.{BeginsEvent, Seen, happened_or, is_idle_behind, nothing_seen, seen_from, seen_in}
 use Rattle.seen_network.proofs.ReadLemmas.{seen_on}
 use Rattle.seen_windows.specs.EventEntries.{HasNoEvent}
 use Rattle.seen_windows.specs.Past.{Among, AreOpen, AreOwed, Closes, Describes, GoesTo, HasOpened, HasPassed, IsLeft, IsOpen, IsOpened, IsOwed, Lists, Opens, OpensOne, WasOver, flooded_to}
 use Rattle.seen_windows.specs.declared.window.Window.{Window}
-use Rattle.seen_windows.proofs.EventLemmas.{CutBefore, CutBehind, IsLast, StandsBefore, begins_on, cut_at, ends_bare, entered_on, event_at, flooded_before, place_on, spared_none, spared_on}
-
-and_first : (a b : Bool) → a && b ≡ true → a ≡ true
-and_first true b h = refl
-and_first false b h = h
-
-and_second : (a b : Bool) → a && b ≡ true → b ≡ true
-and_second true b h = h
-and_second false b h = absurd (cc (h))
+use Rattle.seen_windows.proofs.EventLemmas.{CutBefore, CutBehind, IsLast, StandsBefore, begins_on, cut_at, ends_bare, entered_on, event_at, flooded_before, place_on, spared_none, spared_on, append_none}
 
 -- a frame's event shows nothing by itself
 frame_shows : (idle : Bool) (circuit : CircuitId) (octets : List ℕ) (seen : Seen) → happened_or idle (Frame circuit octets) seen ≡ seen
@@ -126,10 +119,6 @@ module _ (plan : Plan) (done : List Entry) (event : Event) (rest : List Entry) (
   spared_more before circuit octets between origin is =
       spared_on between last origin (seen_in before) tt
       ∙ ap (λ (b : Bool). all_spared origin (seen_in before) between && b) (at_event (seen_from (seen_in before) between) (sym (ap seen_in is ∙ seen_behind before circuit octets between))) where
-        and_true : (b : Bool) → b && true ≡ b
-        and_true true = refl
-        and_true false = refl
-
         at_event : (seen : Seen) → seen ≡ seen_in done → all_spared origin seen last ≡ spares_seen (seen_in done) origin (is_idle_behind rest) event
         at_event seen same =
             ap (λ (b : Bool). spares_seen seen origin (is_idle_behind rest) event && b) (spared_none rest origin (happened_or (is_idle_behind rest) event seen) bare)
@@ -182,14 +171,11 @@ module _ (plan : Plan) (done : List Entry) (event : Event) (rest : List Entry) (
       → Lists plan before circuit octets during service origin lasting2 ⊎ WasOver before circuit octets during origin
   stays_or_over before circuit octets during service origin window is d left = by (has_seen (seen_in trace) window.origin) refl where
     nil : during ≡ during ++ []
-    nil = sym (none during) where
-      none : (xs : List Entry) → xs ++ [] ≡ xs
-      none [] = refl
-      none (x ∷ xs) = ap (λ ys. x ∷ ys) (none xs)
+    nil = sym (append_none during)
 
     by : (b : Bool) → has_seen (seen_in trace) window.origin ≡ b → Lists plan before circuit octets during service origin lasting2 ⊎ WasOver before circuit octets during origin
     by true some = inl (record { window = window; describes = d; listed = passed.stays window left some })
-    by false none = inr (record { first = during; rest = []; is = nil; begins = tt; over = ap (λ (xs : List Entry). has_seen (seen_in xs) origin) (sym is) ∙ (ap (λ (o : ℕ). has_seen (seen_in trace) o) (sym d.origin_is) ∙ none) })
+    by false append_none = inr (record { first = during; rest = []; is = nil; begins = tt; over = ap (λ (xs : List Entry). has_seen (seen_in xs) origin) (sym is) ∙ (ap (λ (o : ℕ). has_seen (seen_in trace) o) (sym d.origin_is) ∙ append_none) })
 
   -- one that was over is so yet
   over_on : (before : List Entry) (circuit : CircuitId) (octets : List ℕ) (between : List Entry) (origin : ℕ) → WasOver before circuit octets between origin → WasOver before circuit octets (between ++ last) origin
@@ -207,7 +193,7 @@ module _ (plan : Plan) (done : List Entry) (event : Event) (rest : List Entry) (
       → Lists plan before circuit octets (between ++ last) service origin lasting2 ⊎ WasOver before circuit octets (between ++ last) origin
   open_before before circuit octets between service origin is h spared =
       by (are_open.each before circuit octets between service origin is (less_opened plan before circuit octets between last service origin tt h)
-      (and_first (all_spared origin (seen_in before) between) (spares_seen (seen_in done) origin (is_idle_behind rest) event) both)) where
+      (first_holds (all_spared origin (seen_in before) between) (spares_seen (seen_in done) origin (is_idle_behind rest) event) both)) where
         both : all_spared origin (seen_in before) between && spares_seen (seen_in done) origin (is_idle_behind rest) event ≡ true
         both = sym (spared_more before circuit octets between origin is) ∙ spared
 
@@ -219,7 +205,7 @@ module _ (plan : Plan) (done : List Entry) (event : Event) (rest : List Entry) (
             (inl (
               l.listed,
               ap (λ (n : ℕ). spares_seen (seen_in done) n (is_idle_behind rest) event) l.describes.origin_is
-                  ∙ and_second (all_spared origin (seen_in before) between) (spares_seen (seen_in done) origin (is_idle_behind rest) event) both,
+                  ∙ second_holds (all_spared origin (seen_in before) between) (spares_seen (seen_in done) origin (is_idle_behind rest) event) both,
             ))
 
   -- a frame that entered by this event
@@ -324,7 +310,7 @@ module _ (plan : Plan) (done : List Entry) (event : Event) (rest : List Entry) (
           formed = w.formed;
           calm = w.calm;
           flooded = flooded_before plan service w.frame (before ++ Did (Frame circuit octets) ∷ o.first) (o.rest ++ last) (ap (λ (xs : List Entry). is_seen_flooded plan service w.frame xs) (sym longer) ∙ w.flooded);
-          spared = and_first (all_spared origin (seen_in before) o.first) (all_spared origin (seen_from (seen_in before) o.first) (o.rest ++ last))
+          spared = first_holds (all_spared origin (seen_in before) o.first) (all_spared origin (seen_from (seen_in before) o.first) (o.rest ++ last))
               (sym (spared_on o.first (o.rest ++ last) origin (seen_in before) (begins_on o.rest last o.begins tt)) ∙ (ap (λ (xs : List Entry). all_spared origin (seen_in before) xs) (sym split) ∙ w.spared));
           over = o.over;
         }
@@ -334,7 +320,7 @@ module _ (plan : Plan) (done : List Entry) (event : Event) (rest : List Entry) (
   owed_before before circuit octets between service origin is w =
       by (are_open.each before circuit octets between service origin is
       (less_opened plan before circuit octets between last service origin tt (from_shown plan before circuit octets (between ++ last) service origin w))
-      (and_first (all_spared origin (seen_in before) between) (spares_seen (seen_in done) origin (is_idle_behind rest) event) both)) where
+      (first_holds (all_spared origin (seen_in before) between) (spares_seen (seen_in done) origin (is_idle_behind rest) event) both)) where
         both : all_spared origin (seen_in before) between && spares_seen (seen_in done) origin (is_idle_behind rest) event ≡ true
         both = sym (spared_more before circuit octets between origin is) ∙ w.spared
 
@@ -345,7 +331,7 @@ module _ (plan : Plan) (done : List Entry) (event : Event) (rest : List Entry) (
             (inl (
               l.listed,
               ap (λ (n : ℕ). spares_seen (seen_in done) n (is_idle_behind rest) event) l.describes.origin_is
-                  ∙ and_second (all_spared origin (seen_in before) between) (spares_seen (seen_in done) origin (is_idle_behind rest) event) both,
+                  ∙ second_holds (all_spared origin (seen_in before) between) (spares_seen (seen_in done) origin (is_idle_behind rest) event) both,
             ))
 
   owed_here : (circuit : CircuitId) (octets : List ℕ) (service : ServiceId) (origin : ℕ) → event ≡ Frame circuit octets → SeenWindow plan done circuit octets rest service origin

@@ -2,6 +2,7 @@
 use Rattle.std.proofs.Common.{◌≡◌, ◌<◌, ◌==◌, ◌+◌, ◌*◌, ℕ, true, false, not, List, [], ◌∷◌, length, nat_lt, arith}
 use Rattle.std.specs.List.{AllByRecursion}
 use Rattle.std.specs.Str.{bytes_eq}
+use Rattle.std.proofs.lemmas.Bool.{ne_eqb}
 use Rattle.byteorder.specs.Endian.{big_number}
 
 -- the digits of equal numbers are equal, the highest first
@@ -33,14 +34,11 @@ four_apart a b c d e f g h la lb lc ld le lf lg lh apart same =
     let equal = same_octets a b c d e f g h digits.0 digits.1 digits.2 digits.3 in
     grind (arith)
 
-differ : (n m : ℕ) → (n ≡ m → ⊥) → (n == m) ≡ false
-differ n m apart = grind (arith)
-
 -- other octets are another number
 pub numbers_apart : (xs ys : List ℕ) → length xs ≡ 4 → length ys ≡ 4 → AllByRecursion (λ octet. octet < 256) xs → AllByRecursion (λ octet. octet < 256) ys → bytes_eq xs ys ≡ false
     → (big_number 4 xs == big_number 4 ys) ≡ false
 numbers_apart (a ∷ b ∷ c ∷ d ∷ []) (e ∷ f ∷ g ∷ h ∷ []) four four' octets octets' apart =
-    differ (big_number 4 (a ∷ b ∷ c ∷ d ∷ [])) (big_number 4 (e ∷ f ∷ g ∷ h ∷ []))
+    ne_eqb (big_number 4 (a ∷ b ∷ c ∷ d ∷ [])) (big_number 4 (e ∷ f ∷ g ∷ h ∷ []))
     (λ same. four_apart a b c d e f g h octets.0 octets.1.0 octets.1.1.0 octets.1.1.1.0 octets'.0 octets'.1.0 octets'.1.1.0 octets'.1.1.1.0 apart (omega (arith, same)))
 numbers_apart xs ys four four' octets octets' apart = grind (arith)
 

@@ -3,6 +3,7 @@ use Rattle.std.proofs.Common.{◌≡◌, ◌<◌, ◌+◌, ◌∙◌, ◌↔◌,
 use Rattle.std.specs.List.{list_any, position_or_len}
 use Rattle.std.proofs.lemmas.Bool.Decides.{nat_tests}
 use Rattle.std.proofs.lemmas.List.Folds.{list_any_more}
+use Rattle.net_values.proofs.BoolLemmas.{and_true}
 use Rattle.spoke_redundancy.specs.declared.spoke.Spoke.{Spoke}
 use Rattle.spoke_redundancy.specs.Choice.{chosen, is_best, is_usable_spoke}
 use Rattle.spoke_redundancy.specs.Least.{IsLeast, is_least, is_less, is_usable_below}
@@ -52,10 +53,7 @@ least_below least spoke = ap (λ b. spoke.usable && b) by where
   by = grind (arith, nat_tests)
 
 usable_least : (spoke : Spoke) → is_least None spoke ≡ is_usable_spoke spoke
-usable_least spoke = by spoke.usable where
-  by : (b : Bool) → (b && true) ≡ b
-  by true = refl
-  by false = refl
+usable_least spoke = and_true spoke.usable
 
 -- one has the least number exactly where one is usable
 least_held : (spokes : List Spoke) (least : Option ℕ) → IsLeast spokes least → list_any (is_least least) spokes ≡ list_any is_usable_spoke spokes

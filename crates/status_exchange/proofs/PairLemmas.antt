@@ -1,19 +1,16 @@
 -- Two edges and a wire between them, and what a step of other edges leaves as it was.
 use Rattle.std.proofs.Common.{◌≡◌, ◌==◌, ◌&&◌, ◌||◌, ◌⊎◌, ◌++◌, ◌∙◌, ℕ, Bool, true, false, List, [], Option, None, is_some, if◌then◌else◌, refl, sym, ap, subst, arith, inl, inr, ⊎_elim}
 use Rattle.std.proofs.lemmas.Bool.Decides.{nat_tests}
+use Rattle.std.proofs.lemmas.Bool.{eqb-true}
+use Rattle.net_values.proofs.BoolLemmas.{true_clash}
+use Rattle.net_values.proofs.NumberLemmas.{apart_back, two_same, turned_away}
 use Rattle.pw_tlvs.specs.declared.pw_status.PwStatus.{PwStatus}
 use Rattle.status_exchange.specs.declared.wish.Wish.{Wish}
 use Rattle.status_exchange.specs.Exchange.{EdgeStatuses, Exchange, IsWiring, StatusWork, StatusMessage, Wiring, absorb, at, at_two, clears, is_connected}
 use Rattle.status_exchange.specs.Laws.{of_wire}
 use Rattle.status_exchange.specs.Line.{IsLine, after}
 use Rattle.status_exchange.proofs.LineLemmas.{turned}
-use Rattle.status_exchange.proofs.StatusLemmas.{AllTold, at_other, at_same, same_number}
-
-pub clash : {P : Type 0} → true ≡ false → P
-clash e = absurd (no e)
-  where
-    no : true ≡ false → ⊥
-    no e = cc (e)
+use Rattle.status_exchange.proofs.StatusLemmas.{AllTold, at_other, at_same}
 
 -- ---- what is kept
 
@@ -84,7 +81,7 @@ joins_not : (w : Wiring) → IsWiring w → (k a b : ℕ) → w.joins k a b ≡ 
 joins_not w laws k a b away = by (w.joins k b a) refl
   where
     by : (t : Bool) → w.joins k b a ≡ t → w.joins k b a ≡ false
-    by true is = clash (sym (laws.turned k b a is) ∙ away)
+    by true is = true_clash (sym (laws.turned k b a is) ∙ away)
     by false is = is
 
 pub frame_turned : (w : Wiring) → IsWiring w → (me peer : ℕ) (x y : Exchange) → Frame w me peer x y → Frame w peer me x y
@@ -113,8 +110,8 @@ not_two w laws k a b c d is away = by (is_two a b c d) refl
   where
     same : ((a ≡ c) × (b ≡ d)) ⊎ ((a ≡ d) × (b ≡ c)) → is_two a b c d ≡ false
     same h = ⊎_elim
-        (λ (e : (a ≡ c) × (b ≡ d)). clash (sym (subst (λ (n : ℕ). w.joins k c n ≡ true) e.1 (subst (λ (n : ℕ). w.joins k n b ≡ true) e.0 is)) ∙ away))
-        (λ (e : (a ≡ d) × (b ≡ c)). clash (sym (laws.turned k d c (subst (λ (n : ℕ). w.joins k d n ≡ true) e.1 (subst (λ (n : ℕ). w.joins k n b ≡ true) e.0 is))) ∙ away))
+        (λ (e : (a ≡ c) × (b ≡ d)). true_clash (sym (subst (λ (n : ℕ). w.joins k c n ≡ true) e.1 (subst (λ (n : ℕ). w.joins k n b ≡ true) e.0 is)) ∙ away))
+        (λ (e : (a ≡ d) × (b ≡ c)). true_clash (sym (laws.turned k d c (subst (λ (n : ℕ). w.joins k d n ≡ true) e.1 (subst (λ (n : ℕ). w.joins k n b ≡ true) e.0 is))) ∙ away))
         h
 
     by : (t : Bool) → is_two a b c d ≡ t → is_two a b c d ≡ false
@@ -159,20 +156,11 @@ module _ (w : Wiring) (laws : IsWiring w) (me peer : ℕ) (x y : Exchange) (fram
 
 -- ---- parts of steps
 
-two_same : (a b : ℕ) → (a == a && b == b) ≡ true
-two_same a b = grind (arith, nat_tests)
-
 pub two_at : {A : Type 0} (a b : ℕ) (value : A) (f : ℕ → ℕ → A) → at_two a b value f a b ≡ value
 two_at a b value f = rw (two_same a b) refl
 
 pub two_away : {A : Type 0} (a b j k : ℕ) (value : A) (f : ℕ → ℕ → A) → (j == a && k == b) ≡ false → at_two a b value f j k ≡ f j k
 two_away a b j k value f away = rw away refl
-
-pub turned_away : (a b : ℕ) → (a == b) ≡ false → (b == a && a == b) ≡ false
-turned_away a b apart = grind (arith, apart)
-
-pub apart_turned : (a b : ℕ) → (a == b) ≡ false → (b == a) ≡ false
-apart_turned a b apart = grind (arith, nat_tests, apart)
 
 one_away : (a b j k : ℕ) → is_two j k a b ≡ false → (j == a && k == b) ≡ false
 one_away a b j k away = grind (arith, away)
@@ -211,11 +199,11 @@ edge_frame w me peer edge x minds = record {
     by_edge P e same new = by (e == me) refl
       where
         by : (t : Bool) → (e == me) ≡ t → P (x.edges e) (if t then edge else x.edges e)
-        by true is = subst (λ (n : ℕ). P (x.edges n) edge) (sym (same_number e me is)) new
+        by true is = subst (λ (n : ℕ). P (x.edges n) edge) (sym (eqb-true e me is)) new
         by false is = same
 
     next : (a b : ℕ) → is_two a b me peer ≡ false → (t : Bool) → (a == me) ≡ t → is_some ((at me edge x.edges a).next b) ≡ is_some ((x.edges a).next b)
-    next a b away true is = rw is (ap is_some (minds.others b (grind (arith, away, is))) ∙ ap (λ (n : ℕ). is_some ((x.edges n).next b)) (sym (same_number a me is)))
+    next a b away true is = rw is (ap is_some (minds.others b (grind (arith, away, is))) ∙ ap (λ (n : ℕ). is_some ((x.edges n).next b)) (sym (eqb-true a me is)))
     next a b away false is = rw is refl
 
 pub absorb_frame : (w : Wiring) (me peer : ℕ) (t : StatusWork) (x : Exchange) → Minds w me peer (x.edges me) t.edge → Frame w me peer x (absorb me peer t x)
@@ -235,10 +223,10 @@ pub absorb_pair : (me peer k : ℕ) (t : StatusWork) (x : Exchange) → (me == p
     → PairOf (t.edge.local k) ((x.edges peer).local k) (t.edge.remote k) ((x.edges peer).remote k) (is_some (t.edge.next peer)) (is_connected x peer me) (x.ways me peer ++ t.out) (x.ways peer me) (x.heard me peer) (x.heard peer me) k
     → IsPair (absorb me peer t x) me peer k
 absorb_pair me peer k t x apart p =
-    rw (at_same me t.edge x.edges, at_other me peer t.edge x.edges (apart_turned me peer apart), two_at me peer (x.ways me peer ++ t.out) x.ways, two_away me peer peer me (x.ways me peer ++ t.out) x.ways (turned_away me peer apart)) p
+    rw (at_same me t.edge x.edges, at_other me peer t.edge x.edges (apart_back me peer apart), two_at me peer (x.ways me peer ++ t.out) x.ways, two_away me peer peer me (x.ways me peer ++ t.out) x.ways (turned_away me peer apart)) p
 
 pub absorb_way : (w : Wiring) (me peer : ℕ) (t : StatusWork) (x : Exchange) → (me == peer) ≡ false → WayOf (is_some (t.edge.next peer)) (is_connected x peer me) (x.ways me peer ++ t.out) (λ k. w.joins k me peer) → IsWay w (absorb me peer t x) me peer
-absorb_way w me peer t x apart p = rw (at_same me t.edge x.edges, at_other me peer t.edge x.edges (apart_turned me peer apart), two_at me peer (x.ways me peer ++ t.out) x.ways) p
+absorb_way w me peer t x apart p = rw (at_same me t.edge x.edges, at_other me peer t.edge x.edges (apart_back me peer apart), two_at me peer (x.ways me peer ++ t.out) x.ways) p
 
 pub absorb_back : (w : Wiring) (me peer : ℕ) (t : StatusWork) (x : Exchange) → (me == peer) ≡ false → WayOf (is_connected x peer me) (is_some (t.edge.next peer)) (x.ways peer me) (λ k. w.joins k peer me) → IsWay w (absorb me peer t x) peer me
-absorb_back w me peer t x apart p = rw (at_same me t.edge x.edges, at_other me peer t.edge x.edges (apart_turned me peer apart), two_away me peer peer me (x.ways me peer ++ t.out) x.ways (turned_away me peer apart)) p
+absorb_back w me peer t x apart p = rw (at_same me t.edge x.edges, at_other me peer t.edge x.edges (apart_back me peer apart), two_away me peer peer me (x.ways me peer ++ t.out) x.ways (turned_away me peer apart)) p

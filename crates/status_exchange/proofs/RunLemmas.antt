@@ -1,7 +1,8 @@
 -- Each step keeps what is kept of two edges and a wire, and so does every run.
 use Rattle.std.proofs.Common.{◌≡◌, ◌==◌, ◌&&◌, ◌++◌, ◌∙◌, ℕ, Bool, true, false, List, [], ◌∷◌, Option, Some, None, is_some, refl, sym, ap, subst, arith, append-nil, inl, inr}
-use Rattle.std.proofs.lemmas.Bool.{cases_Bool}
-use Rattle.std.proofs.lemmas.Bool.Decides.{nat_tests}
+use Rattle.std.proofs.lemmas.Bool.{cases_Bool, eqb-true}
+use Rattle.net_values.proofs.BoolLemmas.{true_clash}
+use Rattle.net_values.proofs.NumberLemmas.{equal_turned, apart_back, turned_away}
 use Rattle.pw_tlvs.specs.declared.pw_status.PwStatus.{PwStatus}
 use Rattle.status_exchange.specs.declared.wish.Wish.{Wish}
 use Rattle.status_exchange.specs.declared.wish.Wish.TheVariants.{Active, Standby, Ask}
@@ -10,24 +11,21 @@ use Rattle.status_exchange.specs.Laws.{Agree, ExchangesAgree, IsAgreed, IsEnd, i
 use Rattle.status_exchange.specs.Line.{IsLine, answer}
 use Rattle.status_exchange.specs.Wish.{becomes, is_active, is_ask, status_of}
 use Rattle.status_exchange.proofs.LineLemmas as line
-use Rattle.status_exchange.proofs.PairLemmas.{Frame, Holds, IsPair, Minds, PairOf, WayOf, absorb_back, absorb_frame, absorb_pair, absorb_way, apart_turned, clash, clears_frame, edge_frame, frame_both, frame_turned, kept, turned_away, two_at, two_away}
-use Rattle.status_exchange.proofs.StatusLemmas.{AllTold, Stays, all_between, all_stay, all_told, at_other, at_same, hears_between, hears_other, hears_stay, hears_this, of_append, same_number, tells_between, tells_none, tells_other, tells_stay, tells_this, told_append}
+use Rattle.status_exchange.proofs.PairLemmas.{Frame, Holds, IsPair, Minds, PairOf, WayOf, absorb_back, absorb_frame, absorb_pair, absorb_way, clears_frame, edge_frame, frame_both, frame_turned, kept, two_at, two_away}
+use Rattle.status_exchange.proofs.StatusLemmas.{AllTold, Stays, all_between, all_stay, all_told, at_other, at_same, hears_between, hears_other, hears_stay, hears_this, of_append, tells_between, tells_none, tells_other, tells_stay, tells_this, told_append}
 
 -- another wire than one that joins two edges
 other_wire : (w : Wiring) (j k a b : ℕ) → w.joins j a b ≡ true → w.joins k a b ≡ false → (k == j) ≡ false
 other_wire w j k a b is away = by (k == j) refl
   where
     by : (t : Bool) → (k == j) ≡ t → (k == j) ≡ false
-    by true same = clash (sym (subst (λ (n : ℕ). w.joins n a b ≡ true) (sym (same_number k j same)) is) ∙ away)
+    by true same = true_clash (sym (subst (λ (n : ℕ). w.joins n a b ≡ true) (sym (eqb-true k j same)) is) ∙ away)
     by false same = same
-
-turned_test : (a b : ℕ) → (a == b) ≡ (b == a)
-turned_test a b = grind (arith, nat_tests)
 
 -- ---- two edges that are not connected
 
 none_pair : (near far : Wish) (k : ℕ) → PairOf near far None None false false [] [] [] [] k
-none_pair near far k = record { line = λ there. clash (sym there); near_last = refl; far_last = refl; gone = λ none. (refl, refl); both = refl }
+none_pair near far k = record { line = λ there. true_clash (sym there); near_last = refl; far_last = refl; gone = λ none. (refl, refl); both = refl }
 
 none_way : (test : ℕ → Bool) → WayOf false false [] test
 none_way test = record { both = refl; none = λ gone. refl; between = tt }
@@ -71,7 +69,7 @@ module _ (w : Wiring) (laws : IsWiring w) where
         → PairOf (statuses.edge.local k) ((x.edges peer).local k) (statuses.edge.remote k) ((x.edges peer).remote k) (is_some (statuses.edge.next peer)) (is_connected x peer me) (x.ways me peer ++ statuses.out) (x.ways peer me) (x.heard me peer) (x.heard peer me) k
     set_other k joined away = rw (stay.local k, at_other j k wish (x.edges me).local away, stay.remote k, stay.there)
         (more_told ((x.edges me).local k) ((x.edges peer).local k) ((x.edges me).remote k) ((x.edges peer).remote k) (is_connected x me peer) (is_connected x peer me) (x.ways me peer) (x.ways peer me) (x.heard me peer) (x.heard peer me) statuses.out k
-        (tells_other peer j k (silent called) (turned_test j k ∙ away)) (old.pairs me peer k joined))
+        (tells_other peer j k (silent called) (equal_turned j k ∙ away)) (old.pairs me peer k joined))
 
     -- the wire itself
     set_this : (k : ℕ) → w.joins k me peer ≡ true → (k == j) ≡ true
@@ -81,7 +79,7 @@ module _ (w : Wiring) (laws : IsWiring w) where
         let p = old.pairs me peer k joined in
         rw (stay.local k, now, stay.remote k, stay.there) (record {
           line = λ there.
-              let told : of_wire k statuses.out ≡ wish ∷ [] = tells_this peer j k (silent called) there (turned_test j k ∙ same) ∙ ap (λ (v : Wish). v ∷ []) (at_same j wish (x.edges me).local) in
+              let told : of_wire k statuses.out ≡ wish ∷ [] = tells_this peer j k (silent called) there (equal_turned j k ∙ same) ∙ ap (λ (v : Wish). v ∷ []) (at_same j wish (x.edges me).local) in
               rw (of_append k (x.ways me peer) statuses.out, told)
               (line.sets ((x.edges me).local k) ((x.edges peer).local k) wish ((x.edges me).remote k) ((x.edges peer).remote k) (of_wire k (x.ways me peer)) (of_wire k (x.ways peer me)) (p.line there));
           near_last = p.near_last;
@@ -174,32 +172,32 @@ module _ (w : Wiring) (laws : IsWiring w) where
     heard_this : (k : ℕ) → w.joins k to from ≡ true → (k == t.wire) ≡ true → HeardPair k
     heard_this k joined same =
         let p = old.pairs to from k joined in
-        let wire : t.wire ≡ k = sym (same_number k t.wire same) in
-        let back : of_wire k (x.ways from to) ≡ t.wish ∷ of_wire k ts = rw (way, turned_test t.wire k, same) refl in
+        let wire : t.wire ≡ k = sym (eqb-true k t.wire same) in
+        let back : of_wire k (x.ways from to) ≡ t.wish ∷ of_wire k ts = rw (way, equal_turned t.wire k, same) refl in
         let local : answering.edge.local k ≡ becomes (status_of t.wish) ((x.edges to).local k) = heard_stay.local k ∙ rw (same, wire) refl in
         let remote : answering.edge.remote k ≡ Some (status_of t.wish) = heard_stay.remote k ∙ rw same refl in
-        let said : of_wire k answering.out ≡ answer (status_of t.wish) ((x.edges to).local k) = hears_this from t.wire k (status_of t.wish) (x.edges to) here (turned_test t.wire k ∙ same) ∙ rw wire refl in
+        let said : of_wire k answering.out ≡ answer (status_of t.wish) ((x.edges to).local k) = hears_this from t.wire k (status_of t.wish) (x.edges to) here (equal_turned t.wire k ∙ same) ∙ rw wire refl in
         rw (local, remote, heard_stay.there) (record {
           line = λ there. rw (of_append k (x.ways to from) answering.out, said)
               (line.hears ((x.edges to).local k) ((x.edges from).local k) t.wish ((x.edges to).remote k) ((x.edges from).remote k) (of_wire k (x.ways to from)) (of_wire k ts)
               (subst (λ (l : List Wish). IsLine ((x.edges to).local k) ((x.edges from).local k) ((x.edges to).remote k) ((x.edges from).remote k) (of_wire k (x.ways to from)) l) back (p.line there)));
-          near_last = rw (of_append k (x.heard from to) (t ∷ []), turned_test t.wire k, same) (sym (line.after_more (of_wire k (x.heard from to)) t.wish None));
+          near_last = rw (of_append k (x.heard from to) (t ∷ []), equal_turned t.wire k, same) (sym (line.after_more (of_wire k (x.heard from to)) t.wish None));
           far_last = p.far_last;
-          gone = λ none. clash (sym here ∙ none);
+          gone = λ none. true_clash (sym here ∙ none);
           both = p.both;
         })
 
     heard_other : (k : ℕ) → w.joins k to from ≡ true → (k == t.wire) ≡ false → HeardPair k
     heard_other k joined away =
         let p = old.pairs to from k joined in
-        let back : of_wire k (x.ways from to) ≡ of_wire k ts = rw (way, turned_test t.wire k, away) refl in
+        let back : of_wire k (x.ways from to) ≡ of_wire k ts = rw (way, equal_turned t.wire k, away) refl in
         let local : answering.edge.local k ≡ (x.edges to).local k = heard_stay.local k ∙ at_other t.wire k (becomes (status_of t.wish) ((x.edges to).local t.wire)) (x.edges to).local away in
         let remote : answering.edge.remote k ≡ (x.edges to).remote k = heard_stay.remote k ∙ at_other t.wire k (Some (status_of t.wish)) (x.edges to).remote away in
-        let said : of_wire k answering.out ≡ [] = hears_other from t.wire k (status_of t.wish) (x.edges to) (turned_test t.wire k ∙ away) in
+        let said : of_wire k answering.out ≡ [] = hears_other from t.wire k (status_of t.wish) (x.edges to) (equal_turned t.wire k ∙ away) in
         rw (local, remote, heard_stay.there) (record {
           line = λ there. rw (of_append k (x.ways to from) answering.out, said, append-nil (of_wire k (x.ways to from)))
               (subst (λ (l : List Wish). IsLine ((x.edges to).local k) ((x.edges from).local k) ((x.edges to).remote k) ((x.edges from).remote k) (of_wire k (x.ways to from)) l) back (p.line there));
-          near_last = rw (of_append k (x.heard from to) (t ∷ []), turned_test t.wire k, away, append-nil (of_wire k (x.heard from to))) p.near_last;
+          near_last = rw (of_append k (x.heard from to) (t ∷ []), equal_turned t.wire k, away, append-nil (of_wire k (x.heard from to))) p.near_last;
           far_last = p.far_last;
           gone = p.gone;
           both = p.both;
@@ -216,12 +214,12 @@ module _ (w : Wiring) (laws : IsWiring w) where
     heard_way : WayOf (is_some (answering.edge.next from)) (is_connected taken from to) (taken.ways to from ++ answering.out) (λ k. w.joins k to from)
     heard_way = rw (heard_stay.there, two_away from to to from ts x.ways (turned_away from to from_apart)) (record {
       both = (old.ways to from).both;
-      none = λ gone. clash (sym here ∙ gone);
+      none = λ gone. true_clash (sym here ∙ gone);
       between = told_append (λ (k : ℕ). w.joins k to from) (x.ways to from) answering.out (old.ways to from).between (hears_between (λ (k : ℕ). w.joins k to from) from t.wire (status_of t.wish) (x.edges to) joined_here);
     })
 
     heard_back : WayOf (is_connected taken from to) (is_some (answering.edge.next from)) (taken.ways from to) (λ k. w.joins k from to)
-    heard_back = rw (heard_stay.there, two_at from to ts x.ways) (record { both = (old.ways from to).both; none = λ gone. clash (sym connected ∙ gone); between = rest_between })
+    heard_back = rw (heard_stay.there, two_at from to ts x.ways) (record { both = (old.ways from to).both; none = λ gone. true_clash (sym connected ∙ gone); between = rest_between })
 
     hears_hold : Holds w (absorb to from answering taken)
     hears_hold = kept w laws to from x (absorb to from answering taken) taken_frame old heard_pair (absorb_way w to from answering taken to_apart heard_way) (absorb_back w to from answering taken to_apart heard_back)
@@ -243,7 +241,7 @@ module _ (w : Wiring) (laws : IsWiring w) where
     }
 
     b_is : one_lost.edges b ≡ x.edges b
-    b_is = at_other a b (loses w a b (x.edges a)) x.edges (apart_turned a b apart)
+    b_is = at_other a b (loses w a b (x.edges a)) x.edges (apart_back a b apart)
 
     lost_frame : Frame w a b x (clears a b both_lost)
     lost_frame = frame_both w a b x both_lost (clears a b both_lost)
@@ -309,7 +307,7 @@ module _ (w : Wiring) (laws : IsWiring w) where
     up_told me peer k joined = all_told w me peer 0 w.count k (silent (opened me peer)) (ap is_some (at_same peer (Some 1) (x.edges me).next)) joined (omega arith) (omega (arith, laws.within k me peer joined))
 
     b_still : one_up.edges b ≡ x.edges b
-    b_still = at_other a b one_status.edge x.edges (apart_turned a b apart)
+    b_still = at_other a b one_status.edge x.edges (apart_back a b apart)
 
     up_frame : Frame w a b x both_up
     up_frame = frame_both w a b x one_up both_up
@@ -317,7 +315,7 @@ module _ (w : Wiring) (laws : IsWiring w) where
         (frame_turned w laws b a one_up both_up (absorb_frame w b a other_status one_up (rw b_still (up_minds b a))))
 
     back_apart : (b == a) ≡ false
-    back_apart = apart_turned a b apart
+    back_apart = apart_back a b apart
 
     a_up : one_up.edges a ≡ one_status.edge
     a_up = at_same a one_status.edge x.edges
@@ -338,15 +336,15 @@ module _ (w : Wiring) (laws : IsWiring w) where
             line = λ there. rw (up_told b a k joined, up_told a b k front) (line.connects ((x.edges b).local k) ((x.edges a).local k));
             near_last = refl;
             far_last = refl;
-            gone = λ is. clash is;
+            gone = λ is. true_clash is;
             both = refl;
           }))
 
       up_back : WayOf (is_some (other_status.edge.next a)) (is_connected one_up a b) (one_up.ways b a ++ other_status.out) (λ k. w.joins k b a)
-      up_back = rw (a_up, other_way, up_there a b, up_there b a) (record { both = refl; none = λ is. clash is; between = all_between w b a 0 w.count (silent (opened b a)) tt })
+      up_back = rw (a_up, other_way, up_there a b, up_there b a) (record { both = refl; none = λ is. true_clash is; between = all_between w b a 0 w.count (silent (opened b a)) tt })
 
       up_way : WayOf (is_connected one_up a b) (is_some (other_status.edge.next a)) (one_up.ways a b) (λ k. w.joins k a b)
-      up_way = rw (a_up, one_way, up_there a b, up_there b a) (record { both = refl; none = λ is. clash is; between = all_between w a b 0 w.count (silent (opened a b)) tt })
+      up_way = rw (a_up, one_way, up_there a b, up_there b a) (record { both = refl; none = λ is. true_clash is; between = all_between w a b 0 w.count (silent (opened a b)) tt })
 
       connects_hold : Holds w both_up
       connects_hold = kept w laws b a x both_up (frame_turned w laws a b x both_up up_frame) old up_pair (absorb_way w b a other_status one_up back_apart up_back) (absorb_back w b a other_status one_up back_apart up_way)
@@ -378,7 +376,7 @@ known_active Standby = refl
 known_active Ask = refl
 
 asks_not : (wish : Wish) → (is_ask wish ≡ true → false ≡ true) → is_ask wish ≡ false
-asks_not Ask never = clash (sym (never refl))
+asks_not Ask never = true_clash (sym (never refl))
 asks_not Active never = refl
 asks_not Standby never = refl
 

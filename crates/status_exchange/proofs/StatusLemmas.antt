@@ -1,7 +1,8 @@
 -- An edge at work for one peer.
 use Rattle.std.proofs.Common.{◌≡◌, ◌<◌, ◌≤◌, ◌+◌, ◌==◌, ◌++◌, ◌∙◌, ℕ, zero, suc, Bool, true, false, List, [], ◌∷◌, Option, Some, None, is_some, if◌then◌else◌, refl, sym, ap, arith, append-nil, inl, inr}
-use Rattle.std.proofs.lemmas.Bool.{cases_Bool}
+use Rattle.std.proofs.lemmas.Bool.{cases_Bool, eqb-true, true≢false, false≢true}
 use Rattle.std.proofs.lemmas.Bool.Decides.{nat_tests}
+use Rattle.net_values.proofs.NumberLemmas.{same_number as is_same}
 use Rattle.pw_tlvs.specs.declared.pw_status.PwStatus.{PwStatus}
 use Rattle.pw_messages.specs.Sender.{following}
 use Rattle.status_exchange.specs.declared.wish.Wish.{Wish}
@@ -9,12 +10,6 @@ use Rattle.status_exchange.specs.Exchange.{EdgeStatuses, StatusWork, StatusMessa
 use Rattle.status_exchange.specs.Line.{answer}
 use Rattle.status_exchange.specs.Wish.{becomes, is_told}
 use Rattle.status_exchange.specs.Laws.{of_wire}
-
-pub is_same : (n : ℕ) → (n == n) ≡ true
-is_same n = grind (arith, nat_tests)
-
-pub same_number : (a b : ℕ) → (a == b) ≡ true → a ≡ b
-same_number a b is = grind (arith, nat_tests)
 
 pub at_same : {A : Type 0} (place : ℕ) (value : A) (f : ℕ → A) → at place value f place ≡ value
 at_same place value f = rw (is_same place) refl
@@ -80,19 +75,13 @@ tells_none peer wire t gone = by (t.edge.next peer) gone
   where
     by : (o : Option ℕ) → is_some o ≡ false → (tells_as peer wire o t).out ≡ t.out
     by None gone = refl
-    by (Some id) gone = absurd (no gone)
-      where
-        no : true ≡ false → ⊥
-        no e = cc (e)
+    by (Some id) gone = absurd (true≢false gone)
 
 pub tells_this : (peer wire k : ℕ) (t : StatusWork) → is_some (t.edge.next peer) ≡ true → (wire == k) ≡ true → of_wire k (tells peer wire t).out ≡ of_wire k t.out ++ t.edge.local wire ∷ []
 tells_this peer wire k t there is = by (t.edge.next peer) there
   where
     by : (o : Option ℕ) → is_some o ≡ true → of_wire k (tells_as peer wire o t).out ≡ of_wire k t.out ++ t.edge.local wire ∷ []
-    by None there = absurd (no there)
-      where
-        no : false ≡ true → ⊥
-        no e = cc (e)
+    by None there = absurd (false≢true there)
     by (Some id) there = of_append k t.out (record { wire = wire; wish = t.edge.local wire; id = id } ∷ []) ∙ ap (λ (l : List Wish). of_wire k t.out ++ l) (rw is refl)
 
 pub tells_other : (peer wire k : ℕ) (t : StatusWork) → (wire == k) ≡ false → of_wire k (tells peer wire t).out ≡ of_wire k t.out
@@ -143,7 +132,7 @@ module _ (w : Wiring) (me peer : ℕ) where
   all_told wire zero k t there is least most = absurd (omega (arith, least, most))
   all_told wire (suc n) k t there is least most = elim (cases_Bool (wire == k)) [
     | inl same ↦
-        let at : wire ≡ k = same_number wire k same in
+        let at : wire ≡ k = eqb-true wire k same in
         let now : of_wire k (first_of_them wire t).out ≡ of_wire k t.out ++ t.edge.local k ∷ [] = rw (at, is) (tells_this peer k k t there (is_same k)) in
         behind (wire + 1) n k (first_of_them wire t) (omega (arith, at)) ∙ now
     | inr away ↦

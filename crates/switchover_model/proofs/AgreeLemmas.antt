@@ -1,6 +1,7 @@
 -- What holds of an exchange holds of the network.
-use Rattle.std.proofs.Common.{◌≡◌, ◌==◌, ◌++◌, ◌∙◌, ℕ, Bool, true, false, List, [], ◌∷◌, Option, Some, None, slice_get, if◌then◌else◌, refl, sym, ap, arith}
-use Rattle.std.proofs.lemmas.Bool.Decides.{nat_tests}
+use Rattle.std.proofs.Common.{◌≡◌, ◌==◌, ◌++◌, ◌∙◌, ℕ, Bool, true, false, List, [], ◌∷◌, Option, Some, None, slice_get, if◌then◌else◌, refl, sym, ap}
+use Rattle.std.proofs.lemmas.Bool.{eqb-true, eq-eqb}
+use Rattle.net_values.proofs.BoolLemmas.{true_clash}
 use Rattle.net_base.specs.declared.plan.Plan.{Plan}
 use Rattle.net_base.specs.declared.plan.edge_plan.EdgePlan.{EdgePlan}
 use Rattle.net_base.specs.declared.plan.wire_plan.WirePlan.{WirePlan}
@@ -24,7 +25,6 @@ use Rattle.switchover_model.specs.After.{known_after_all}
 use Rattle.switchover_model.specs.Laws.{AgreesOn, HasTypes, IsAgreed, KnowsAfter, ScriptsAgree}
 use Rattle.switchover_model.specs.Network.{SwitchState, done_all, first_network, flight, held_by, stands}
 use Rattle.switchover_model.proofs.FlightLemmas.{AreTold, message_in_row, messages_are, messages_told, octets_told, told_is}
-use Rattle.switchover_model.proofs.NetworkLemmas.{clash}
 use Rattle.switchover_model.proofs.RunLemmas.{Follows, all_follow, first_follows, stands_is}
 use Rattle.switchover_model.proofs.TwoLemmas.{edge_there, named_is, other_end_is, wiring_is}
 
@@ -35,23 +35,17 @@ module _ (plan : Plan) (checked : IsChecked plan) (from to wire : ℕ) (row : Wi
   same_ids : (k : ℕ) (other : WirePlan) → slice_get plan.wires k ≡ Some other → is_between plan k from to ≡ true → (row.pw_id == other.pw_id) ≡ (k == wire)
   same_ids k other at is = by (k == wire) (row.pw_id == other.pw_id) refl refl
     where
-      number : (p q : ℕ) → (p == q) ≡ true → p ≡ q
-      number p q e = grind (arith, nat_tests)
-
-      self : (p q : ℕ) → p ≡ q → (p == q) ≡ true
-      self p q e = grind (arith, nat_tests, e)
-
       by : (s t : Bool) → (k == wire) ≡ s → (row.pw_id == other.pw_id) ≡ t → t ≡ s
       by true true e g = refl
       by false false e g = refl
       by true false e g =
-          let same : Some other ≡ Some row = sym at ∙ (ap (slice_get plan.wires) (number k wire e) ∙ row_is) in
+          let same : Some other ≡ Some row = sym at ∙ (ap (slice_get plan.wires) (eqb-true k wire e) ∙ row_is) in
           let one : other ≡ row = cc (same) in
-          clash (sym (self row.pw_id other.pw_id (ap (λ (r : WirePlan). r.pw_id) (sym one))) ∙ g)
+          true_clash (sym (eq-eqb row.pw_id other.pw_id (ap (λ (r : WirePlan). r.pw_id) (sym one))) ∙ g)
       by false true e g =
-          let named : Some wire ≡ Some k = sym (named_is plan from to wire row checked row_is joined) ∙ (ap (λ (n : ℕ). wire_named plan from to (Some n)) (number row.pw_id other.pw_id g) ∙ named_is plan from to k other checked at is) in
+          let named : Some wire ≡ Some k = sym (named_is plan from to wire row checked row_is joined) ∙ (ap (λ (n : ℕ). wire_named plan from to (Some n)) (eqb-true row.pw_id other.pw_id g) ∙ named_is plan from to k other checked at is) in
           let same : wire ≡ k = cc (named) in
-          clash (sym (self k wire (sym same)) ∙ e)
+          true_clash (sym (eq-eqb k wire (sym same)) ∙ e)
 
   known_is : (ts : List StatusMessage) (known : Option PwStatus) → AllTold (λ k. is_between plan k from to) ts → AreTold plan ts → known_after_all row.pw_id (messages_told plan from ts) known ≡ after (of_wire wire ts) known
   known_is [] known all told = refl

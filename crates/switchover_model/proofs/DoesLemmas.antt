@@ -1,12 +1,14 @@
 -- An edge's work over octets is its work in an exchange of statuses.
 use Rattle.std.proofs.Common.{◌≡◌, ◌<◌, ◌+◌, ◌-◌, ◌^◌, ◌==◌, ◌++◌, ◌∙◌, ℕ, zero, suc, Bool, true, false, List, [], ◌∷◌, Option, Some, None, length, slice_get, option_map, if◌then◌else◌, refl, sym, ap, subst, arith, append_assoc, append-nil}
 use Rattle.std.proofs.lemmas.Bool.Decides.{nat_tests}
+use Rattle.net_values.proofs.NumberLemmas.{same_number, equal_turned}
 use Rattle.net_base.specs.declared.outside.link_call.LinkCall.{LinkCall}
 use Rattle.net_base.specs.declared.plan.Plan.{Plan}
 use Rattle.net_base.specs.declared.plan.wire_plan.WirePlan.{WirePlan}
 use Rattle.net_base.specs.outside.Link.{call_of}
 use Rattle.net_base.specs.plan.Accepted.{IsChecked}
 use Rattle.pw_messages.specs.Sender.{following}
+use Rattle.pw_messages.proofs.CommonLemmas.{following_small}
 use Rattle.status_exchange.specs.declared.wish.Wish.{Wish}
 use Rattle.status_exchange.specs.Exchange.{EdgeStatuses, StatusWork, StatusMessage, at, silent}
 use Rattle.status_exchange.specs.Exchange as exchange
@@ -20,12 +22,6 @@ use Rattle.independent_model.specs.Wires.{is_between, other_end, wiring}
 use Rattle.independent_model.specs.Work.{Goes, Outcome, and_then}
 use Rattle.switchover_model.proofs.FlightLemmas.{AreTold, are_both, octets_in_row, octets_told, told_both}
 use Rattle.switchover_model.proofs.TwoLemmas.{between_two, named_is}
-
-is_same : (n : ℕ) → (n == n) ≡ true
-is_same n = grind (arith, nat_tests)
-
-turned_test : (a b : ℕ) → (a == b) ≡ (b == a)
-turned_test a b = grind (arith, nat_tests)
 
 -- ---- what was put
 
@@ -68,13 +64,6 @@ pub at_first : (plan : Plan) (me peer : ℕ) (start edge : IndepState) (calls : 
     → ((p id : ℕ) → option_map id_next (edge.connection p) ≡ Some id → id < 2 ^ 32) → At plan me peer start calls [] edge calls
 at_first plan me peer start edge calls receivers small = record { said = sym (append-nil (said_to peer calls)); others = λ b away. refl; receivers = receivers; small = small; told = tt }
 
-following_small : (id : ℕ) → id < 2 ^ 32 → following id < 2 ^ 32
-following_small id less = by (id == 2 ^ 32 - 1) refl
-  where
-    by : (b : Bool) → (id == 2 ^ 32 - 1) ≡ b → (if b then 0 else id + 1) < 2 ^ 32
-    by true is = omega arith
-    by false is = grind (arith, nat_tests, is, less)
-
 module _ (plan : Plan) (me peer : ℕ) (start : IndepState) (before : List LinkCall) where
   -- what the edge calls a wire is told
   tell_does : (k : ℕ) (row : WirePlan) (out : List StatusMessage) (edge : IndepState) (calls : List LinkCall) → slice_get plan.wires k ≡ Some row → At plan me peer start before out edge calls
@@ -107,9 +96,9 @@ module _ (plan : Plan) (me peer : ℕ) (start : IndepState) (before : List LinkC
             statuses = ap (λ (o : Option ConnectionState). exchange.tells_as peer k (option_map id_next o) (record { edge = statuses_of edge; out = out })) is
                 ∙ (λ i. record { edge = record (statuses_of edge) { next = λ p. next_is p (p == peer) i }; out = out ++ telling ∷ [] });
             at = record {
-              said = said_one peer calls call ∙ (rw (is_same peer) (ap (λ (l : List ℕ). l ++ octets) at_now.said ∙ (append_assoc (said_to peer before) (octets_told plan me out) octets
+              said = said_one peer calls call ∙ (rw (same_number peer) (ap (λ (l : List ℕ). l ++ octets) at_now.said ∙ (append_assoc (said_to peer before) (octets_told plan me out) octets
                   ∙ ap (λ (l : List ℕ). said_to peer before ++ l) (ap (λ (l : List ℕ). octets_told plan me out ++ l) (sym (append-nil octets) ∙ ap (λ (o : Option WirePlan). octets_in_row plan me telling o ++ []) (sym row_is)) ∙ sym (told_both plan me out (telling ∷ []))))));
-              others = λ b away. said_one b calls call ∙ rw (turned_test peer b ∙ away) (append-nil (said_to b calls) ∙ at_now.others b away);
+              others = λ b away. said_one b calls call ∙ rw (equal_turned peer b ∙ away) (append-nil (said_to b calls) ∙ at_now.others b away);
               receivers = λ b. receiver_is kept is b (b == peer) refl ∙ at_now.receivers b;
               small = λ p id. small_is kept number p id (p == peer);
               told = are_both plan out (telling ∷ []) at_now.told (record { row = row; row_is = row_is; small = number }, tt);

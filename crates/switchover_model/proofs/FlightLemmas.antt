@@ -1,5 +1,6 @@
 -- The octets of what is told, and what stands in front of the first of them.
 use Rattle.std.proofs.Common.{◌≡◌, ◌<◌, ◌≤◌, ◌+◌, ◌^◌, ◌++◌, ◌∙◌, ◌⊎◌, ℕ, Bool, true, false, List, [], ◌∷◌, Option, Some, None, length, slice_get, if◌then◌else◌, refl, sym, ap, subst, arith, append_assoc, inl, inr, ⊎_elim}
+use Rattle.net_values.proofs.RowLemmas.{row_holds, front_empty, front_heads, front_tails, join_front}
 use Rattle.net_base.specs.declared.plan.Plan.{Plan}
 use Rattle.net_base.specs.declared.plan.edge_plan.EdgePlan.{EdgePlan}
 use Rattle.net_base.specs.declared.plan.offer.Offer.{Offer}
@@ -18,6 +19,7 @@ use Rattle.ldp_grammar.proofs.ShortLemmas.{written_is_short}
 use Rattle.ldp_grammar.proofs.WrittenOctets.{four_octets, no_octets, octets_append, status_are, two_octets, written_are}
 use Rattle.ldp_stream.specs.FrontOf.{More, Got, front_of}
 use Rattle.ldp_stream.proofs.FrontOfLemmas.{front_is_read}
+use Rattle.ldp_stream.proofs.CommonLemmas.{none_front}
 use Rattle.pw_messages.specs.Content.{bare_fec_of, content_of, ethernet_raw, ethernet_tagged, pw_status_notice}
 use Rattle.pw_messages.specs.Sender.{platform_of}
 use Rattle.status_exchange.specs.declared.wish.Wish.{Wish}
@@ -27,7 +29,6 @@ use Rattle.status_exchange.specs.Wish.{status_of}
 use Rattle.switchover_model.specs.After.{octets_of_all}
 use Rattle.switchover_model.specs.Laws.{HasGroups, HasTypes, IsRouter}
 use Rattle.independent_model.specs.Tell.{notification, octets_by, octets_on}
-use Rattle.independent_model.proofs.WireLemmas.{row_holds}
 
 -- ---- one message
 
@@ -135,34 +136,14 @@ pub record GoesBehind (a b c d : List ℕ) : Type 0 where
   pub whole : a ≡ c ++ more
   pub rest : more ++ b ≡ d
 
-join_front : (x y : ℕ) (a c : List ℕ) → x ≡ y → a ≡ c → x ∷ a ≡ y ∷ c
-join_front x y a c p q = cc
-
-heads : (x y : ℕ) (a b c d : List ℕ) → x ∷ (a ++ b) ≡ y ∷ (c ++ d) → x ≡ y
-heads x y a b c d e = cc
-
-tails : (x y : ℕ) (a b c d : List ℕ) → x ∷ (a ++ b) ≡ y ∷ (c ++ d) → a ++ b ≡ c ++ d
-tails x y a b c d e = cc
-
 cut : (a b c d : List ℕ) → a ++ b ≡ c ++ d → IsProperFront a b c d ⊎ GoesBehind a b c d
 cut [] b [] d e = inr (record { more = []; whole = refl; rest = e })
 cut [] b (y ∷ c) d e = inl (record { next = y; more = c; whole = refl; rest = e })
 cut (x ∷ a) b [] d e = inr (record { more = x ∷ a; whole = refl; rest = e })
 cut (x ∷ a) b (y ∷ c) d e = ⊎_elim
-    (λ (h : IsProperFront a b c d). inl (record { next = h.next; more = h.more; whole = join_front x y (a ++ h.next ∷ h.more) c (heads x y a b c d e) h.whole; rest = h.rest }))
-    (λ (h : GoesBehind a b c d). inr (record { more = h.more; whole = join_front x y a (c ++ h.more) (heads x y a b c d e) h.whole; rest = h.rest }))
-    (cut a b c d (tails x y a b c d e))
-
-pub nothing : (x y : List ℕ) → x ++ y ≡ [] → x ≡ []
-nothing [] y e = refl
-nothing (a ∷ x) y e = absurd (never (x ++ y) e)
-  where
-    never : (z : List ℕ) → a ∷ z ≡ [] → ⊥
-    never z e = cc (e)
-
-pub none_front : front_of 4096 [] ≡ More
-unfolding front_of
-none_front = refl
+    (λ (h : IsProperFront a b c d). inl (record { next = h.next; more = h.more; whole = join_front x y (a ++ h.next ∷ h.more) c (front_heads x y a b c d e) h.whole; rest = h.rest }))
+    (λ (h : GoesBehind a b c d). inr (record { more = h.more; whole = join_front x y a (c ++ h.more) (front_heads x y a b c d e) h.whole; rest = h.rest }))
+    (cut a b c d (front_tails x y a b c d e))
 
 module _ (plan : Plan) (checked : IsChecked plan) (types : HasTypes plan) (from : ℕ) (edge : EdgePlan) (place : slice_get plan.edges from ≡ Some edge) where
   group_small : (row : WirePlan) → HasGroups row → (offer_of row from).group < 2 ^ 32
@@ -192,7 +173,7 @@ module _ (plan : Plan) (checked : IsChecked plan) (types : HasTypes plan) (from 
     pub split : x ≡ octets_in_row plan from t (slice_get plan.wires t.wire) ++ rest
 
   pub none_is : (x y : List ℕ) → x ++ y ≡ [] → front_of 4096 x ≡ More
-  none_is x y e = ap (front_of 4096) (nothing x y e) ∙ none_front
+  none_is x y e = ap (front_of 4096) (front_empty x y e) ∙ none_front
 
   pub front_is : (t : StatusMessage) (told : IsTold plan t) (ts : List StatusMessage) (x y : List ℕ) → AreTold plan ts → x ++ y ≡ octets_told plan from (t ∷ ts) → (front_of 4096 x ≡ More) ⊎ HasNext t told ts x y
   front_is t told ts x y all e = ⊎_elim part whole (cut x y (written m (platform_of edge.address)) (octets_told plan from ts) (e ∙ ap (λ (l : List ℕ). l ++ octets_told plan from ts) (told_is t told)))

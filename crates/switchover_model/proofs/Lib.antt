@@ -1,4 +1,5 @@
 pub mod AgreeLemmas
+pub mod CommonLemmas
 pub mod DoesLemmas
 mod Examples
 pub mod FlightLemmas

@@ -1,6 +1,9 @@
 -- The network of octets and an exchange of statuses go together, line by line.
 use Rattle.std.proofs.Common.{◌≡◌, ◌<◌, ◌^◌, ◌==◌, ◌&&◌, ◌++◌, ◌∙◌, ◌⊎◌, ℕ, Bool, true, false, List, [], Option, Some, None, option_map, if◌then◌else◌, refl, sym, ap, subst, arith, append-nil, ⊎_elim}
 use Rattle.std.proofs.lemmas.Bool.Decides.{nat_tests}
+use Rattle.std.proofs.lemmas.Bool.{eqb-true}
+use Rattle.net_values.proofs.BoolLemmas.{true_clash}
+use Rattle.net_values.proofs.NumberLemmas.{same_number as self, apart_back}
 use Rattle.net_base.specs.declared.outside.link_call.LinkCall.{LinkCall}
 use Rattle.net_base.specs.declared.plan.Plan.{Plan}
 use Rattle.status_exchange.specs.Exchange.{Exchange}
@@ -11,18 +14,6 @@ use Rattle.independent_model.specs.State.{ConnectionState, Stopped, Receiver, In
 use Rattle.independent_model.specs.Work.{Goes}
 use Rattle.switchover_model.proofs.DoesLemmas.{receiver_part}
 use Rattle.switchover_model.proofs.FlightLemmas.{AreTold, octets_told}
-
-pub same_number : (a b : ℕ) → (a == b) ≡ true → a ≡ b
-same_number a b is = grind (arith, nat_tests)
-
-pub self : (a : ℕ) → (a == a) ≡ true
-self a = grind (arith, nat_tests)
-
-pub clash : {P : Type 0} → true ≡ false → P
-clash e = absurd (never e)
-  where
-    never : true ≡ false → ⊥
-    never e = cc (e)
 
 -- ---- what an edge hears a peer with
 
@@ -84,19 +75,16 @@ module _ (plan : Plan) (me peer : ℕ) (x : SwitchState) (edge : IndepState) (ca
   after = absorbs me (Goes edge calls) x
 
   back_apart : (peer == me) ≡ false
-  back_apart = turned me peer apart
-    where
-      turned : (p q : ℕ) → (p == q) ≡ false → (q == p) ≡ false
-      turned p q is = grind (arith, nat_tests, is)
+  back_apart = apart_back me peer apart
 
   edge_at : (k : ℕ) (b : Bool) → (k == me) ≡ b → statuses_of (if b then edge else x.edges k) ≡ y.edges k
-  edge_at k true is = d.here ∙ ap y.edges (sym (same_number k me is))
+  edge_at k true is = d.here ∙ ap y.edges (sym (eqb-true k me is))
   edge_at k false is = d.edges k is
 
   -- what is held of another edge than the peer, or at another edge
   held_other : (a b : ℕ) (t : Bool) → (b == me) ≡ t → is_pair a b peer me ≡ false → held_by ((if t then edge else x.edges b).connection a) ≡ held_by ((x.edges b).connection a)
   held_other a b true is away = same_held (edge.connection a) ((x.edges b).connection a)
-      (d.receivers a (grind (arith, away, is)) ∙ ap (λ (n : ℕ). option_map receiver_part ((x.edges n).connection a)) (sym (same_number b me is)))
+      (d.receivers a (grind (arith, away, is)) ∙ ap (λ (n : ℕ). option_map receiver_part ((x.edges n).connection a)) (sym (eqb-true b me is)))
   held_other a b false is away = refl
 
   -- what is on its way
@@ -122,14 +110,14 @@ module _ (plan : Plan) (me peer : ℕ) (x : SwitchState) (edge : IndepState) (ca
   open_at a b true is = by (b == peer) refl
     where
       by : (s : Bool) → (b == peer) ≡ s → AreOpen (option_map receiver_part (edge.connection b))
-      by true e = subst (λ (n : ℕ). AreOpen (option_map receiver_part (edge.connection n))) (sym (same_number b peer e)) d.open_here
+      by true e = subst (λ (n : ℕ). AreOpen (option_map receiver_part (edge.connection n))) (sym (eqb-true b peer e)) d.open_here
       by false e = ⊎_elim
           (λ (o : AreOpen (option_map receiver_part ((x.edges me).connection b))). subst AreOpen (sym (d.receivers b e)) o)
-          (λ (p : is_pair me b me peer ≡ true). clash (sym (two_test p) ∙ e)) (d.open_all me b)
+          (λ (p : is_pair me b me peer ≡ true). true_clash (sym (two_test p) ∙ e)) (d.open_all me b)
         where
           two_test : is_pair me b me peer ≡ true → (b == peer) ≡ true
           two_test p = grind (arith, p)
-  open_at a b false is = ⊎_elim (λ (o : AreOpen (option_map receiver_part ((x.edges a).connection b))). o) (λ (p : is_pair a b me peer ≡ true). clash (sym (one_test p) ∙ is)) (d.open_all a b)
+  open_at a b false is = ⊎_elim (λ (o : AreOpen (option_map receiver_part ((x.edges a).connection b))). o) (λ (p : is_pair a b me peer ≡ true). true_clash (sym (one_test p) ∙ is)) (d.open_all a b)
     where
       one_test : is_pair a b me peer ≡ true → (a == me) ≡ true
       one_test p = grind (arith, p)

@@ -1,11 +1,12 @@
 -- A joined piece is heard like its two parts in turn, over every answer of a link.
 use Rattle.std.proofs.Common.{◌≡◌, ◌<◌, ◌-◌, ◌==◌, ◌++◌, ◌∙◌, ℕ, zero, suc, Bool, true, false, List, [], ◌∷◌, Option, Some, None, length, slice_get, option_map, if◌then◌else◌, refl, sym, ap, subst, arith, append_assoc, length-append}
-use Rattle.std.proofs.lemmas.Bool.Decides.{nat_tests}
+use Rattle.std.proofs.lemmas.Bool.{eqb-true}
 use Rattle.net_base.specs.declared.outside.link_call.LinkCall.{LinkCall}
 use Rattle.net_base.specs.declared.plan.Plan.{Plan}
 use Rattle.net_base.specs.declared.plan.places.EdgeId.{EdgeId}
 use Rattle.net_base.specs.declared.plan.wire_plan.WirePlan.{WirePlan}
 use Rattle.net_values.specs.Octets.{AreOctets}
+use Rattle.net_values.proofs.NumberLemmas.{same_number as self}
 use Rattle.pw_tlvs.specs.declared.pw_fec.PwFec.{PwFec}
 use Rattle.pw_tlvs.specs.declared.pw_status.PwStatus.{PwStatus}
 use Rattle.ldp_grammar.specs.declared.message.Message.{Message}
@@ -26,12 +27,6 @@ use Rattle.independent_model.specs.Work.{Goes, Outcome, Stops, and_then}
 use Rattle.switchover_model.specs.Laws.{HeardInParts}
 use Rattle.switchover_model.proofs.DoesLemmas.{receiver_part}
 use Rattle.switchover_model.proofs.NetworkLemmas.{held_in, held_is}
-
-self : (n : ℕ) → (n == n) ≡ true
-self n = grind (arith, nat_tests)
-
-same_number : (a b : ℕ) → (a == b) ≡ true → a ≡ b
-same_number a b is = grind (arith, nat_tests)
 
 -- ---- what an edge hears a peer with
 
@@ -61,7 +56,7 @@ set_same peer x e is = λ i. record e { connection = λ p. by p (p == peer) refl
     same (Some kept) at = let one : kept.receiver ≡ x = cc (at) in ap (λ (v : Receiver). Some (receiver_set v kept)) (sym one)
 
     by : (p : ℕ) (b : Bool) → (p == peer) ≡ b → (if b then option_map (receiver_set x) (e.connection peer) else e.connection p) ≡ e.connection p
-    by p true at = same (e.connection peer) is ∙ ap e.connection (sym (same_number p peer at))
+    by p true at = same (e.connection peer) is ∙ ap e.connection (sym (eqb-true p peer at))
     by p false at = refl
 
 set_here : (peer : ℕ) (x : Receiver) (e : IndepState) (kept : ConnectionState) → e.connection peer ≡ Some kept → (with_receiver peer x e).connection peer ≡ Some (receiver_set x kept)

@@ -2,6 +2,10 @@
 use Rattle.std.proofs.Common.{◌≡◌, ◌<◌, ◌-◌, ◌^◌, ◌==◌, ◌&&◌, ◌||◌, ◌++◌, ◌∙◌, not, ℕ, zero, suc, Bool, true, false, List, [], ◌∷◌, Option, Some, None, length, slice_get, take, drop, option_map, is_some, if◌then◌else◌, refl, sym, ap, subst, arith, append_assoc, append-nil, inl, ⊎_elim}
 use Rattle.std.proofs.lemmas.Bool.Decides.{nat_tests}
 use Rattle.std.proofs.lemmas.List.{take-append-drop}
+use Rattle.std.proofs.lemmas.Bool.{eqb-true}
+use Rattle.net_values.proofs.BoolLemmas.{true_clash}
+use Rattle.net_values.proofs.NumberLemmas.{same_number as self, apart_back, turned_away}
+use Rattle.net_values.proofs.RowLemmas.{front_empty}
 use Rattle.net_base.specs.declared.outside.link_call.LinkCall.{LinkCall}
 use Rattle.net_base.specs.declared.plan.Plan.{Plan}
 use Rattle.net_base.specs.declared.plan.places.EdgeId.{EdgeId}
@@ -9,6 +13,7 @@ use Rattle.net_base.specs.declared.plan.wire_plan.WirePlan.{WirePlan}
 use Rattle.net_base.specs.plan.Accepted.{IsChecked}
 use Rattle.ldp_stream.specs.FrontOf.{Front, More, Got, front_of}
 use Rattle.ldp_stream.specs.State.{place_behind}
+use Rattle.ldp_stream.proofs.CommonLemmas.{none_front}
 use Rattle.pw_messages.specs.Sender.{platform_of}
 use Rattle.status_exchange.specs.declared.wish.Wish.{Wish}
 use Rattle.status_exchange.specs.Exchange.{EdgeStatuses, Exchange, IsWiring, StatusWork, StatusMessage, Wiring, absorb, at, at_two, clears, first, heard_first, step, Connects, Hears, Loses, Sets}
@@ -28,15 +33,9 @@ use Rattle.independent_model.specs.Tell.{notification}
 use Rattle.independent_model.specs.Wires.{is_between, other_end, wiring}
 use Rattle.independent_model.specs.Work.{Goes, Outcome, and_then}
 use Rattle.switchover_model.proofs.DoesLemmas.{Does, connect_does, receiver_part, hear_does, set_does}
-use Rattle.switchover_model.proofs.FlightLemmas.{AreTold, HasNext, IsTold, are_both, front_is, none_front, nothing, octets_in_row, octets_told, told_both}
-use Rattle.switchover_model.proofs.NetworkLemmas.{AreOpen, IsDone, IsOpen, Matches, clash, done_matches, held_in, held_is, is_pair, same_held, same_number, self}
+use Rattle.switchover_model.proofs.FlightLemmas.{AreTold, HasNext, IsTold, are_both, front_is, octets_in_row, octets_told, told_both}
+use Rattle.switchover_model.proofs.NetworkLemmas.{AreOpen, IsDone, IsOpen, Matches, done_matches, held_in, held_is, is_pair, same_held}
 use Rattle.switchover_model.proofs.TwoLemmas.{HasRow, edge_there, other_is, wiring_is}
-
-apart_turned : (p q : ℕ) → (p == q) ≡ false → (q == p) ≡ false
-apart_turned p q is = grind (arith, nat_tests, is)
-
-pair_away : (a b : ℕ) → (a == b) ≡ false → (b == a && a == b) ≡ false
-pair_away a b is = grind (arith, is)
 
 -- ---- an edge's work for a peer
 
@@ -58,7 +57,7 @@ module _ (plan : Plan) (me peer : ℕ) (x : SwitchState) (y : Exchange) (t : Sta
     here = sym (at_same me (statuses_of d.edge) y.edges);
     edges = λ k away. m.edges k ∙ sym (at_other me k (statuses_of d.edge) y.edges away);
     comes = ap (λ (l : List ℕ). l ++ x.pipes peer me) (same_held (d.edge.connection peer) (start.connection peer) (d.at.receivers peer) ∙ held)
-        ∙ (m.octets peer me ∙ ap (octets_told plan peer) (sym (two_away me peer peer me (y.ways me peer ++ d.out) y.ways (pair_away me peer apart))));
+        ∙ (m.octets peer me ∙ ap (octets_told plan peer) (sym (two_away me peer peer me (y.ways me peer ++ d.out) y.ways (turned_away me peer apart))));
     goes = sym (append_assoc (held_by ((x.edges peer).connection me)) (x.pipes me peer) (said_to peer d.calls))
         ∙ (ap (λ (l : List ℕ). l ++ said_to peer d.calls) (m.octets me peer) ∙ (ap (λ (l : List ℕ). octets_told plan me (y.ways me peer) ++ l) d.at.said
         ∙ (sym (told_both plan me (y.ways me peer) d.out) ∙ ap (octets_told plan me) (sym (two_at me peer (y.ways me peer ++ d.out) y.ways)))));
@@ -118,7 +117,7 @@ module _ (plan : Plan) (checked : IsChecked plan) (types : HasTypes plan) where
 
   none_there : (o : Option ConnectionState) → is_some o ≡ false → o ≡ None
   none_there None gone = refl
-  none_there (Some kept) gone = clash gone
+  none_there (Some kept) gone = true_clash gone
 
   two_cleared : (f : ℕ → ℕ → List StatusMessage) (a b j k : ℕ) → f a b ≡ [] → f b a ≡ [] → at_two a b [] (at_two b a [] f) j k ≡ f j k
   two_cleared f a b j k one other = by (j == a && k == b) (j == b && k == a) refl refl
@@ -199,14 +198,14 @@ module _ (plan : Plan) (checked : IsChecked plan) (types : HasTypes plan) where
       m1 = absorbed plan a b x0 y0 t1 (connects plan taken_all a (id_of b) (x.edges a) []) (with_connection b (Some fresh) (x.edges a)) apart m0 d1 (started a b (x.edges a) gone) (started_receivers b (x.edges a)) (started_open b (x.edges a))
 
       b_is : x1.edges b ≡ x.edges b
-      b_is = rw (apart_turned a b apart) refl
+      b_is = rw (apart_back a b apart) refl
 
       d2 : Does plan b a (with_connection a (Some fresh) (x1.edges b)) [] t2 (connects plan taken_all b (id_of a) (x1.edges b) [])
       d2 = subst (λ (e : EdgeStatuses). Does plan b a (with_connection a (Some fresh) (x1.edges b)) [] (exchange.connects w b a e) (connects plan taken_all b (id_of a) (x1.edges b) [])) (ap statuses_of b_is ∙ f.matches.edges b)
           (connect_does plan b a (x1.edges b) [] checked (m1.small b))
 
       m2 : Matches plan (connecting plan a b x) (absorb b a t2 (absorb a b t1 y0))
-      m2 = absorbed plan b a x1 (absorb a b t1 y0) t2 (connects plan taken_all b (id_of a) (x1.edges b) []) (with_connection a (Some fresh) (x1.edges b)) (apart_turned a b apart) m1 d2
+      m2 = absorbed plan b a x1 (absorb a b t1 y0) t2 (connects plan taken_all b (id_of a) (x1.edges b) []) (with_connection a (Some fresh) (x1.edges b)) (apart_back a b apart) m1 d2
           (started b a (x1.edges b) (ap (λ (e : IndepState). is_connected e a) b_is ∙ other_gone)) (started_receivers a (x1.edges b)) (started_open a (x1.edges b))
 
   -- ---- both lose the connection
@@ -242,12 +241,12 @@ module _ (plan : Plan) (checked : IsChecked plan) (types : HasTypes plan) where
         where
           by : (u : Bool) → P (if u then None else (x.edges b).connection p)
           by true = none
-          by false = subst (λ (n : ℕ). P ((x.edges n).connection p)) (same_number k b is) kept
+          by false = subst (λ (n : ℕ). P ((x.edges n).connection p)) (eqb-true k b is) kept
       left k p false true is to P none kept = subst P (sym (lost_connection a b (x.edges a) p)) (by (p == b))
         where
           by : (u : Bool) → P (if u then None else (x.edges a).connection p)
           by true = none
-          by false = subst (λ (n : ℕ). P ((x.edges n).connection p)) (same_number k a to) kept
+          by false = subst (λ (n : ℕ). P ((x.edges n).connection p)) (eqb-true k a to) kept
       left k p false false is to P none kept = kept
 
       -- no octets are left between the two
@@ -267,10 +266,10 @@ module _ (plan : Plan) (checked : IsChecked plan) (types : HasTypes plan) where
               → (if s then loses plan b (id_of a) (x.edges b) else if t then loses plan a (id_of b) (x.edges a) else x.edges k).connection j ≡ (x.edges k).connection j
           still true t e g =
               let away : (j == a) ≡ false = grind (arith, is, e) in
-              lost_connection b a (x.edges b) j ∙ rw away (ap (λ (n : ℕ). (x.edges n).connection j) (sym (same_number k b e)))
+              lost_connection b a (x.edges b) j ∙ rw away (ap (λ (n : ℕ). (x.edges n).connection j) (sym (eqb-true k b e)))
           still false true e g =
               let away : (j == b) ≡ false = grind (arith, to, g) in
-              lost_connection a b (x.edges a) j ∙ rw away (ap (λ (n : ℕ). (x.edges n).connection j) (sym (same_number k a g)))
+              lost_connection a b (x.edges a) j ∙ rw away (ap (λ (n : ℕ). (x.edges n).connection j) (sym (eqb-true k a g)))
           still false false e g = refl
 
       told_at : (j k : ℕ) (s t : Bool) → AreTold plan (if s then [] else if t then [] else f.y.ways j k)
@@ -285,10 +284,10 @@ module _ (plan : Plan) (checked : IsChecked plan) (types : HasTypes plan) where
               → (if s then loses plan b (id_of a) (x.edges b) else if t then loses plan a (id_of b) (x.edges a) else x.edges k).connection j ≡ (x.edges k).connection j
           still true t e g =
               let away : (j == a) ≡ false = grind (arith, is, e) in
-              lost_connection b a (x.edges b) j ∙ rw away (ap (λ (n : ℕ). (x.edges n).connection j) (sym (same_number k b e)))
+              lost_connection b a (x.edges b) j ∙ rw away (ap (λ (n : ℕ). (x.edges n).connection j) (sym (eqb-true k b e)))
           still false true e g =
               let away : (j == b) ≡ false = grind (arith, to, g) in
-              lost_connection a b (x.edges a) j ∙ rw away (ap (λ (n : ℕ). (x.edges n).connection j) (sym (same_number k a g)))
+              lost_connection a b (x.edges a) j ∙ rw away (ap (λ (n : ℕ). (x.edges n).connection j) (sym (eqb-true k a g)))
           still false false e g = refl
 
       came_at : (j k : ℕ) (s t : Bool) → (j == a && k == b) ≡ s → (j == b && k == a) ≡ t → (if s then [] else if t then [] else x.came j k) ≡ octets_told plan j (if s then [] else if t then [] else f.y.heard j k) ++ held_by (((cutting plan a b x).edges k).connection j)
@@ -382,7 +381,7 @@ module _ (plan : Plan) (checked : IsChecked plan) (types : HasTypes plan) where
         (subst (λ (l : List StatusMessage). Holds w (heard_first from to l h.now)) h.way (step_holds w laws h.now (Hears from to) tt h.holds))
 
     back_way : at_two from to ts h.now.ways to from ≡ h.now.ways to from
-    back_way = two_away from to to from ts h.now.ways (pair_away from to from_to)
+    back_way = two_away from to to from ts h.now.ways (turned_away from to from_to)
 
     heard_told : (a b : ℕ) (s u : Bool) → AreTold plan (if s then at_two from to ts h.now.ways to from ++ heard_does.out else if u then ts else h.now.ways a b)
     heard_told a b true u = subst (λ (l : List StatusMessage). AreTold plan (l ++ heard_does.out)) (sym back_way) (are_both plan (h.now.ways to from) heard_does.out (h.told to from) heard_does.at.told)
@@ -406,7 +405,7 @@ module _ (plan : Plan) (checked : IsChecked plan) (types : HasTypes plan) where
         holds = heard_holds;
         here = sym (at_same to (statuses_of heard_does.edge) h.now.edges);
         others = λ k away. at_other to k (statuses_of heard_does.edge) h.now.edges away ∙ h.others k away;
-        way = two_away to from from to (at_two from to ts h.now.ways to from ++ heard_does.out) (at_two from to ts h.now.ways) (pair_away to from to_from) ∙ two_at from to ts h.now.ways;
+        way = two_away to from from to (at_two from to ts h.now.ways to from ++ heard_does.out) (at_two from to ts h.now.ways) (turned_away to from to_from) ∙ two_at from to ts h.now.ways;
         back = ap (λ (l : List ℕ). flight x to from ++ l) heard_does.at.said
             ∙ (sym (append_assoc (flight x to from) (said_to from calls) (octets_told plan to heard_does.out))
             ∙ (ap (λ (l : List ℕ). l ++ octets_told plan to heard_does.out) h.back
@@ -447,7 +446,7 @@ module _ (plan : Plan) (checked : IsChecked plan) (types : HasTypes plan) where
     rest = octets;
     edge = edge;
     calls = calls;
-    is = ap (λ (g : Front). hears_front plan taken_all to (id_of from) (hears_few plan taken_all to (id_of from) n) base octets g edge calls) (ap (front_of 4096) (nothing octets more e) ∙ none_front);
+    is = ap (λ (g : Front). hears_front plan taken_all to (id_of from) (hears_few plan taken_all to (id_of from) n) base octets g edge calls) (ap (front_of 4096) (front_empty octets more e) ∙ none_front);
     behind = e;
     split = refl;
     hearing = h;
@@ -503,7 +502,7 @@ module _ (plan : Plan) (checked : IsChecked plan) (types : HasTypes plan) where
       same (Some kept) = refl
 
       by : (p : ℕ) (b : Bool) → (p == peer) ≡ b → option_map id_next (if b then option_map (receiver_set receiver) (e.connection peer) else e.connection p) ≡ option_map id_next (e.connection p)
-      by p true is = same (e.connection peer) ∙ ap (λ (n : ℕ). option_map id_next (e.connection n)) (sym (same_number p peer is))
+      by p true is = same (e.connection peer) ∙ ap (λ (n : ℕ). option_map id_next (e.connection n)) (sym (eqb-true p peer is))
       by p false is = refl
 
   receiver_other : (peer : ℕ) (receiver : Receiver) (e : IndepState) (p : ℕ) → (p == peer) ≡ false → (with_receiver peer receiver e).connection p ≡ e.connection p
@@ -515,7 +514,7 @@ module _ (plan : Plan) (checked : IsChecked plan) (types : HasTypes plan) where
   receiver_here peer receiver e there = rw (self peer) (by (e.connection peer) there)
     where
       by : (o : Option ConnectionState) → is_some (option_map receiver_part o) ≡ true → option_map receiver_part (option_map (receiver_set receiver) o) ≡ Some receiver
-      by None there = clash (sym there)
+      by None there = true_clash (sym there)
       by (Some kept) there = refl
 
   record IsOpenAt (o : Option ConnectionState) : Type 0 where
@@ -526,7 +525,7 @@ module _ (plan : Plan) (checked : IsChecked plan) (types : HasTypes plan) where
     opened : kept.receiver ≡ Receiving base held
 
   open_at : (o : Option ConnectionState) → is_some o ≡ true → AreOpen (option_map receiver_part o) → IsOpenAt o
-  open_at None there opened = clash (sym there)
+  open_at None there opened = true_clash (sym there)
   open_at (Some kept) there opened = by kept.receiver refl opened
     where
       by : (receiver : Receiver) → kept.receiver ≡ receiver → IsOpen receiver → IsOpenAt (Some kept)
@@ -549,7 +548,7 @@ module _ (plan : Plan) (checked : IsChecked plan) (types : HasTypes plan) where
         by false is =
             let both : is_some ((f.y.edges from).next to) ≡ false = (f.holds.ways from to).both ∙ (stands_is x f to from ∙ is) in
             let none : f.y.ways from to ≡ [] = (f.holds.ways from to).none both in
-            clash (sym some ∙ waiting_none (x.pipes from to) (held_by ((x.edges to).connection from)) (f.matches.octets from to ∙ ap (octets_told plan from) none))
+            true_clash (sym some ∙ waiting_none (x.pipes from to) (held_by ((x.edges to).connection from)) (f.matches.octets from to ∙ ap (octets_told plan from) none))
 
     here : IsOpenAt ((x.edges to).connection from)
     here = open_at ((x.edges to).connection from) connected_to (f.matches.open_all to from)
@@ -614,7 +613,7 @@ module _ (plan : Plan) (checked : IsChecked plan) (types : HasTypes plan) where
         waiting_none (o ∷ l) (p ∷ held) e = absurd (cc (e))
 
         by : (ts : List StatusMessage) → f.y.ways from to ≡ ts → (to == from) ≡ false
-        by [] is = clash (sym some ∙ waiting_none (x.pipes from to) (held_by ((x.edges to).connection from)) (f.matches.octets from to ∙ ap (octets_told plan from) is))
+        by [] is = true_clash (sym some ∙ waiting_none (x.pipes from to) (held_by ((x.edges to).connection from)) (f.matches.octets from to ∙ ap (octets_told plan from) is))
         by (t ∷ ts) is = laws.apart t.wire to from (laws.turned t.wire from to (between_first f.y from to t ts f.holds is))
 
     is_delivered : IsDone plan to from x1 last heard.calls heard.hearing.now
@@ -623,7 +622,7 @@ module _ (plan : Plan) (checked : IsChecked plan) (types : HasTypes plan) where
       edges = λ k away. f.matches.edges k ∙ sym (heard.hearing.others k away);
       comes = ap (λ (l : List ℕ). l ++ at_two from to (drop count (x.pipes from to)) x.pipes from to) (held_is (last.connection from) ∙ ap held_in last_receiver)
           ∙ (ap (λ (l : List ℕ). heard.rest ++ l) (two_at from to (drop count (x.pipes from to)) x.pipes) ∙ (heard.behind ∙ ap (octets_told plan from) (sym heard.hearing.way)));
-      goes = ap (λ (l : List ℕ). held_by ((x.edges from).connection to) ++ (l ++ said_to from heard.calls)) (two_away from to to from (drop count (x.pipes from to)) x.pipes (pair_away from to (apart_turned to from from_to_apart)))
+      goes = ap (λ (l : List ℕ). held_by ((x.edges from).connection to) ++ (l ++ said_to from heard.calls)) (two_away from to to from (drop count (x.pipes from to)) x.pipes (turned_away from to (apart_back to from from_to_apart)))
           ∙ (sym (append_assoc (held_by ((x.edges from).connection to)) (x.pipes to from) (said_to from heard.calls)) ∙ heard.hearing.back);
       others = λ a b one two. ap (λ (l : List ℕ). held_by ((x.edges b).connection a) ++ l) (two_away from to a b (drop count (x.pipes from to)) x.pipes two) ∙ (f.matches.octets a b ∙ ap (octets_told plan a) (sym (heard.hearing.away a b one two)));
       silent = heard.hearing.silent;
@@ -677,7 +676,7 @@ module _ (plan : Plan) (checked : IsChecked plan) (types : HasTypes plan) where
       by (Some pair) is again = again (delivers plan pair.0 pair.1 (take 65535 (x.pipes pair.0 pair.1)) x) (delivers_follow pair.0 pair.1 (take 65535 (x.pipes pair.0 pair.1)) x f)
 
   some_joins : (a b n : ℕ) → some_between plan a b n ≡ true → (a == b) ≡ false
-  some_joins a b zero is = clash (sym is)
+  some_joins a b zero is = true_clash (sym is)
   some_joins a b (suc n) is = by (is_between plan n a b) refl is (λ later. some_joins a b n later)
     where
       by : (t : Bool) → is_between plan n a b ≡ t → (t || some_between plan a b n) ≡ true → (some_between plan a b n ≡ true → (a == b) ≡ false) → (a == b) ≡ false
@@ -695,7 +694,7 @@ module _ (plan : Plan) (checked : IsChecked plan) (types : HasTypes plan) where
   line_follows (line.Set me wire wish) x runs f = let both = not_or (is_some (other_end plan me.0 wire.0)) (is_same_wish ((x.edges me.0).local wire.0) wish) runs in by (other_end plan me.0 wire.0) refl both.0
     where
       by : (o : Option EdgeId) → other_end plan me.0 wire.0 ≡ o → is_some o ≡ true → Follows (setting plan me.0 wire.0 wish x)
-      by None is there = clash (sym there)
+      by None is there = true_clash (sym there)
       by (Some peer) is there =
           let end = other_is plan me.0 wire.0 peer checked is in
           set_follows me.0 peer.0 wire.0 end.row wish x end.row_is end.joined (is ∙ ap (λ (e : EdgeId). Some e) end.same) (not_or (is_some (other_end plan me.0 wire.0)) (is_same_wish ((x.edges me.0).local wire.0) wish) runs).1 f

@@ -1,7 +1,7 @@
 -- Edges before their first call.
-use Rattle.std.proofs.Common.{◌≡◌, ◌<◌, ◌+◌, ◌++◌, ◌∷◌, ◌∙◌, [], ℕ, zero, suc, Bool, true, false, List, cond, refl, ap, sym, subst, arith, length, length-append, nat_eq, slice_index_or, inl, inr}
+use Rattle.std.proofs.Common.{◌≡◌, ◌<◌, ◌+◌, ◌++◌, ◌∷◌, ◌∙◌, [], ℕ, Bool, true, false, List, cond, refl, ap, sym, subst, arith, length, length-append, nat_eq, slice_index_or, inl, inr}
 use Rattle.std.proofs.lemmas.Bool.{cases_order, eq-eqb, eqb-true}
-use Rattle.std.proofs.lemmas.Bool.Decides.{nat_tests}
+use Rattle.net_values.proofs.RowLemmas.{index_end}
 use Rattle.net_base.specs.declared.plan.Plan.{Plan}
 use Rattle.net_base.specs.declared.plan.places.EdgeId.{EdgeId}
 use Rattle.net_base.specs.plan.Accepted.{IsChecked}
@@ -12,12 +12,6 @@ use Rattle.switchover_net.specs.Rows.{AreFresh, IsRow, no_edge, seen_row}
 no_edge_seen : (plan : Plan) (k : ℕ) → seen (no_edge plan k) ≡ first_state
 unfolding seen
 no_edge_seen plan k = refl
-
-index_end : {X : Type 0} (xs : List X) (x d : X) (k : ℕ) → slice_index_or (xs ++ x ∷ []) k d ≡ cond (nat_eq k (length xs)) x (slice_index_or xs k d)
-index_end [] x d zero = refl
-index_end [] x d (suc k) = grind (arith, nat_tests)
-index_end (y ∷ ys) x d zero = grind (arith, nat_tests)
-index_end (y ∷ ys) x d (suc k) = grind (arith, nat_tests, index_end ys x d k)
 
 pub fresh_none : (plan : Plan) → AreFresh plan 0 []
 fresh_none plan = record { len = refl; planned = λ k below. refl; placed = λ k. refl; first = λ k. no_edge_seen plan k }

@@ -1,7 +1,8 @@
 -- An octet that is held behind the others has completed no PDU: nothing was put, and the edge uses the same wires.
 use Rattle.std.proofs.Common.{◌≡◌, ◌<◌, ◌≤◌, ◌==◌, ◌+◌, ◌-◌, ◌&&◌, ◌||◌, ◌++◌, ◌∙◌, nat_lt, ℕ, zero, suc, Bool, true, false, List, [], ◌∷◌, Option, Some, None, is_some, length, take, drop, option_map, if◌then◌else◌, refl, sym, ap, subst, arith, length-append, append-nil}
-use Rattle.std.proofs.lemmas.Bool.Decides.{nat_tests}
 use Rattle.std.proofs.lemmas.List.{length-drop, length-take}
+use Rattle.std.proofs.lemmas.Bool.{eqb-true, ltb-false}
+use Rattle.net_values.proofs.NumberLemmas.{same_number as self}
 use Rattle.net_base.specs.declared.outside.link_call.LinkCall.{LinkCall}
 use Rattle.net_base.specs.declared.plan.Plan.{Plan}
 use Rattle.net_base.specs.declared.plan.places.EdgeId.{EdgeId}
@@ -17,6 +18,7 @@ use Rattle.pw_messages.specs.LinkAnswers.{Answers}
 use Rattle.status_exchange.specs.Exchange.{at, at_two}
 use Rattle.status_exchange.specs.Laws.{is_known_active}
 use Rattle.status_exchange.specs.Wish.{is_active}
+use Rattle.status_exchange.proofs.StatusLemmas.{at_same}
 use Rattle.independent_mode.specs.Receiver.{Holds, HoldsBy}
 use Rattle.independent_model.specs.Calls.{hears, hears_on, is_connected, uses, uses_with}
 use Rattle.independent_model.specs.Hear.{hears_by, hears_few, hears_front, hears_messages}
@@ -29,16 +31,7 @@ use Rattle.switchover_model.specs.Text.{hear_entries, turned_all, used, used_fro
 use Rattle.switchover_net.specs.Net.{Makes, NetLists}
 use Rattle.switchover_net.specs.Pipes.{pipes_of}
 use Rattle.switchover_net.specs.Rows.{HasDone, seen_row}
-use Rattle.switchover_net.proofs.NetLemmas.{at_here, was_heard}
-
-self : (n : ℕ) → (n == n) ≡ true
-self n = grind (arith, nat_tests)
-
-same_number : (a b : ℕ) → (a == b) ≡ true → a ≡ b
-same_number a b is = grind (arith, nat_tests)
-
-above : (n m : ℕ) → nat_lt n m ≡ false → m ≤ n
-above n m e = grind (arith, nat_tests)
+use Rattle.switchover_net.proofs.NetLemmas.{was_heard}
 
 -- ---- a PDU has octets
 
@@ -52,7 +45,7 @@ unfolding front_of
 got_shorter held rest pdu is = by (nat_lt (length held) 2) (two_at 0 held == 1) is
   where
     shorter : rest ≡ drop (size_of held) held → nat_lt (length held) 4 ≡ false → length rest < length held
-    shorter e long = omega (arith, above (length held) 4 long, ap length e, length-drop (size_of held) held)
+    shorter e long = omega (arith, ltb-false (length held) 4 long, ap length e, length-drop (size_of held) held)
 
     by_size : (u : Bool) → nat_lt (length held) 4 ≡ false → (if u then More else front_in (reading_of (take (size_of held) held) 4096) (drop (size_of held) held)) ≡ Got pdu rest → length rest < length held
     by_size true long e = absurd (cc (e))
@@ -89,7 +82,7 @@ connected_deaf peer k r edge = by (k == peer) refl
     kept (Some c) = refl
 
     by : (b : Bool) → (k == peer) ≡ b → is_some (if b then option_map (receiver_set r) (edge.connection peer) else edge.connection k) ≡ is_some (edge.connection k)
-    by true at = kept (edge.connection peer) ∙ ap (λ (n : ℕ). is_some (edge.connection n)) (sym (same_number k peer at))
+    by true at = kept (edge.connection peer) ∙ ap (λ (n : ℕ). is_some (edge.connection n)) (sym (eqb-true k peer at))
     by false at = refl
 
 uses_deaf : (peer : ℕ) (r : Receiver) (edge : IndepState) (wire : ℕ) (other : Option EdgeId) → uses_with (with_receiver peer r edge) wire other ≡ uses_with edge wire other
@@ -193,7 +186,7 @@ put_nothing a b p = λ i x y. by x y (x == a) (y == b) refl refl i
     same x y one two = rw (one, two) (sym (append-nil (p a b)))
 
     by : (x y : ℕ) (s t : Bool) → (x == a) ≡ s → (y == b) ≡ t → p x y ≡ (if s && t then p a b ++ [] else p x y)
-    by x y true true one two = same x y (same_number x a one) (same_number y b two)
+    by x y true true one two = same x y (eqb-true x a one) (eqb-true y b two)
     by x y true false one two = refl
     by x y false t one two = refl
 
@@ -205,7 +198,7 @@ module _ (plan : Plan) (me : ℕ) (peer : EdgeId) (old new : NetLists) (calls : 
   outcome = hears plan taken_all me peer (take 1 (pipes_of old.pipes peer.0 me)) (seen_row old.row me) []
 
   state : seen_row new.row me ≡ edge_of outcome
-  state = ap (λ (f : ℕ → IndepState). f me) done.state ∙ at_here me (edge_of outcome) (seen_row old.row)
+  state = ap (λ (f : ℕ → IndepState). f me) done.state ∙ at_same me (edge_of outcome) (seen_row old.row)
 
   silent : IsSilent plan me (seen_row old.row me) (edge_of outcome) [] (calls_of outcome)
   silent = grown plan taken_all me peer (edge_of outcome) (calls_of outcome) after (subst (λ (s : IndepState). HoldsBy after (s.connection peer.0)) state held_now) (take 1 (pipes_of old.pipes peer.0 me)) before (seen_row old.row me) []

@@ -9,6 +9,7 @@ use Rattle.net_base.specs.declared.plan.places.WireId.{WireId}
 use Rattle.status_exchange.specs.declared.wish.Wish.{Wish}
 use Rattle.status_exchange.specs.Exchange.{IsWiring, at, at_two}
 use Rattle.status_exchange.specs.Wish.{is_same_wish}
+use Rattle.status_exchange.proofs.StatusLemmas.{at_other}
 use Rattle.independent_model.specs.Calls.{is_connected, loses}
 use Rattle.independent_model.specs.State.{IndepState}
 use Rattle.independent_model.specs.Wires.{is_between, other_end, wiring}
@@ -37,15 +38,12 @@ both_connect plan a b old mid new first next last one two = record {
       ∙ append_assoc first (connect_entries plan a b x) (connect_entries plan b a (connects_one plan a b x)));
 }
 
-at_away : {X : Type 0} (a b : ℕ) (v : X) (f : ℕ → X) → (b == a) ≡ false → at a v f b ≡ f b
-at_away a b v f apart = ap (λ (s : Bool). if s then v else f b) apart
-
 pub both_lose : (plan : Plan) (a b : EdgeId) (old mid left new : NetLists) (first next last : List SwitchEntry) → (b.0 == a.0) ≡ false
     → Makes old mid first next (loses_one plan a.0 b.0) (lose_entries plan a.0 b.0) → Makes mid left next last (loses_one plan b.0 a.0) (lose_entries plan b.0 a.0)
     → new.row ≡ left.row → pipes_of new.pipes ≡ at_two a.0 b.0 [] (at_two b.0 a.0 [] (pipes_of left.pipes)) → Makes old new first last (cutting plan a.0 b.0) (cut_entries plan a.0 b.0)
 both_lose plan a b old mid left new first next last apart one two row pipes = record {
   shows = λ x sh. let after : Shows left (loses_one plan b.0 a.0 (loses_one plan a.0 b.0 x)) = two.shows (loses_one plan a.0 b.0 x) (one.shows x sh) in record {
-    edges = ap seen_row row ∙ (after.edges ∙ ap (λ (e : IndepState). at b.0 (loses plan b.0 a e) (at a.0 (loses plan a.0 b (x.edges a.0)) x.edges)) (at_away a.0 b.0 (loses plan a.0 b (x.edges a.0)) x.edges apart));
+    edges = ap seen_row row ∙ (after.edges ∙ ap (λ (e : IndepState). at b.0 (loses plan b.0 a e) (at a.0 (loses plan a.0 b (x.edges a.0)) x.edges)) (at_other a.0 b.0 (loses plan a.0 b (x.edges a.0)) x.edges apart));
     pipes = pipes ∙ ap (λ (p : ℕ → ℕ → List ℕ). at_two a.0 b.0 [] (at_two b.0 a.0 [] p)) after.pipes;
   };
   tells = λ x sh. two.tells (loses_one plan a.0 b.0 x) (one.shows x sh) ∙ (ap (λ (l : List SwitchEntry). l ++ lose_entries plan b.0 a.0 (loses_one plan a.0 b.0 x)) (one.tells x sh)

@@ -1,11 +1,12 @@
 -- What a call of one edge makes of the network.
 use Rattle.std.proofs.Common.{◌≡◌, ◌==◌, ◌&&◌, ◌++◌, ◌∙◌, ℕ, Bool, true, false, List, [], Some, Result, Ok, Err, OnOk, take, drop, if◌then◌else◌, refl, sym, ap, subst, append_assoc, append-nil}
-use Rattle.std.proofs.lemmas.Bool.{eq-eqb, eqb-true}
+use Rattle.std.proofs.lemmas.Bool.{eqb-true}
 use Rattle.net_base.specs.declared.outside.link_call.LinkCall.{LinkCall}
 use Rattle.net_base.specs.declared.plan.Plan.{Plan}
 use Rattle.net_base.specs.declared.plan.places.EdgeId.{EdgeId}
 use Rattle.status_exchange.specs.declared.wish.Wish.{Wish}
 use Rattle.status_exchange.specs.Exchange.{at, at_two}
+use Rattle.status_exchange.proofs.StatusLemmas.{at_same}
 use Rattle.independent_model.specs.Calls.{connects, hears, loses, sets}
 use Rattle.independent_model.specs.State.{IndepState, first_state}
 use Rattle.independent_model.specs.Wires.{other_end}
@@ -17,9 +18,6 @@ use Rattle.switchover_net.specs.Net.{Makes, NetLists, Shows}
 use Rattle.switchover_net.specs.Pipes.{bytes_of, no_octets, pipes_of}
 use Rattle.switchover_net.specs.Rows.{HasDone, RowLists, seen_row}
 use Rattle.switchover_net.proofs.ToLemmas.{AllTo, all_said, connects_to, hears_to, none_said, sets_to}
-
-pub at_here : {X : Type 0} (me : ℕ) (v : X) (f : ℕ → X) → at me v f me ≡ v
-at_here me v f = ap (λ (b : Bool). if b then v else f me) (eq-eqb me me refl)
 
 -- ---- by what a call has answered
 
@@ -66,7 +64,7 @@ module _ (plan : Plan) (me peer : ℕ) (work : (ℕ → ℕ → List ℕ) → In
         ∙ (λ i a b. put_there me peer (calls_of outcome) (left (pipes_of old.pipes)) (all (pipes_of old.pipes) (seen_row old.row me)) a b i));
     tells = told ∙ (ap (λ (c : List LinkCall). (first ++ said_entries me c) ++ turned_all me 0 before (used plan me (seen_row row me))) done.put
         ∙ (ap (λ (b : List Bool). (first ++ said_entries me (calls_of outcome)) ++ turned_all me 0 b (used plan me (seen_row row me))) was
-        ∙ (ap (λ (s : IndepState). (first ++ said_entries me (calls_of outcome)) ++ turned_all me 0 (used plan me (seen_row old.row me)) (used plan me s)) (ap (λ (f : ℕ → IndepState). f me) done.state ∙ at_here me (edge_of outcome) (seen_row old.row))
+        ∙ (ap (λ (s : IndepState). (first ++ said_entries me (calls_of outcome)) ++ turned_all me 0 (used plan me (seen_row old.row me)) (used plan me s)) (ap (λ (f : ℕ → IndepState). f me) done.state ∙ at_same me (edge_of outcome) (seen_row old.row))
         ∙ append_assoc first (said_entries me (calls_of outcome)) (turned_all me 0 (used plan me (seen_row old.row me)) (used plan me (edge_of outcome))))));
   }
 
@@ -126,7 +124,7 @@ was_lost plan me peer old new before first last done pipes was told = record {
   shows = λ x sh. record { edges = subst (λ (e : ℕ → IndepState). seen_row new.row ≡ at me (loses plan me peer (e me)) e) sh.edges done; pipes = pipes ∙ sh.pipes };
   tells = λ x sh. subst (λ (e : ℕ → IndepState). last ≡ first ++ turned_all me 0 (used plan me (e me)) (used plan me (loses plan me peer (e me)))) sh.edges
       (told ∙ (ap (λ (b : List Bool). first ++ turned_all me 0 b (used plan me (seen_row new.row me))) was
-      ∙ ap (λ (s : IndepState). first ++ turned_all me 0 (used plan me (seen_row old.row me)) (used plan me s)) (ap (λ (f : ℕ → IndepState). f me) done ∙ at_here me (loses plan me peer (seen_row old.row me)) (seen_row old.row))));
+      ∙ ap (λ (s : IndepState). first ++ turned_all me 0 (used plan me (seen_row old.row me)) (used plan me s)) (ap (λ (f : ℕ → IndepState). f me) done ∙ at_same me (loses plan me peer (seen_row old.row me)) (seen_row old.row))));
 }
 
 -- the network before its first line

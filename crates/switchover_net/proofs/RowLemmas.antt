@@ -1,6 +1,7 @@
 -- The edges in lists as in maps.
-use Rattle.std.proofs.Common.{◌≡◌, ◌==◌, ◌<◌, ◌∙◌, ℕ, zero, suc, Bool, true, false, List, [], ◌∷◌, Err, cond, refl, ap, sym, subst, length, slice_set, slice_index_or}
+use Rattle.std.proofs.Common.{◌≡◌, ◌==◌, ◌<◌, ◌∙◌, ℕ, Bool, true, false, List, [], Err, cond, refl, ap, sym, subst, length, slice_set, slice_index_or}
 use Rattle.std.proofs.lemmas.Bool.{eqb-true}
+use Rattle.net_values.proofs.RowLemmas.{same_read, set_length}
 use Rattle.net_base.specs.declared.plan.Plan.{Plan}
 use Rattle.net_base.specs.declared.plan.places.EdgeId.{EdgeId}
 use Rattle.net_base.specs.declared.outside.link_call.LinkCall.{LinkCall}
@@ -12,7 +13,7 @@ use Rattle.independent_model.specs.Work.{Comes, Goes, NeverRefused, Outcome}
 use Rattle.switchover_model.specs.Network.{IsGoing, calls_of, edge_of, taken_all}
 use Rattle.independent_model.specs.Stops.{EndsAs}
 use Rattle.independent_mode.specs.Lists.{IndepLists, Keeps, seen}
-use Rattle.independent_mode.proofs.ListLemmas.{same_read, set_at}
+use Rattle.independent_mode.proofs.ListLemmas.{set_at}
 use Rattle.status_exchange.specs.Exchange.{at}
 use Rattle.switchover_net.specs.Rows.{HasDone, IsRow, NeverLink, RowLists, edge_lists, no_edge, seen_row}
 
@@ -28,11 +29,6 @@ row_set row me now state h w = λ i k. at_each k i
         by : (b : Bool) → seen (cond b now (slice_index_or row.edges k (no_edge row.plan k))) ≡ cond b state (seen (slice_index_or row.edges k (no_edge row.plan k)))
         by true = w
         by false = refl
-
-set_length : {X : Type 0} (xs : List X) (i : ℕ) (v : X) → length (slice_set xs i v) ≡ length xs
-set_length [] i v = refl
-set_length (x ∷ xs) zero v = refl
-set_length (x ∷ xs) (suc i) v = ap suc (set_length xs i v)
 
 -- the edge that was looked up
 pub found_is : (row : RowLists) (me : ℕ) (found : IndepLists) → me < length row.edges → found ≡ slice_index_or row.edges me found → found ≡ edge_lists row me

@@ -20,7 +20,7 @@ pub hex_from : (octets : List ℕ) (at count : ℕ) → hex (drop at octets) ≡
 hex_from octets at count =
     ap hex (sym (take-append-drop count (drop at octets))) ∙ (hex-append (take count (drop at octets)) (drop count (drop at octets)) ∙ ap (λ (l : List ℕ). hex (take count (drop at octets)) ++ hex l) (drop-drop count at octets))
 
-hex_none : hex [] ≡ []
+pub hex_none : hex [] ≡ []
 unfolding encode_with
 hex_none = refl
 

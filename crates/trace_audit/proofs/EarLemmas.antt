@@ -1,15 +1,14 @@
 -- What was heard of entries answers for their trace.
-use Rattle.std.proofs.Common.{◌≡◌, ◌==◌, ◌<◌, ◌≤◌, ◌^◌, ◌++◌, ◌+◌, ◌∙◌, ℕ, suc, Bool, true, false, List, [], ◌∷◌, length, length-append, cond, Option, Some, None, Result, Ok, IfOk, refl, sym, ap, arith, subst}
+use Rattle.std.proofs.Common.{◌≡◌, ◌<◌, ◌≤◌, ◌^◌, ◌++◌, ◌+◌, ◌∙◌, ℕ, List, [], ◌∷◌, length, length-append, Option, Some, None, Result, Ok, IfOk, refl, sym, ap, arith, subst}
 use Rattle.net_base.specs.declared.plan.Plan.{Plan}
-use Rattle.net_base.specs.declared.plan.places.CircuitId.{CircuitId}
 use Rattle.net_base.specs.declared.trace.entry.Entry.{Entry}
 use Rattle.net_base.specs.declared.trace.entry.Entry.TheVariants as kind
 use Rattle.net_base.specs.declared.trace.event.Event.TheVariants.{Frame}
 use Rattle.net_values.specs.declared.no_memory.NoMemory.{NoMemory}
-use Rattle.seen_windows.specs.EventEntries.{entered_place}
 use Rattle.seen_windows.specs.Verdict.{OnceAnswers, Unserved}
 use Rattle.window_audit.specs.declared.windows.Windows.{Windows}
 use Rattle.window_audit.specs.Windows.{HasHeard}
+use Rattle.window_audit.proofs.OpenedLemmas.{place_within as place_most}
 use Rattle.trace_audit.specs.declared.ears.Ears.{Ears}
 use Rattle.trace_audit.specs.declared.judge.Judge.{Judge}
 use Rattle.trace_audit.specs.Audited.{FirstOfOnce, FirstOfSplit, FirstStray, IsGoodTrace}
@@ -36,24 +35,6 @@ judged_lines : (plan : Plan) (judge : Judge) (trace : List Entry) → (judges_al
 unfolding judges
 judged_lines plan judge [] = omega arith
 judged_lines plan judge (e ∷ es) = omega (arith, judged_lines plan (judges plan e judge) es)
-
-place_most : (circuit : CircuitId) (es : List Entry) → entered_place circuit es ≤ length es
-place_most circuit [] = omega arith
-place_most circuit (kind.In at number octets ∷ es) = by (at.0 == circuit.0) (place_most circuit es) where
-  by : (b : Bool) → entered_place circuit es ≤ length es → cond b 0 (1 + entered_place circuit es) ≤ suc (length es)
-  by true most = omega arith
-  by false most = omega (arith, most)
-place_most circuit (kind.Did event ∷ es) = omega arith
-place_most circuit (kind.Idle ∷ es) = omega (arith, place_most circuit es)
-place_most circuit (kind.Said from to octets ∷ es) = omega (arith, place_most circuit es)
-place_most circuit (kind.Sent from to wire came packet origin hops octets ∷ es) = omega (arith, place_most circuit es)
-place_most circuit (kind.Copied packet of ∷ es) = omega (arith, place_most circuit es)
-place_most circuit (kind.Aged packet ∷ es) = omega (arith, place_most circuit es)
-place_most circuit (kind.Left at origin hops octets ∷ es) = omega (arith, place_most circuit es)
-place_most circuit (kind.Dropped edge origin cause ∷ es) = omega (arith, place_most circuit es)
-place_most circuit (kind.Session edge peer name ∷ es) = omega (arith, place_most circuit es)
-place_most circuit (kind.Wire edge wire down ∷ es) = omega (arith, place_most circuit es)
-place_most circuit (kind.Pong edge wire sequence ∷ es) = omega (arith, place_most circuit es)
 
 place_within : (plan : Plan) (trace : List Entry) (place : ℕ) → Unserved plan trace place → place ≤ length trace
 place_within plan trace place one = omega (

@@ -1,5 +1,6 @@
 -- The line that is known is the first one at which a rule fails.
 use Rattle.std.proofs.Common.{◌≡◌, ◌++◌, ◌+◌, ◌∙◌, ℕ, Bool, true, false, List, [], ◌∷◌, length, Some, None, refl, sym, ap, subst, arith, append_assoc, append-nil, length-append}
+use Rattle.net_values.proofs.BoolLemmas.{clash}
 use Rattle.net_base.specs.declared.plan.Plan.{Plan}
 use Rattle.net_base.specs.declared.trace.entry.Entry.{Entry}
 use Rattle.net_base.specs.trace.Isolated.{IsolatedAfter, IsolatedEntry}
@@ -7,7 +8,7 @@ use Rattle.net_base.specs.trace.Split.{Split, SplitEntry}
 use Rattle.trace_audit.specs.declared.judge.Judge.{Judge}
 use Rattle.trace_audit.specs.Audited.{FirstCrossing, FirstStray}
 use Rattle.trace_audit.specs.Judged.{begun, is_crossing, is_stray, judges, judges_all}
-use Rattle.trace_audit.proofs.PathLemmas.{Knows, begun_knows, clash, crossed_stays, entry_isolated, entry_split, isolated_entry, knows_more, none_some, split_entry, stray_same, stray_stays}
+use Rattle.trace_audit.proofs.PathLemmas.{Knows, begun_knows, crossed_stays, entry_isolated, entry_split, isolated_entry, knows_more, none_some, split_entry, stray_same, stray_stays}
 
 some_same : {a b : ℕ} → Some a ≡ Some b → a ≡ b
 some_same e = cc e

@@ -1,9 +1,11 @@
 -- What is known of the frames that entered and left, and of the packets that were sent, is what the rules say of the trace.
 use Rattle.std.proofs.Common.{◌≡◌, ◌+◌, ◌++◌, ◌&&◌, ◌||◌, ◌∙◌, ◌↔◌, not, ℕ, Bool, true, false, List, [], ◌∷◌, Option, Some, None, Result, Ok, Err, cond, nat_eq, refl, sym, ap, subst, append_assoc, append-nil, inl, inr}
-use Rattle.std.proofs.lemmas.Bool.{eq-eqb, eqb-true}
+use Rattle.std.proofs.lemmas.Bool.{eq-eqb, eqb-true, or_right, and_parts, or_left, not-false}
 use Rattle.std.proofs.lemmas.Slice.Eq.{bytes_eq-Decides}
 use Rattle.std.specs.List.{list_any}
 use Rattle.std.specs.Str.{bytes_eq}
+use Rattle.net_values.proofs.BoolLemmas.{clash, or_none}
+use Rattle.net_values.proofs.RowLemmas.{same_octets}
 use Rattle.net_base.specs.declared.plan.Plan.{Plan}
 use Rattle.net_base.specs.declared.plan.places.CircuitId.{CircuitId}
 use Rattle.net_base.specs.declared.plan.places.EdgeId.{EdgeId}
@@ -21,13 +23,6 @@ use Rattle.report_entries.specs.Reading.{ok_of}
 use Rattle.trace_audit.specs.declared.judge.Judge.{Judge}
 use Rattle.trace_audit.specs.Arrivals.{Entered, has_come, is_entered, with_came}
 use Rattle.trace_audit.specs.Judged.{begun, came_after, crosses, entered_at, entered_by, first_line, has_one, inner_found, is_crossing, is_stray, judges, judges_all, with_one}
-
-pub clash : {P : Type 0} → false ≡ true → P
-clash e = absurd (cc)
-
-parts : (a b : Bool) → (a && b) ≡ true → (a ≡ true) × (b ≡ true)
-parts true b e = (refl, e)
-parts false b e = cc e
 
 -- ---- the frames that entered
 
@@ -50,18 +45,11 @@ any-append test (x ∷ xs) ys = by (test x) (any-append test xs ys) where
   by true rest = refl
   by false rest = rest
 
-or_none : (b : Bool) → b ≡ (b || false)
-or_none true = refl
-or_none false = refl
-
-same_octets : (a : List ℕ) → bytes_eq a a ≡ true
-same_octets a = (bytes_eq-Decides a a).1 refl
-
 -- two frames that are known to be the same are
 entered_same : (a b : Entered) → is_entered a b ≡ true → a ≡ b
 entered_same a b is =
-    let first = parts (nat_eq a.number b.number) (nat_eq a.service b.service && bytes_eq a.frame b.frame) is in
-    let second = parts (nat_eq a.service b.service) (bytes_eq a.frame b.frame) first.1 in
+    let first = and_parts (nat_eq a.number b.number) (nat_eq a.service b.service && bytes_eq a.frame b.frame) is in
+    let second = and_parts (nat_eq a.service b.service) (bytes_eq a.frame b.frame) first.1 in
     λ i. record { number = eqb-true a.number b.number first.0 i; service = eqb-true a.service b.service second.0 i; frame = (bytes_eq-Decides a.frame b.frame).0 second.1 i }
 
 entered_itself : (a : Entered) → is_entered a a ≡ true
@@ -150,14 +138,6 @@ come_found plan (entry.Session edge peer name ∷ es) origin service frame any =
 come_found plan (entry.Wire edge wire down ∷ es) origin service frame any = later_came plan _ es origin service frame (come_found plan es origin service frame any)
 come_found plan (entry.Pong edge wire sequence ∷ es) origin service frame any = later_came plan _ es origin service frame (come_found plan es origin service frame any)
 
--- and the other way round
-some_here : (a b : Bool) → a ≡ true → (a || b) ≡ true
-some_here a b is = rw is refl
-
-some_later : (a b : Bool) → b ≡ true → (a || b) ≡ true
-some_later true b is = refl
-some_later false b is = is
-
 one_came : (plan : Plan) (sender : CircuitId) (origin : ℕ) (entered : List ℕ) (service : ServiceId) (frame : List ℕ) → service_of plan sender ≡ Some service → inner_at plan sender entered ≡ Ok frame
     → has_come (entry_came plan (entry.In sender origin entered)) (named origin service frame) ≡ true
 one_came plan sender origin entered service frame of_service as_entered =
@@ -169,14 +149,10 @@ come_listed : (plan : Plan) (es : List Entry) (sender : CircuitId) (origin : ℕ
 unfolding came_list
 come_listed plan [] sender origin entered service frame among of_service as_entered = absurd among
 come_listed plan (e ∷ es) sender origin entered service frame (inl here) of_service as_entered = any-append (is_entered (named origin service frame)) (entry_came plan e) (came_list plan es)
-    ∙ some_here (has_come (entry_came plan e) (named origin service frame)) (has_come (came_list plan es) (named origin service frame))
+    ∙ or_left (has_come (entry_came plan e) (named origin service frame)) (has_come (came_list plan es) (named origin service frame))
     (ap (λ (x : Entry). has_come (entry_came plan x) (named origin service frame)) (sym here) ∙ one_came plan sender origin entered service frame of_service as_entered)
 come_listed plan (e ∷ es) sender origin entered service frame (inr later) of_service as_entered = any-append (is_entered (named origin service frame)) (entry_came plan e) (came_list plan es)
-    ∙ some_later (has_come (entry_came plan e) (named origin service frame)) (has_come (came_list plan es) (named origin service frame)) (come_listed plan es sender origin entered service frame later of_service as_entered)
-
-not_false : (b : Bool) → not b ≡ false → b ≡ true
-not_false true e = refl
-not_false false e = clash (sym e)
+    ∙ or_right (has_come (entry_came plan e) (named origin service frame)) (has_come (came_list plan es) (named origin service frame)) (come_listed plan es sender origin entered service frame later of_service as_entered)
 
 come_in : (plan : Plan) (earlier : List Entry) (circuit : CircuitId) (origin : ℕ) (octets : List ℕ) (of : Option ServiceId) (inner : Result (List ℕ) DropCause) → service_of plan circuit ≡ of → inner_at plan circuit octets ≡ inner
     → has_one (came_list plan earlier) (entered_by origin of (ok_of inner)) ≡ true → CameIn plan earlier circuit origin octets
@@ -188,7 +164,7 @@ come_in plan earlier circuit origin octets (Some service) (Ok frame) is_of is_in
 
 -- what is no stray is isolated, and what is isolated is no stray
 pub entry_isolated : (plan : Plan) (earlier : List Entry) (e : Entry) → is_stray plan (came_list plan earlier) e ≡ false → IsolatedEntry plan earlier e
-entry_isolated plan earlier (entry.Left circuit origin hops octets) is = come_in plan earlier circuit origin octets (service_of plan circuit) (inner_at plan circuit octets) refl refl (not_false _ is)
+entry_isolated plan earlier (entry.Left circuit origin hops octets) is = come_in plan earlier circuit origin octets (service_of plan circuit) (inner_at plan circuit octets) refl refl (not-false _ is)
 entry_isolated plan earlier (entry.Did event) is = tt
 entry_isolated plan earlier entry.Idle is = tt
 entry_isolated plan earlier (entry.Said from to octets) is = tt

@@ -1,7 +1,7 @@
 -- What is written is read, and an answer is the request turned round.
 use Rattle.std.proofs.Common.{◌≡◌, ◌≤◌, ◌<◌, ◌/◌, ◌%◌, ◌++◌, ◌∙◌, ◌==◌, ◌&&◌, ◌||◌, ℕ, Bool, true, false, Ok, List, [], ◌∷◌, length, get_or, take, drop, refl, ap, sym, subst, arith}
 use Rattle.std.proofs.lemmas.List.{length-take-le, length-append, take_all, take_at, drop_at}
-use Rattle.std.proofs.lemmas.Bool.{eq-eqb}
+use Rattle.std.proofs.lemmas.Bool.{eq-eqb, and_from, and_parts}
 use Rattle.net_values.specs.declared.addr.Addr.{Addr}
 use Rattle.net_base.specs.trace.Frame.{pair_at}
 use Rattle.byteorder.specs.Endian.{big_bytes}
@@ -16,14 +16,14 @@ use Rattle.vccv_channel.specs.Echo.{request_packet, answer_packet, answer_header
 use Rattle.vccv_channel.specs.Reading.{is_ip_packet, has_sums, is_echo, total_length, reading, behind_header, IsRequest}
 use Rattle.vccv_channel.proofs.OctetLemmas.{octets_none, octets_cons, octets_append, octets_take, octets_drop, pair_take}
 use Rattle.vccv_channel.proofs.SumLemmas.{summed_is, word_of}
-use Rattle.vccv_channel.proofs.ReadingLemmas.{IsRead, read_as, faultless, in_channel, cut_is_ip, both_true, and_true}
+use Rattle.vccv_channel.proofs.ReadingLemmas.{IsRead, read_as, faultless, in_channel, cut_is_ip}
 
 -- the sums of a packet in two summed parts, the first of them a header, are right
 sums_of : (header message : List ℕ) → IsSummed header → IsSummed message → length header ≡ 20 → has_sums (header ++ message) ≡ true
 sums_of header message h m size =
     let front : take 20 (header ++ message) ≡ header = take_at header message 20 size in
     let back : drop 20 (header ++ message) ≡ message = drop_at header message 20 size in
-    and_true (ones_sum (take 20 (header ++ message)) == 65535) (ones_sum (drop 20 (header ++ message)) == 65535)
+    and_from (ones_sum (take 20 (header ++ message)) == 65535) (ones_sum (drop 20 (header ++ message)) == 65535)
     (eq-eqb (ones_sum (take 20 (header ++ message))) 65535 (ap ones_sum front ∙ h)) (eq-eqb (ones_sum (drop 20 (header ++ message))) 65535 (ap ones_sum back ∙ m))
 
 -- the parts of a request are octets
@@ -81,7 +81,7 @@ answer_at (a0 ∷ a1 ∷ a2 ∷ a3 ∷ a4 ∷ a5 ∷ a6 ∷ a7 ∷ a8 ∷ a9 ∷
     let ip : List ℕ = a0 ∷ a1 ∷ a2 ∷ a3 ∷ a4 ∷ a5 ∷ a6 ∷ a7 ∷ a8 ∷ a9 ∷ a10 ∷ a11 ∷ a12 ∷ a13 ∷ a14 ∷ a15 ∷ a16 ∷ a17 ∷ a18 ∷ a19 ∷ a20 ∷ a21 ∷ a22 ∷ a23 ∷ rest in
     let whole : take (total_length (answer_packet ip)) (answer_packet ip) ≡ answer_packet ip = take_all (total_length ip) (answer_packet ip) (omega (arith, total)) in
     let size : length (take 8 ip) ≡ 8 = refl in
-    let named = both_true ((a20 == 8) || (a20 == 0)) ((a21 == 0) && (pair_at ip 24 == number)) echo in
+    let named = and_parts ((a20 == 8) || (a20 == 0)) ((a21 == 0) && (pair_at ip 24 == number)) echo in
     faultless number (answer_packet ip) is whole (sums_of (answer_header ip) (answer_message ip) (header_summed ip octets size) (message_summed ip octets) refl) named.1
 answer_at ip number octets long total is echo = absurd (omega arith)
 

@@ -2,6 +2,7 @@
 use Rattle.std.proofs.Common.{◌≡◌, ◌≤◌, ◌∙◌, ◌==◌, ◌&&◌, nat_le, not, cond, ℕ, Bool, true, false, Some, None, Ok, Err, List, ◌∷◌, length, get_or, take, refl, ap, sym, arith}
 use Rattle.std.proofs.lemmas.List.{get_or-take, length-take-le}
 use Rattle.std.proofs.lemmas.Bool.Decides.{nat_tests}
+use Rattle.std.proofs.lemmas.Bool.{and_parts, not-false}
 use Rattle.net_values.specs.declared.addr.Addr.{Addr}
 use Rattle.net_base.specs.trace.Frame.{pair_at}
 use Rattle.vccv_channel.specs.declared.cc.Cc.{Cc}
@@ -24,18 +25,6 @@ none_found false false true d e f g h i j x y w = cc
 none_found false false false true e f g h i j x y w = cc
 none_found false false false false true f g h i j x y w = cc
 none_found false false false false false f g h i j x y w = (refl, refl, refl, (cc))
-
-not_false : (a : Bool) → not a ≡ false → a ≡ true
-not_false true e = refl
-not_false false e = cc
-
-pub both_true : (a b : Bool) → (a && b) ≡ true → (a ≡ true) × (b ≡ true)
-both_true true true e = (refl, refl)
-both_true true false e = cc
-both_true false b e = cc
-
-pub and_true : (a b : Bool) → a ≡ true → b ≡ true → (a && b) ≡ true
-and_true a b ea eb = rw (ea, eb) refl
 
 -- what is said of a request
 request_says : (b : Bool) (from to from' to' : Addr) (s s' l l' t : ℕ) → cond b (Request from to s l) (Answer t) ≡ Request from' to' s' l' → (s ≡ s') × (l ≡ l')
@@ -63,8 +52,8 @@ read_as channel number octets from to sequence len e =
     let q : List ℕ = behind_header channel octets in
     let p : List ℕ = take (total_length q) q in
     let none = none_found (has_fault channel number octets Version) (has_fault channel number octets Channel) (not (is_ip_packet q)) (not (has_sums p)) (not (is_echo number p)) Version Channel Ip Checksum Icmp (echo_in p) (Request from to sequence len) e in
-    let is : is_ip_packet q ≡ true = not_false (is_ip_packet q) none.0 in
-    let sized = both_true (is_whole_icmp q) (is_of_length q) is in
+    let is : is_ip_packet q ≡ true = not-false (is_ip_packet q) none.0 in
+    let sized = and_parts (is_whole_icmp q) (is_of_length q) is in
     let bounds = of_length (total_length q) (length q) sized.1 in
     let told = request_says (get_or p 20 0 == 8) (record { 0 = echo_source p }) (record { 0 = echo_destination p }) from to (pair_at p 26) sequence (total_length p) len (pair_at p 26) none.3 in
     let count : total_length p ≡ total_length q = pair_take (total_length q) q 2 (omega (arith, bounds.0)) in
@@ -75,8 +64,8 @@ read_as channel number octets from to sequence len e =
       whole = bounds.1;
       counted = sym count ∙ told.1;
       numbered = sym last ∙ told.0;
-      sums = not_false (has_sums p) none.1;
-      echo = not_false (is_echo number p) none.2;
+      sums = not-false (has_sums p) none.1;
+      echo = not-false (is_echo number p) none.2;
       says = none.3;
     }
 
@@ -102,9 +91,9 @@ in_channel Expiry number p = refl
 pub cut_is_ip : (q : List ℕ) → is_ip_packet q ≡ true → 28 ≤ total_length q → total_length q ≤ length q → is_ip_packet (take (total_length q) q) ≡ true
 cut_is_ip q is least within =
     let t : ℕ = total_length q in
-    let parts = both_true (is_whole_icmp q) (is_of_length q) is in
-    let bounds = both_true (nat_le 28 t) (nat_le t 1500 && nat_le t (length q)) parts.1 in
-    let most = both_true (nat_le t 1500) (nat_le t (length q)) bounds.1 in
+    let parts = and_parts (is_whole_icmp q) (is_of_length q) is in
+    let bounds = and_parts (nat_le 28 t) (nat_le t 1500 && nat_le t (length q)) parts.1 in
+    let most = and_parts (nat_le t 1500) (nat_le t (length q)) bounds.1 in
     let version : get_or (take t q) 0 0 ≡ get_or q 0 0 = get_or-take t q 0 0 (omega arith) in
     let fragment : pair_at (take t q) 6 ≡ pair_at q 6 = pair_take t q 6 (omega arith) in
     let protocol : get_or (take t q) 9 0 ≡ get_or q 9 0 = get_or-take t q 9 0 (omega arith) in

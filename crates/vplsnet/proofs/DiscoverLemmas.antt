@@ -14,11 +14,12 @@ use Rattle.net_base.specs.plan.Planned.{IsEventOf, IsFrame}
 use Rattle.command_run.specs.Made.{made_by}
 use Rattle.command_run.proofs.PlannedLemmas.{made_planned}
 use Rattle.command_text.specs.Planned.{IsPlanned, names_of}
-use Rattle.discovery_net.specs.Acts.{Act, Does, Tells, all_done, events_in}
+use Rattle.discovery_net.specs.Acts.{Act, Does, Tells, events_in}
 use Rattle.discovery_net.specs.Deeds.{Discovery as DiscoveryState, Hello, adjacency_lives, hello_of, octets_of, opened}
 use Rattle.discovery_net.specs.Lines.{Lapse, acts_of, after_line, bring_acts, downs, lapses_from, lapses_with, may_open, next_hello}
 use Rattle.discovery_net.specs.Lists.{DiscoveryLists, ended_at}
 use Rattle.discovery_net.specs.Script.{HoldsBehindEach, events_made, script_acts, script_course}
+use Rattle.discovery_net.proofs.CourseLemmas.{done_alone}
 use Rattle.adjacency_table.specs.Histories.{ends_by_tick}
 use Rattle.ldp_discovery.specs.Live.{Deed}
 use Rattle.discovery_script.specs.declared.note.Note.TheVariants as note
@@ -61,10 +62,6 @@ events_joined : (acts more : List Act) → events_in (acts ++ more) ≡ events_i
 events_joined [] more = refl
 events_joined (Does event ∷ acts) more = ap (λ (es : List Event). event ∷ es) (events_joined acts more)
 events_joined (Tells told ∷ acts) more = events_joined acts more
-
-events_alone : (events : List Event) → events_in (all_done events) ≡ events
-events_alone [] = refl
-events_alone (event ∷ events) = ap (λ (es : List Event). event ∷ es) (events_alone events)
 
 -- both edges of each adjacency that ends are below this place
 abbrev AreBelow : ℕ → List Lapse → Type 0
@@ -125,7 +122,7 @@ line_planned plan d (line.Do command) of =
     let made : List Event = made_by plan d.network [] command in
     let one : All (IsEventOf plan) (made ++ []) =
     made_planned plan d.network [] (command ∷ []) (All-nil (All IsFrame)) (All-cons (IsPlanned plan) command [] of.0 (All-nil (IsPlanned plan))) in
-    subst (All (IsEventOf plan)) (append-nil made ∙ sym (events_alone made)) one
+    subst (All (IsEventOf plan)) (append-nil made ∙ sym (done_alone made)) one
 
 acts_planned : (plan : Plan) (d : DiscoveryState) (lines : List ScriptLine) → All (IsLineOf plan) lines → All (IsEventOf plan) (events_in (script_acts plan d lines))
 acts_planned plan d [] are = All-nil (IsEventOf plan)

@@ -1,6 +1,7 @@
 -- A run over events of an accepted plan keeps every promise.
 use Rattle.std.proofs.Common.{◌≡◌, ◌++◌, ◌∷◌, ℕ, List, [], Option, Some, None, length, subst, sym}
 use Rattle.std.specs.List.{All}
+use Rattle.net_values.proofs.RowLemmas.{front_all}
 use Rattle.net_base.specs.declared.plan.Plan.{Plan}
 use Rattle.net_base.specs.declared.trace.entry.Entry.{Entry}
 use Rattle.net_base.specs.declared.trace.event.Event.{Event}
@@ -33,14 +34,14 @@ use Rattle.scenario_text.specs.declared.scenario.Scenario.{Scenario}
 use Rattle.vplsnet.specs.Promises.{KeepsPromises}
 use Rattle.vplsnet.specs.RunOver.{HasRunOver, IsRunOver}
 use Rattle.vplsnet.specs.ScenarioRun.{HasRun, IsScenarioRun, events_of}
-use Rattle.command_run.proofs.PlannedLemmas.{All-first, made_planned}
+use Rattle.command_run.proofs.PlannedLemmas.{made_planned}
 
 -- the first events of a run are a run
 run_of_first : (plan : Plan) (events before after : List Event) → events ≡ before ++ after → IsRun plan events → IsRun plan before
 run_of_first plan events before after joined run = record {
   checked = run.checked;
   types = run.types;
-  planned = All-first (IsEventOf plan) before after (subst (λ (es : List Event). All (IsEventOf plan) es) joined run.planned);
+  planned = front_all (IsEventOf plan) before after (subst (λ (es : List Event). All (IsEventOf plan) es) joined run.planned);
 }
 
 promises_kept : (plan : Plan) (events : List Event) → IsRun plan events → KeepsPromises plan events
@@ -78,7 +79,7 @@ promises_kept plan events run = record {
 done_first : (plan : Plan) (all done : List Event) (trace : List Entry) (count : ℕ) (stop : Option NetStop) → AreDone all done trace count stop → All (IsEventOf plan) all → All (IsEventOf plan) done
 done_first plan all done trace count None same planned = subst (λ (es : List Event). All (IsEventOf plan) es) same planned
 done_first plan all done trace count (Some stop) stopped planned =
-    All-first (IsEventOf plan) done (stopped.event ∷ stopped.rest) (subst (λ (es : List Event). All (IsEventOf plan) es) stopped.split planned)
+    front_all (IsEventOf plan) done (stopped.event ∷ stopped.rest) (subst (λ (es : List Event). All (IsEventOf plan) es) stopped.split planned)
 
 pub is_run_over : (plan : Plan) (events : List Event) (left : NetLists) (reason : Option NetStop) → IsChecked plan → All (IsEventOf plan) events → HasRunOver plan events left reason → IsRunOver plan events left reason
 is_run_over plan events left reason checked planned has =

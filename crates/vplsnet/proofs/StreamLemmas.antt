@@ -402,7 +402,7 @@ tells octets a c outcome are ends =
       ends = ends (stream_lines read.pdus) read.ending is_text;
     })
 
-cut_behind : (a b c : Written) (text : List ℕ) → GoesOn a b text → IsCut b c [] → IsCut a c text
+pub cut_behind : (a b c : Written) (text : List ℕ) → GoesOn a b text → IsCut b c [] → IsCut a c text
 cut_behind a b c text goes cut = subst (λ (l : List ℕ). IsCut a c l) (append-nil text) (cut_later a b c text [] goes cut)
 
 -- the sink failed

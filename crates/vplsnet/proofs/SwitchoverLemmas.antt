@@ -1,14 +1,11 @@
 -- What `switchover` answers by what its stages say.
-use Rattle.std.proofs.Common.{◌≡◌, ◌<◌, ℕ, List, [], ◌∷◌, Option, None, Ok, Err, inl, inr, refl, sym, subst}
-use Rattle.std.specs.List.{All, AllByRecursion}
+use Rattle.std.proofs.Common.{◌≡◌, ℕ, List, [], ◌∷◌, Option, None, Ok, Err, inl, inr, refl, sym, subst}
+use Rattle.std.specs.List.{All}
 use Rattle.std.proofs.lemmas.List.Elements.{All-cons, All-head, All-nil, All-tail}
 use Rattle.net_base.specs.declared.plan.Plan.{Plan}
 use Rattle.net_base.specs.outside.Outside.{ReadCall, Rose}
 use Rattle.net_base.specs.plan.Accepted.{IsChecked}
 use Rattle.flight_laws.specs.Ends.{AreFieldOffers, HasTypes as HasFieldTypes}
-use Rattle.ldp_grammar.proofs.OctetLemmas.{octet_front}
-use Rattle.ldp_grammar.proofs.WrittenOctets.{no_octets}
-use Rattle.net_values.specs.Octets.{AreOctets}
 use Rattle.psn_net.specs.Lists.{NetLists}
 use Rattle.session_core.specs.Laws.{IsAddress}
 use Rattle.scenario_text.specs.declared.scenario.Scenario.{Scenario}
@@ -36,6 +33,7 @@ use Rattle.vplsnet.proofs.AnswerLemmas.{none_answers, now_of, old_of, refused_an
 use Rattle.vplsnet.proofs.PlanFileLemmas.{next_after, two_read, two_refused}
 use Rattle.vplsnet.proofs.ScriptFileLemmas.{no_lines, script_ended}
 use Rattle.vplsnet.proofs.WritingLemmas.{ends_front, ends_whole}
+use Rattle.packet_laws.proofs.MessageLemmas.{all_octets}
 
 -- ---- what is asked of a plan
 
@@ -44,14 +42,9 @@ all_as : {A : Type 0} (P Q : A → Type 0) (xs : List A) → ((x : A) → P x �
 all_as P Q [] follows all = All-nil Q
 all_as P Q (x ∷ xs) follows all = All-cons Q x xs (follows x (All-head P x xs all)) (all_as P Q xs follows (All-tail P x xs all))
 
--- octets one by one
-octets_at : (xs : List ℕ) → AllByRecursion (λ octet. octet < 256) xs → AreOctets xs
-octets_at [] all = no_octets
-octets_at (x ∷ xs) all = octet_front x xs all.0 (octets_at xs all.1)
-
 pub switch_types : (plan : Plan) → HasFieldTypes plan → HasTypes plan
 switch_types plan types = record {
-  routers = all_as (λ row. IsAddress row.address) IsRouter plan.edges (λ row is. record { four = is.four; octets = octets_at row.address.0 is.octets }) types.addresses;
+  routers = all_as (λ row. IsAddress row.address) IsRouter plan.edges (λ row is. record { four = is.four; octets = all_octets row.address.0 is.octets }) types.addresses;
   groups = all_as AreFieldOffers HasGroups plan.wires (λ row are. record { near = are.near.group; far = are.far.group }) types.offers;
 }
 

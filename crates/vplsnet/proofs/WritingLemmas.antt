@@ -1,13 +1,12 @@
 -- How the writing of a text ends.
 use Rattle.std.proofs.Common.{◌≡◌, ℕ, List, [], Option, Some, None, inl, inr, refl, subst}
-use Rattle.std.proofs.lemmas.List.{append-nil}
 use Rattle.net_base.specs.outside.Outside.{Rose}
 use Rattle.migration.specs.Law.{IsMigrated}
 use Rattle.psn_net.specs.declared.net_stop.NetStop.{NetStop}
 use Rattle.psn_net.specs.Lists.{NetLists}
 use Rattle.scenario_text.specs.declared.scenario.Scenario.{Scenario}
 use Rattle.text_lines.specs.Written.{Written, AppendsFront, GoesOn, IsCut, Writes}
-use Rattle.text_lines.proofs.WrittenLemmas.{cut_later, cut_text, whole_text}
+use Rattle.text_lines.proofs.WrittenLemmas.{cut_text, whole_text}
 use Rattle.vplsnet.specs.declared.outcome.Outcome.{Outcome}
 use Rattle.vplsnet.specs.declared.outcome.Outcome.TheVariants.{Done, WriteFault, NoMemory}
 use Rattle.vplsnet.specs.Answers.{run_text}
@@ -15,28 +14,20 @@ use Rattle.vplsnet.specs.Asked.{Asked}
 use Rattle.vplsnet.specs.RunOver.{outcome_by}
 use Rattle.vplsnet.specs.ScenarioRun.{IsScenarioRun}
 use Rattle.vplsnet.specs.Writing.{EndsMigration, EndsRun, EndsText}
+use Rattle.vplsnet.proofs.StreamLemmas.{cut_behind}
 
 -- ---- a text that was put, and then what waits is written
 
-pub whole_flushed : (a b : Written) (end : Option (List ℕ)) (text : List ℕ) → a.waiting ≡ [] → GoesOn a b text → Writes b.taken end b.waiting → Writes a.taken end text
-whole_flushed a b end text none goes writes = whole_text a b end text none goes writes
-
-cut_all : (a b c : Written) (text : List ℕ) → GoesOn a b text → IsCut b c [] → IsCut a c text
-cut_all a b c text goes cut = subst (λ (l : List ℕ). IsCut a c l) (append-nil text) (cut_later a b c text [] goes cut)
-
 pub front_flushed : (a b c : Written) (text : List ℕ) → a.waiting ≡ [] → GoesOn a b text → IsCut b c [] → AppendsFront a.taken c.taken text
-front_flushed a b c text none goes cut = cut_text a c text none (cut_all a b c text goes cut)
+front_flushed a b c text none goes cut = cut_text a c text none (cut_behind a b c text goes cut)
 
 pub rose_flushed : (a b c : Written) (text : List ℕ) → GoesOn a b text → IsCut b c [] → Rose a.faults c.faults
-rose_flushed a b c text goes cut = (cut_all a b c text goes cut).rose
-
-pub front_put : (a b : Written) (text : List ℕ) → a.waiting ≡ [] → IsCut a b text → AppendsFront a.taken b.taken text
-front_put a b text none cut = cut_text a b text none cut
+rose_flushed a b c text goes cut = (cut_behind a b c text goes cut).rose
 
 pub rose_put : (a b : Written) (text : List ℕ) → IsCut a b text → Rose a.faults b.faults
 rose_put a b text cut = cut.rose
 
-pub ruleset flush_steps = (whole_flushed, front_flushed, rose_flushed, front_put, rose_put)
+pub ruleset flush_steps = (whole_text, front_flushed, rose_flushed, cut_text, rose_put)
 
 -- ---- the end of a call
 

@@ -1,7 +1,7 @@
 -- What is remembered of services stays so.
-use Rattle.std.proofs.Common.{◌≡◌, ◌≢◌, ◌==◌, ◌∷◌, ◌∙◌, ◌||◌, [], ℕ, Bool, true, false, not, List, Option, Some, None, refl, sym, ap, subst, arith}
-use Rattle.std.proofs.lemmas.Bool.{eqb-true}
-use Rattle.std.proofs.lemmas.Bool.Decides.{nat_tests}
+use Rattle.std.proofs.Common.{◌≡◌, ◌≢◌, ◌==◌, ◌∷◌, ◌∙◌, [], ℕ, Bool, true, false, not, List, Option, Some, None, refl, sym, ap, subst}
+use Rattle.std.proofs.lemmas.Bool.{eqb-true, eqb-false}
+use Rattle.net_values.proofs.BoolLemmas.{second_fails, first_fails}
 use Rattle.net_base.specs.declared.plan.Plan.{Plan}
 use Rattle.net_base.specs.declared.plan.places.ServiceId.{ServiceId}
 use Rattle.net_base.specs.declared.trace.entry.Entry.{Entry}
@@ -17,15 +17,12 @@ use Rattle.window_audit.specs.declared.calm_memory.CalmMemory.{CalmMemory}
 
 -- ---- one service more
 
-apart : (p k : ℕ) → (p == k) ≡ false → p ≡ k → ⊥
-apart p k away same = grind (arith, nat_tests, away, same)
-
 -- a set with a service more has it, or had it
 in_set : (old new : List ℕ) (k p : ℕ) → ((q : ℕ) → q ≢ k → has new q ≡ has old q) → has new p ≡ true → (holds : ℕ → Type 0) → holds k → (has old p ≡ true → holds p) → holds p
 in_set old new k p others is holds here there = by (p == k) refl where
   by : (b : Bool) → (p == k) ≡ b → holds p
   by true same = subst holds (sym (eqb-true p k same)) here
-  by false away = there (sym (others p (apart p k away)) ∙ is)
+  by false away = there (sym (others p (eqb-false p k away)) ∙ is)
 
 pub calm_kept : (plan : Plan) (seen : Seen) (calm calm2 restless : List ℕ) (service : ServiceId) → ((q : ℕ) → q ≢ service.0 → has calm2 q ≡ has calm q) → is_seen_calm plan seen service ≡ true
     → Remembers plan seen (record { calm = calm; restless = restless }) → Remembers plan seen (record { calm = calm2; restless = restless })
@@ -100,14 +97,6 @@ entry_alike plan seen (entry.Session edge peer name) still service = absurd (cc 
 entry_alike plan seen (entry.Wire edge wire down) still service = absurd (cc still)
 entry_alike plan seen (entry.Pong edge wire sequence) still service = refl
 
-first_still : (a b : Bool) → (a || b) ≡ false → a ≡ false
-first_still true b h = h
-first_still false b h = refl
-
-rest_still : (a b : Bool) → (a || b) ≡ false → b ≡ false
-rest_still true b h = absurd (cc h)
-rest_still false b h = h
-
 seen_on_told : (seen : Seen) (e : Entry) (es : List Entry) → HasNoEvent (e ∷ es) → seen_from seen (e ∷ es) ≡ seen_from (told e seen) es
 seen_on_told seen (entry.Did event) es bare = absurd bare
 seen_on_told seen entry.Idle es bare = refl
@@ -122,7 +111,7 @@ seen_on_told seen (entry.Session edge peer name) es bare = refl
 seen_on_told seen (entry.Wire edge wire down) es bare = refl
 seen_on_told seen (entry.Pong edge wire sequence) es bare = refl
 
-bare_rest : (e : Entry) (es : List Entry) → HasNoEvent (e ∷ es) → HasNoEvent es
+pub bare_rest : (e : Entry) (es : List Entry) → HasNoEvent (e ∷ es) → HasNoEvent es
 bare_rest (entry.Did event) es bare = absurd bare
 bare_rest entry.Idle es bare = bare
 bare_rest (entry.Said from to octets) es bare = bare
@@ -140,7 +129,7 @@ entries_alike : (plan : Plan) (es : List Entry) (seen : Seen) → HasNoEvent es 
 entries_alike plan [] seen bare still service = refl
 entries_alike plan (e ∷ es) seen bare still service =
     ap (λ (s : Seen). is_seen_calm plan s service) (seen_on_told seen e es bare)
-    ∙ (entries_alike plan es (told e seen) (bare_rest e es bare) (rest_still (stirs e) (some_stirs es) still) service ∙ entry_alike plan seen e (first_still (stirs e) (some_stirs es) still) service)
+    ∙ (entries_alike plan es (told e seen) (bare_rest e es bare) (second_fails (stirs e) (some_stirs es) still) service ∙ entry_alike plan seen e (first_fails (stirs e) (some_stirs es) still) service)
 
 pub entries_kept : (plan : Plan) (es : List Entry) (seen : Seen) (memory : CalmMemory) → HasNoEvent es → some_stirs es ≡ false → Remembers plan seen memory → Remembers plan (seen_from seen es) memory
 entries_kept plan es seen memory bare still known = alike_kept plan seen (seen_from seen es) memory (entries_alike plan es seen bare still) known

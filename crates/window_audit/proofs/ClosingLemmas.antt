@@ -1,27 +1,16 @@
 -- Windows that are over.
-use Rattle.std.proofs.Common.{◌≡◌, ◌==◌, ◌<◌, ◌≤◌, ◌+◌, ◌&&◌, ◌||◌, ◌++◌, ◌∷◌, ◌∙◌, ◌⊎◌, inl, inr, [], ℕ, Bool, true, false, not, List, cond, drop, get_or, length, take, refl, ap, sym, subst, arith}
-use Rattle.std.proofs.lemmas.Bool.{eqb-true}
-use Rattle.std.proofs.lemmas.Bool.Decides.{nat_tests}
+use Rattle.std.proofs.Common.{◌≡◌, ◌==◌, ◌<◌, ◌≤◌, ◌+◌, ◌&&◌, ◌||◌, ◌++◌, ◌∷◌, ◌∙◌, ◌⊎◌, inl, inr, [], ℕ, Bool, true, false, not, List, cond, drop, get_or, length, take, refl, ap, sym, subst}
+use Rattle.std.proofs.lemmas.Bool.{eqb-true, or_right, or_left}
 use Rattle.std.proofs.lemmas.List.{append-nil, append_assoc, drop_more, take_all, take_more}
 use Rattle.std.proofs.lemmas.List.Folds.{list_any-append}
 use Rattle.std.specs.List.{filter}
+use Rattle.net_values.proofs.NumberLemmas.{same_number, equal_turned}
 use Rattle.seen_network.specs.Once.{has_seen}
 use Rattle.seen_network.specs.Seen.{Seen}
 use Rattle.seen_windows.specs.Past.{Among}
 use Rattle.seen_windows.specs.declared.window.Window.{Window}
 use Rattle.window_audit.specs.Lasting.{ClosesOne, HasClosed, is_one_of, is_over}
 use Rattle.window_audit.proofs.LastingLemmas.{among_either, among_filter, among_left, among_right, from_filter}
-
-and_first : (a b : Bool) → a && b ≡ true → a ≡ true
-and_first true b h = refl
-and_first false b h = absurd (cc (h))
-
-and_second : (a b : Bool) → a && b ≡ true → b ≡ true
-and_second true b h = h
-and_second false b h = absurd (cc (h))
-
-same_number : (n : ℕ) → (n == n) ≡ true
-same_number n = grind (arith, nat_tests)
 
 none_over : (gone : ℕ → Bool) (flooded : Window → Bool) (old new : ℕ → List Window) (owed : List Window) → ((q : ℕ) → gone q ≡ false) → ((q : ℕ) → new q ≡ old q)
     → HasClosed gone flooded old new owed owed
@@ -58,11 +47,8 @@ closed_one seen origin flooded old new owed owed2 none taken owes = record {
       one.over) one.was) one.flooded_is));
   closed = λ w h. of w (among_either w owed (filter flooded (old origin)) (subst (Among w) owes h));
 } where
-  turned : (x y : ℕ) → (x == y) ≡ (y == x)
-  turned x y = grind (arith, nat_tests)
-
   at_one : (q : ℕ) → (q == origin) ≡ is_over seen (origin ∷ []) q
-  at_one q = turned q origin ∙ by (origin == q) refl where
+  at_one q = equal_turned q origin ∙ by (origin == q) refl where
     by : (b : Bool) → (origin == q) ≡ b → b ≡ (b || false) && not (has_seen seen q)
     by true at = sym (ap (λ (o : ℕ). not (has_seen seen o)) (sym (eqb-true origin q at)) ∙ ap not none)
     by false away = refl
@@ -103,14 +89,6 @@ closed_on g1 g2 g flooded a b c o o1 o2 both first then = record {
     was = subst (Among w) (sym (first.left one.origin ∙ ap (λ (t : Bool). cond t [] (a one.origin)) fails)) one.was;
     flooded_is = one.flooded_is;
   })
-
-  or_left : (x y : Bool) → x ≡ true → x || y ≡ true
-  or_left true y h = refl
-  or_left false y h = absurd (cc (h))
-
-  or_right : (x y : Bool) → y ≡ true → x || y ≡ true
-  or_right true y h = refl
-  or_right false y h = h
 
   was_in : (q : ℕ) (w : Window) → Among w (b q) → Among w (a q)
   was_in q w h = by (g1 q) (subst (Among w) (first.left q) h) where

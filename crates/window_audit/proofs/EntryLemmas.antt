@@ -7,20 +7,7 @@ use Rattle.net_base.specs.declared.trace.entry.Entry.TheVariants as entry
 use Rattle.seen_network.specs.Once.{entered_as}
 use Rattle.seen_windows.specs.EventEntries.{HasNoEvent, entered_place}
 use Rattle.window_audit.specs.EventEntries.{entered_by}
-
-bare_rest : (e : Entry) (es : List Entry) → HasNoEvent (e ∷ es) → HasNoEvent es
-bare_rest (entry.Did event) es bare = absurd bare
-bare_rest entry.Idle es bare = bare
-bare_rest (entry.Said from to octets) es bare = bare
-bare_rest (entry.In at number octets) es bare = bare
-bare_rest (entry.Sent from to wire came packet from2 hops octets) es bare = bare
-bare_rest (entry.Copied packet of) es bare = bare
-bare_rest (entry.Aged packet) es bare = bare
-bare_rest (entry.Left at from hops octets) es bare = bare
-bare_rest (entry.Dropped edge from cause) es bare = bare
-bare_rest (entry.Session edge peer name) es bare = bare
-bare_rest (entry.Wire edge wire down) es bare = bare
-bare_rest (entry.Pong edge wire sequence) es bare = bare
+use Rattle.window_audit.proofs.CalmLemmas.{bare_rest}
 
 as_some : (circuit : CircuitId) (e : Entry) (es : List Entry) (n : ℕ) → HasNoEvent (e ∷ es) → entered_by circuit e ≡ Some n → entered_as circuit (e ∷ es) ≡ Some n
 as_some circuit (entry.Did event) es n bare is = absurd bare

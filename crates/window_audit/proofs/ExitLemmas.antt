@@ -6,6 +6,8 @@ use Rattle.std.specs.BTreeMap.{is_at}
 use Rattle.std.specs.List.{list_any}
 use Rattle.std.specs.Map.{lookup}
 use Rattle.std.specs.Ordering.{nat_cmp}
+use Rattle.net_values.proofs.BoolLemmas.{first_fails, or_none}
+use Rattle.net_values.proofs.NumberLemmas.{equal_turned, is_none}
 use Rattle.hvpls_spokes.specs.PortSet.{has}
 use Rattle.net_base.specs.declared.plan.Plan.{Plan}
 use Rattle.net_base.specs.declared.plan.places.CircuitId.{CircuitId}
@@ -41,13 +43,6 @@ at_port plan (entry.Pong edge wire sequence) limits placed = tt
 same_number : (a x : ℕ) → is_at (nat_cmp a) x ≡ (x == a)
 same_number a x = grind (arith, nat_tests)
 
-turned : (x y : ℕ) → (x == y) ≡ (y == x)
-turned x y = grind (arith, nat_tests)
-
-no_less : (a : Bool) → a ≡ a || false
-no_less true = refl
-no_less false = refl
-
 pub left_once : (at : CircuitId) (from hops : ℕ) (old new : List (ℕ × Leavings)) (first last : Leavings)
     → ((c : ℕ) → has first.at c ≡ has_left (leavings_of old from) c) → first.again ≡ is_again (leavings_of old from) → first.far ≡ is_far (leavings_of old from)
     → has last.at at.0 ≡ true → ((c : ℕ) → (c ≡ at.0 → ⊥) → has last.at c ≡ has first.at c) → last.again ≡ first.again || has first.at at.0 → last.far ≡ first.far || nat_lt 12 hops
@@ -70,12 +65,12 @@ left_once at from hops old new first last first_at first_again first_far here ot
   at_by o c true is false g = others c (apart c g) ∙ (first_at c ∙ ap (λ k. has_left (leavings_of old k) c) (sym (eqb-true o from is)))
 
   again_by : (o : ℕ) (a : Bool) → (o == from) ≡ a → is_again (cond a (Some last) (leavings_of old o)) ≡ is_again (leavings_of old o) || (a && has_left (leavings_of old o) at.0)
-  again_by o false is = no_less (is_again (leavings_of old o))
+  again_by o false is = or_none (is_again (leavings_of old o))
   again_by o true is = again ∙ (ap (λ b. b || has first.at at.0) first_again
       ∙ (ap (λ b. is_again (leavings_of old from) || b) (first_at at.0) ∙ ap (λ k. is_again (leavings_of old k) || has_left (leavings_of old k) at.0) (sym (eqb-true o from is))))
 
   far_by : (o : ℕ) (a : Bool) → (o == from) ≡ a → is_far (cond a (Some last) (leavings_of old o)) ≡ is_far (leavings_of old o) || (a && nat_lt 12 hops)
-  far_by o false is = no_less (is_far (leavings_of old o))
+  far_by o false is = or_none (is_far (leavings_of old o))
   far_by o true is = far ∙ (ap (λ b. b || nat_lt 12 hops) first_far ∙ ap (λ k. is_far (leavings_of old k) || nat_lt 12 hops) (sym (eqb-true o from is)))
 
 -- ---- the trace
@@ -101,7 +96,7 @@ times_left : (at : CircuitId) (from hops : ℕ) (octets : List ℕ) (trace : Lis
 times_left at from hops octets trace o c = times_more o c trace (entry.Left at from hops octets)
     ∙ (ap (λ b. times_seen o c trace + (cond b 1 0 + 0)) same ∙ no_more (cond (o == from && c.0 == at.0) 1 0)) where
       same : (from == o && at.0 == c.0) ≡ (o == from && c.0 == at.0)
-      same = ap (λ b. b && at.0 == c.0) (turned from o) ∙ ap (λ b. o == from && b) (turned at.0 c.0)
+      same = ap (λ b. b && at.0 == c.0) (equal_turned from o) ∙ ap (λ b. o == from && b) (equal_turned at.0 c.0)
 
       no_more : (k : ℕ) → times_seen o c trace + (k + 0) ≡ times_seen o c trace + k
       no_more k = omega arith
@@ -113,15 +108,8 @@ some_more : (n : ℕ) (b : Bool) → cond b true (nat_lt 0 n) ≡ nat_lt 0 (n + 
 some_more n true = sym (let h : nat_lt 0 (n + 1) ≡ true = grind (arith, nat_tests) in h)
 some_more n false = ap (nat_lt 0) (let h : n ≡ n + 0 = omega arith in h)
 
-is_none : (n : ℕ) → nat_lt 0 n ≡ false → n ≡ 0
-is_none n h = grind (arith, nat_tests, h)
-
 is_some : (n : ℕ) → nat_lt 0 n ≡ true → 1 ≤ n
 is_some n h = grind (arith, nat_tests, h)
-
-or_left : (a b : Bool) → a || b ≡ false → a ≡ false
-or_left false b h = refl
-or_left true b h = absurd (grind (arith, h))
 
 -- so much more where it is so and where it is not
 more_where : (a b : Bool) → a ≡ true → b ≡ true → one_if (a && b) ≡ 1
@@ -144,7 +132,7 @@ told_left at from hops octets old new trace port left known = record {
   far = λ o.
       left.far_is o
       ∙ (ap (λ (b : Bool). b || (o == from && nat_lt 12 hops)) (known.far o)
-      ∙ (ap (λ (b : Bool). list_any (left_far o) trace || (b && nat_lt 12 hops)) (turned o from) ∙ sym (any_more (left_far o) trace (entry.Left at from hops octets))));
+      ∙ (ap (λ (b : Bool). list_any (left_far o) trace || (b && nat_lt 12 hops)) (equal_turned o from) ∙ sym (any_more (left_far o) trace (entry.Left at from hops octets))));
 } where
   more : (o : ℕ) (c : CircuitId) → times_seen o c (trace ++ entry.Left at from hops octets ∷ []) ≡ times_seen o c trace + cond (o == from && c.0 == at.0) 1 0
   more o c = times_left at from hops octets trace o c
@@ -155,7 +143,7 @@ told_left at from hops octets old new trace port left known = record {
   far_off o c out false same false = omega (arith, known.beyond o c out)
 
   kept : (o : ℕ) → is_again (leavings_of new o) ≡ false → is_again (leavings_of old o) ≡ false
-  kept o none = or_left (is_again (leavings_of old o)) (o == from && has_left (leavings_of old o) at.0) (sym (left.again_is o) ∙ none)
+  kept o none = first_fails (is_again (leavings_of old o)) (o == from && has_left (leavings_of old o) at.0) (sym (left.again_is o) ∙ none)
 
   once_by : (o : ℕ) → is_again (leavings_of new o) ≡ false → (c : CircuitId) → (a : Bool) → (o == from) ≡ a → (b : Bool) → (c.0 == at.0) ≡ b
       → times_seen o c (trace ++ entry.Left at from hops octets ∷ []) ≤ 1

@@ -1,9 +1,8 @@
 -- The windows that are open yet, behind one event more.
 use Rattle.std.proofs.Common.{◌≡◌, ◌==◌, ◌&&◌, ◌++◌, ◌∷◌, ◌∙◌, ◌⊎◌, inl, inr, [], ℕ, Bool, true, false, not, List, Option, Some, None, cond, refl, ap, sym, subst}
 use Rattle.std.proofs.lemmas.Bool.{eqb-true}
-use Rattle.std.proofs.lemmas.Bool.Decides.{nat_tests}
-use Rattle.std.proofs.Common.{arith}
 use Rattle.std.specs.List.{filter}
+use Rattle.net_values.proofs.NumberLemmas.{same_number}
 use Rattle.net_base.specs.declared.plan.Plan.{Plan}
 use Rattle.net_base.specs.declared.trace.entry.Entry.{Entry}
 use Rattle.net_base.specs.declared.trace.entry.Entry.TheVariants.{Did}
@@ -58,9 +57,6 @@ none_in false w xs h = absurd h
 abbrev pub one_list : Option Window → List Window
 one_list None = []
 one_list (Some w) = w ∷ []
-
-same_number : (n : ℕ) → (n == n) ≡ true
-same_number n = grind (arith, nat_tests)
 
 module _ (plan : Plan) (done : List Entry) (event : Event) (rest : List Entry) (found : Option Window) (losses : List ℕ) (f0 f1 f2 f3 : ℕ → List Window) (owed owed2 : List Window)
     (before : AreLasting plan done f0)

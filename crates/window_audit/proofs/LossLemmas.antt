@@ -1,14 +1,14 @@
 -- The frames of which copies go.
-use Rattle.std.proofs.Common.{◌≡◌, ◌==◌, ◌<◌, ◌≤◌, ◌+◌, ◌||◌, ◌++◌, ◌∷◌, ◌∙◌, [], ℕ, Bool, true, false, List, Option, Some, None, Result, Ok, Err, OnOk, cond, drop, get_or, length, refl, ap, sym, subst}
+use Rattle.std.proofs.Common.{◌≡◌, ◌==◌, ◌≤◌, ◌+◌, ◌||◌, ◌++◌, ◌∷◌, ◌∙◌, [], ℕ, Bool, true, false, List, Option, Some, None, Result, Ok, Err, OnOk, cond, drop, length, refl, ap, sym, subst}
 use Rattle.std.proofs.lemmas.Bool.{eqb-true}
-use Rattle.std.proofs.lemmas.List.{drop_all, drop_more}
+use Rattle.std.proofs.lemmas.List.{drop_all}
 use Rattle.std.specs.List.{list_any}
+use Rattle.net_values.proofs.BoolLemmas.{second_fails, first_fails}
 use Rattle.net_base.specs.declared.trace.entry.Entry.{Entry}
 use Rattle.net_base.specs.declared.trace.entry.Entry.TheVariants as entry
-use Rattle.net_base.specs.declared.trace.state_name.StateName.{StateName}
 use Rattle.net_base.specs.declared.trace.state_name.StateName.TheVariants as state
 use Rattle.seen_network.specs.Once.{has_seen}
-use Rattle.seen_network.specs.Seen.{Seen, SeenCopy, copy_comes, copy_goes, delivers, end_goes, origin_among, repeats, said_towards, seen_from, session_told, told, with_copies, with_octets, with_on, with_rest, with_standing, with_up, without_copy, without_edge}
+use Rattle.seen_network.specs.Seen.{Seen, SeenCopy, copy_comes, copy_goes, delivers, end_goes, origin_among, repeats, seen_from, told, with_copies, with_octets, with_on, with_rest, with_standing, with_up, without_copy, without_edge}
 use Rattle.seen_state.specs.Copies.{CopyMaps, Tells, origin_under}
 use Rattle.seen_state.specs.SeenState.{Knows}
 use Rattle.seen_state.specs.declared.seen_state.SeenState.{SeenState}
@@ -22,14 +22,6 @@ on_ok_two (Err e) f a b = tt
 
 -- ---- one copy goes
 
-or_first : (a b : Bool) → a || b ≡ false → a ≡ false
-or_first true b h = absurd (cc (h))
-or_first false b h = refl
-
-or_second : (a b : Bool) → a || b ≡ false → b ≡ false
-or_second true b h = absurd (cc (h))
-or_second false b h = h
-
 abbrev any_of : ℕ → List SeenCopy → Bool
 any_of origin copies = list_any (λ copy. copy.origin == origin) copies
 
@@ -41,14 +33,14 @@ gone number origin (c ∷ cs) had lost = by (c.number == number) (c.origin == or
       → cond a (Some c.origin) (origin_among number cs) ≡ Some origin
   by true true is had lost rest = ap Some (eqb-true c.origin origin is)
   by true false is had lost rest = absurd (cc (had, lost))
-  by false true is had lost rest = absurd (cc (sym is ∙ or_first (c.origin == origin) (any_of origin (without_copy number cs)) lost))
-  by false false is had lost rest = rest had (or_second (c.origin == origin) (any_of origin (without_copy number cs)) lost)
+  by false true is had lost rest = absurd (cc (sym is ∙ first_fails (c.origin == origin) (any_of origin (without_copy number cs)) lost))
+  by false false is had lost rest = rest had (second_fails (c.origin == origin) (any_of origin (without_copy number cs)) lost)
 
 first_none : (origin : ℕ) (xs ys : List SeenCopy) → any_of origin (xs ++ ys) ≡ false → any_of origin xs ≡ false
 first_none origin [] ys none = refl
 first_none origin (x ∷ xs) ys none =
-    ap (λ (b : Bool). b || any_of origin xs) (or_first (x.origin == origin) (any_of origin (xs ++ ys)) none)
-    ∙ first_none origin xs ys (or_second (x.origin == origin) (any_of origin (xs ++ ys)) none)
+    ap (λ (b : Bool). b || any_of origin xs) (first_fails (x.origin == origin) (any_of origin (xs ++ ys)) none)
+    ∙ first_none origin xs ys (second_fails (x.origin == origin) (any_of origin (xs ++ ys)) none)
 
 pub went_of : (maps : CopyMaps) (number origin : ℕ) (seen : Seen) → Tells maps seen.under_way → has_seen seen origin ≡ true → has_seen (copy_goes number seen) origin ≡ false
     → origin_under maps number ≡ Some origin
@@ -71,24 +63,9 @@ repeated_of maps number origin (Some of) seen told had lost = came_of maps numbe
 pub none_by : (before after : Seen) (origin : ℕ) → after.under_way ≡ before.under_way → has_seen before origin ≡ true → has_seen after origin ≡ false → ⊥
 none_by before after origin same had lost = cc (sym had ∙ (ap (λ (cs : List SeenCopy). any_of origin cs) (sym same) ∙ lost))
 
-pub said_same : (from to : ℕ) (octets : List ℕ) (seen : Seen) → (said_towards from to octets seen).under_way ≡ seen.under_way
-unfolding with_octets
-said_same from to octets seen = by (seen.stands to from) where
-  by : (b : Bool) → (cond b (with_octets from to (seen.pipes from to ++ octets) seen) seen).under_way ≡ seen.under_way
-  by true = refl
-  by false = refl
-
 pub end_same : (edge peer : ℕ) (seen : Seen) → (end_goes edge peer seen).under_way ≡ seen.under_way
 unfolding with_octets with_rest with_standing
 end_same edge peer seen = refl
-
-pub session_same : (edge peer : ℕ) (name : StateName) (seen : Seen) → (session_told edge peer name seen).under_way ≡ seen.under_way
-session_same edge peer (state.Ended why) seen = end_same edge peer seen
-session_same edge peer state.NonExistent seen = refl
-session_same edge peer state.Initialized seen = refl
-session_same edge peer state.OpenSent seen = refl
-session_same edge peer state.OpenRec seen = refl
-session_same edge peer state.Operational seen = refl
 
 pub up_same : (edge wire : ℕ) (up : Bool) (seen : Seen) → (with_up edge wire up seen).under_way ≡ seen.under_way
 unfolding with_up
@@ -152,9 +129,6 @@ pub record IsToldSoFar (seen : Seen) (entries rest : List Entry) (state : SeenSt
   pub mid : Seen
   pub follows : Follows seen mid state old new
   pub on : seen_from mid rest ≡ seen_from seen entries
-
-pub item_at : {X : Type 0} (xs : List X) (place : ℕ) (x : X) → place < length xs → x ≡ get_or xs place x → drop place xs ≡ x ∷ drop (place + 1) xs
-item_at xs place x within is = drop_more xs place x within ∙ ap (λ y. y ∷ drop (place + 1) xs) (sym is)
 
 pub told_first : (seen : Seen) (entries : List Entry) (state : SeenState) (losses : List ℕ) → Knows state seen → IsToldSoFar seen entries entries state losses losses
 told_first seen entries state losses knows = record { mid = seen; follows = follows_none seen state losses knows; on = refl }

@@ -14,6 +14,7 @@ use Rattle.net_base.specs.trace.Frame.{destination_of, of_size, pair_at, tag_pro
 use Rattle.net_base.specs.trace.Isolated.{inner_at, inner_by, mtu_by}
 use Rattle.net_values.specs.Mac.{is_group_address}
 use Rattle.net_values.specs.declared.mac.Mac.{Mac}
+use Rattle.net_values.proofs.NumberLemmas.{lt_next}
 use Rattle.hvpls_spokes.specs.PortSet.{has}
 use Rattle.seen_network.specs.Once.{is_row_of}
 use Rattle.seen_network.specs.Seen.{Seen}
@@ -27,14 +28,6 @@ due_is : (plan : Plan) (seen : Seen) (service : ServiceId) (sender : CircuitId) 
     → is_due plan seen service sender place ≡ ((row.service.0 == service.0 && seen.on place) && not (place == sender.0))
 due_is plan seen service sender place row within is =
     ap (λ (r : Option CircuitPlan). (is_row_of service r && seen.on place) && not (place == sender.0)) (slice_get_read plan.circuits (length plan.circuits) place row refl within is)
-
-below : (p place : ℕ) → (p == place) ≡ false → nat_lt p (place + 1) ≡ nat_lt p place
-below p place away = by (nat_lt p (place + 1)) refl (nat_lt p place) refl where
-  by : (a : Bool) → nat_lt p (place + 1) ≡ a → (b : Bool) → nat_lt p place ≡ b → a ≡ b
-  by true h true g = refl
-  by false h false g = refl
-  by true h false g = absurd (grind (arith, nat_tests, h, g, away))
-  by false h true g = absurd (grind (arith, nat_tests, h, g))
 
 -- the sites up to one more
 pub sites_more : (plan : Plan) (seen : Seen) (service : ServiceId) (sender : CircuitId) (place : ℕ) (row : CircuitPlan) (old new : List ℕ) → place < length plan.circuits
@@ -52,7 +45,7 @@ sites_more plan seen service sender place row old new within is upto here others
       ap (has new) (eqb-true p place at)
       ∙ (here ∙ (sym (due_is plan seen service sender place row within is)
       ∙ (ap (λ (b : Bool). b && is_due plan seen service sender place) (sym now) ∙ ap (λ (k : ℕ). nat_lt k (place + 1) && is_due plan seen service sender k) (sym (eqb-true p place at)))))
-  by false away = others p away ∙ (upto p ∙ ap (λ (b : Bool). b && is_due plan seen service sender p) (sym (below p place away)))
+  by false away = others p away ∙ (upto p ∙ ap (λ (b : Bool). b && is_due plan seen service sender p) (sym (lt_next p place away)))
 
 -- ---- where a frame goes
 

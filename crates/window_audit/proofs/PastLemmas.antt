@@ -1,6 +1,7 @@
 -- What is known behind one event more.
 use Rattle.std.proofs.Common.{◌≡◌, ◌<◌, ◌≤◌, ◌+◌, ◌-◌, ◌++◌, ◌∷◌, ◌∙◌, [], ℕ, Bool, true, false, List, Option, Some, None, cond, drop, get_or, length, take, refl, ap, sym, subst, arith}
 use Rattle.std.proofs.lemmas.List.{append_assoc, length-append, length-drop, take_all, take_more}
+use Rattle.net_values.proofs.RowLemmas.{drop_next}
 use Rattle.net_base.specs.declared.plan.Plan.{Plan}
 use Rattle.net_base.specs.declared.trace.entry.Entry.{Entry}
 use Rattle.net_base.specs.declared.trace.entry.Entry.TheVariants as entry
@@ -15,7 +16,7 @@ use Rattle.seen_state.specs.declared.seen_state.SeenState.{SeenState}
 use Rattle.seen_windows.specs.EventEntries.{HasNoEvent, event_of, tells_idle}
 use Rattle.seen_windows.specs.Past.{Among, AreOwed, IsOpen, IsOpened, IsOwed}
 use Rattle.seen_windows.specs.declared.window.Window.{Window}
-use Rattle.seen_windows.proofs.EventLemmas.{ends_bare, idle_told}
+use Rattle.seen_windows.proofs.EventLemmas.{idle_told, no_event_in}
 use Rattle.seen_windows.proofs.PastLemmas.{still_open, still_owed}
 use Rattle.window_audit.specs.CalmMemory.{Remembers}
 use Rattle.window_audit.specs.Exits.{HasExits}
@@ -29,7 +30,6 @@ use Rattle.window_audit.specs.declared.past.Past.{Past}
 use Rattle.window_audit.specs.declared.source.Source.{Source}
 use Rattle.window_audit.proofs.ExitLemmas.{at_port}
 use Rattle.window_audit.proofs.LastingLemmas.{goes_on}
-use Rattle.window_audit.proofs.LossLemmas.{item_at}
 
 -- ---- entry by entry
 
@@ -43,7 +43,7 @@ whole_all trace xs place past = ap (λ (ys : List Entry). trace ++ ys) (take_all
 
 -- the first entry, and those behind it
 pub split_first : (xs : List Entry) (x : Entry) → 1 ≤ length xs → x ≡ get_or xs 0 x → xs ≡ x ∷ take (length xs - 1) (drop 1 xs)
-split_first xs x some is = item_at xs 0 x (omega (arith, some)) is ∙ ap (λ (ys : List Entry). x ∷ ys) (sym (take_all (length xs - 1) (drop 1 xs) (omega (arith, length-drop 1 xs))))
+split_first xs x some is = drop_next xs 0 x (omega (arith, some)) is ∙ ap (λ (ys : List Entry). x ∷ ys) (sym (take_all (length xs - 1) (drop 1 xs) (omega (arith, length-drop 1 xs))))
 
 pub at_ports : (plan : Plan) (es : List Entry) → IsWithinLimits plan → ArePlaced plan es → AreAtPorts es
 at_ports plan [] limits placed = tt
@@ -106,21 +106,18 @@ passed_on plan done event rest found idle state1 state2 calm2 losses0 losses1 lo
 
 -- ---- before the first event
 
-no_event_of : (before : List Entry) (event : Event) (during : List Entry) → HasNoEvent (before ++ entry.Did event ∷ during) → ⊥
-no_event_of before event during bare = cc (ends_bare before (entry.Did event ∷ during) bare tt)
-
 not_open : (plan : Plan) (trace : List Entry) (w : Window) → HasNoEvent trace → IsOpen plan trace w → ⊥
-not_open plan trace w bare o = no_event_of o.before (Frame o.circuit o.octets) o.during (subst HasNoEvent o.is bare)
+not_open plan trace w bare o = no_event_in o.before (Frame o.circuit o.octets) o.during (subst HasNoEvent o.is bare)
 
 not_owed : (plan : Plan) (trace : List Entry) (w : Window) → HasNoEvent trace → IsOwed plan trace w → ⊥
-not_owed plan trace w bare o = no_event_of o.before (Frame o.circuit o.octets) (o.during ++ o.after) (subst HasNoEvent o.is bare)
+not_owed plan trace w bare o = no_event_in o.before (Frame o.circuit o.octets) (o.during ++ o.after) (subst HasNoEvent o.is bare)
 
 pub lasting_none : (plan : Plan) (trace : List Entry) (f : ℕ → List Window) → HasNoEvent trace → ((origin : ℕ) (w : Window) → Among w (f origin) → ⊥) → AreLasting plan trace f
 lasting_none plan trace f bare none = record {
   windows = [];
   are_open = record {
     only = λ w h. absurd h;
-    each = λ before circuit octets during service origin is opened spared. absurd (no_event_of before (Frame circuit octets) during (subst HasNoEvent is bare));
+    each = λ before circuit octets during service origin is opened spared. absurd (no_event_in before (Frame circuit octets) during (subst HasNoEvent is bare));
   };
   listed = λ w h. absurd h;
   lists = λ origin w h. none origin w h;
@@ -131,7 +128,7 @@ lasting_none plan trace f bare none = record {
 pub owed_none : (plan : Plan) (trace : List Entry) (owed : List Window) → HasNoEvent trace → ((w : Window) → Among w owed → ⊥) → AreOwed plan trace owed
 owed_none plan trace owed bare none = record {
   only = λ w h. absurd (none w h);
-  each = λ before circuit octets during after service origin is begins shown. absurd (no_event_of before (Frame circuit octets) (during ++ after) (subst HasNoEvent is bare));
+  each = λ before circuit octets during after service origin is begins shown. absurd (no_event_in before (Frame circuit octets) (during ++ after) (subst HasNoEvent is bare));
 }
 
 still_none : (plan : Plan) (trace : List Entry) (f : ℕ → List Window) → HasNoEvent trace → AreLasting plan [] f → AreLasting plan trace f

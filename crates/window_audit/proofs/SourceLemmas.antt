@@ -2,6 +2,7 @@
 use Rattle.std.proofs.Common.{◌≡◌, ◌==◌, ◌<◌, ◌&&◌, ◌||◌, ◌++◌, ◌∷◌, ◌∙◌, [], ℕ, Bool, true, false, List, Option, Some, None, cond, refl, ap, sym, arith, length, drop}
 use Rattle.std.proofs.lemmas.List.{length-drop, length-take}
 use Rattle.std.proofs.lemmas.Slice.Eq.{bytes_eq-Decides}
+use Rattle.std.proofs.lemmas.Bool.{and_right}
 use Rattle.std.specs.List.{list_any}
 use Rattle.std.specs.Str.{bytes_eq}
 use Rattle.net_base.specs.declared.plan.Plan.{Plan}
@@ -38,10 +39,6 @@ or_false : (b c : Bool) → c ≡ false → b ≡ b || c
 or_false true c is = refl
 or_false false c is = sym is
 
-and_false : (b c : Bool) → c ≡ false → b && c ≡ false
-and_false true c is = is
-and_false false c is = refl
-
 pub put_one : (old new : List Source) (s : Source)
     → ((q : Source) → list_any (λ (k : Source). q.service == k.service && bytes_eq q.address.0 k.address.0) new
     ≡ cond (s.service == q.service && bytes_eq s.address.0 q.address.0) true (list_any (λ (k : Source). q.service == k.service && bytes_eq q.address.0 k.address.0) old))
@@ -51,7 +48,7 @@ put_one old new s put other address = put (record { service = other.0; address =
 pub entered_short : (plan : Plan) (circuit : CircuitId) (octets : List ℕ) (sources : List Source) → length octets < 12 → HasEntered plan circuit octets sources sources
 entered_short plan circuit octets sources few = λ service address six.
     or_false (has_source sources service.0 address.0) (comes_from plan circuit octets service address.0)
-    (and_false (is_row_of service (circuit_row plan circuit)) (bytes_eq (source_of octets) address.0) (short_source octets address.0 few six))
+    (and_right (is_row_of service (circuit_row plan circuit)) (bytes_eq (source_of octets) address.0) (short_source octets address.0 few six))
 
 pub entered_nowhere : (plan : Plan) (circuit : CircuitId) (octets : List ℕ) (sources : List Source) → circuit_row plan circuit ≡ None → HasEntered plan circuit octets sources sources
 entered_nowhere plan circuit octets sources none = λ service address six.

@@ -1,6 +1,6 @@
 -- Windows that a lost or repeated copy breaks.
-use Rattle.std.proofs.Common.{◌≡◌, ◌==◌, ◌||◌, ◌∙◌, [], ℕ, Bool, true, false, not, List, Some, None, cond, refl, ap, sym, arith}
-use Rattle.std.proofs.lemmas.Bool.Decides.{nat_tests}
+use Rattle.std.proofs.Common.{◌≡◌, ◌==◌, ◌||◌, ◌∙◌, [], ℕ, Bool, true, false, not, List, Some, None, cond, refl, ap, sym}
+use Rattle.net_values.proofs.NumberLemmas.{equal_turned}
 use Rattle.seen_network.specs.Once.{names_seen}
 use Rattle.seen_network.specs.Seen.{Seen}
 use Rattle.seen_state.specs.Copies.{CopyMaps, Tells, is_number, origin_under}
@@ -23,12 +23,9 @@ spoiled_none maps seen origin packet idle ws none tells = by idle where
 pub spoiled_one : (maps : CopyMaps) (seen : Seen) (origin packet one : ℕ) (idle : Bool) (ws left : List Window) → idle ≡ false → origin_under maps packet ≡ Some one → Tells maps seen.under_way
     → left ≡ cond (origin == one) [] ws → left ≡ cond (idle || not (names_seen seen origin packet)) ws []
 spoiled_one maps seen origin packet one idle ws left fails some tells is =
-    is ∙ (by (origin == one) ∙ (ap (λ (n : Bool). cond (not n) ws []) (turned origin one ∙ sym names) ∙ ap (λ (b : Bool). cond (b || not (names_seen seen origin packet)) ws []) (sym fails))) where
+    is ∙ (by (origin == one) ∙ (ap (λ (n : Bool). cond (not n) ws []) (equal_turned origin one ∙ sym names) ∙ ap (λ (b : Bool). cond (b || not (names_seen seen origin packet)) ws []) (sym fails))) where
       names : names_seen seen origin packet ≡ (one == origin)
       names = sym (seen_named maps seen origin packet tells) ∙ ap (is_number origin) some
-
-      turned : (x y : ℕ) → (x == y) ≡ (y == x)
-      turned x y = grind (arith, nat_tests)
 
       by : (b : Bool) → cond b [] ws ≡ cond (not b) ws []
       by true = refl

@@ -1,6 +1,6 @@
 -- Whether frames left where they had to.
 use Rattle.std.proofs.Common.{◌≡◌, ◌==◌, ◌<◌, ◌≤◌, ◌+◌, ◌&&◌, ◌||◌, ◌++◌, ◌∷◌, ◌∙◌, ◌⊎◌, [], inl, inr, ℕ, Bool, true, false, List, Option, Some, None, nat_lt, cond, min, refl, ap, sym, subst, arith, length}
-use Rattle.std.proofs.lemmas.Bool.{eqb-true}
+use Rattle.std.proofs.lemmas.Bool.{eqb-true, or_parts}
 use Rattle.std.proofs.lemmas.Bool.Decides.{nat_tests}
 use Rattle.std.specs.List.{list_any}
 use Rattle.hvpls_spokes.specs.PortSet.{has}
@@ -19,11 +19,6 @@ use Rattle.window_audit.specs.declared.leavings.Leavings.{Leavings}
 
 -- ---- segments
 
-or_none : (a b : Bool) → a || b ≡ false → (a ≡ false) × (b ≡ false)
-or_none false false h = (refl, refl)
-or_none false true h = absurd (grind (arith, h))
-or_none true b h = absurd (grind (arith, h))
-
 near_one : (from origin hops : ℕ) → (from == origin && nat_lt 12 hops) ≡ false → from ≡ origin → hops ≤ 12
 near_one from origin hops h same = by (nat_lt 12 hops) refl where
   by : (b : Bool) → nat_lt 12 hops ≡ b → hops ≤ 12
@@ -34,8 +29,8 @@ near_one from origin hops h same = by (nat_lt 12 hops) refl where
 pub all_near : (origin : ℕ) (es : List Entry) → list_any (left_far origin) es ≡ false → SeenWithin 12 origin es
 all_near origin [] h = tt
 all_near origin (entry.Left at from hops octets ∷ es) h = (
-  near_one from origin hops (or_none (left_far origin (entry.Left at from hops octets)) (list_any (left_far origin) es) h).0,
-  all_near origin es (or_none (left_far origin (entry.Left at from hops octets)) (list_any (left_far origin) es) h).1,
+  near_one from origin hops (or_parts (left_far origin (entry.Left at from hops octets)) (list_any (left_far origin) es) h).0,
+  all_near origin es (or_parts (left_far origin (entry.Left at from hops octets)) (list_any (left_far origin) es) h).1,
 )
 all_near origin (entry.Idle ∷ es) h = all_near origin es h
 all_near origin (entry.Said from to octets ∷ es) h = all_near origin es h

@@ -3,8 +3,9 @@ use Rattle.std.proofs.Common.{◌∙◌}
 use Rattle.vplsnet.specs.Asked.{asked_by}
 use Rattle.vplsnet.specs.ScenarioRun.{IsScenarioRun}
 use Rattle.vplsnet.proofs.RunLemmas.{is_scenario_run}
-use Rattle.vplsnet.proofs.WritingLemmas.{ends_front, ends_run, ends_whole, front_flushed, rose_flushed, whole_flushed}
+use Rattle.vplsnet.proofs.WritingLemmas.{ends_front, ends_run, ends_whole, front_flushed, rose_flushed}
 use Rattle.vplsnet.proofs.run.finish_work.Goals as goal
+use Rattle.text_lines.proofs.WrittenLemmas.{whole_text}
 
 pub returns-in-Ok-flush-clause-ends : goal.returns-in-Ok-flush-clause-ends
 returns-in-Ok-flush-clause-ends g c =
@@ -12,7 +13,7 @@ returns-in-Ok-flush-clause-ends g c =
     is_scenario_run _ _ _ _ c.requires.checked c.requires.planned c.requires.frames c.in-Ok-run_scenario.ensures.run in
     ends_run _ _ (asked_by c.args.request) c.in-Ok-run_scenario.run'.network c.in-Ok-run_scenario.run'.stop _ _ _ _ is
     (ends_whole _ _ _ _ _ _ _ (c.after_run-in-Ok-flush.ensures.outcome ∙ c.outcome_of.ensures) c.after_run-in-Ok-flush.ensures.network
-    (whole_flushed _ _ _ _ c.in-Ok.ensures c.in-Ok-put_run.ensures c.in-Ok-flush.ensures.whole))
+    (whole_text _ _ _ _ c.in-Ok.ensures c.in-Ok-put_run.ensures c.in-Ok-flush.ensures.whole))
 
 pub returns-clause-ends : goal.returns-clause-ends
 returns-clause-ends g c =

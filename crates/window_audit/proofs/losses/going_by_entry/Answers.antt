@@ -2,7 +2,8 @@ use Rattle.std.proofs.Common.{◌≡◌, ◌∙◌, false, subst}
 use Rattle.net_base.specs.declared.trace.entry.Entry.{Entry}
 use Rattle.seen_network.specs.Once.{has_seen}
 use Rattle.seen_network.specs.Seen.{is_up, origin_among, said_towards, session_told, told, with_up}
-use Rattle.window_audit.proofs.LossLemmas.{came_of, none_by, repeated_of, said_same, session_same, up_same, went_of}
+use Rattle.seen_network.proofs.CommonLemmas.{session_way, said_way}
+use Rattle.window_audit.proofs.LossLemmas.{came_of, none_by, repeated_of, up_same, went_of}
 use Rattle.window_audit.proofs.losses.going_by_entry.Goals as goal
 
 pub returns-in-Sent : goal.returns-in-Sent
@@ -20,12 +21,12 @@ returns-in-Aged c = λ seen tells origin had lost.
 
 pub returns-in-Said : goal.returns-in-Said
 returns-in-Said c = λ seen tells origin had lost.
-    absurd (none_by seen (said_towards c.in-Said.from.0 c.in-Said.to.0 c.in-Said.bytes seen) origin (said_same c.in-Said.from.0 c.in-Said.to.0 c.in-Said.bytes seen) had (subst (λ (e : Entry).
+    absurd (none_by seen (said_towards c.in-Said.from.0 c.in-Said.to.0 c.in-Said.bytes seen) origin (said_way c.in-Said.from.0 c.in-Said.to.0 c.in-Said.bytes seen) had (subst (λ (e : Entry).
     has_seen (told e seen) origin ≡ false) c.in-Said.is lost))
 
 pub returns-in-Session : goal.returns-in-Session
 returns-in-Session c = λ seen tells origin had lost.
-    absurd (none_by seen (session_told c.in-Session.edge.0 c.in-Session.peer.0 c.in-Session.state seen) origin (session_same c.in-Session.edge.0 c.in-Session.peer.0 c.in-Session.state seen) had
+    absurd (none_by seen (session_told c.in-Session.edge.0 c.in-Session.peer.0 c.in-Session.state seen) origin (session_way c.in-Session.edge.0 c.in-Session.peer.0 c.in-Session.state seen) had
     (subst (λ (e : Entry). has_seen (told e seen) origin ≡ false) c.in-Session.is lost))
 
 pub returns-in-Wire : goal.returns-in-Wire

@@ -1,17 +1,12 @@
-use Rattle.std.proofs.Common.{◌≡◌, ◌==◌, ◌<◌, ◌&&◌, ◌∙◌, ℕ, List, ap, arith, false, get_or, length, nat_lt, subst, sym}
-use Rattle.std.proofs.lemmas.Bool.Decides.{nat_tests}
+use Rattle.std.proofs.Common.{◌≡◌, ◌<◌, ◌&&◌, ◌∙◌, ℕ, List, ap, get_or, length, subst, sym}
+use Rattle.std.proofs.lemmas.Bool.{eqb-false}
+use Rattle.net_values.proofs.NumberLemmas.{not_below_itself}
 use Rattle.net_base.specs.declared.plan.circuit_plan.CircuitPlan.{CircuitPlan}
 use Rattle.hvpls_spokes.specs.PortSet.{has}
 use Rattle.window_audit.specs.Opening.{is_due}
 use Rattle.window_audit.proofs.OpeningLemmas.{sites_more}
 use Rattle.window_audit.proofs.opening.sites.Goals.{else-is_site, then-is_site}
 use Rattle.window_audit.proofs.opening.sites.Goals as goal
-
-apart : (p place : ℕ) → (p == place) ≡ false → p ≡ place → ⊥
-apart p place away same = grind (arith, nat_tests, away, same)
-
-itself : (place : ℕ) → nat_lt place place ≡ false
-itself place = grind (arith, nat_tests)
 
 pub loop-place-preserved : goal.loop-place-preserved
 loop-place-preserved c = λ seen knows.
@@ -22,10 +17,10 @@ loop-place-preserved c = λ seen knows.
     elim c.if-is_site.branch [
       | then-is_site w ↦ sites_more c.args.plan.now seen c.args.service c.args.sender place row c.loop-place.sites c.if-is_site.sites within is (c.loop-place.invariant seen knows)
           (ap (λ (s : List ℕ). has s place) w.sites-is ∙ (w.insert.ensures.it ∙ (sym w.if-is_site.true ∙ c.is_site.ensures seen knows)))
-          (λ q away. ap (λ (s : List ℕ). has s q) w.sites-is ∙ w.insert.ensures.others q (apart q place away))
+          (λ q away. ap (λ (s : List ℕ). has s q) w.sites-is ∙ w.insert.ensures.others q (eqb-false q place away))
       | else-is_site w ↦ sites_more c.args.plan.now seen c.args.service c.args.sender place row c.loop-place.sites c.if-is_site.sites within is (c.loop-place.invariant seen knows)
           (ap (λ (s : List ℕ). has s place) w.sites-is
-          ∙ (c.loop-place.invariant seen knows place ∙ (ap (λ b. b && is_due c.args.plan.now seen c.args.service c.args.sender place) (itself place) ∙ (sym w.if-is_site.false
+          ∙ (c.loop-place.invariant seen knows place ∙ (ap (λ b. b && is_due c.args.plan.now seen c.args.service c.args.sender place) (not_below_itself place) ∙ (sym w.if-is_site.false
           ∙ c.is_site.ensures seen knows))))
           (λ q away. ap (λ (s : List ℕ). has s q) w.sites-is)
     ]

@@ -1,4 +1,5 @@
 use Rattle.std.proofs.Common.{◌≡◌, ◌∙◌, ap, sym, subst, true, refl}
+use Rattle.net_values.proofs.BoolLemmas.{and_not_held, now_and_not_was}
 use Rattle.net_base.specs.plan.Accepted.{IsChecked}
 use Rattle.net_base.specs.plan.Paths.{are_joined}
 use Rattle.edge_model.specs.declared.effects.Effects.{Effects}
@@ -11,7 +12,7 @@ use Rattle.peer_dialogue.proofs.SettleLemmas.{map_on}
 use Rattle.provider_edge.proofs.edge.Edge.connected.Goals.{then-not-joined-via-then-not-joined, then-not-joined-via-else-not-joined+then-has_end}
 use Rattle.peer_dialogue.proofs.AtWorkLemmas.{work_both}
 use Rattle.provider_edge.proofs.AtWorkLemmas.{takes_by}
-use Rattle.provider_edge.proofs.EdgeLemmas.{apart_test, begun, connected_done, connected_idle, connected_none, joined_test, mended, peer_within, stands_test}
+use Rattle.provider_edge.proofs.EdgeLemmas.{apart_test, begun, connected_done, connected_idle, connected_none, mended, peer_within}
 use Rattle.provider_edge.proofs.ListLemmas.{keeps_both, keeps_same}
 use Rattle.provider_edge.proofs.ProperLemmas.{proper_between}
 use Rattle.provider_edge.specs.AtWork.{at_work}
@@ -25,7 +26,7 @@ returns-then-not-joined-clause-step g c = λ told agrees.
     subst (λ (e : Effects). worked c.args.self.now (g.L.Link.calls c.args.work.now.link.now) (record e { idle = true }) ≡ connected_input c.args.self.now.plan told c.args.peer (beginning (seen c.args.self.now) (g.L.Link.calls c.args.work.now.link.now))) (sym c.requires.fresh)
     (connected_idle c.args.self.now told c.args.peer (g.L.Link.calls c.args.work.now.link.now) (elim c.then-not-joined.branch [
       | then-not-joined-via-then-not-joined w ↦ apart_test (are_joined c.args.self.now.plan c.args.self.now.me.0 c.args.peer.0) (has_end (seen c.args.self.now) c.args.peer) (sym joined ∙ w.if-not-joined.true)
-      | then-not-joined-via-else-not-joined+then-has_end w ↦ stands_test (are_joined c.args.self.now.plan c.args.self.now.me.0 c.args.peer.0) (has_end (seen c.args.self.now) c.args.peer) (sym w.has_end.ensures ∙ w.if-has_end.true)
+      | then-not-joined-via-else-not-joined+then-has_end w ↦ and_not_held (are_joined c.args.self.now.plan c.args.self.now.me.0 c.args.peer.0) (has_end (seen c.args.self.now) c.args.peer) (sym w.has_end.ensures ∙ w.if-has_end.true)
     ]))
 
 pub returns-in_default-clause-step : goal.returns-in_default-clause-step
@@ -33,7 +34,7 @@ returns-in_default-clause-step g c = λ told agrees.
     let joined : c.joined.result ≡ are_joined c.args.self.now.plan c.args.self.now.me.0 c.args.peer.0 =
     c.joined.ensures in
     subst (λ (e : Effects). worked c.args.self.now (g.L.Link.calls c.args.work.now.link.now) (record e { idle = true }) ≡ connected_input c.args.self.now.plan told c.args.peer (beginning (seen c.args.self.now) (g.L.Link.calls c.args.work.now.link.now))) (sym c.requires.fresh)
-    (connected_none c.args.self.now told c.args.peer c.peers_with.result (g.L.Link.calls c.args.work.now.link.now) (joined_test (are_joined c.args.self.now.plan c.args.self.now.me.0 c.args.peer.0) (has_end (seen c.args.self.now) c.args.peer) (sym joined ∙ c.if-not-joined.false) (sym c.has_end.ensures ∙ c.if-has_end.false)) c.peers_with.ensures c.in_default.is)
+    (connected_none c.args.self.now told c.args.peer c.peers_with.result (g.L.Link.calls c.args.work.now.link.now) (now_and_not_was (are_joined c.args.self.now.plan c.args.self.now.me.0 c.args.peer.0) (has_end (seen c.args.self.now) c.args.peer) (sym joined ∙ c.if-not-joined.false) (sym c.has_end.ensures ∙ c.if-has_end.false)) c.peers_with.ensures c.in_default.is)
 
 pub connect-requires-clause-within : goal.connect-requires-clause-within
 connect-requires-clause-within g c =
@@ -54,7 +55,7 @@ returns-clause-step g c = map_on _ _ c.mend.result
     let joined : c.joined.result ≡ are_joined c.args.self.now.plan c.args.self.now.me.0 c.args.peer.0 =
     c.joined.ensures in
     connected_done c.args.self.now told c.args.peer c.peers_with.result c.in-Some.peers (g.L.Link.calls c.args.work.now.link.now) _
-    (joined_test (are_joined c.args.self.now.plan c.args.self.now.me.0 c.args.peer.0) (has_end (seen c.args.self.now) c.args.peer) (sym joined ∙ c.if-not-joined.false) (sym c.has_end.ensures ∙ c.if-has_end.false))
+    (now_and_not_was (are_joined c.args.self.now.plan c.args.self.now.me.0 c.args.peer.0) (has_end (seen c.args.self.now) c.args.peer) (sym joined ∙ c.if-not-joined.false) (sym c.has_end.ensures ∙ c.if-has_end.false))
     c.peers_with.ensures c.in-Some.is
     (mended c.args.self.now c.connect.new.self c.mend.new.self told (g.L.Link.calls c.connect.new.work.link.now) (g.L.Link.calls c.mend.new.work.link.now) c.connect.new.work.effects.now.list c.mend.new.work.effects.now
     (connects told c.args.peer (connection_with c.in-Some.peers) (beginning (seen c.args.self.now) (g.L.Link.calls c.args.work.now.link.now)))

@@ -1,5 +1,5 @@
 use Rattle.std.proofs.Common.{◌≡◌, ◌∙◌, ap, sym, subst, true, refl}
-use Rattle.std.proofs.lemmas.Bool.{eq-eqb}
+use Rattle.std.proofs.lemmas.Bool.{eq-eqb, ne_eqb}
 use Rattle.edge_model.specs.declared.effects.Effects.{Effects}
 use Rattle.edge_model.specs.State.{with_priority}
 use Rattle.edge_model.specs.Wire.{priority_input}
@@ -8,7 +8,7 @@ use Rattle.peer_dialogue.specs.Peering.{at_edge}
 use Rattle.peer_dialogue.proofs.SettleLemmas.{map_on}
 use Rattle.provider_edge.proofs.edge.Edge.priority.Goals.{then-not-is_own_spoke-via-then-not-is_own_spoke, then-not-is_own_spoke-via-else-not-is_own_spoke+then-priority_of-priority}
 use Rattle.provider_edge.proofs.AtWorkLemmas.{takes_by}
-use Rattle.provider_edge.proofs.EdgeLemmas.{apart_eqb, mended, priority_already, priority_apart, priority_at, priority_set}
+use Rattle.provider_edge.proofs.EdgeLemmas.{mended, priority_already, priority_apart, priority_at, priority_set}
 use Rattle.peer_dialogue.proofs.SpeakerLemmas.{goes_nowhere}
 use Rattle.provider_edge.proofs.ListLemmas.{keeps_both, keeps_same}
 use Rattle.provider_edge.specs.Lists.{seen, worked}
@@ -27,7 +27,7 @@ pub returns-clause-step : goal.returns-clause-step
 returns-clause-step g c = map_on _ _ c.mend.result
     (λ step told agrees.
     priority_set c.args.self.now told c.args.wire c.args.priority (g.L.Link.calls c.args.work.now.link.now) _ (sym c.is_own_spoke.ensures.own ∙ c.if-not-is_own_spoke.false)
-    (apart_eqb c.args.priority ((seen c.args.self.now).priority c.args.wire.0) (λ same. c.if-priority_of-priority.false (c.priority_of.ensures ∙ sym same)))
+    (ne_eqb c.args.priority ((seen c.args.self.now).priority c.args.wire.0) (λ same. c.if-priority_of-priority.false (c.priority_of.ensures ∙ sym same)))
     (mended c.args.self.now c.set_priority.new.self c.mend.new.self told (g.L.Link.calls c.args.work.now.link.now) (g.L.Link.calls c.mend.new.work.link.now) c.args.work.now.effects.now.list c.mend.new.work.effects.now
     (changes (with_priority c.args.wire c.args.priority) (beginning (seen c.args.self.now) (g.L.Link.calls c.args.work.now.link.now))) (c.mend.ensures.goes.on.idle ∙ ap (λ (e : Effects). e.idle) c.requires.fresh) c.set_priority.ensures.keeps
     (subst (λ (e : Effects). at_edge (seen c.set_priority.new.self) (g.L.Link.calls c.args.work.now.link.now) e.list ≡ changes (with_priority c.args.wire c.args.priority) (beginning (seen c.args.self.now) (g.L.Link.calls c.args.work.now.link.now))) (sym c.requires.fresh)

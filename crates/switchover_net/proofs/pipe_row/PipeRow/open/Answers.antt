@@ -1,5 +1,5 @@
 use Rattle.std.proofs.Common.{◌∙◌, ◌++◌, ◌∷◌, [], List, ℕ, ap}
-use Rattle.switchover_net.proofs.EmptyLemmas.{replicate_more}
+use Rattle.std.proofs.lemmas.List.{replicate_more}
 use Rattle.switchover_net.proofs.pipe_row.PipeRow.open.Goals as goal
 
 pub loop-place-preserved : goal.loop-place-preserved

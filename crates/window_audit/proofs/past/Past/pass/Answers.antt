@@ -1,6 +1,6 @@
 use Rattle.std.proofs.Common.{arith, drop, sym}
 use Rattle.std.proofs.lemmas.Result.{on_ok_weaker}
-use Rattle.window_audit.proofs.LossLemmas.{item_at}
+use Rattle.net_values.proofs.RowLemmas.{drop_next}
 use Rattle.window_audit.proofs.PastLemmas.{at_ports, seen_event, seen_first, split_first}
 use Rattle.window_audit.proofs.past.Past.pass.Goals as goal
 
@@ -21,7 +21,7 @@ pub returns-in-None-clause-seen : goal.returns-in-None-clause-seen
 returns-in-None-clause-seen c = on_ok_weaker c.pass_first.result
     (λ knows. λ trace seen one.
     seen_first c.args.plan.now trace c.args.entries.now c.first-item.result (drop 1 c.args.entries.now) c.args.self.now c.pass_first.new.self c.tell_sources.new.sources c.tell_exits.new.exits
-    (item_at c.args.entries.now 0 c.first-item.result (omega (arith, c.in-len1-up.len_at_least)) c.first-item.is) (sym c.in-None.ensures) c.requires.one one seen c.pass_first.ensures.place knows
+    (drop_next c.args.entries.now 0 c.first-item.result (omega (arith, c.in-len1-up.len_at_least)) c.first-item.is) (sym c.in-None.ensures) c.requires.one one seen c.pass_first.ensures.place knows
     (c.pass_first.ensures.calm c.args.plan.now)
     c.pass_first.ensures.sources c.in_ok-tell_sources.ensures c.pass_first.ensures.exits c.in_ok-tell_exits.ensures c.pass_first.ensures.lasting c.pass_first.ensures.owed)
     c.pass_first.ensures.state

@@ -1,0 +1,4 @@
+pub mod BoolLemmas
+pub mod NumberLemmas
+pub mod OptionLemmas
+pub mod RowLemmas
