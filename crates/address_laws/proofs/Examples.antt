@@ -47,7 +47,8 @@ comes_right plan site entry = true
 
 came : (plan : Plan) (service : ServiceId) (site : Sites) (entry : Entry) → comes_right plan site entry ≡ true → CameFromSite plan service site entry
 came plan service site (In circuit number octets) right =
-    λ frame served formed single. ap (λ (n : ℕ). record { 0 = n }) (eqb-true (site (source_of frame)).0 circuit.0 (subst (λ (r : Result (List ℕ) DropCause). is_from site circuit r ≡ true) formed right))
+    λ frame served formed single. ap (λ (n : ℕ). record { 0 = n })
+    (eqb-true (site (source_of frame)).0 circuit.0 (subst (λ (r : Result (List ℕ) DropCause). is_from site circuit r ≡ true) formed right))
 came plan service site entry right = tt
 
 all_came : (plan : Plan) (service : ServiceId) (site : Sites) (entries : List Entry) → list_all (comes_right plan site) entries ≡ true → OneSite plan service site entries
@@ -80,7 +81,8 @@ unfolding evaluated
 come_right = refl
 
 one_site : OneSite triangle one_service site (run triangle (events_of moments)).entries
-one_site = subst (λ (l : List Entry). OneSite triangle one_service site l) (sym (along_is triangle (empty_network triangle) moments answers_stand answers_right)) (all_came triangle one_service site (told_along triangle (empty_network triangle) moments) come_right)
+one_site = subst (λ (l : List Entry). OneSite triangle one_service site l) (sym (along_is triangle (empty_network triangle) moments answers_stand answers_right))
+    (all_came triangle one_service site (told_along triangle (empty_network triangle) moments) come_right)
 
 -- ---- a stretch begins where all is up: nothing is learned, and nothing is under way
 
@@ -153,9 +155,11 @@ unfolding evaluated
 over = refl
 
 enters : EntersForSite triangle (network_after triangle (events_of comes_up ++ events_of floods)) one_service site (circuit 0) answer later
-enters = enters_of triangle (network_after triangle (events_of comes_up ++ events_of floods)) one_service site (circuit 0) answer answer later (reached (comes_up ++ floods)) is_flooded refl on refl refl receives refl spared over
+enters = enters_of triangle (network_after triangle (events_of comes_up ++ events_of floods)) one_service site (circuit 0) answer answer later
+    (reached (comes_up ++ floods)) is_flooded refl on refl refl receives refl spared over
 
 -- so the answer reaches the station's site once
 reaches : ReachesSite 12 (circuit 2) (next_origin (network_after triangle (events_of comes_up ++ events_of floods))) (run triangle (events_of moments)).entries
 unfolding enters enters_of
-reaches = runs_reach_known triangle (events_of moments) (is_run (events_of moments) (omega arith)) (events_of comes_up) (events_of floods) (circuit 0) answer later [] one_service site refl one_site starts refl enters
+reaches = runs_reach_known triangle (events_of moments) (is_run (events_of moments) (omega arith)) (events_of comes_up) (events_of floods)
+    (circuit 0) answer later [] one_service site refl one_site starts refl enters

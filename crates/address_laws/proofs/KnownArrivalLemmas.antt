@@ -97,14 +97,16 @@ module _ (plan : Plan) (calm network : NetworkState) (trace : List Entry) (servi
     -- the port that the bridge knows for the station leads to its site
     leads : (from q : ℕ) → port ≡ Some from → known_port (addresses_of (hearing service frame from (network.edges packet.to.0)) service) (destination frame) ≡ Some q
         → LeadsToSite plan calm service target packet.to q
-    leads from q at known = arriving_leads plan calm network service site packet frame from q still points (bridged ∙ ap (λ (o : Option ℕ). forwarded plan taken_all (arrival.Wire packet.wire) service frame o (begin_at network packet.to)) at) known
+    leads from q at known = arriving_leads plan calm network service site packet frame from q still points
+        (bridged ∙ ap (λ (o : Option ℕ). forwarded plan taken_all (arrival.Wire packet.wire) service frame o (begin_at network packet.to)) at) known
 
     -- what a flood would serve
     abbrev flood : EdgeId → CircuitId → ℕ
     flood me circuit = cond (serves_here plan service (network.edges packet.to.0) circuit && true) 1 0 + wires_due plan calm service circuit me.0 (Some packet.wire.0)
 
     abbrev met_by : EdgeId → CircuitId → ℕ
-    met_by me circuit = meets plan calm service circuit me (forwarded plan taken_all (arrival.Wire packet.wire) service frame (position (is_wire_port packet.wire) (ports_of plan service me)) (begin_at network packet.to)).effects
+    met_by me circuit = meets plan calm service circuit me
+        (forwarded plan taken_all (arrival.Wire packet.wire) service frame (position (is_wire_port packet.wire) (ports_of plan service me)) (begin_at network packet.to)).effects
 
     served_at : ServesAsFlood target (flood (network.edges packet.to.0).me) (met_by (network.edges packet.to.0).me)
     served_at =
@@ -113,7 +115,9 @@ module _ (plan : Plan) (calm network : NetworkState) (trace : List Entry) (servi
         packet_serves plan (arrival.Wire packet.wire) calm (network.edges packet.to.0) service packet.wire copy.row target frame checked calmed copy.is
         (ap (λ (m : EdgeId). wire_ends_at service m.0 copy.row) placed ∙ ends)
         (subst (λ (m : EdgeId). IsStillEdge (calm.edges m.0) (network.edges packet.to.0)) back (still.edges packet.to.0)) (site_of plan calm service target on)
-        (subst (λ (m : EdgeId). m.0 < length plan.edges) back (carried_within plan network trace packet checked (serve.rule_here plan calm network trace service frame origin number packet checked calmed settled sized ruled rule still copies found own framed)))
+        (subst (λ (m : EdgeId). m.0 < length plan.edges) back
+        (carried_within plan network trace packet checked
+        (serve.rule_here plan calm network trace service frame origin number packet checked calmed settled sized ruled rule still copies found own framed)))
         (subst (λ (m : EdgeId). has_port plan service m.0 ≡ true) back (port_at plan service packet.to.0 packet.wire.0 copy.row copy.is ends))
         (λ from q at known. subst (λ (m : EdgeId). LeadsToSite plan calm service target m q) back
         (leads from q (ap (λ (m : EdgeId). position (is_wire_port packet.wire) (ports_of plan service m)) back ∙ at) known))
@@ -127,10 +131,20 @@ module _ (plan : Plan) (calm network : NetworkState) (trace : List Entry) (servi
     flood_due : (circuit : CircuitId) → is_site plan calm service circuit ≡ true → due plan calm service circuit origin base + flood packet.to circuit ≡ owed circuit
     flood_due circuit here =
         let at = site_of plan calm service circuit here in
-        let law = arrival_law plan calm service circuit at.row packet.wire copy.row packet.to.0 (start copy.row.path packet.from packet.to).0 checked calmed at.is at.of_service copy.is ends (serve.far plan calm network trace service frame origin number packet checked calmed settled sized ruled rule still copies found own framed ended) (serve.live plan calm network trace service frame origin number packet checked calmed settled sized ruled rule still copies found own framed ended takes) in
+        let law = arrival_law plan calm service circuit at.row packet.wire copy.row packet.to.0
+        (start copy.row.path packet.from packet.to).0 checked calmed at.is at.of_service copy.is ends
+        (serve.far plan calm network trace service frame origin number packet checked calmed settled sized ruled rule still copies found own framed ended)
+        (serve.live plan calm network trace service frame origin number packet checked calmed settled sized ruled rule still copies found own framed ended takes) in
         let one : cond {A = ℕ} (serves_here plan service (network.edges packet.to.0) circuit && true) 1 0 ≡ cond (nat_eq at.row.edge.0 packet.to.0) 1 0 =
-        ap (λ (b : Bool). cond {A = ℕ} (b && true) 1 0) (site_serves plan calm service circuit (network.edges packet.to.0) packet.to.0 at (ap (λ (m : EdgeId). m.0) placed) (still.edges packet.to.0)) ∙ alone (nat_eq at.row.edge.0 packet.to.0) in
-        omega (arith, serve.gone plan calm network trace service frame origin number packet checked calmed settled sized ruled rule still copies found own framed circuit, serve.awaits_here plan calm network trace service frame origin number packet checked calmed settled sized ruled rule still copies found own framed ended circuit, law, one)
+        ap (λ (b : Bool). cond {A = ℕ} (b && true) 1 0)
+        (site_serves plan calm service circuit (network.edges packet.to.0) packet.to.0 at (ap (λ (m : EdgeId). m.0) placed) (still.edges packet.to.0)) ∙ alone (nat_eq at.row.edge.0 packet.to.0) in
+        omega (
+          arith,
+          serve.gone plan calm network trace service frame origin number packet checked calmed settled sized ruled rule still copies found own framed circuit,
+          serve.awaits_here plan calm network trace service frame origin number packet checked calmed settled sized ruled rule still copies found own framed ended circuit,
+          law,
+          one,
+        )
       where
         alone : (b : Bool) → cond {A = ℕ} (b && true) 1 0 ≡ cond b 1 0
         alone true = refl
@@ -141,9 +155,14 @@ module _ (plan : Plan) (calm network : NetworkState) (trace : List Entry) (servi
 
     absorbed : Serves plan calm service frame origin given (absorb packet.to origin packet.hops work base)
     absorbed =
-        serves_absorb plan calm service frame origin given packet.to packet.hops work base (serve.rest plan calm network trace service frame origin number packet checked calmed settled sized ruled rule still copies found own framed)
-        (λ sent. serve.sends plan calm network trace service frame origin number packet checked calmed settled sized ruled rule still copies found own framed ended takes sent (serve.flooding plan calm network trace service frame origin number packet checked calmed settled sized ruled rule still copies found own framed ended takes)) (λ circuit here. refl) (λ circuit other away. serve.nowhere_else plan calm network trace service frame origin number packet checked calmed settled sized ruled rule still copies found own framed ended takes circuit other away (serve.flooding plan calm network trace service frame origin number packet checked calmed settled sized ruled rule still copies found own framed ended takes))
-        (λ other. left_within 12 origin packet.hops packet.to origin work.effects other (twelve_hops plan packet.wire copy.row packet.from packet.to packet.hops checked copy.is copy.joined (serve.come plan calm network trace service frame origin number packet checked calmed settled sized ruled rule still copies found own framed ended takes)))
+        serves_absorb plan calm service frame origin given packet.to packet.hops work base
+        (serve.rest plan calm network trace service frame origin number packet checked calmed settled sized ruled rule still copies found own framed)
+        (λ sent. serve.sends plan calm network trace service frame origin number packet checked calmed settled sized ruled rule still copies found own framed ended takes sent
+        (serve.flooding plan calm network trace service frame origin number packet checked calmed settled sized ruled rule still copies found own framed ended takes))
+        (λ circuit here. refl) (λ circuit other away. serve.nowhere_else plan calm network trace service frame origin number packet checked calmed settled sized ruled rule still copies found own framed ended takes circuit other away (serve.flooding plan calm network trace service frame origin number packet checked calmed settled sized ruled rule still copies found own framed ended takes))
+        (λ other. left_within 12 origin packet.hops packet.to origin work.effects other
+        (twelve_hops plan packet.wire copy.row packet.from packet.to packet.hops checked copy.is copy.joined
+        (serve.come plan calm network trace service frame origin number packet checked calmed settled sized ruled rule still copies found own framed ended takes)))
 
     taken : ServesHere origin
     taken = record {
@@ -159,9 +178,14 @@ module _ (plan : Plan) (calm network : NetworkState) (trace : List Entry) (servi
     | inl ended ↦ elim (cases_Bool (end_forwards plan (calm.edges packet.to.0) packet.wire)) [
       | inl takes ↦ taken ended takes
       | inr down ↦
-          let dropped = copy_drops plan calm network trace service frame packet checked ruled still (serve.rule_here plan calm network trace service frame origin number packet checked calmed settled sized ruled rule still copies found own framed) copy (serve.ended_rule plan calm network trace service frame origin number packet checked calmed settled sized ruled rule still copies found own framed ended) down in
+          let dropped = copy_drops plan calm network trace service frame packet checked ruled still
+          (serve.rule_here plan calm network trace service frame origin number packet checked calmed settled sized ruled rule still copies found own framed) copy
+          (serve.ended_rule plan calm network trace service frame origin number packet checked calmed settled sized ruled rule still copies found own framed ended) down in
           serves_each plan calm service target frame origin owed (absorb packet.to origin packet.hops work base)
-          (serve.dropping plan calm network trace service frame origin number packet checked calmed settled sized ruled rule still copies found own framed ended dropped.why (ap (λ (w : Work). w.effects) dropped.is ∙ serve.drop_gives plan calm network trace service frame origin number packet checked calmed settled sized ruled rule still copies found own framed dropped.why packet.to) down)
+          (serve.dropping plan calm network trace service frame origin number packet checked calmed settled sized ruled rule still copies found own framed ended dropped.why
+          (ap (λ (w : Work). w.effects) dropped.is
+          ∙ serve.drop_gives plan calm network trace service frame origin number packet checked calmed settled sized ruled rule still copies found own framed dropped.why packet.to) down)
     ]
-    | inr between ↦ serves_each plan calm service target frame origin owed (absorb packet.to origin packet.hops work base) (serve.switching_serves plan calm network trace service frame origin number packet checked calmed settled sized ruled rule still copies found own framed between)
+    | inr between ↦ serves_each plan calm service target frame origin owed (absorb packet.to origin packet.hops work base)
+        (serve.switching_serves plan calm network trace service frame origin number packet checked calmed settled sized ruled rule still copies found own framed between)
   ])

@@ -170,7 +170,8 @@ module _ (plan : Plan) (came : Arrival) (calm : NetworkState) (service : Service
         ∙ flood_is target)
 
   -- a port that leads to the site serves it
-  lead_serves : (target : CircuitId) → IsSiteOf plan calm service target → (q : ℕ) (lead : LeadsToSite plan calm service target edge.me q) → ServesBy plan came calm service target frame after lead.port
+  lead_serves : (target : CircuitId) → IsSiteOf plan calm service target → (q : ℕ) (lead : LeadsToSite plan calm service target edge.me q)
+      → ServesBy plan came calm service target frame after lead.port
   unfolding with_addresses
   lead_serves target site q lead = leading_serves plan came calm service target frame after checked calmed site (heard_still service frame arrival (calm.edges edge.me.0) edge still) q lead
 
@@ -190,7 +191,8 @@ module _ (plan : Plan) (came : Arrival) (calm : NetworkState) (service : Service
 pub frame_serves : (plan : Plan) (came : Arrival) (calm : NetworkState) (edge : EdgeState) (at target : CircuitId) (frame : List ℕ) (row : CircuitPlan)
     → IsChecked plan → is_calm plan calm row.service ≡ true → circuit_row plan at ≡ Some row → edge.me ≡ row.edge → IsStillEdge (calm.edges row.edge.0) edge
     → IsSiteOf plan calm row.service target → row.edge.0 < length plan.edges → has_port plan row.service row.edge.0 ≡ true
-    → ((arrival q : ℕ) → port_at plan edge at row ≡ Some arrival → known_port (addresses_of (hearing row.service frame arrival edge) row.service) (destination frame) ≡ Some q → LeadsToSite plan calm row.service target row.edge q)
+    → ((arrival q : ℕ) → port_at plan edge at row ≡ Some arrival → known_port (addresses_of (hearing row.service frame arrival edge) row.service) (destination frame) ≡ Some q
+    → LeadsToSite plan calm row.service target row.edge q)
     → ServesAsFlood target (λ circuit. cond (serves_here plan row.service edge circuit && not (nat_eq circuit.0 at.0)) 1 0 + wires_due plan calm row.service circuit row.edge.0 None)
     (λ circuit. meets plan calm row.service circuit edge.me (forwarded plan taken_all came row.service frame (port_at plan edge at row) (beginning edge [])).effects)
 frame_serves plan came calm edge at target frame row checked calmed is me still site within port leads =
@@ -205,14 +207,16 @@ frame_serves plan came calm edge at target frame row checked calmed is me still 
     (λ q known. subst (λ (e : EdgeId). LeadsToSite plan calm row.service target e q) (sym me) (leads arrival q found known)) in
     subst (λ (e : EdgeId). ServesAsFlood target (λ circuit. cond (serves_here plan row.service edge circuit && not (nat_eq circuit.0 at.0)) 1 0 + wires_due plan calm row.service circuit e.0 None)
     (λ circuit. meets plan calm row.service circuit edge.me (forwarded plan taken_all came row.service frame (port_at plan edge at row) (beginning edge [])).effects)) me
-    (subst (λ (o : Option ℕ). ServesAsFlood target (λ circuit. cond (serves_here plan row.service edge circuit && not (nat_eq circuit.0 at.0)) 1 0 + wires_due plan calm row.service circuit edge.me.0 None)
+    (subst (λ (o : Option ℕ). ServesAsFlood target
+    (λ circuit. cond (serves_here plan row.service edge circuit && not (nat_eq circuit.0 at.0)) 1 0 + wires_due plan calm row.service circuit edge.me.0 None)
     (λ circuit. meets plan calm row.service circuit edge.me (forwarded plan taken_all came row.service frame o (beginning edge [])).effects)) (sym found) served)
 
 -- a frame that came by a wire
 pub packet_serves : (plan : Plan) (came : Arrival) (calm : NetworkState) (edge : EdgeState) (service : ServiceId) (wire : WireId) (w : WirePlan) (target : CircuitId) (frame : List ℕ)
     → IsChecked plan → is_calm plan calm service ≡ true → wire_row plan wire ≡ Some w → wire_ends_at service edge.me.0 w ≡ true → IsStillEdge (calm.edges edge.me.0) edge
     → IsSiteOf plan calm service target → edge.me.0 < length plan.edges → has_port plan service edge.me.0 ≡ true
-    → ((arrival q : ℕ) → position (is_wire_port wire) (ports_of plan service edge.me) ≡ Some arrival → known_port (addresses_of (hearing service frame arrival edge) service) (destination frame) ≡ Some q
+    → ((arrival q : ℕ) → position (is_wire_port wire) (ports_of plan service edge.me) ≡ Some arrival
+    → known_port (addresses_of (hearing service frame arrival edge) service) (destination frame) ≡ Some q
     → LeadsToSite plan calm service target edge.me q)
     → ServesAsFlood target (λ circuit. cond (serves_here plan service edge circuit && true) 1 0 + wires_due plan calm service circuit edge.me.0 (Some wire.0))
     (λ circuit. meets plan calm service circuit edge.me (forwarded plan taken_all came service frame (position (is_wire_port wire) (ports_of plan service edge.me)) (beginning edge [])).effects)

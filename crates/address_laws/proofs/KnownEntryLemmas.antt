@@ -33,8 +33,10 @@ pub record Starts (plan : Plan) (calm network : NetworkState) (service : Service
 
 pub starts : (plan : Plan) (calm network : NetworkState) (site : Sites) (at : CircuitId) (octets frame : List ℕ) (service : ServiceId) (found : Option CircuitPlan)
     → IsChecked plan → is_calm plan calm service ≡ true → ((a b : ℕ) → are_joined_by plan service a b ≡ true → AreSettled plan calm a b) → IsSized (mtu_of plan service) frame
-    → IsRuledNetwork plan network → IsStill calm network → circuit_row plan at ≡ found → option_map (λ (row : CircuitPlan). row.service) found ≡ Some service → is_row_on network at found ≡ true → inner_at plan at octets ≡ Ok frame
-    → is_site plan calm service (site (destination_of frame)) ≡ true → Points plan (frame_event plan at octets found network).state service site → of_origin (next_origin network) network.under_way ≡ []
+    → IsRuledNetwork plan network → IsStill calm network → circuit_row plan at ≡ found → option_map (λ (row : CircuitPlan). row.service) found ≡ Some service
+    → is_row_on network at found ≡ true → inner_at plan at octets ≡ Ok frame
+    → is_site plan calm service (site (destination_of frame)) ≡ true → Points plan (frame_event plan at octets found network).state service site
+    → of_origin (next_origin network) network.under_way ≡ []
     → Starts plan calm network service (site (destination_of frame)) frame at (frame_event plan at octets found network)
 starts plan calm network site at octets frame service None checked calmed settled sized ruled still is of_service on formed receives points none = absurd (cc (of_service))
 starts plan calm network site at octets frame service (Some row) checked calmed settled sized ruled still is of_service on formed receives points none =

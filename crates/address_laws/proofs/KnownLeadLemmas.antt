@@ -56,7 +56,8 @@ module _ (plan : Plan) (network : NetworkState) (service : ServiceId) (site : Si
   entry_leads [] station place all known = absurd (cc (known))
   entry_leads (e ∷ es) station place all known = by (is_of station e) refl known (entry_leads es station place all.1) where
     by : (b : Bool) → is_of station e ≡ b → option_map (λ (e : MacEntry). e.port) (cond b (Some e) (mac_entry_of es station)) ≡ Some place
-        → (option_map (λ (e : MacEntry). e.port) (mac_entry_of es station) ≡ Some place → LeadsToSite plan network service (site station.0) edge place) → LeadsToSite plan network service (site station.0) edge place
+        → (option_map (λ (e : MacEntry). e.port) (mac_entry_of es station) ≡ Some place → LeadsToSite plan network service (site station.0) edge place)
+        → LeadsToSite plan network service (site station.0) edge place
     by true here known later =
         let same : e.port ≡ place = cc (known) in
         record {
@@ -91,11 +92,13 @@ far_some true m n = (m, refl)
 far_some false m n = (n, refl)
 
 -- what is behind a spoke at one end is ahead of what arrives at the other one
-behind_ahead : (plan : Plan) (service : ServiceId) (circuit : CircuitId) (edge : ℕ) (near last : EdgeId) (rest : List EdgeId) (far : ℕ) → nat_eq near.0 last.0 ≡ false → cond (nat_eq edge near.0) (Some last.0) (Some near.0) ≡ Some far
+behind_ahead : (plan : Plan) (service : ServiceId) (circuit : CircuitId) (edge : ℕ) (near last : EdgeId) (rest : List EdgeId) (far : ℕ) → nat_eq near.0 last.0 ≡ false
+    → cond (nat_eq edge near.0) (Some last.0) (Some near.0) ≡ Some far
     → behind_spoke plan service edge (near ∷ rest) circuit ≡ ahead_spoke plan service far (near ∷ rest) circuit
 behind_ahead plan service circuit edge near last rest far apart is = by (nat_eq edge near.0) refl is where
   by : (b : Bool) → nat_eq edge near.0 ≡ b → cond b (Some last.0) (Some near.0) ≡ Some far
-      → cond b (elsewhere_of plan service edge circuit) (at_edge_of plan service near.0 circuit) ≡ cond (nat_eq far near.0) (at_edge_of plan service far circuit) (elsewhere_of plan service near.0 circuit)
+      → cond b (elsewhere_of plan service edge circuit) (at_edge_of plan service near.0 circuit)
+      ≡ cond (nat_eq far near.0) (at_edge_of plan service far circuit) (elsewhere_of plan service near.0 circuit)
   by true here is =
       let same : last.0 ≡ far = cc (is) in
       let away : nat_eq far near.0 ≡ false = ap (λ (n : ℕ). nat_eq n near.0) (sym same) ∙ apart_back near.0 last.0 apart in
@@ -168,7 +171,8 @@ module _ (plan : Plan) (came : Arrival) (calm : NetworkState) (service : Service
   mesh_serves wire wired reached =
       let live = mesh_carries plan calm service wire.0 wired.row checked calmed wired.is (rw (ours wire true wired, wired.class) refl) in
       let up : end_forwards plan edge wire ≡ true = here_forwards wire true wired live in
-      let behind : beside_far plan calm service (far_of edge.me.0 wired.row.path) circuit ≡ true = ap (λ (r : Option WirePlan). behind_wire plan calm service edge.me.0 wire.0 true r circuit) (sym wired.is) ∙ reached in
+      let behind : beside_far plan calm service (far_of edge.me.0 wired.row.path) circuit ≡ true =
+      ap (λ (r : Option WirePlan). behind_wire plan calm service edge.me.0 wire.0 true r circuit) (sym wired.is) ∙ reached in
       record {
         goes = holds_with_true (end_forwards plan edge wire) up;
         serves = end_is_due plan calm service circuit edge wire wired.row checked wired.is up
@@ -180,7 +184,8 @@ module _ (plan : Plan) (came : Arrival) (calm : NetworkState) (service : Service
   spoke_serves wire wired reached =
       let here : is_live plan calm service wire.0 wired.row && behind_spoke plan service edge.me.0 wired.row.path circuit ≡ true =
       ap (λ (r : Option WirePlan). behind_wire plan calm service edge.me.0 wire.0 false r circuit) (sym wired.is) ∙ reached in
-      let live : carries plan calm wire.0 wired.row ≡ true = second_holds _ (carries plan calm wire.0 wired.row) (first_holds (is_live plan calm service wire.0 wired.row) (behind_spoke plan service edge.me.0 wired.row.path circuit) here) in
+      let live : carries plan calm wire.0 wired.row ≡ true =
+      second_holds _ (carries plan calm wire.0 wired.row) (first_holds (is_live plan calm service wire.0 wired.row) (behind_spoke plan service edge.me.0 wired.row.path circuit) here) in
       let up : end_forwards plan edge wire ≡ true = here_forwards wire false wired live in
       let l : IsLink plan wired.row = link wire false wired in
       record {

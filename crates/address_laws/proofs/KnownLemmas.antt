@@ -104,7 +104,8 @@ module _ (plan : Plan) (events : List Event) (is_run : IsRun plan events) (befor
   settled : (a b : ℕ) → are_joined_by plan service a b ≡ true → AreSettled plan calm a b
   settled a b joined =
       runs_settle plan before run_calm service
-      (first_holds (is_quiet plan calm service) (is_full plan calm service) (first_holds (is_quiet plan calm service && is_full plan calm service) (has_live_spokes plan calm service) right.calm)) a b joined
+      (first_holds (is_quiet plan calm service) (is_full plan calm service)
+      (first_holds (is_quiet plan calm service && is_full plan calm service) (has_live_spokes plan calm service) right.calm)) a b joined
 
   still : IsStill calm network
   still = subst (IsStill calm) (sym (after-append plan (empty_network plan) before during)) (stretch_still plan calm calm during stretch (still_self calm))
@@ -175,7 +176,8 @@ module _ (plan : Plan) (events : List Event) (is_run : IsRun plan events) (befor
       ap (λ (l : List Event). entries_along plan (empty_network plan) l) parted
       ∙ (along-append plan (empty_network plan) (before ++ during) (Frame at octets ∷ (later ++ after))
       ∙ ap (λ (l : List Entry). trace ++ l)
-      (ap (λ (l : List Entry). entry.entries ++ l) (along-append plan entry.state later after) ∙ sym (append_assoc entry.entries (entries_along plan entry.state later) (entries_along plan last after))))
+      (ap (λ (l : List Entry). entry.entries ++ l) (along-append plan entry.state later after)
+      ∙ sym (append_assoc entry.entries (entries_along plan entry.state later) (entries_along plan last after))))
 
   -- what leaves does so there
   counted : (circuit : CircuitId) → times_left origin circuit (entries_along plan (empty_network plan) events) ≡ times_left origin circuit (entry.entries ++ entries_along plan entry.state later)
@@ -208,7 +210,8 @@ module _ (plan : Plan) (events : List Event) (is_run : IsRun plan events) (befor
   within : LeftWithin 12 origin (entries_along plan (empty_network plan) events)
   within = subst (LeftWithin 12 origin) (sym told)
       (within-append 12 origin trace ((entry.entries ++ entries_along plan entry.state later) ++ entries_along plan last after) (never_within 12 origin trace (λ circuit. (early circuit).left))
-      (within-append 12 origin (entry.entries ++ entries_along plan entry.state later) (entries_along plan last after) served.serves.within (never_within 12 origin (entries_along plan last after) (λ circuit. (late circuit).left))))
+      (within-append 12 origin (entry.entries ++ entries_along plan entry.state later) (entries_along plan last after) served.serves.within
+      (never_within 12 origin (entries_along plan last after) (λ circuit. (late circuit).left))))
 
   reaches_site : ReachesSite 12 target origin (entries_along plan (empty_network plan) events)
   reaches_site = record { once = once; others = others; within = within }

@@ -65,7 +65,8 @@ arriving_leads plan calm network service site packet frame from place still poin
 
 -- a frame enters
 pub entering_leads : (plan : Plan) (calm network : NetworkState) (service : ServiceId) (site : Sites) (circuit : CircuitId) (octets : List ℕ) (row : CircuitPlan) (frame : List ℕ) (from place : ℕ)
-    → IsStill calm (entering network circuit octets row (frame_work plan network circuit octets row)).state → Points plan (entering network circuit octets row (frame_work plan network circuit octets row)).state service site
+    → IsStill calm (entering network circuit octets row (frame_work plan network circuit octets row)).state
+    → Points plan (entering network circuit octets row (frame_work plan network circuit octets row)).state service site
     → frame_work plan network circuit octets row ≡ forwarded plan taken_all (arrival.Circuit circuit) service frame (Some from) (begin_at network row.edge)
     → known_port (addresses_of (hearing service frame from (network.edges row.edge.0)) service) (destination frame) ≡ Some place
     → LeadsToSite plan calm service (site (destination_of frame)) row.edge place

@@ -71,7 +71,8 @@ module _ (plan : Plan) (calm network : NetworkState) (site : Sites) (at : Circui
   port = port_at plan (edge_at network row.edge) at row
 
   quiet : is_quiet plan calm row.service ≡ true
-  quiet = first_holds (is_quiet plan calm row.service) (is_full plan calm row.service) (first_holds (is_quiet plan calm row.service && is_full plan calm row.service) (has_live_spokes plan calm row.service) calmed)
+  quiet = first_holds (is_quiet plan calm row.service) (is_full plan calm row.service)
+      (first_holds (is_quiet plan calm row.service && is_full plan calm row.service) (has_live_spokes plan calm row.service) calmed)
 
   placed : (edge_at network row.edge).me ≡ row.edge
   placed = (ruled.edges row.edge.0).place
@@ -124,7 +125,8 @@ module _ (plan : Plan) (calm network : NetworkState) (site : Sites) (at : Circui
   served : ServesAsFlood target flood (λ circuit. meets plan calm row.service circuit row.edge work.effects)
   served =
       subst (λ (w : Work). ServesAsFlood target flood (λ circuit. meets plan calm row.service circuit row.edge w.effects)) (sym bridged)
-      (subst (λ (m : EdgeId). ServesAsFlood target flood (λ circuit. meets plan calm row.service circuit m (forwarded plan taken_all (arrival.Circuit at) row.service frame port (begin_at network row.edge)).effects)) placed
+      (subst (λ (m : EdgeId). ServesAsFlood target flood
+      (λ circuit. meets plan calm row.service circuit m (forwarded plan taken_all (arrival.Circuit at) row.service frame port (begin_at network row.edge)).effects)) placed
       (frame_serves plan (arrival.Circuit at) calm (edge_at network row.edge) at target frame row checked calmed is placed (still.edges row.edge.0) (site_of plan calm row.service target receives)
       (circuit_within plan at row checked is) (circuit_port plan row.service at row is own_service) leads))
 
@@ -134,7 +136,8 @@ module _ (plan : Plan) (calm network : NetworkState) (site : Sites) (at : Circui
       let there = site_of plan calm row.service circuit here in
       let none : due plan calm row.service circuit origin base ≡ 0 = ap (awaited plan calm row.service circuit) none_there in
       let law = entry_law plan calm row.service circuit at there.row row checked calmed there.is there.of_service is own_service in
-      let one : cond {A = ℕ} (serves_here plan row.service (edge_at network row.edge) circuit && not (nat_eq circuit.0 at.0)) 1 0 ≡ cond (nat_eq there.row.edge.0 row.edge.0 && not (nat_eq circuit.0 at.0)) 1 0 =
+      let one : cond {A = ℕ} (serves_here plan row.service (edge_at network row.edge) circuit && not (nat_eq circuit.0 at.0)) 1 0
+      ≡ cond (nat_eq there.row.edge.0 row.edge.0 && not (nat_eq circuit.0 at.0)) 1 0 =
       ap (λ (b : Bool). cond {A = ℕ} (b && not (nat_eq circuit.0 at.0)) 1 0)
       (site_serves plan calm row.service circuit (edge_at network row.edge) row.edge.0 there (ap (λ (m : EdgeId). m.0) placed) (still.edges row.edge.0)) in
       omega (arith, none, one, law, owed_by (nat_eq there.row.edge.0 row.edge.0) (nat_eq circuit.0 at.0) (beside there.row there.is))
@@ -147,9 +150,11 @@ module _ (plan : Plan) (calm network : NetworkState) (site : Sites) (at : Circui
           eq-eqb other.edge.0 row.edge.0 (ap (λ (r : CircuitPlan). r.edge.0) equal)
 
   gives_copies : Floods plan (edge_at network row.edge) (arrival.Circuit at) row.service frame port work.effects
-  gives_copies = subst (λ (w : Work). Floods plan (edge_at network row.edge) (arrival.Circuit at) row.service frame port w.effects) (sym bridged) (floods plan (arrival.Circuit at) row.service frame port (edge_at network row.edge))
+  gives_copies = subst (λ (w : Work). Floods plan (edge_at network row.edge) (arrival.Circuit at) row.service frame port w.effects) (sym bridged)
+      (floods plan (arrival.Circuit at) row.service frame port (edge_at network row.edge))
 
-  sends : (sent : ℕ) → Floods plan (edge_at network row.edge) (arrival.Circuit at) row.service frame port work.effects → AllByRecursion (IsNearCopy plan calm row.service frame) (packets_of row.edge origin 0 sent work.effects)
+  sends : (sent : ℕ) → Floods plan (edge_at network row.edge) (arrival.Circuit at) row.service frame port work.effects
+      → AllByRecursion (IsNearCopy plan calm row.service frame) (packets_of row.edge origin 0 sent work.effects)
   sends sent (FloodsNot none) = subst (λ (es : List Effect). AllByRecursion (IsNearCopy plan calm row.service frame) (packets_of row.edge origin 0 sent es)) (sym none) tt
   sends sent (FloodsBy from found all) =
       both_hold (CarriesCopy plan calm row.service frame) (HasPassed plan) (packets_of row.edge origin 0 sent work.effects)
@@ -157,7 +162,8 @@ module _ (plan : Plan) (calm network : NetworkState) (site : Sites) (at : Circui
       (copies_near plan (edge_at network row.edge) row.edge origin 0 sent (arrival.Circuit at) row.service frame from work.effects
       (λ peer wire of_arrival bytes copy r r_is. first_hop plan row.edge peer r) all)
 
-  nowhere_else : (circuit : CircuitId) (other : NetworkState) → is_site plan calm row.service circuit ≡ false → Floods plan (edge_at network row.edge) (arrival.Circuit at) row.service frame port work.effects
+  nowhere_else : (circuit : CircuitId) (other : NetworkState) → is_site plan calm row.service circuit ≡ false
+      → Floods plan (edge_at network row.edge) (arrival.Circuit at) row.service frame port work.effects
       → times_left origin circuit (all_entries_of row.edge origin 0 work.effects other) ≡ 0
   nowhere_else circuit other away (FloodsNot none) = ap (λ (es : List Effect). times_left origin circuit (all_entries_of row.edge origin 0 es other)) none
   nowhere_else circuit other away (FloodsBy from found all) =

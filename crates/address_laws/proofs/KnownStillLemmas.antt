@@ -48,7 +48,8 @@ stretch_still plan calm network (e ∷ es) all still =
 -- ---- the sites
 
 -- so they stay on or off
-pub site_still : (plan : Plan) (calm network : NetworkState) (service : ServiceId) (circuit : CircuitId) → IsStill calm network → is_site plan network service circuit ≡ is_site plan calm service circuit
+pub site_still : (plan : Plan) (calm network : NetworkState) (service : ServiceId) (circuit : CircuitId) → IsStill calm network → is_site plan network service circuit
+    ≡ is_site plan calm service circuit
 site_still plan calm network service circuit still = ap (λ (b : Bool). is_circuit_of plan service circuit && b) (by (circuit_row plan circuit)) where
   by : (row : Option CircuitPlan) → is_row_on network circuit row ≡ is_row_on calm circuit row
   by None = refl

@@ -75,7 +75,8 @@ module _ (plan : Plan) (calm : NetworkState) (service : ServiceId) (site : Sites
 
   -- a packet arrives
   arrive_serves : (network : NetworkState) (trace : List Entry) (number : ℕ) (found : Option Packet) → packet_at network number ≡ found → is_of origin found ≡ true
-      → IsReached plan network trace → IsAfter plan calm service frame origin network → Points plan (arrive_event plan found network).state service site → Serve network (arrive_event plan found network)
+      → IsReached plan network trace → IsAfter plan calm service frame origin network → Points plan (arrive_event plan found network).state service site
+      → Serve network (arrive_event plan found network)
   arrive_serves network trace number None is own reached after points = absurd (cc (own))
   arrive_serves network trace number (Some packet) is own reached after points =
       arriving_serves_site plan calm network trace service site frame origin number packet checked calmed settled sized reached.ruled reached.rule after.still on points after.copies is own (same_number packet.origin origin own after.numbered)
@@ -97,9 +98,11 @@ module _ (plan : Plan) (calm : NetworkState) (service : ServiceId) (site : Sites
   step_serves network trace event reached after points spared = absurd (cc (spared))
 
   -- each event serves what was due before it, or leaves it due
-  pub window_serves_site : (network : NetworkState) (trace : List Entry) (events : List Event) → HasTypes plan → All (IsEventOf plan) events → IsReached plan network trace → IsAfter plan calm service frame origin network
+  pub window_serves_site : (network : NetworkState) (trace : List Entry) (events : List Event) → HasTypes plan → All (IsEventOf plan) events → IsReached plan network trace
+      → IsAfter plan calm service frame origin network
       → PointOn plan service site network events → all_spare plan origin network events ≡ true → Serve network (along plan network events)
-  window_serves_site network trace [] types planned reached after points spared = serves_each plan calm service target frame origin (owes network) (along plan network []) (serves_none plan calm service frame origin network after.copies)
+  window_serves_site network trace [] types planned reached after points spared =
+      serves_each plan calm service target frame origin (owes network) (along plan network []) (serves_none plan calm service frame origin network after.copies)
   window_serves_site network trace (e ∷ es) types planned reached after points spared =
       let first : Stepped = step plan network e in
       let here : spares network origin e ≡ true = first_holds (spares network origin e) (all_spare plan origin first.state es) spared in

@@ -60,7 +60,8 @@ module _ (plan : Plan) (calm : NetworkState) (service : ServiceId) (site : Sites
         told = side.come.told;
         same_service = side.come.of_service;
         reaches = λ forwards. still_reach plan calm network still service (goal row.path packet.from packet.to).0 (wire_port packet.wire.0 row) side.come.sender
-            ∙ side.behind (sym (still_forwards plan (calm.edges (goal row.path packet.from packet.to).0) (network.edges (goal row.path packet.from packet.to).0) packet.wire (still.edges (goal row.path packet.from packet.to).0)) ∙ forwards);
+            ∙ side.behind (sym (still_forwards plan (calm.edges (goal row.path packet.from packet.to).0) (network.edges (goal row.path packet.from packet.to).0) packet.wire
+            (still.edges (goal row.path packet.from packet.to).0)) ∙ forwards);
       }
 
   -- its addresses point to their sites, and its copies come right

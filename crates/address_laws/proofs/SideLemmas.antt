@@ -55,11 +55,13 @@ pub record HasSide (plan : Plan) (calm : NetworkState) (service : ServiceId) (to
   pub frame : List ℕ
   pub come : HasCome plan told service packet.origin frame
   pub carries : carried plan packet ≡ Ok frame
-  pub behind : end_forwards plan (calm.edges (goal row.path packet.from packet.to).0) packet.wire ≡ true → reach plan calm service (goal row.path packet.from packet.to).0 (wire_port packet.wire.0 row) come.sender ≡ true
+  pub behind : end_forwards plan (calm.edges (goal row.path packet.from packet.to).0) packet.wire ≡ true
+      → reach plan calm service (goal row.path packet.from packet.to).0 (wire_port packet.wire.0 row) come.sender ≡ true
 
 -- so it is with one that carries a frame, where the wire is one of the service
 abbrev pub KnowsSide : Plan → NetworkState → ServiceId → List Entry → Packet → Type 0
-KnowsSide plan calm service told packet = (packet.origin == 0) ≡ false → (row : WirePlan) → wire_row plan packet.wire ≡ Some row → is_wire_of service row ≡ true → HasSide plan calm service told packet row
+KnowsSide plan calm service told packet = (packet.origin == 0) ≡ false → (row : WirePlan) → wire_row plan packet.wire ≡ Some row → is_wire_of service row ≡ true
+    → HasSide plan calm service told packet row
 
 -- a frame came to the bridge of the service by a port behind which it entered
 pub record ComesBehind (plan : Plan) (calm : NetworkState) (service : ServiceId) (told : List Entry) (me : EdgeId) (origin : ℕ) (frame : List ℕ) (arrival : ℕ) : Type 0 where

@@ -32,7 +32,8 @@ module _ (plan : Plan) (calm network : NetworkState) (still : IsStill calm netwo
   still_stitched : (wire : ℕ) (path : List EdgeId) → inner_stitched plan network wire path ≡ inner_stitched plan calm wire path
   still_stitched wire [] = refl
   still_stitched wire (last ∷ []) = refl
-  still_stitched wire (point ∷ next ∷ rest) = λ i. still_is_stitched plan (calm.edges point.0) (network.edges point.0) (record { 0 = wire }) (still.edges point.0) i && still_stitched wire (next ∷ rest) i
+  still_stitched wire (point ∷ next ∷ rest) = λ i. still_is_stitched plan (calm.edges point.0) (network.edges point.0) (record { 0 = wire }) (still.edges point.0) i
+      && still_stitched wire (next ∷ rest) i
 
   still_joined : (wire : ℕ) (path : List EdgeId) → is_joined_up plan network wire path ≡ is_joined_up plan calm wire path
   still_joined wire [] = refl

@@ -231,7 +231,8 @@ module _ (plan : Plan) (calm network : NetworkState) (service : ServiceId) (site
     at = subst (λ (s : ServiceId). slice_get (ports_of plan s packet.to) p ≡ Some (wire_port packet.wire.0 rule.row)) service_is
         (wire_port_is plan rule.row.service packet.to p packet.wire.0 rule.row (found_wire_port packet.wire (ports_of plan rule.row.service packet.to) p found) rule.is);
     behind = ap (λ (e : EdgeId). reach plan calm service e.0 (wire_port packet.wire.0 rule.row) side.come.sender) (sym reached)
-        ∙ side.behind (ap (λ (e : EdgeId). end_forwards plan (calm.edges e.0) packet.wire) reached ∙ (sym (still_forwards plan (calm.edges packet.to.0) (network.edges packet.to.0) packet.wire (still.edges packet.to.0)) ∙ forwards));
+        ∙ side.behind (ap (λ (e : EdgeId). end_forwards plan (calm.edges e.0) packet.wire) reached
+        ∙ (sym (still_forwards plan (calm.edges packet.to.0) (network.edges packet.to.0) packet.wire (still.edges packet.to.0)) ∙ forwards));
   }
     where
       reached : goal rule.row.path packet.from packet.to ≡ packet.to
@@ -258,12 +259,22 @@ module _ (plan : Plan) (calm network : NetworkState) (service : ServiceId) (site
         (arrives_sized plan network trace packet checked ruled rule) (λ same. packet_behind ended taken.forwards taken.port taken.found same))
 
     on_side : (on : PassedOn plan network trace packet checked ruled rule) (number hops : ℕ)
-        → KnowsSide plan calm service told (record { number = number; wire = packet.wire; from = packet.to; to = on.to; origin = packet.origin; hops = hops; age = 0; bytes = relabelled on.binding.label (rule.packed.ttl - 1) packet.bytes })
+        → KnowsSide plan calm service told (record {
+          number = number;
+          wire = packet.wire;
+          from = packet.to;
+          to = on.to;
+          origin = packet.origin;
+          hops = hops;
+          age = 0;
+          bytes = relabelled on.binding.label (rule.packed.ttl - 1) packet.bytes;
+        })
     on_side on number hops numbered row is ours =
         let side : HasSide plan calm service told packet row = knows numbered row is ours in
         let same : rule.row ≡ row = same_row rule.row row (sym rule.is ∙ is) in
         let goals : goal row.path packet.to on.to ≡ goal row.path packet.from packet.to =
-        subst (λ (r : WirePlan). goal r.path packet.to on.to ≡ goal r.path packet.from packet.to) same (same_goal plan network trace packet on.to on.binding number checked ruled rule on.mate_is on.bound) in
+        subst (λ (r : WirePlan). goal r.path packet.to on.to ≡ goal r.path packet.from packet.to) same
+        (same_goal plan network trace packet on.to on.binding number checked ruled rule on.mate_is on.bound) in
         record {
           frame = side.frame;
           come = side.come;
@@ -277,7 +288,8 @@ module _ (plan : Plan) (calm network : NetworkState) (service : ServiceId) (site
         (right_dropped plan calm network service site told packet.to packet.origin checked calmed one ruled still before why)
     passing (IsPassedOn on) = record {
       table = subst (λ (e : EdgeState). AllByRecursion (PointsToSite plan calm service site packet.to.0) (e.learned service.0)) (sym on.edge) before;
-      sent = λ hops sent. subst (λ (es : List Effect). AllByRecursion (KnowsSide plan calm service told) (packets_of packet.to packet.origin hops sent es)) (sym on.effects) (on_side on (sent + 1) (hops + 1), tt);
+      sent = λ hops sent. subst (λ (es : List Effect). AllByRecursion (KnowsSide plan calm service told) (packets_of packet.to packet.origin hops sent es)) (sym on.effects)
+          (on_side on (sent + 1) (hops + 1), tt);
     }
 
     choose : (b : Bool) → is_terminal rule.row packet.to ≡ b → WorksRight plan calm service site told packet.to packet.origin (packet_work plan network packet)
@@ -287,7 +299,8 @@ module _ (plan : Plan) (calm network : NetworkState) (service : ServiceId) (site
 -- ---- on a ping or an answer
 
 -- what has no number of a frame comes from no side
-unnumbered_sides : (plan : Plan) (calm : NetworkState) (service : ServiceId) (told : List Entry) (me : EdgeId) (origin hops sent : ℕ) (es : List Effect) → origin ≡ 0 → AllByRecursion (KnowsSide plan calm service told) (packets_of me origin hops sent es)
+unnumbered_sides : (plan : Plan) (calm : NetworkState) (service : ServiceId) (told : List Entry) (me : EdgeId) (origin hops sent : ℕ) (es : List Effect) → origin ≡ 0
+    → AllByRecursion (KnowsSide plan calm service told) (packets_of me origin hops sent es)
 unnumbered_sides plan calm service told me origin hops sent [] none = tt
 unnumbered_sides plan calm service told me origin hops sent (effect.Sent peer wire came octets ∷ es) none = (
   λ numbered row is ours. absurd (cc (sym numbered ∙ ap (λ (n : ℕ). n == 0) none)),

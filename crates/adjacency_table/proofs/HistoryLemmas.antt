@@ -42,7 +42,8 @@ none_past (x ∷ xs) zero within none = cc
 none_past (x ∷ xs) (suc k) within none = none_past xs k (omega (arith, within)) none
 
 -- what holds of each holds of the changed one too
-each_set : {A : Type 0} (P Q : ℕ → A → Type 0) (xs : List A) (me : ℕ) (x : A) → me < length xs → ((k : ℕ) → IfSome (slice_get xs k) (P k)) → ((k : ℕ) (y : A) → (k == me) ≡ false → P k y → Q k y) → Q me x
+each_set : {A : Type 0} (P Q : ℕ → A → Type 0) (xs : List A) (me : ℕ) (x : A) → me < length xs → ((k : ℕ) → IfSome (slice_get xs k) (P k))
+    → ((k : ℕ) (y : A) → (k == me) ≡ false → P k y → Q k y) → Q me x
     → (k : ℕ) → IfSome (slice_get (set xs me x) k) (Q k)
 each_set {A = A} P Q xs me x within each others here k = by (k == me) refl
   where
@@ -102,7 +103,8 @@ fixed_after plan me (said peer hold) a is = record { address = is.address; neigh
 fixed_after plan me (heard peer hold) a is = record { address = is.address; neighbours = is.neighbours; known = length-set a.known peer _ ∙ is.known }
 fixed_after plan me ticked a is = record { address = is.address; neighbours = is.neighbours; known = length-map a.known _ ∙ is.known }
 
-pub plan_after : (deed : Deed) (plan : Plan) (all : List AdjacencyLists) (me : ℕ) (x d : AdjacencyLists) → me < length all → x ≡ after deed (get_or all me d) → AreEdgesOf plan all → AreEdgesOf plan (set all me x)
+pub plan_after : (deed : Deed) (plan : Plan) (all : List AdjacencyLists) (me : ℕ) (x d : AdjacencyLists) → me < length all → x ≡ after deed (get_or all me d) → AreEdgesOf plan all
+    → AreEdgesOf plan (set all me x)
 plan_after deed plan all me x d within is are = record {
   count = length-set all me x ∙ are.count;
   each = each_set (IsOfEdge plan) (IsOfEdge plan) all me x within are.each (λ k a away has. has)
@@ -129,7 +131,8 @@ holds_one (said peer hold) history fit are = (fit, are)
 holds_one (heard peer hold) history fit are = (fit, are)
 holds_one ticked history fit are = are
 
-deed_after : (deed : Deed) (histories : ℕ → List Deed) (all : List AdjacencyLists) (me : EdgeId) (x d : AdjacencyLists) → Fits deed → me.0 < length all → x ≡ after deed (get_or all me.0 d) → AreAfter histories all
+deed_after : (deed : Deed) (histories : ℕ → List Deed) (all : List AdjacencyLists) (me : EdgeId) (x d : AdjacencyLists) → Fits deed → me.0 < length all → x
+    ≡ after deed (get_or all me.0 d) → AreAfter histories all
     → AreAfter (with_deed me deed histories) (set all me.0 x)
 deed_after deed histories all me x d fit within is are = record {
   each = each_set (λ k. IsAfter (histories k)) (λ k. IsAfter (with_deed me deed histories k)) all me.0 x within are.each
@@ -144,7 +147,8 @@ deed_after deed histories all me x d fit within is are = record {
     by k true = holds_one deed (histories k) fit (are.holds k)
     by k false = are.holds k
 
-pub said_after : (histories : ℕ → List Deed) (all : List AdjacencyLists) (me : EdgeId) (peer hold : ℕ) (x d : AdjacencyLists) → hold ≤ 65535 → me.0 < length all → x ≡ after (said peer hold) (get_or all me.0 d) → AreAfter histories all
+pub said_after : (histories : ℕ → List Deed) (all : List AdjacencyLists) (me : EdgeId) (peer hold : ℕ) (x d : AdjacencyLists) → hold ≤ 65535 → me.0 < length all → x
+    ≡ after (said peer hold) (get_or all me.0 d) → AreAfter histories all
     → AreAfter (with_deed me (said peer hold) histories) (set all me.0 x)
 said_after histories all me peer hold x d fit within is are = deed_after (said peer hold) histories all me x d fit within is are
 
@@ -193,7 +197,8 @@ joined_is plan me k a is within =
     by None none = absurd (none_past plan.edges k within none)
     by (Some row) some = ap (are_joined plan me) (omega arith)
 
-pub joined_at : (plan : Plan) (all : List AdjacencyLists) (a b : EdgeId) (d : AdjacencyLists) (result : Bool) → a.0 < length all → b.0 < length all → result ≡ is_joined_to (slice_get (get_or all a.0 d).neighbours b.0) → AreEdgesOf plan all
+pub joined_at : (plan : Plan) (all : List AdjacencyLists) (a b : EdgeId) (d : AdjacencyLists) (result : Bool) → a.0 < length all → b.0 < length all → result
+    ≡ is_joined_to (slice_get (get_or all a.0 d).neighbours b.0) → AreEdgesOf plan all
     → result ≡ are_joined plan a.0 b.0
 joined_at plan all a b d result within_a within_b is are =
     is ∙ joined_is plan a.0 b.0 (get_or all a.0 d) (item_is (IsOfEdge plan) all a.0 d are.each within_a) (omega (arith, within_b, are.count))
@@ -205,19 +210,23 @@ four_octets address id hold size =
     omega (arith, size, length-append (header_octets (length behind) (identifier address)) behind, length-append address.0 (0 ∷ 0 ∷ []), length-append address.0 [])
 
 -- the address that an edge knows of another one
-address_known : (plan : Plan) (me : ℕ) (from : EdgeId) (a : AdjacencyLists) → IsOfEdge plan me a → slice_get a.neighbours from.0 ≡ option_map (neighbour_of plan me (0 + from.0)) (slice_get plan.edges from.0)
+address_known : (plan : Plan) (me : ℕ) (from : EdgeId) (a : AdjacencyLists) → IsOfEdge plan me a → slice_get a.neighbours from.0
+    ≡ option_map (neighbour_of plan me (0 + from.0)) (slice_get plan.edges from.0)
 address_known plan me from a is = ap (λ (l : List Neighbour). slice_get l from.0) is.neighbours ∙ neighbours_at plan me 0 plan.edges from.0
 
 -- what is heard of a Hello that the network carries
-heard_is : (plan : Plan) (me : ℕ) (from : EdgeId) (a now : AdjacencyLists) (octets : List ℕ) (answer : Heard) (address : Addr) (id hold : ℕ) → IsOfEdge plan me a → edge_address plan from ≡ Some address → length address.0 ≡ 4
+heard_is : (plan : Plan) (me : ℕ) (from : EdgeId) (a now : AdjacencyLists) (octets : List ℕ) (answer : Heard) (address : Addr) (id hold : ℕ) → IsOfEdge plan me a
+    → edge_address plan from ≡ Some address → length address.0 ≡ 4
     → id < 2 ^ 32 → hold < 2 ^ 16 → octets ≡ hello_octets address id hold → Hears a from.0 octets answer now → now ≡ after (heard from.0 hold) a
 unfolding neighbour_of
 heard_is plan me from a now octets answer address id hold edge at four few short is hears = by_row (slice_get plan.edges from.0) refl
   where
     said_by : (neighbour : Neighbour) (verdict : Result ℕ HelloFault) → neighbour.address ≡ address → Says neighbour.address octets verdict → verdict ≡ Ok hold
-    said_by neighbour verdict same says = hellos_heard address id hold verdict four few short (subst (λ (a : Addr). Says a (hello_octets address id hold) verdict) same (subst (λ (l : List ℕ). Says neighbour.address l verdict) is says))
+    said_by neighbour verdict same says = hellos_heard address id hold verdict four few short
+        (subst (λ (a : Addr). Says a (hello_octets address id hold) verdict) same (subst (λ (l : List ℕ). Says neighbour.address l verdict) is says))
 
-    by_answer : (neighbour : Neighbour) → slice_get a.neighbours from.0 ≡ Some neighbour → neighbour.address ≡ address → (answer : Heard) → Hears a from.0 octets answer now → now ≡ after (heard from.0 hold) a
+    by_answer : (neighbour : Neighbour) → slice_get a.neighbours from.0 ≡ Some neighbour → neighbour.address ≡ address → (answer : Heard) → Hears a from.0 octets answer now → now
+        ≡ after (heard from.0 hold) a
     by_answer neighbour there same Fresh hears =
         let says : Says neighbour.address octets (Ok hears.hold) = subst (λ (o : Option Neighbour). IfSome o (λ n. Says n.address octets (Ok hears.hold))) there hears.says in
         let held : hears.hold ≡ hold = cc (said_by neighbour (Ok hears.hold) same says) in
@@ -239,14 +248,16 @@ pub heard_after : (histories : ℕ → List Deed) (plan : Plan) (address : Addr)
     → AreAfter (with_deed me (heard from.0 hold) histories) (set all me.0 x)
 heard_after histories plan address id hold all me from x d octets answer within hears size after_all of_plan at few short is =
     deed_after (heard from.0 hold) histories all me x d short within
-    (heard_is plan me.0 from (get_or all me.0 d) x octets answer address id hold (item_is (IsOfEdge plan) all me.0 d of_plan.each within) at (four_octets address id hold (sym (ap (λ (l : List ℕ). length l) is) ∙ size)) few (omega (arith, short)) is hears) after_all
+    (heard_is plan me.0 from (get_or all me.0 d) x octets answer address id hold (item_is (IsOfEdge plan) all me.0 d of_plan.each within) at
+    (four_octets address id hold (sym (ap (λ (l : List ℕ). length l) is) ∙ size)) few (omega (arith, short)) is hears) after_all
 
 -- whatever is heard, the edges are those of the plan
 hears_fixed : (plan : Plan) (me from : ℕ) (a now : AdjacencyLists) (octets : List ℕ) (answer : Heard) → Hears a from octets answer now → IsOfEdge plan me a → IsOfEdge plan me now
 hears_fixed plan me from a now octets Fresh hears is = subst (IsOfEdge plan me) (sym hears.kept) (fixed_after plan me (heard from hears.hold) a is)
 hears_fixed plan me from a now octets (Ignored fault) hears is = subst (IsOfEdge plan me) (sym hears.1) is
 
-pub heard_fixed : (plan : Plan) (all : List AdjacencyLists) (me from : ℕ) (x d : AdjacencyLists) (octets : List ℕ) (answer : Heard) → me < length all → Hears (get_or all me d) from octets answer x → AreEdgesOf plan all → AreEdgesOf plan (set all me x)
+pub heard_fixed : (plan : Plan) (all : List AdjacencyLists) (me from : ℕ) (x d : AdjacencyLists) (octets : List ℕ) (answer : Heard) → me < length all
+    → Hears (get_or all me d) from octets answer x → AreEdgesOf plan all → AreEdgesOf plan (set all me x)
 heard_fixed plan all me from x d octets answer within hears are = record {
   count = length-set all me x ∙ are.count;
   each = each_set (IsOfEdge plan) (IsOfEdge plan) all me x within are.each (λ k a away has. has)
@@ -257,7 +268,8 @@ hears_sized : (from : ℕ) (a now : AdjacencyLists) (octets : List ℕ) (answer 
 hears_sized from a now octets Fresh hears = ap (λ (l : AdjacencyLists). length l.known) hears.kept ∙ length_after (heard from hears.hold) a
 hears_sized from a now octets (Ignored fault) hears = ap (λ (l : AdjacencyLists). length l.known) hears.1
 
-pub heard_sized : (all : List AdjacencyLists) (me from : ℕ) (x d : AdjacencyLists) (octets : List ℕ) (answer : Heard) → me < length all → Hears (get_or all me d) from octets answer x → AreSized all → AreSized (set all me x)
+pub heard_sized : (all : List AdjacencyLists) (me from : ℕ) (x d : AdjacencyLists) (octets : List ℕ) (answer : Heard) → me < length all → Hears (get_or all me d) from octets answer x
+    → AreSized all → AreSized (set all me x)
 heard_sized all me from x d octets answer within hears sized =
     let same : length (set all me x) ≡ length all = length-set all me x in
     each_set (λ k a. length a.known ≡ length all) (λ k a. length a.known ≡ length (set all me x)) all me x within sized (λ k a away has. has ∙ sym same)
@@ -268,13 +280,16 @@ heard_sized all me from x d octets answer within hears sized =
 pub lives_at : (histories : ℕ → List Deed) (all : List AdjacencyLists) (edge peer : EdgeId) (d : AdjacencyLists) (result : Bool) → AreSized all → edge.0 < length all → peer.0 < length all
     → result ≡ is_live (known_of (get_or all edge.0 d) peer.0) → AreAfter histories all → result ≡ live peer.0 (histories edge.0)
 lives_at histories all edge peer d result sized within there is are =
-    is ∙ lives_is (histories edge.0) (get_or all edge.0 d) peer.0 (are.holds edge.0) (item_is (λ k. IsAfter (histories k)) all edge.0 d are.each within) (omega (arith, there, size_at all edge.0 d sized within))
+    is ∙ lives_is (histories edge.0) (get_or all edge.0 d) peer.0 (are.holds edge.0) (item_is (λ k. IsAfter (histories k)) all edge.0 d are.each within)
+    (omega (arith, there, size_at all edge.0 d sized within))
 
 lapse_is : (history : List Deed) (a : AdjacencyLists) (peer : ℕ) → AreHolds history → IsAfter history a → peer < length a.known → lapses (known_of a peer) ≡ ends_by_tick history peer
 lapse_is history a peer are is within =
     ap lapses (is.peers peer within) ∙ (λ i. stands peer history are i && not (stands peer (ticked ∷ history) are i))
 
-pub lapsed_at : (histories : ℕ → List Deed) (all : List AdjacencyLists) (edge : EdgeId) (peer : ℕ) (d : AdjacencyLists) (ended : Bool) → AreSized all → edge.0 < length all → ended ≡ lapses (known_of (get_or all edge.0 d) peer)
+pub lapsed_at : (histories : ℕ → List Deed) (all : List AdjacencyLists) (edge : EdgeId) (peer : ℕ) (d : AdjacencyLists) (ended : Bool) → AreSized all → edge.0 < length all → ended
+    ≡ lapses (known_of (get_or all edge.0 d) peer)
     → AreAfter histories all → peer < length all → ended ≡ ends_by_tick (histories edge.0) peer
 lapsed_at histories all edge peer d ended sized within is are there =
-    is ∙ lapse_is (histories edge.0) (get_or all edge.0 d) peer (are.holds edge.0) (item_is (λ k. IsAfter (histories k)) all edge.0 d are.each within) (omega (arith, there, size_at all edge.0 d sized within))
+    is ∙ lapse_is (histories edge.0) (get_or all edge.0 d) peer (are.holds edge.0) (item_is (λ k. IsAfter (histories k)) all edge.0 d are.each within)
+    (omega (arith, there, size_at all edge.0 d sized within))

@@ -14,4 +14,5 @@ pub runs_meet : RunsMeetRules
 runs_meet plan events is = record { isolated = runs_are_isolated plan events is; split = run_split plan events is.checked; once = runs_seen_once plan events is }
 
 pub runs_yes : ReportsOfRunsGetYes
-runs_yes plan events text answer is names report audited = good_yes plan text answer (record { trace = (run plan events).entries; told = runs_told plan events text is names report; is = runs_meet plan events is }) audited
+runs_yes plan events text answer is names report audited =
+    good_yes plan text answer (record { trace = (run plan events).entries; told = runs_told plan events text is names report; is = runs_meet plan events is }) audited

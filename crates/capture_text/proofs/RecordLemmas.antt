@@ -50,7 +50,8 @@ left_none : {B : Type 0} (f : B → List ℕ) (found : Option B) (left : Option 
 left_none f found left told is = sym told ∙ ap (option_map f) is
 
 -- a frame is put by its record
-pub puts_left : {T E B : Type 0} (result : Result T E) (a b : Written) (ticks : ℕ) (f : B → List ℕ) (found : Option B) (octets : B) (left : Option (List ℕ)) → option_map f found ≡ left → found ≡ Some octets
+pub puts_left : {T E B : Type 0} (result : Result T E) (a b : Written) (ticks : ℕ) (f : B → List ℕ) (found : Option B) (octets : B) (left : Option (List ℕ)) → option_map f found ≡ left
+    → found ≡ Some octets
     → Puts result a b (written_frame (record { seconds = ticks; frame = f octets })) → Puts result a b (flat_map written_frame (timed ticks left))
 puts_left result a b ticks f found octets left told is puts =
     let front = written_frame (record { seconds = ticks; frame = f octets }) in
@@ -58,14 +59,16 @@ puts_left result a b ticks f found octets left told is puts =
     subst (λ (l : List ℕ). Puts result a b l) (sym all) puts
 
 -- no frame is put by nothing
-pub puts_none : {B : Type 0} (w : Written) (ticks : ℕ) (f : B → List ℕ) (found : Option B) (left : Option (List ℕ)) → option_map f found ≡ left → found ≡ None → GoesOn w w (flat_map written_frame (timed ticks left))
+pub puts_none : {B : Type 0} (w : Written) (ticks : ℕ) (f : B → List ℕ) (found : Option B) (left : Option (List ℕ)) → option_map f found ≡ left → found ≡ None
+    → GoesOn w w (flat_map written_frame (timed ticks left))
 puts_none w ticks f found left told is =
     let all : flat_map written_frame (timed ticks left) ≡ [] = ap (λ (o : Option (List ℕ)). flat_map written_frame (timed ticks o)) (left_none f found left told is) in
     subst (λ (l : List ℕ). GoesOn w w l) (sym all) (goes_none w)
 
 -- the record of the next entry's frame, and those behind it
 pub frames_from : (circuit : CircuitId) (ticks after : ℕ) (trace : List Entry) (index : ℕ) (entry : Entry) → index < length trace → entry ≡ get_or trace index entry → after ≡ ticks_after entry ticks
-    → flat_map written_frame (frames_left circuit ticks (drop index trace)) ≡ flat_map written_frame (frame_of circuit ticks entry) ++ flat_map written_frame (frames_left circuit after (drop (index + 1) trace))
+    → flat_map written_frame (frames_left circuit ticks (drop index trace))
+    ≡ flat_map written_frame (frame_of circuit ticks entry) ++ flat_map written_frame (frames_left circuit after (drop (index + 1) trace))
 frames_from circuit ticks after trace index entry within is told =
     let rest = drop (index + 1) trace in
     let front = flat_map written_frame (frame_of circuit ticks entry) in

@@ -14,7 +14,8 @@ stopped_going old now event (TooMuch weight number) going stops = ap (λ (l : Ne
 stopped_going old now event NoMemory going stops = tt
 
 -- what one event leaves
-pub applied_going : {A : Type 0} (old now : NetLists) (event : Event) (result : Result A NetStop) → old.failed ≡ false → OnOk result ((old.failed ≡ false) × (now.failed ≡ false)) → IfErr result (Stops old now event) → IsGoing result now
+pub applied_going : {A : Type 0} (old now : NetLists) (event : Event) (result : Result A NetStop) → old.failed ≡ false → OnOk result ((old.failed ≡ false) × (now.failed ≡ false))
+    → IfErr result (Stops old now event) → IsGoing result now
 applied_going old now event (Ok done) going goes stops = goes.1
 applied_going old now event (Err stop) going goes stops = stopped_going old now event stop going stops
 

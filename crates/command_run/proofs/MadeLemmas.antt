@@ -26,7 +26,8 @@ use Rattle.command_text.specs.declared.command.Command.TheVariants.{One, Settle,
 use Rattle.command_run.specs.Made.{arrivals, captures_after, deliveries, entering, event_and, made, made_by, next_frames, ticks, turns}
 
 made_on : (plan : Plan) (n : NetLists) (s : NetworkState) (t : List Entry) (captures later : List (List (List ℕ))) (c : Command) (cs : List Command)
-    → ended n None ≡ ran plan s t (made_by plan s captures c) → later ≡ captures_after c captures → ran plan (seen n) n.trace (made plan (seen n) later cs) ≡ ran plan s t (made plan s captures (c ∷ cs))
+    → ended n None ≡ ran plan s t (made_by plan s captures c) → later ≡ captures_after c captures → ran plan (seen n) n.trace (made plan (seen n) later cs)
+    ≡ ran plan s t (made plan s captures (c ∷ cs))
 made_on plan n s t captures later c cs h is =
     let to : seen n ≡ state_after plan s (made_by plan s captures c) = ap (λ (r : Ended). r.state) h ∙ ran_state plan s t (made_by plan s captures c) (sym (ap (λ (r : Ended). r.stop) h)) in
     ap (λ (left : List (List (List ℕ))). ran plan (seen n) n.trace (made plan (seen n) left cs)) is
@@ -40,7 +41,8 @@ made_err plan n stop s t captures c cs h =
 
 -- one more command of those that are left was done by a network that keeps the plan, or was stopped
 pub made_next : (plan : Plan) (old now : NetLists) (last : Ended) (captures later : List (List (List ℕ))) (c : Command) (all rest : List Command) → all ≡ c ∷ rest → old.plan ≡ plan
-    → ran plan (seen old) old.trace (made plan (seen old) captures all) ≡ last → ended now None ≡ ran old.plan (seen old) old.trace (made_by old.plan (seen old) captures c) → later ≡ captures_after c captures
+    → ran plan (seen old) old.trace (made plan (seen old) captures all) ≡ last → ended now None ≡ ran old.plan (seen old) old.trace (made_by old.plan (seen old) captures c) → later
+    ≡ captures_after c captures
     → ran plan (seen now) now.trace (made plan (seen now) later rest) ≡ last
 made_next plan old now last captures later c all rest is kept before h left =
     subst (λ (p : Plan). ran p (seen now) now.trace (made p (seen now) later rest) ≡ ran p (seen old) old.trace (made p (seen old) captures (c ∷ rest))) kept
@@ -80,7 +82,8 @@ next_short (frames ∷ captures) short = All-head (All IsFrame) frames captures 
 -- ---- frames of a capture
 
 pub entering_next : (plan : Plan) (old now : NetLists) (last : Ended) (circuit : CircuitId) (frame : List ℕ) (all rest : List (List ℕ)) → all ≡ frame ∷ rest → old.plan ≡ plan
-    → ran plan (seen old) old.trace (entering circuit all) ≡ last → ended now None ≡ ran old.plan (seen old) old.trace (Frame circuit frame ∷ []) → ran plan (seen now) now.trace (entering circuit rest) ≡ last
+    → ran plan (seen old) old.trace (entering circuit all) ≡ last → ended now None ≡ ran old.plan (seen old) old.trace (Frame circuit frame ∷ [])
+    → ran plan (seen now) now.trace (entering circuit rest) ≡ last
 entering_next plan old now last circuit frame all rest is kept before h =
     subst (λ (p : Plan). ran p (seen now) now.trace (entering circuit rest) ≡ ran p (seen old) old.trace (entering circuit (frame ∷ rest))) kept
     (ran_on old.plan (seen old) old.trace (Frame circuit frame ∷ []) (entering circuit rest) now h)
@@ -139,7 +142,8 @@ turn_done next plan old now count i event kept below found none state trace =
     ∙ (ran_first old.plan old now event (turns old.plan (next old.plan) (count - (i + 1)) (step old.plan (seen old) event).state) none state trace
     ∙ sym (ap (λ (es : List Event). ran old.plan (seen old) old.trace es) (turns_more old.plan (next old.plan) (seen old) count i event below (sym found)))))
 
-turn_stopped : (next : Plan → NetworkState → Option Event) (plan : Plan) (old now : NetLists) (stop : NetStop) (count i : ℕ) (event : Event) → old.plan ≡ plan → i < count → Some event ≡ next old.plan (seen old)
+turn_stopped : (next : Plan → NetworkState → Option Event) (plan : Plan) (old now : NetLists) (stop : NetStop) (count i : ℕ) (event : Event) → old.plan ≡ plan → i < count → Some event
+    ≡ next old.plan (seen old)
     → Stops old now event stop → RunHalts stop now (ran plan (seen old) old.trace (turns plan (next plan) (count - i) (seen old)))
 turn_stopped next plan old now stop count i event kept below found stops =
     subst (λ (p : Plan). RunHalts stop now (ran p (seen old) old.trace (turns p (next p) (count - i) (seen old)))) kept

@@ -95,9 +95,11 @@ arrivals_planned plan count network = turns_planned plan next_arrival count netw
 entering_planned : (plan : Plan) (circuit : CircuitId) (frames : List (List ℕ)) → circuit.0 < length plan.circuits → All IsFrame frames → All (IsEventOf plan) (entering circuit frames)
 entering_planned plan circuit [] within short = All-nil (IsEventOf plan)
 entering_planned plan circuit (frame ∷ frames) within short =
-    All-cons (IsEventOf plan) (Frame circuit frame) (entering circuit frames) (within, All-head IsFrame frame frames short) (entering_planned plan circuit frames within (All-tail IsFrame frame frames short))
+    All-cons (IsEventOf plan) (Frame circuit frame) (entering circuit frames) (within, All-head IsFrame frame frames short)
+    (entering_planned plan circuit frames within (All-tail IsFrame frame frames short))
 
-made_by_planned : (plan : Plan) (network : NetworkState) (captures : List (List (List ℕ))) (command : Command) → All (All IsFrame) captures → IsPlanned plan command → All (IsEventOf plan) (made_by plan network captures command)
+made_by_planned : (plan : Plan) (network : NetworkState) (captures : List (List (List ℕ))) (command : Command) → All (All IsFrame) captures → IsPlanned plan command
+    → All (IsEventOf plan) (made_by plan network captures command)
 made_by_planned plan network captures (One event) short planned = All-cons (IsEventOf plan) event [] planned (All-nil (IsEventOf plan))
 made_by_planned plan network captures (Settle count) short planned = deliveries_planned plan count network
 made_by_planned plan network captures (Flow count) short planned = arrivals_planned plan count network

@@ -27,7 +27,8 @@ first_is =
 pub second_is : (octet : ℕ) → octet < 256 → slice_index SECOND octet ≡ second_part (digit_value octet)
 unfolding match_second
 second_is =
-    (Decides-below_and (λ n. slice_index SECOND n == second_part (digit_value n)) (λ n. slice_index SECOND n ≡ second_part (digit_value n)) match_second (λ n. Decides-eqb _ _) refl (λ _. refl) 256).0 refl
+    (Decides-below_and (λ n. slice_index SECOND n == second_part (digit_value n)) (λ n. slice_index SECOND n ≡ second_part (digit_value n)) match_second (λ n. Decides-eqb _ _) refl
+    (λ _. refl) 256).0 refl
 
 pub below : (octet value : ℕ) → digit_value octet ≡ Some value → value < 16
 below octet value e = grind (arith, nat_tests)
@@ -111,7 +112,8 @@ front_more front x None = refl
 
 -- a pair of digits before the rest
 pair_from : (digits : List ℕ) (i : ℕ) → 2 * i + 1 < length digits
-    → unhex (drop (2 * i) digits) ≡ option_and_then (λ octet. option_map (λ octets. octet ∷ octets) (unhex (drop (2 * (i + 1)) digits))) (pair_value (slice_index digits (2 * i)) (slice_index digits (2 * i + 1)))
+    → unhex (drop (2 * i) digits) ≡ option_and_then (λ octet. option_map (λ octets. octet ∷ octets) (unhex (drop (2 * (i + 1)) digits)))
+    (pair_value (slice_index digits (2 * i)) (slice_index digits (2 * i + 1)))
 pair_from digits i within =
     let next : 2 * i + 1 + 1 ≡ 2 * (i + 1) = omega arith in
     rw (drop_more digits (2 * i) 0 (omega arith), drop_more digits (2 * i + 1) 0 (omega arith), next) refl
@@ -169,7 +171,8 @@ pub decoded_more : (digits rest piece octets now : List ℕ) (at count : ℕ) (a
     → option_map (λ xs. now ++ xs) (unhex (drop (at + 2 * count) digits)) ≡ unhex digits
 decoded_more digits rest piece octets now at count all are back front within adds told =
     let is : piece ≡ take (2 * count) (drop at digits) = front ∙ ap (take (2 * count)) back in
-    added octets now (unhex (take (2 * count) (drop at digits))) (unhex (drop (at + 2 * count) digits)) (ap (λ (l : List ℕ). option_map (λ xs. octets ++ xs) (unhex l)) (sym is) ∙ (adds ∙ ap (λ (b : Bool). if b then Some now else None) are))
+    added octets now (unhex (take (2 * count) (drop at digits))) (unhex (drop (at + 2 * count) digits))
+    (ap (λ (l : List ℕ). option_map (λ xs. octets ++ xs) (unhex l)) (sym is) ∙ (adds ∙ ap (λ (b : Bool). if b then Some now else None) are))
     ∙ (ap (λ (read : Option (List ℕ)). option_map (λ xs. octets ++ xs) read) (sym (unhex_from digits at count within)) ∙ told)
 
 -- a piece has what is no digit
@@ -178,7 +181,8 @@ pub decoded_none : (digits rest piece octets now : List ℕ) (at count : ℕ) (a
     → None ≡ unhex digits
 decoded_none digits rest piece octets now at count all are back front within none told =
     let is : piece ≡ take (2 * count) (drop at digits) = front ∙ ap (take (2 * count)) back in
-    sym (none_added octets (unhex (take (2 * count) (drop at digits))) (unhex (drop (at + 2 * count) digits)) (ap (λ (l : List ℕ). option_map (λ xs. octets ++ xs) (unhex l)) (sym is) ∙ (none ∙ ap (λ (b : Bool). if b then Some now else None) are)))
+    sym (none_added octets (unhex (take (2 * count) (drop at digits))) (unhex (drop (at + 2 * count) digits))
+    (ap (λ (l : List ℕ). option_map (λ xs. octets ++ xs) (unhex l)) (sym is) ∙ (none ∙ ap (λ (b : Bool). if b then Some now else None) are)))
     ∙ (ap (λ (read : Option (List ℕ)). option_map (λ xs. octets ++ xs) read) (sym (unhex_from digits at count within)) ∙ told)
 
 alone : (rest : List ℕ) → length rest ≡ 1 → unhex rest ≡ None

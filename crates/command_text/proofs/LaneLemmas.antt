@@ -131,7 +131,8 @@ octets_are v w long is =
     ap (λ l. mask_l l % 2 ^ 64) lanes ∙ mask_l-mod (map strange w) 64 (omega (arith, length-map w strange, size)) in
     let none : nat_eq (mask_l (map (top 7) (zip2 (λ a b. cond (leb a b) 255 0) (replicate 16 16) w)) % 2 ^ 64) 0 ≡ not (any_strange w) = ap (λ m. nat_eq m 0) mask ∙ none_set w in
     unhex_is 8 v (omega (arith, long)) ∙ (ap (λ (l : List ℕ). if any_strange l then None else Some (paired l)) (sym is) ∙ (turned (any_strange w) (paired w)
-    ∙ (ap (λ (b : Bool). if b then Some (paired w) else None) (sym none) ∙ ap (λ (l : List ℕ). if nat_eq (mask_l (map (top 7) (zip2 (λ a b. cond (leb a b) 255 0) (replicate 16 16) w)) % 2 ^ 64) 0 then Some l else None) (sym (lanes_paired w size)))))
+    ∙ (ap (λ (b : Bool). if b then Some (paired w) else None) (sym none)
+    ∙ ap (λ (l : List ℕ). if nat_eq (mask_l (map (top 7) (zip2 (λ a b. cond (leb a b) 255 0) (replicate 16 16) w)) % 2 ^ 64) 0 then Some l else None) (sym (lanes_paired w size)))))
 
 -- ---- eight octets more
 behind_front : (front octets : List ℕ) (read : Option (List ℕ)) → option_map (λ xs. (front ++ octets) ++ xs) read ≡ option_map (λ xs. front ++ xs) (behind (Some octets) read)
@@ -145,7 +146,8 @@ filled_eight digits room octets i false are within size eight piece told = told
 filled_eight digits room octets i true are within size eight piece told =
     let next : 2 * i + 2 * 8 ≡ 2 * (i + 8) = omega arith in
     let parted : unhex (drop (2 * i) digits) ≡ behind (if are then Some octets else None) (unhex (drop (2 * (i + 8)) digits)) =
-    unhex_from digits (2 * i) 8 (omega (arith, within, size)) ∙ (ap (λ o. behind o (unhex (drop (2 * i + 2 * 8) digits))) piece ∙ ap (λ n. behind (if are then Some octets else None) (unhex (drop n digits))) next) in
+    unhex_from digits (2 * i) 8 (omega (arith, within, size))
+    ∙ (ap (λ o. behind o (unhex (drop (2 * i + 2 * 8) digits))) piece ∙ ap (λ n. behind (if are then Some octets else None) (unhex (drop n digits))) next) in
     go are parted
   where
     go : (are : Bool) → unhex (drop (2 * i) digits) ≡ behind (if are then Some octets else None) (unhex (drop (2 * (i + 8)) digits))

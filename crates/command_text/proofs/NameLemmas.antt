@@ -43,7 +43,8 @@ pub finds_more : (i j : ℕ) (names : List (List ℕ)) (x : List ℕ) (old new :
 finds_more i j names x old new within next at finds updates = record {
   place = λ q.
       let parted : drop i names ≡ x ∷ drop (i + 1) names = drop_more names i x within ∙ ap (λ y. y ∷ drop (i + 1) names) (sym at) in
-      let rest : lookup (λ k. bytes_eq q.now k.now) old ≡ place_from (i + 1) (bytes_eq q.now) (drop (i + 1) names) = finds.place q ∙ ap (λ n. place_from n (bytes_eq q.now) (drop n names)) (sym next) in
+      let rest : lookup (λ k. bytes_eq q.now k.now) old ≡ place_from (i + 1) (bytes_eq q.now) (drop (i + 1) names) =
+      finds.place q ∙ ap (λ n. place_from n (bytes_eq q.now) (drop n names)) (sym next) in
       updates q ∙ ap (λ b. cond b (Some i) (lookup (λ k. bytes_eq q.now k.now) old)) (nat_list_eq_equiv.symm x q.now) ∙ ap (λ o. cond (bytes_eq q.now x) (Some i) o) rest
       ∙ ap (λ xs. place_from i (bytes_eq q.now) xs) (sym parted);
 }

@@ -83,7 +83,8 @@ module _ (may : ℕ → ℕ → Bool) where
           either (inr came) at = inr (ap (λ (n : ℕ). may n b) at ∙ came)
       by false away stands = inl stands
 
-  absorb_stood : (me : EdgeId) (origin hops : ℕ) (old new : Work) (network : NetworkState) → old.edge ≡ network.edges me.0 → Stood (may me.0) old new → NetStood may network.edges (absorb me origin hops new network).state.edges
+  absorb_stood : (me : EdgeId) (origin hops : ℕ) (old new : Work) (network : NetworkState) → old.edge ≡ network.edges me.0 → Stood (may me.0) old new
+      → NetStood may network.edges (absorb me origin hops new network).state.edges
   unfolding with_edge
   absorb_stood me origin hops old new network is stood =
       subst (NetStood may network.edges) (sym (all_edges me origin hops new.effects (with_edge me new.edge network))) (put_stood network.edges me old new is stood)
@@ -197,7 +198,8 @@ module _ (plan : Plan) (network : NetworkState) where
   both_stood : (may : ℕ → ℕ → Bool) (from to : EdgeId) (first second : Work) → Stood (may from.0) (begin_at network from) first → Stood (may to.0) (begin_at network to) second
       → NetStood may network.edges (put_at (put_at network.edges from.0 first.edge) to.0 second.edge)
   unfolding NetStood
-  both_stood may from to first second one other a b = by (nat_eq a to.0) (put_stood may network.edges from (begin_at network from) first refl one a b) (put_stood may network.edges to (begin_at network to) second refl other a b)
+  both_stood may from to first second one other a b =
+      by (nat_eq a to.0) (put_stood may network.edges from (begin_at network from) first refl one a b) (put_stood may network.edges to (begin_at network to) second refl other a b)
     where
       by : (test : Bool) → (is_there ((put_at network.edges from.0 first.edge a).peering b) ≡ true → (is_there ((network.edges a).peering b) ≡ true) ⊎ (may a b ≡ true))
           → (is_there ((cond (nat_eq a to.0) second.edge (network.edges a)).peering b) ≡ true → (is_there ((network.edges a).peering b) ≡ true) ⊎ (may a b ≡ true))
@@ -254,11 +256,14 @@ module _ (plan : Plan) (network : NetworkState) where
   by_event (Discard number) = discard_stood (connects_them (Discard number)) number
   by_event (Again number) = again_stood (connects_them (Again number)) number
   by_event (Circuit circuit on) = circuit_stands (connects_them (Circuit circuit on)) circuit on
-  by_event (Wire me wire on) = answer_stood (connects_them (Wire me wire on)) me (begin_at network me) _ network refl (wire_stood (connects_them (Wire me wire on) me.0) plan taken_all wire on (begin_at network me))
+  by_event (Wire me wire on) = answer_stood (connects_them (Wire me wire on)) me (begin_at network me) _ network refl
+      (wire_stood (connects_them (Wire me wire on) me.0) plan taken_all wire on (begin_at network me))
   by_event (Status me wire bits) =
-      answer_stood (connects_them (Status me wire bits)) me (begin_at network me) _ network refl (status_stood (connects_them (Status me wire bits) me.0) plan taken_all wire bits (begin_at network me))
+      answer_stood (connects_them (Status me wire bits)) me (begin_at network me) _ network refl
+      (status_stood (connects_them (Status me wire bits) me.0) plan taken_all wire bits (begin_at network me))
   by_event (Priority me wire priority) =
-      answer_stood (connects_them (Priority me wire priority)) me (begin_at network me) _ network refl (priority_stood (connects_them (Priority me wire priority) me.0) plan taken_all wire priority (begin_at network me))
+      answer_stood (connects_them (Priority me wire priority)) me (begin_at network me) _ network refl
+      (priority_stood (connects_them (Priority me wire priority) me.0) plan taken_all wire priority (begin_at network me))
   by_event (Ping me wire) = ping_stood (connects_them (Ping me wire)) me wire
 
 pub come_by_connections : EndsComeByConnections

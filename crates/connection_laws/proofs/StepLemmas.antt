@@ -100,14 +100,16 @@ module _ (may : ℕ → Bool) where
     released = λ peer fec label work there.
         changes_stood (λ edge. with_released label (end_of_fec plan edge peer fec) edge) work (released_keeps label (end_of_fec plan work.edge peer fec) work.edge);
     states = λ peer fec status work there.
-        changes_stood (with_named plan peer fec (stated status) (group_stated fec.group status) fec.pw_id) work (named_keeps plan peer fec (stated status) (group_stated fec.group status) fec.pw_id work.edge);
+        changes_stood (with_named plan peer fec (stated status) (group_stated fec.group status) fec.pw_id) work
+        (named_keeps plan peer fec (stated status) (group_stated fec.group status) fec.pw_id work.edge);
     clears = λ service addresses from work. stood_same may work _ (withdrawing_only service addresses from work).edge.peering;
   }
 
   mends_stood : (plan : Plan) (told : Answers) (work : Work) → Stood may work (mends plan told work)
   mends_stood plan told work = mends_holds plan told (Stood may) (mend_steps plan told) work
 
-  changed_stood : (plan : Plan) (told : Answers) (change : EdgeState → EdgeState) (work : Work) → (change work.edge).peering ≡ work.edge.peering → Stood may work (mends plan told (changes change work))
+  changed_stood : (plan : Plan) (told : Answers) (change : EdgeState → EdgeState) (work : Work) → (change work.edge).peering ≡ work.edge.peering
+      → Stood may work (mends plan told (changes change work))
   changed_stood plan told change work same = stood_then may work (changes change work) _ (changes_stood change work same) (mends_stood plan told (changes change work))
 
   -- ---- inputs

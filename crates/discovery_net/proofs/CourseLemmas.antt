@@ -28,7 +28,8 @@ pub course_ran : (plan : Plan) (s : NetworkState) (t : List Entry) (notes : List
 course_ran plan s t notes [] = refl
 course_ran plan s t notes (Tells note ∷ acts) = course_ran plan s t (noted t notes note) acts
 course_ran plan s t notes (Does event ∷ acts) =
-    by (stop_at t (length s.under_way) event) (course plan (step plan s event).state (t ++ (step plan s event).entries) notes acts) (ran plan (step plan s event).state (t ++ (step plan s event).entries) (events_in acts))
+    by (stop_at t (length s.under_way) event) (course plan (step plan s event).state (t ++ (step plan s event).entries) notes acts)
+    (ran plan (step plan s event).state (t ++ (step plan s event).entries) (events_in acts))
     (course_ran plan (step plan s event).state (t ++ (step plan s event).entries) notes acts)
   where
     by : (o : Option NetStop) (c : Course) (e : Ended) → network_of c ≡ e → network_of (unless o (course_of s t notes None) c) ≡ runs.unless o s t e
@@ -48,17 +49,21 @@ state_done old now acts done =
 -- ---- one act
 
 pub does_one : (old now : DiscoveryLists) (event : Event) → now.network.plan ≡ old.network.plan → stop_at old.network.trace (length (seen old.network).under_way) event ≡ None
-    → seen now.network ≡ (step old.network.plan (seen old.network) event).state → now.network.trace ≡ old.network.trace ++ (step old.network.plan (seen old.network) event).entries → now.notes ≡ old.notes
+    → seen now.network ≡ (step old.network.plan (seen old.network) event).state → now.network.trace ≡ old.network.trace ++ (step old.network.plan (seen old.network) event).entries
+    → now.notes ≡ old.notes
     → HasDone old now (Does event ∷ [])
 does_one old now event kept none state trace same rest =
-    let behind : Course = course old.network.plan (step old.network.plan (seen old.network) event).state (old.network.trace ++ (step old.network.plan (seen old.network) event).entries) old.notes rest in
+    let behind : Course = course old.network.plan (step old.network.plan (seen old.network) event).state
+    (old.network.trace ++ (step old.network.plan (seen old.network) event).entries) old.notes rest in
     (λ i. course (kept i) (state i) (trace i) (same i) rest)
     ∙ sym (ap (λ (o : Option NetStop). unless o (course_of (seen old.network) old.network.trace old.notes None) behind) none)
 
-refused_one : (old now : DiscoveryLists) (event : Event) (stop : NetStop) → stop_at old.network.trace (length (seen old.network).under_way) event ≡ Some stop → now.network ≡ old.network → now.notes ≡ old.notes
+refused_one : (old now : DiscoveryLists) (event : Event) (stop : NetStop) → stop_at old.network.trace (length (seen old.network).under_way) event ≡ Some stop → now.network
+    ≡ old.network → now.notes ≡ old.notes
     → (rest : List Act) → ended_at now (Some stop) ≡ course_on old (Does event ∷ rest)
 refused_one old now event stop met kept same rest =
-    let behind : Course = course old.network.plan (step old.network.plan (seen old.network) event).state (old.network.trace ++ (step old.network.plan (seen old.network) event).entries) old.notes rest in
+    let behind : Course = course old.network.plan (step old.network.plan (seen old.network) event).state
+    (old.network.trace ++ (step old.network.plan (seen old.network) event).entries) old.notes rest in
     (λ i. course_of (seen (kept i)) (kept i).trace (same i) (Some stop))
     ∙ sym (ap (λ (o : Option NetStop). unless o (course_of (seen old.network) old.network.trace old.notes None) behind) met)
 
@@ -81,17 +86,20 @@ done_alone (e ∷ es) = ap (λ (l : List Event). e ∷ l) (done_alone es)
 abbrev goes_on : Plan → List PlacedNote → List Act → Ended → Course
 goes_on plan notes rest e = unless e.stop (course_of e.state e.trace notes None) (course plan e.state e.trace notes rest)
 
-course_events : (plan : Plan) (s : NetworkState) (t : List Entry) (notes : List PlacedNote) (es : List Event) (rest : List Act) → course plan s t notes (all_done es ++ rest) ≡ goes_on plan notes rest (ran plan s t es)
+course_events : (plan : Plan) (s : NetworkState) (t : List Entry) (notes : List PlacedNote) (es : List Event) (rest : List Act) → course plan s t notes (all_done es ++ rest)
+    ≡ goes_on plan notes rest (ran plan s t es)
 course_events plan s t notes [] rest = refl
 course_events plan s t notes (e ∷ es) rest =
-    by (stop_at t (length s.under_way) e) (course plan (step plan s e).state (t ++ (step plan s e).entries) notes (all_done es ++ rest)) (ran plan (step plan s e).state (t ++ (step plan s e).entries) es)
+    by (stop_at t (length s.under_way) e) (course plan (step plan s e).state (t ++ (step plan s e).entries) notes (all_done es ++ rest))
+    (ran plan (step plan s e).state (t ++ (step plan s e).entries) es)
     (course_events plan (step plan s e).state (t ++ (step plan s e).entries) notes es rest)
   where
     by : (o : Option NetStop) (c : Course) (r : Ended) → c ≡ goes_on plan notes rest r → unless o (course_of s t notes None) c ≡ goes_on plan notes rest (runs.unless o s t r)
     by None c r same = same
     by (Some stop) c r same = refl
 
-pub events_done : (old now : DiscoveryLists) (es : List Event) → now.network.plan ≡ old.network.plan → now.notes ≡ old.notes → ended now.network None ≡ ran old.network.plan (seen old.network) old.network.trace es
+pub events_done : (old now : DiscoveryLists) (es : List Event) → now.network.plan ≡ old.network.plan → now.notes ≡ old.notes → ended now.network None
+    ≡ ran old.network.plan (seen old.network) old.network.trace es
     → HasDone old now (all_done es)
 events_done old now es kept same is rest =
     (λ i. course (kept i) (seen now.network) now.network.trace (same i) rest)
@@ -105,7 +113,8 @@ halted old now es stop same is rest =
     ∙ ap (goes_on old.network.plan old.notes rest) is
     ∙ sym (course_events old.network.plan (seen old.network) old.network.trace old.notes es rest)
 
-pub events_halted : (old now : DiscoveryLists) (es : List Event) (stop : NetStop) → now.notes ≡ old.notes → RunHalts stop now.network (ran old.network.plan (seen old.network) old.network.trace es) → HaltsIn stop old now (all_done es)
+pub events_halted : (old now : DiscoveryLists) (es : List Event) (stop : NetStop) → now.notes ≡ old.notes
+    → RunHalts stop now.network (ran old.network.plan (seen old.network) old.network.trace es) → HaltsIn stop old now (all_done es)
 events_halted old now es (Crowded count event) same halts rest = halted old now es (Crowded count event) same halts rest
 events_halted old now es (TooMuch weight event) same halts rest = halted old now es (TooMuch weight event) same halts rest
 events_halted old now es NoMemory same halts rest = tt

@@ -25,18 +25,21 @@ use Rattle.discovery_net.proofs.CourseLemmas.{state_done}
 
 -- the next peer
 pub lapses_more : (f : ℕ → Bool) (edge : EdgeId) (n i : ℕ) (behind : List Lapse) → i < n
-    → lapses_with f edge i (n - i) behind ≡ (if f i then record { edge = edge; peer = record { 0 = i } } ∷ lapses_with f edge (i + 1) (n - (i + 1)) behind else lapses_with f edge (i + 1) (n - (i + 1)) behind)
+    → lapses_with f edge i (n - i) behind ≡ (if f i then record { edge = edge; peer = record { 0 = i } } ∷ lapses_with f edge (i + 1) (n - (i + 1)) behind else lapses_with f edge
+    (i + 1) (n - (i + 1)) behind)
 lapses_more f edge n i behind below = let e : n - i ≡ suc (n - (i + 1)) = omega (arith, below) in rw e refl
 
 pub lapses_end : (f : ℕ → Bool) (edge : EdgeId) (n i : ℕ) (behind : List Lapse) → n ≤ i → lapses_with f edge i (n - i) behind ≡ behind
 lapses_end f edge n i behind past = let e : n - i ≡ 0 = omega (arith, past) in rw e refl
 
 -- two tests that agree on so many peers
-with_same : (f g : ℕ → Bool) (edge : EdgeId) (place count : ℕ) (behind : List Lapse) → ((p : ℕ) → p < place + count → f p ≡ g p) → lapses_with f edge place count behind ≡ lapses_with g edge place count behind
+with_same : (f g : ℕ → Bool) (edge : EdgeId) (place count : ℕ) (behind : List Lapse) → ((p : ℕ) → p < place + count → f p ≡ g p) → lapses_with f edge place count behind
+    ≡ lapses_with g edge place count behind
 with_same f g edge place zero behind same = refl
 with_same f g edge place (suc count) behind same = by (f place) (g place) (same place (omega arith)) (with_same f g edge (place + 1) count behind (λ p below. same p (omega (arith, below))))
   where
-    by : (a b : Bool) {xs ys : List Lapse} → a ≡ b → xs ≡ ys → (if a then record { edge = edge; peer = record { 0 = place } } ∷ xs else xs) ≡ (if b then record { edge = edge; peer = record { 0 = place } } ∷ ys else ys)
+    by : (a b : Bool) {xs ys : List Lapse} → a ≡ b → xs ≡ ys → (if a then record { edge = edge; peer = record { 0 = place } } ∷ xs else xs)
+        ≡ (if b then record { edge = edge; peer = record { 0 = place } } ∷ ys else ys)
     by a b tests rest = λ i. if tests i then record { edge = edge; peer = record { 0 = place } } ∷ rest i else rest i
 
 pub lapses_same : (f g : ℕ → Bool) (edge : EdgeId) (count : ℕ) (behind : List Lapse) → ((p : ℕ) → p < count → f p ≡ g p) → lapses_with f edge 0 count behind ≡ lapses_with g edge 0 count behind
@@ -56,24 +59,28 @@ abbrev one_behind : EdgeId → EdgeId → List Lapse → List Lapse
 one_behind edge peer behind = record { edge = edge; peer = peer } ∷ behind
 
 -- where memory was refused to the note
-pub halted_told : (old now : DiscoveryLists) (edge peer : EdgeId) (stop : NetStop) → HaltsIn stop old now (Tells (note.Down edge peer) ∷ []) → (behind : List Lapse) (rest : List Act) → HaltsAt stop now (downs_on old (one_behind edge peer behind) rest)
+pub halted_told : (old now : DiscoveryLists) (edge peer : EdgeId) (stop : NetStop) → HaltsIn stop old now (Tells (note.Down edge peer) ∷ []) → (behind : List Lapse) (rest : List Act)
+    → HaltsAt stop now (downs_on old (one_behind edge peer behind) rest)
 halted_told old now edge peer stop halts behind rest =
     halts ((if network.stands (seen old.network) edge.0 peer.0
     then Does (event.Lose edge peer) ∷ downs old.network.plan (step old.network.plan (seen old.network) (event.Lose edge peer)).state behind
     else downs old.network.plan (seen old.network) behind) ++ rest)
 
 -- where the end does not stand
-pub told_down : (old mid : DiscoveryLists) (edge peer : EdgeId) → mid.network ≡ old.network → HasDone old mid (Tells (note.Down edge peer) ∷ []) → network.stands (seen old.network) edge.0 peer.0 ≡ false
+pub told_down : (old mid : DiscoveryLists) (edge peer : EdgeId) → mid.network ≡ old.network → HasDone old mid (Tells (note.Down edge peer) ∷ [])
+    → network.stands (seen old.network) edge.0 peer.0 ≡ false
     → (behind : List Lapse) (rest : List Act) → downs_on mid behind rest ≡ downs_on old (one_behind edge peer behind) rest
 told_down old mid edge peer kept done none behind rest =
     ap (λ n. course_on mid (downs n.plan (seen n) behind ++ rest)) kept
     ∙ (done (downs old.network.plan (seen old.network) behind ++ rest) ∙ sym (ap (λ (b : Bool). course_on old (Tells (note.Down edge peer) ∷ (taken b ++ rest))) none))
   where
     taken : Bool → List Act
-    taken b = if b then Does (event.Lose edge peer) ∷ downs old.network.plan (step old.network.plan (seen old.network) (event.Lose edge peer)).state behind else downs old.network.plan (seen old.network) behind
+    taken b = if b then Does (event.Lose edge peer) ∷ downs old.network.plan (step old.network.plan (seen old.network) (event.Lose edge peer)).state behind else downs old.network.plan
+        (seen old.network) behind
 
 -- where it stands, and was lost
-pub taken_down : (old mid now : DiscoveryLists) (edge peer : EdgeId) → mid.network ≡ old.network → HasDone old mid (Tells (note.Down edge peer) ∷ []) → network.stands (seen old.network) edge.0 peer.0 ≡ true
+pub taken_down : (old mid now : DiscoveryLists) (edge peer : EdgeId) → mid.network ≡ old.network → HasDone old mid (Tells (note.Down edge peer) ∷ [])
+    → network.stands (seen old.network) edge.0 peer.0 ≡ true
     → now.network.plan ≡ mid.network.plan → seen now.network ≡ (step mid.network.plan (seen mid.network) (event.Lose edge peer)).state → HasDone mid now (Does (event.Lose edge peer) ∷ [])
     → (behind : List Lapse) (rest : List Act) → downs_on now behind rest ≡ downs_on old (one_behind edge peer behind) rest
 taken_down old mid now edge peer kept done is plan state lost behind rest =
@@ -84,10 +91,12 @@ taken_down old mid now edge peer kept done is plan state lost behind rest =
     ∙ sym (ap (λ (b : Bool). course_on old (Tells (note.Down edge peer) ∷ (taken b ++ rest))) is))))
   where
     taken : Bool → List Act
-    taken b = if b then Does (event.Lose edge peer) ∷ downs old.network.plan (step old.network.plan (seen old.network) (event.Lose edge peer)).state behind else downs old.network.plan (seen old.network) behind
+    taken b = if b then Does (event.Lose edge peer) ∷ downs old.network.plan (step old.network.plan (seen old.network) (event.Lose edge peer)).state behind else downs old.network.plan
+        (seen old.network) behind
 
 -- where a limit stopped that
-pub halted_down : (old mid now : DiscoveryLists) (edge peer : EdgeId) (stop : NetStop) → mid.network ≡ old.network → HasDone old mid (Tells (note.Down edge peer) ∷ []) → network.stands (seen old.network) edge.0 peer.0 ≡ true
+pub halted_down : (old mid now : DiscoveryLists) (edge peer : EdgeId) (stop : NetStop) → mid.network ≡ old.network → HasDone old mid (Tells (note.Down edge peer) ∷ [])
+    → network.stands (seen old.network) edge.0 peer.0 ≡ true
     → HaltsIn stop mid now (Does (event.Lose edge peer) ∷ []) → (behind : List Lapse) (rest : List Act) → HaltsAt stop now (downs_on old (one_behind edge peer behind) rest)
 halted_down old mid now edge peer stop kept done is halts behind rest =
     subst (λ (c : Course). HaltsAt stop now c)
@@ -97,7 +106,8 @@ halted_down old mid now edge peer stop kept done is halts behind rest =
     (halts (downs mid.network.plan (step mid.network.plan (seen mid.network) (event.Lose edge peer)).state behind ++ rest))
   where
     taken : Bool → List Act
-    taken b = if b then Does (event.Lose edge peer) ∷ downs old.network.plan (step old.network.plan (seen old.network) (event.Lose edge peer)).state behind else downs old.network.plan (seen old.network) behind
+    taken b = if b then Does (event.Lose edge peer) ∷ downs old.network.plan (step old.network.plan (seen old.network) (event.Lose edge peer)).state behind else downs old.network.plan
+        (seen old.network) behind
 
 -- ---- the peers of an edge, one after another
 
@@ -108,7 +118,8 @@ same_place : (peer : EdgeId) (place : ℕ) → peer.0 ≡ place → peer ≡ edg
 same_place peer place is = λ i. record { 0 = is i }
 
 -- a peer whose adjacency has ended is the next one to be taken down
-pub down_first : (f : ℕ → Bool) (edge peer : EdgeId) (n i : ℕ) (behind : List Lapse) → i < n → peer.0 ≡ i → f i ≡ true → lapses_with f edge i (n - i) behind ≡ one_behind edge peer (lapses_with f edge (i + 1) (n - (i + 1)) behind)
+pub down_first : (f : ℕ → Bool) (edge peer : EdgeId) (n i : ℕ) (behind : List Lapse) → i < n → peer.0 ≡ i → f i ≡ true → lapses_with f edge i (n - i) behind
+    ≡ one_behind edge peer (lapses_with f edge (i + 1) (n - (i + 1)) behind)
 down_first f edge peer n i behind below at ends =
     let later : List Lapse = lapses_with f edge (i + 1) (n - (i + 1)) behind in
     lapses_more f edge n i behind below
@@ -138,8 +149,10 @@ pub taken_passed : (f : ℕ → Bool) (edge : EdgeId) (n place : ℕ) (old mid :
 taken_passed f edge n place old mid below lives so_far behind rest =
     sym (ap (λ (l : List Lapse). downs_on mid l rest) (down_passed f edge n place behind below lives)) ∙ so_far behind rest
 
-pub taken_stopped : (f g : ℕ → Bool) (edge peer : EdgeId) (n place : ℕ) (old mid now : DiscoveryLists) (stop : NetStop) → place < n → peer.0 ≡ place → f place ≡ true → ((p : ℕ) → p < n → f p ≡ g p) → AreTaken f edge n place old mid
-    → ((behind : List Lapse) (rest : List Act) → HaltsAt stop now (downs_on mid (one_behind edge peer behind) rest)) → (behind : List Lapse) (rest : List Act) → HaltsAt stop now (downs_on old (lapses_with g edge 0 n behind) rest)
+pub taken_stopped : (f g : ℕ → Bool) (edge peer : EdgeId) (n place : ℕ) (old mid now : DiscoveryLists) (stop : NetStop) → place < n → peer.0 ≡ place → f place ≡ true
+    → ((p : ℕ) → p < n → f p ≡ g p) → AreTaken f edge n place old mid
+    → ((behind : List Lapse) (rest : List Act) → HaltsAt stop now (downs_on mid (one_behind edge peer behind) rest)) → (behind : List Lapse) (rest : List Act)
+    → HaltsAt stop now (downs_on old (lapses_with g edge 0 n behind) rest)
 taken_stopped f g edge peer n place old mid now stop below at ends same so_far halts behind rest =
     subst (λ (c : Course). HaltsAt stop now c)
     (sym (ap (λ (l : List Lapse). downs_on mid l rest) (down_first f edge peer n place behind below at ends))
@@ -172,7 +185,8 @@ ticked_first histories all are = after_same histories (ticked_below 0 histories)
         let not_below : nat_lt k 0 ≡ false = grind (arith, nat_tests) in
         subst (λ (b : Bool). histories k ≡ (if b then ticked ∷ histories k else histories k)) (sym not_below) refl
 
-pub ticked_next : (histories : ℕ → List Deed) (edge : EdgeId) (place : ℕ) (all : List AdjacencyLists) → edge.0 ≡ place → AreAfter (with_deed edge ticked (ticked_below place histories)) all → AreAfter (ticked_below (place + 1) histories) all
+pub ticked_next : (histories : ℕ → List Deed) (edge : EdgeId) (place : ℕ) (all : List AdjacencyLists) → edge.0 ≡ place
+    → AreAfter (with_deed edge ticked (ticked_below place histories)) all → AreAfter (ticked_below (place + 1) histories) all
 ticked_next histories edge place all at are = after_same (with_deed edge ticked (ticked_below place histories)) (ticked_below (place + 1) histories) all one are
   where
     other : (k : ℕ) → (k == edge.0) ≡ false → nat_lt k (place + 1) ≡ nat_lt k place
@@ -223,25 +237,31 @@ aged_none histories n old now same rest =
 
 -- those of the edge whose turn it is come next
 aged_first : (histories : ℕ → List Deed) (edge : EdgeId) (n place : ℕ) (mid : DiscoveryLists) (rest : List Act) → place < n → edge.0 ≡ place → length mid.network.plan.edges ≡ n
-    → downs_on mid (lapses_with (ends_by_tick (ticked_below place histories edge.0)) edge 0 (length mid.network.plan.edges) (lapses_from histories n (place + 1) (n - (place + 1)))) rest ≡ downs_on mid (lapses_from histories n place (n - place)) rest
+    → downs_on mid (lapses_with (ends_by_tick (ticked_below place histories edge.0)) edge 0 (length mid.network.plan.edges)
+    (lapses_from histories n (place + 1) (n - (place + 1)))) rest ≡ downs_on mid (lapses_from histories n place (n - place)) rest
 aged_first histories edge n place mid rest below at count =
     let later : List Lapse = lapses_from histories n (place + 1) (n - (place + 1)) in
     (λ i. downs_on mid (lapses_with (ends_by_tick (not_ticked histories edge place at i)) (same_place edge place at i) 0 (count i) later) rest)
     ∙ sym (ap (λ (l : List Lapse). downs_on mid l rest) (edges_more histories n n place below))
 
-pub aged_next : (histories : ℕ → List Deed) (edge : EdgeId) (n place : ℕ) (old mid now : DiscoveryLists) → place < n → edge.0 ≡ place → length mid.network.plan.edges ≡ n → AreAged histories n place old mid
-    → ((behind : List Lapse) (rest : List Act) → downs_on now behind rest ≡ downs_on mid (lapses_with (ends_by_tick (ticked_below place histories edge.0)) edge 0 (length mid.network.plan.edges) behind) rest)
+pub aged_next : (histories : ℕ → List Deed) (edge : EdgeId) (n place : ℕ) (old mid now : DiscoveryLists) → place < n → edge.0 ≡ place → length mid.network.plan.edges ≡ n
+    → AreAged histories n place old mid
+    → ((behind : List Lapse) (rest : List Act) → downs_on now behind rest
+    ≡ downs_on mid (lapses_with (ends_by_tick (ticked_below place histories edge.0)) edge 0 (length mid.network.plan.edges) behind) rest)
     → AreAged histories n (place + 1) old now
 aged_next histories edge n place old mid now below at count so_far one rest =
     one (lapses_from histories n (place + 1) (n - (place + 1))) rest ∙ (aged_first histories edge n place mid rest below at count ∙ so_far rest)
 
 pub tick_is : (d : Discovery) (old : DiscoveryLists) (rest : List Act) → IsAt d old
     → downs_on old (lapses_from d.histories (length old.network.plan.edges) 0 (length old.network.plan.edges)) rest ≡ course_on old (acts_of old.network.plan d line.Tick ++ rest)
-tick_is d old rest at = ap (λ (s : NetworkState). course_on old (downs old.network.plan s (lapses_from d.histories (length old.network.plan.edges) 0 (length old.network.plan.edges)) ++ rest)) at.network
+tick_is d old rest at = ap (λ (s : NetworkState). course_on old
+    (downs old.network.plan s (lapses_from d.histories (length old.network.plan.edges) 0 (length old.network.plan.edges)) ++ rest)) at.network
 
-pub aged_stopped : (d : Discovery) (edge : EdgeId) (place : ℕ) (old mid now : DiscoveryLists) (stop : NetStop) → IsAt d old → place < length old.network.plan.edges → edge.0 ≡ place → mid.network.plan ≡ old.network.plan
+pub aged_stopped : (d : Discovery) (edge : EdgeId) (place : ℕ) (old mid now : DiscoveryLists) (stop : NetStop) → IsAt d old → place < length old.network.plan.edges → edge.0 ≡ place
+    → mid.network.plan ≡ old.network.plan
     → AreAged d.histories (length old.network.plan.edges) place old mid
-    → ((behind : List Lapse) (rest : List Act) → HaltsAt stop now (downs_on mid (lapses_with (ends_by_tick (ticked_below place d.histories edge.0)) edge 0 (length mid.network.plan.edges) behind) rest))
+    → ((behind : List Lapse) (rest : List Act) → HaltsAt stop now
+    (downs_on mid (lapses_with (ends_by_tick (ticked_below place d.histories edge.0)) edge 0 (length mid.network.plan.edges) behind) rest))
     → HaltsIn stop old now (acts_of old.network.plan d line.Tick)
 aged_stopped d edge place old mid now stop at below is plan so_far halts rest =
     let n : ℕ = length old.network.plan.edges in
@@ -250,7 +270,8 @@ aged_stopped d edge place old mid now stop at below is plan so_far halts rest =
     (halts (lapses_from d.histories n (place + 1) (n - (place + 1))) rest)
 
 -- no edge is left: the tick of the network comes
-pub tick_acts_of : {A : Type 0} (result : Result A NetStop) (d : Discovery) (place : ℕ) (old mid now : DiscoveryLists) → IsAt d old → length old.network.plan.edges ≤ place → AreAged d.histories (length old.network.plan.edges) place old mid
+pub tick_acts_of : {A : Type 0} (result : Result A NetStop) (d : Discovery) (place : ℕ) (old mid now : DiscoveryLists) → IsAt d old → length old.network.plan.edges ≤ place
+    → AreAged d.histories (length old.network.plan.edges) place old mid
     → Acts result mid now (Does event.Tick ∷ []) → Acts result old now (acts_of old.network.plan d line.Tick)
 tick_acts_of result d place old mid now at past so_far acts = by result acts
   where
@@ -264,7 +285,8 @@ tick_acts_of result d place old mid now at past so_far acts = by result acts
     by (Ok done) is = λ rest. is rest ∙ path rest
     by (Err stop) is = λ rest. subst (λ (c : Course). HaltsAt stop now c) (path rest) (is rest)
 
-pub tick_after : {A : Type 0} (result : Result A NetStop) (d : Discovery) (place : ℕ) (old now : DiscoveryLists) → IsAt d old → length now.adjacencies ≤ place → now.network.plan ≡ old.network.plan → now.hellos ≡ old.hellos
+pub tick_after : {A : Type 0} (result : Result A NetStop) (d : Discovery) (place : ℕ) (old now : DiscoveryLists) → IsAt d old → length now.adjacencies ≤ place → now.network.plan
+    ≡ old.network.plan → now.hellos ≡ old.hellos
     → AreAfter (ticked_below place d.histories) now.adjacencies → Acts result old now (acts_of old.network.plan d line.Tick) → OnOk result (IsAt (after_line old.network.plan d line.Tick) now)
 tick_after (Err stop) d place old now at past plan hellos are acts = tt
 tick_after (Ok done) d place old now at past plan hellos are acts = record {

@@ -45,14 +45,16 @@ at_first plan n state histories none = record { network = state; histories = his
 -- ---- what always holds
 
 -- the network goes on over the same plan
-pub kept_discovery : (old : DiscoveryLists) (network : NetLists) (notes : List PlacedNote) → IsDiscovery old → network.plan ≡ old.network.plan → IsDiscovery (record { network = network; adjacencies = old.adjacencies; hellos = old.hellos; notes = notes })
+pub kept_discovery : (old : DiscoveryLists) (network : NetLists) (notes : List PlacedNote) → IsDiscovery old → network.plan ≡ old.network.plan
+    → IsDiscovery (record { network = network; adjacencies = old.adjacencies; hellos = old.hellos; notes = notes })
 kept_discovery old network notes is same = record {
   edges = subst (λ (p : Plan). AreEdgesOf p old.adjacencies) (sym same) is.edges;
   hellos = subst (λ (p : Plan). All (IsOfPlan p) old.hellos) (sym same) is.hellos;
 }
 
 -- one Hello more
-pub said_discovery : (old : DiscoveryLists) (table : List AdjacencyLists) (hello : SaidHello) (notes : List PlacedNote) → IsDiscovery old → AreEdgesOf old.network.plan table → IsOfPlan old.network.plan hello
+pub said_discovery : (old : DiscoveryLists) (table : List AdjacencyLists) (hello : SaidHello) (notes : List PlacedNote) → IsDiscovery old → AreEdgesOf old.network.plan table
+    → IsOfPlan old.network.plan hello
     → IsDiscovery (record { network = old.network; adjacencies = table; hellos = old.hellos ++ hello ∷ []; notes = notes })
 said_discovery old table hello notes is edges of_plan = record {
   edges = edges;
@@ -77,17 +79,20 @@ abbrev course_from : NetLists → List PlacedNote → List Act → Course
 course_from network notes acts = course network.plan (seen network) network.trace notes acts
 
 -- acts of a network that has kept its state, its trace and its notes
-acts_from : {A : Type 0} (result : Result A NetStop) (mid old now : DiscoveryLists) (acts : List Act) → old.network ≡ mid.network → old.notes ≡ mid.notes → Acts result mid now acts → Acts result old now acts
+acts_from : {A : Type 0} (result : Result A NetStop) (mid old now : DiscoveryLists) (acts : List Act) → old.network ≡ mid.network → old.notes ≡ mid.notes → Acts result mid now acts
+    → Acts result old now acts
 acts_from (Ok done) mid old now acts net notes is = λ rest. is rest ∙ sym (λ i. course_from (net i) (notes i) (acts ++ rest))
 acts_from (Err stop) mid old now acts net notes is = λ rest. subst (HaltsAt stop now) (sym (λ i. course_from (net i) (notes i) (acts ++ rest))) (is rest)
 
 -- ---- hello
 
-pub hello_idle_acts : {A : Type 0} (result : Result A NetStop) (old now : DiscoveryLists) (plan : Plan) (d : Discovery) (from to : EdgeId) (hold : ℕ) → are_joined plan from.0 to.0 ≡ false → Acts result old now (Tells note.Idle ∷ [])
+pub hello_idle_acts : {A : Type 0} (result : Result A NetStop) (old now : DiscoveryLists) (plan : Plan) (d : Discovery) (from to : EdgeId) (hold : ℕ) → are_joined plan from.0 to.0
+    ≡ false → Acts result old now (Tells note.Idle ∷ [])
     → Acts result old now (acts_of plan d (line.Hello from to hold))
 hello_idle_acts result old now plan d from to hold none acts = rw none acts
 
-pub hello_idle_after : {A : Type 0} (result : Result A NetStop) (old now : DiscoveryLists) (plan : Plan) (d : Discovery) (from to : EdgeId) (hold : ℕ) → are_joined plan from.0 to.0 ≡ false → now.network ≡ old.network → now.adjacencies ≡ old.adjacencies
+pub hello_idle_after : {A : Type 0} (result : Result A NetStop) (old now : DiscoveryLists) (plan : Plan) (d : Discovery) (from to : EdgeId) (hold : ℕ) → are_joined plan from.0 to.0
+    ≡ false → now.network ≡ old.network → now.adjacencies ≡ old.adjacencies
     → now.hellos ≡ old.hellos → IsAt d old → OnOk result (IsAt (after_line plan d (line.Hello from to hold)) now)
 hello_idle_after result old now plan d from to hold none net table hellos at = on_ok result (rw none (at_same d old now at net table hellos))
 
@@ -121,7 +126,8 @@ pub record HasSaid (d : Discovery) (old mid : DiscoveryLists) (from to : EdgeId)
 
 pub has_said : (d : Discovery) (old mid : DiscoveryLists) (from to : EdgeId) (hold : ℕ) (octets : List ℕ) → from.0 < length old.network.plan.edges → AreEdgesOf old.network.plan old.adjacencies
     → ((histories : ℕ → List Deed) → AreAfter histories old.adjacencies → AreAfter (with_deed from (said to.0 hold) histories) mid.adjacencies)
-    → ((histories : ℕ → List Deed) (plan : Plan) (address : Addr) → AreAfter histories old.adjacencies → AreEdgesOf plan old.adjacencies → edge_address plan from ≡ Some address → octets ≡ hello_octets address (id_behind (histories from.0)) hold)
+    → ((histories : ℕ → List Deed) (plan : Plan) (address : Addr) → AreAfter histories old.adjacencies → AreEdgesOf plan old.adjacencies → edge_address plan from ≡ Some address
+    → octets ≡ hello_octets address (id_behind (histories from.0)) hold)
     → mid.network ≡ old.network → mid.hellos ≡ old.hellos ++ record { from = from; to = to; bytes = octets } ∷ [] → IsAt d old → HasSaid d old mid from to hold octets
 has_said d old mid from to hold octets within edges histories octets_so net hellos at = record {
   network = net;
@@ -145,21 +151,26 @@ at_said d old mid now from to hold octets at has fit net table hellos =
       hellos =
           hellos ∙ (has.hellos
           ∙ ((λ i. at.hellos i ++ record { from = from; to = to; bytes = has.octets_are i } ∷ [])
-          ∙ (sym (map_more (said_hello old.network.plan) d.hellos (next_hello d from to hold)) ∙ ap (λ (n : NetLists). map (said_hello n.plan) (d.hellos ++ next_hello d from to hold ∷ [])) (sym same))));
-      fit = All-append IsHello d.hellos (next_hello d from to hold ∷ []) at.fit (All-cons IsHello (next_hello d from to hold) [] (record { id = id_small (d.histories from.0); hold = fit }) (All-nil IsHello));
+          ∙ (sym (map_more (said_hello old.network.plan) d.hellos (next_hello d from to hold))
+          ∙ ap (λ (n : NetLists). map (said_hello n.plan) (d.hellos ++ next_hello d from to hold ∷ [])) (sym same))));
+      fit = All-append IsHello d.hellos (next_hello d from to hold ∷ []) at.fit
+          (All-cons IsHello (next_hello d from to hold) [] (record { id = id_small (d.histories from.0); hold = fit }) (All-nil IsHello));
     }
 
 -- ---- commands
 
-pub command_acts : {A : Type 0} (result : Result A NetStop) (old now : DiscoveryLists) (d : Discovery) (command : Command) (captures : List (List (List ℕ))) → captures ≡ [] → now.network.plan ≡ old.network.plan → now.notes ≡ old.notes
+pub command_acts : {A : Type 0} (result : Result A NetStop) (old now : DiscoveryLists) (d : Discovery) (command : Command) (captures : List (List (List ℕ))) → captures ≡ []
+    → now.network.plan ≡ old.network.plan → now.notes ≡ old.notes
     → GivesNetwork result now.network (ran old.network.plan (seen old.network) old.network.trace (made_by old.network.plan (seen old.network) captures command)) → IsAt d old
     → Acts result old now (acts_of old.network.plan d (line.Do command))
 command_acts result old now d command captures none kept same gives at =
     subst (λ (s : NetworkState). Acts result old now (all_done (made_by old.network.plan s [] command))) at.network
     (events_come result old now (made_by old.network.plan (seen old.network) [] command) kept same
-    (subst (λ (c : List (List (List ℕ))). GivesNetwork result now.network (ran old.network.plan (seen old.network) old.network.trace (made_by old.network.plan (seen old.network) c command))) none gives))
+    (subst (λ (c : List (List (List ℕ))). GivesNetwork result now.network
+    (ran old.network.plan (seen old.network) old.network.trace (made_by old.network.plan (seen old.network) c command))) none gives))
 
-pub command_after : {A : Type 0} (result : Result A NetStop) (old now : DiscoveryLists) (d : Discovery) (command : Command) (captures : List (List (List ℕ))) → captures ≡ [] → now.network.plan ≡ old.network.plan → now.adjacencies ≡ old.adjacencies → now.hellos ≡ old.hellos
+pub command_after : {A : Type 0} (result : Result A NetStop) (old now : DiscoveryLists) (d : Discovery) (command : Command) (captures : List (List (List ℕ))) → captures ≡ []
+    → now.network.plan ≡ old.network.plan → now.adjacencies ≡ old.adjacencies → now.hellos ≡ old.hellos
     → GivesNetwork result now.network (ran old.network.plan (seen old.network) old.network.trace (made_by old.network.plan (seen old.network) captures command)) → IsAt d old
     → OnOk result (IsAt (after_line old.network.plan d (line.Do command)) now)
 command_after (Err stop) old now d command captures none kept table hellos gives at = tt
@@ -179,8 +190,10 @@ command_after (Ok done) old now d command captures none kept table hellos gives 
 
 -- ---- hello, where a segment joins the edges
 
-pub hello_said_acts : {A : Type 0} (result : Result A NetStop) (old mid now : DiscoveryLists) (plan : Plan) (d : Discovery) (from to : EdgeId) (hold number : ℕ) (octets : List ℕ) → are_joined plan from.0 to.0 ≡ true → number ≡ length mid.hellos → plan ≡ old.network.plan
-    → IsAt d old → HasSaid d old mid from to hold octets → mid.notes ≡ old.notes → Acts result mid now (Tells (note.Hello number from to octets) ∷ []) → Acts result old now (acts_of plan d (line.Hello from to hold))
+pub hello_said_acts : {A : Type 0} (result : Result A NetStop) (old mid now : DiscoveryLists) (plan : Plan) (d : Discovery) (from to : EdgeId) (hold number : ℕ) (octets : List ℕ)
+    → are_joined plan from.0 to.0 ≡ true → number ≡ length mid.hellos → plan ≡ old.network.plan
+    → IsAt d old → HasSaid d old mid from to hold octets → mid.notes ≡ old.notes → Acts result mid now (Tells (note.Hello number from to octets) ∷ [])
+    → Acts result old now (acts_of plan d (line.Hello from to hold))
 hello_said_acts result old mid now plan d from to hold number octets joined counted same at has notes acts =
     let count : number ≡ length d.hellos + 1 =
     counted ∙ (ap (λ (l : List SaidHello). length l) (has.hellos ∙ ap (λ (l : List SaidHello). l ++ record { from = from; to = to; bytes = octets } ∷ []) at.hellos)
@@ -193,8 +206,10 @@ hello_said_acts result old mid now plan d from to hold number octets joined coun
     one_more f [] x = refl
     one_more f (y ∷ ys) x = omega (arith, one_more f ys x)
 
-pub hello_said_after : {A : Type 0} (result : Result A NetStop) (old mid now : DiscoveryLists) (plan : Plan) (d : Discovery) (from to : EdgeId) (hold : ℕ) (octets : List ℕ) → are_joined plan from.0 to.0 ≡ true → hold ≤ 65535
-    → HasSaid d old mid from to hold octets → now.network ≡ mid.network → now.adjacencies ≡ mid.adjacencies → now.hellos ≡ mid.hellos → IsAt d old → OnOk result (IsAt (after_line plan d (line.Hello from to hold)) now)
+pub hello_said_after : {A : Type 0} (result : Result A NetStop) (old mid now : DiscoveryLists) (plan : Plan) (d : Discovery) (from to : EdgeId) (hold : ℕ) (octets : List ℕ)
+    → are_joined plan from.0 to.0 ≡ true → hold ≤ 65535
+    → HasSaid d old mid from to hold octets → now.network ≡ mid.network → now.adjacencies ≡ mid.adjacencies → now.hellos ≡ mid.hellos → IsAt d old
+    → OnOk result (IsAt (after_line plan d (line.Hello from to hold)) now)
 hello_said_after result old mid now plan d from to hold octets joined fit has net table hellos at = on_ok result (rw joined (at_said d old mid now from to hold octets at has fit net table hellos))
 
 -- ---- bring
@@ -202,7 +217,8 @@ hello_said_after result old mid now plan d from to hold octets joined fit has ne
 pub hello_none : (n : DiscoveryLists) (d : Discovery) (number : ℕ) → number ≡ 0 → None ≡ option_map (said_hello n.network.plan) (hello_of d number)
 hello_none n d number first = subst (λ (k : ℕ). None ≡ option_map (said_hello n.network.plan) (hello_of d k)) (sym first) refl
 
-pub hello_found : (n : DiscoveryLists) (d : Discovery) (number : ℕ) (result : Option SaidHello) → number ≢ 0 → result ≡ slice_get n.hellos (number - 1) → IsAt d n → result ≡ option_map (said_hello n.network.plan) (hello_of d number)
+pub hello_found : (n : DiscoveryLists) (d : Discovery) (number : ℕ) (result : Option SaidHello) → number ≢ 0 → result ≡ slice_get n.hellos (number - 1) → IsAt d n → result
+    ≡ option_map (said_hello n.network.plan) (hello_of d number)
 hello_found n d number result some is at =
     let other : (number == 0) ≡ false = grind (arith, nat_tests, some) in
     is
@@ -213,7 +229,8 @@ none_there : (f : Hello → SaidHello) (o : Option Hello) → None ≡ option_ma
 none_there f None e = refl
 none_there f (Some x) e = absurd (cc (e))
 
-pub bring_none_acts : {A : Type 0} (result : Result A NetStop) (old now : DiscoveryLists) (plan : Plan) (d : Discovery) (number : ℕ) → None ≡ option_map (said_hello plan) (hello_of d number) → Acts result old now (Tells note.Idle ∷ [])
+pub bring_none_acts : {A : Type 0} (result : Result A NetStop) (old now : DiscoveryLists) (plan : Plan) (d : Discovery) (number : ℕ) → None
+    ≡ option_map (said_hello plan) (hello_of d number) → Acts result old now (Tells note.Idle ∷ [])
     → Acts result old now (acts_of plan d (line.Bring number))
 bring_none_acts result old now plan d number none acts = subst (λ (o : Option Hello). Acts result old now (bring_acts d o)) (sym (none_there (said_hello plan) (hello_of d number) none)) acts
 
@@ -225,7 +242,8 @@ halted_anyhow old now acts rest = tt
 abbrev brought : Plan → Discovery → Option Hello → Discovery
 brought plan d hello = record { network = state_after plan d.network (events_in (bring_acts d hello)); histories = heard_at hello d.histories; hellos = d.hellos }
 
-pub bring_none_after : {A : Type 0} (result : Result A NetStop) (old now : DiscoveryLists) (plan : Plan) (d : Discovery) (number : ℕ) → None ≡ option_map (said_hello plan) (hello_of d number) → now.network ≡ old.network → now.adjacencies ≡ old.adjacencies
+pub bring_none_after : {A : Type 0} (result : Result A NetStop) (old now : DiscoveryLists) (plan : Plan) (d : Discovery) (number : ℕ) → None
+    ≡ option_map (said_hello plan) (hello_of d number) → now.network ≡ old.network → now.adjacencies ≡ old.adjacencies
     → now.hellos ≡ old.hellos → IsAt d old → OnOk result (IsAt (after_line plan d (line.Bring number)) now)
 bring_none_after result old now plan d number none net table hellos at =
     on_ok result (subst (λ (o : Option Hello). IsAt (brought plan d o) now) (sym (none_there (said_hello plan) (hello_of d number) none)) (at_same d old now at net table hellos))
@@ -261,20 +279,24 @@ found_as d n number hello at found = by (hello_of d number) refl found
     by None is none = absurd (cc (none))
     by (Some said_so) is some = record { said_is = said_so; there = is; fit = fit_of d number said_so at.fit is; same = cc (some) }
 
-pub bring_acts_of : {A : Type 0} (result : Result A NetStop) (old now : DiscoveryLists) (d : Discovery) (number : ℕ) (hello : SaidHello) → Some hello ≡ option_map (said_hello old.network.plan) (hello_of d number)
+pub bring_acts_of : {A : Type 0} (result : Result A NetStop) (old now : DiscoveryLists) (d : Discovery) (number : ℕ) (hello : SaidHello) → Some hello
+    ≡ option_map (said_hello old.network.plan) (hello_of d number)
     → ((d : Discovery) (said_so : Hello) → IsAt d old → IsHello said_so → hello ≡ said_hello old.network.plan said_so → Acts result old now (bring_acts d (Some said_so)))
     → IsAt d old → Acts result old now (acts_of old.network.plan d (line.Bring number))
 bring_acts_of result old now d number hello found heard_so at =
     let found_so : IsFound d old number hello = found_as d old number hello at found in
     subst (λ (o : Option Hello). Acts result old now (bring_acts d o)) (sym found_so.there) (heard_so d found_so.said_is at found_so.fit found_so.same)
 
-pub bring_after_of : {A : Type 0} (result : Result A NetStop) (old now : DiscoveryLists) (d : Discovery) (number : ℕ) (hello : SaidHello) → Some hello ≡ option_map (said_hello old.network.plan) (hello_of d number)
-    → ((d : Discovery) (said_so : Hello) → IsAt d old → IsHello said_so → hello ≡ said_hello old.network.plan said_so → OnOk result (IsAt (record d { histories = heard_at (Some said_so) d.histories }) now))
+pub bring_after_of : {A : Type 0} (result : Result A NetStop) (old now : DiscoveryLists) (d : Discovery) (number : ℕ) (hello : SaidHello) → Some hello
+    ≡ option_map (said_hello old.network.plan) (hello_of d number)
+    → ((d : Discovery) (said_so : Hello) → IsAt d old → IsHello said_so → hello ≡ said_hello old.network.plan said_so
+    → OnOk result (IsAt (record d { histories = heard_at (Some said_so) d.histories }) now))
     → IsAt d old → OnOk result (IsAt (after_line old.network.plan d (line.Bring number)) now)
 bring_after_of result old now d number hello found heard_so at =
     let found_so : IsFound d old number hello = found_as d old number hello at found in
     subst (λ (o : Option Hello). OnOk result (IsAt (brought old.network.plan d o) now)) (sym found_so.there)
-    (subst (λ (s : NetworkState). OnOk result (IsAt (record { network = s; histories = heard_at (Some found_so.said_is) d.histories; hellos = d.hellos }) now)) (sym (no_event old.network.plan d found_so.said_is))
+    (subst (λ (s : NetworkState). OnOk result (IsAt (record { network = s; histories = heard_at (Some found_so.said_is) d.histories; hellos = d.hellos }) now))
+    (sym (no_event old.network.plan d found_so.said_is))
     (heard_so d found_so.said_is at found_so.fit found_so.same))
 
 -- ---- a Hello is heard
@@ -286,7 +308,8 @@ HearsSaid old now hello =
     → hello.bytes ≡ hello_octets address id hold → AreAfter (with_deed hello.to (heard hello.from.0 hold) histories) now
 
 -- the histories then
-pub heard_at_is : (d : Discovery) (old : DiscoveryLists) (table : List AdjacencyLists) (hello : SaidHello) (said_so : Hello) → IsAt d old → AreEdgesOf old.network.plan old.adjacencies → IsOfPlan old.network.plan hello → IsHello said_so
+pub heard_at_is : (d : Discovery) (old : DiscoveryLists) (table : List AdjacencyLists) (hello : SaidHello) (said_so : Hello) → IsAt d old → AreEdgesOf old.network.plan old.adjacencies
+    → IsOfPlan old.network.plan hello → IsHello said_so
     → hello ≡ said_hello old.network.plan said_so → HearsSaid old.adjacencies table hello → AreAfter (heard_at (Some said_so) d.histories) table
 heard_at_is d old table hello said_so at edges of_plan fit same hears =
     let plan : Plan = old.network.plan in
@@ -297,7 +320,8 @@ heard_at_is d old table hello said_so at edges of_plan fit same hears =
     subst (λ (h : SaidHello). AreAfter (with_deed h.to (heard h.from.0 said_so.hold) d.histories) table) same
     (hears d.histories plan there.0 said_so.id said_so.hold at.histories edges there.1 fit.id fit.hold octets_are)
 
-pub at_heard : (d : Discovery) (old now : DiscoveryLists) (said_so : Hello) → IsAt d old → AreAfter (heard_at (Some said_so) d.histories) now.adjacencies → now.network ≡ old.network → now.hellos ≡ old.hellos
+pub at_heard : (d : Discovery) (old now : DiscoveryLists) (said_so : Hello) → IsAt d old → AreAfter (heard_at (Some said_so) d.histories) now.adjacencies → now.network ≡ old.network
+    → now.hellos ≡ old.hellos
     → IsAt (record d { histories = heard_at (Some said_so) d.histories }) now
 at_heard d old now said_so at histories net hellos = record {
   network = ap (λ n. seen n) net ∙ at.network;
@@ -307,16 +331,19 @@ at_heard d old now said_so at histories net hellos = record {
 }
 
 -- whether the adjacency lived before
-lived_is : (d : Discovery) (plan : Plan) (hello : SaidHello) (said_so : Hello) (lived : Bool) → hello ≡ said_hello plan said_so → lived ≡ live hello.from.0 (d.histories hello.to.0) → adjacency_lives d said_so.to.0 said_so.from.0 ≡ lived
+lived_is : (d : Discovery) (plan : Plan) (hello : SaidHello) (said_so : Hello) (lived : Bool) → hello ≡ said_hello plan said_so → lived ≡ live hello.from.0 (d.histories hello.to.0)
+    → adjacency_lives d said_so.to.0 said_so.from.0 ≡ lived
 lived_is d plan hello said_so lived same is = sym (is ∙ ap (λ (h : SaidHello). live h.from.0 (d.histories h.to.0)) same)
 
-pub heard_lived : {A : Type 0} (done : A) (old now : DiscoveryLists) (d : Discovery) (plan : Plan) (hello : SaidHello) (said_so : Hello) (lived : Bool) → hello ≡ said_hello plan said_so → lived ≡ live hello.from.0 (d.histories hello.to.0) → lived ≡ true
+pub heard_lived : {A : Type 0} (done : A) (old now : DiscoveryLists) (d : Discovery) (plan : Plan) (hello : SaidHello) (said_so : Hello) (lived : Bool) → hello
+    ≡ said_hello plan said_so → lived ≡ live hello.from.0 (d.histories hello.to.0) → lived ≡ true
     → now.network ≡ old.network → now.notes ≡ old.notes → HasDone old now (bring_acts d (Some said_so))
 heard_lived done old now d plan hello said_so lived same is yes_lived net notes =
     let so : adjacency_lives d said_so.to.0 said_so.from.0 ≡ true = lived_is d plan hello said_so lived same is ∙ yes_lived in
     rw so (λ rest i. course_from (net i) (notes i) rest)
 
-pub heard_acts : {A : Type 0} (result : Result A NetStop) (mid old now : DiscoveryLists) (d : Discovery) (plan : Plan) (hello : SaidHello) (said_so : Hello) (lived : Bool) → hello ≡ said_hello plan said_so → lived ≡ live hello.from.0 (d.histories hello.to.0) → lived ≡ false
+pub heard_acts : {A : Type 0} (result : Result A NetStop) (mid old now : DiscoveryLists) (d : Discovery) (plan : Plan) (hello : SaidHello) (said_so : Hello) (lived : Bool) → hello
+    ≡ said_hello plan said_so → lived ≡ live hello.from.0 (d.histories hello.to.0) → lived ≡ false
     → mid.network ≡ old.network → mid.notes ≡ old.notes → Acts result mid now (Tells (note.Up hello.to hello.from) ∷ []) → Acts result old now (bring_acts d (Some said_so))
 heard_acts result mid old now d plan hello said_so lived same is not_lived net notes acts =
     let so : adjacency_lives d said_so.to.0 said_so.from.0 ≡ false = lived_is d plan hello said_so lived same is ∙ not_lived in
@@ -325,30 +352,38 @@ heard_acts result mid old now d plan hello said_so lived same is not_lived net n
 
 -- ---- open
 
-pub may_open_is : (d : Discovery) (n : DiscoveryLists) (from to : EdgeId) (one other : Bool) → one ≡ live to.0 (d.histories from.0) → other ≡ live from.0 (d.histories to.0) → one && other ≡ may_open d from to
+pub may_open_is : (d : Discovery) (n : DiscoveryLists) (from to : EdgeId) (one other : Bool) → one ≡ live to.0 (d.histories from.0) → other ≡ live from.0 (d.histories to.0)
+    → one && other ≡ may_open d from to
 may_open_is d n from to one other first second = λ i. first i && second i
 
-pub open_idle_acts : {A : Type 0} (result : Result A NetStop) (old now : DiscoveryLists) (plan : Plan) (d : Discovery) (from to : EdgeId) → are_joined plan from.0 to.0 ≡ false → Acts result old now (Tells note.Idle ∷ []) → Acts result old now (acts_of plan d (line.Open from to))
+pub open_idle_acts : {A : Type 0} (result : Result A NetStop) (old now : DiscoveryLists) (plan : Plan) (d : Discovery) (from to : EdgeId) → are_joined plan from.0 to.0 ≡ false
+    → Acts result old now (Tells note.Idle ∷ []) → Acts result old now (acts_of plan d (line.Open from to))
 open_idle_acts result old now plan d from to none acts = rw none acts
 
-pub open_idle_after : {A : Type 0} (result : Result A NetStop) (old now : DiscoveryLists) (plan : Plan) (d : Discovery) (from to : EdgeId) → are_joined plan from.0 to.0 ≡ false → now.network ≡ old.network → now.adjacencies ≡ old.adjacencies → now.hellos ≡ old.hellos
+pub open_idle_after : {A : Type 0} (result : Result A NetStop) (old now : DiscoveryLists) (plan : Plan) (d : Discovery) (from to : EdgeId) → are_joined plan from.0 to.0 ≡ false
+    → now.network ≡ old.network → now.adjacencies ≡ old.adjacencies → now.hellos ≡ old.hellos
     → IsAt d old → OnOk result (IsAt (after_line plan d (line.Open from to)) now)
 open_idle_after result old now plan d from to none net table hellos at = on_ok result (rw none (at_same d old now at net table hellos))
 
-pub open_barred_acts : {A : Type 0} (result : Result A NetStop) (old now : DiscoveryLists) (plan : Plan) (d : Discovery) (from to : EdgeId) → are_joined plan from.0 to.0 ≡ true → may_open d from to ≡ false → Acts result old now (Tells (note.Barred from to) ∷ [])
+pub open_barred_acts : {A : Type 0} (result : Result A NetStop) (old now : DiscoveryLists) (plan : Plan) (d : Discovery) (from to : EdgeId) → are_joined plan from.0 to.0 ≡ true
+    → may_open d from to ≡ false → Acts result old now (Tells (note.Barred from to) ∷ [])
     → Acts result old now (acts_of plan d (line.Open from to))
 open_barred_acts result old now plan d from to joined barred acts = rw (joined, barred) acts
 
-pub open_barred_after : {A : Type 0} (result : Result A NetStop) (old now : DiscoveryLists) (plan : Plan) (d : Discovery) (from to : EdgeId) → are_joined plan from.0 to.0 ≡ true → may_open d from to ≡ false → now.network ≡ old.network → now.adjacencies ≡ old.adjacencies
+pub open_barred_after : {A : Type 0} (result : Result A NetStop) (old now : DiscoveryLists) (plan : Plan) (d : Discovery) (from to : EdgeId) → are_joined plan from.0 to.0 ≡ true
+    → may_open d from to ≡ false → now.network ≡ old.network → now.adjacencies ≡ old.adjacencies
     → now.hellos ≡ old.hellos → IsAt d old → OnOk result (IsAt (after_line plan d (line.Open from to)) now)
 open_barred_after result old now plan d from to joined barred net table hellos at = on_ok result (rw (joined, barred) (at_same d old now at net table hellos))
 
-pub open_done_acts : {A : Type 0} (result : Result A NetStop) (old now : DiscoveryLists) (plan : Plan) (d : Discovery) (from to : EdgeId) → are_joined plan from.0 to.0 ≡ true → may_open d from to ≡ true → Acts result old now (Does (event.Connect from to) ∷ [])
+pub open_done_acts : {A : Type 0} (result : Result A NetStop) (old now : DiscoveryLists) (plan : Plan) (d : Discovery) (from to : EdgeId) → are_joined plan from.0 to.0 ≡ true
+    → may_open d from to ≡ true → Acts result old now (Does (event.Connect from to) ∷ [])
     → Acts result old now (acts_of plan d (line.Open from to))
 open_done_acts result old now plan d from to joined may acts = rw (joined, may) acts
 
-pub open_done_after : {A : Type 0} (result : Result A NetStop) (old now : DiscoveryLists) (plan : Plan) (d : Discovery) (from to : EdgeId) → are_joined plan from.0 to.0 ≡ true → may_open d from to ≡ true → plan ≡ old.network.plan → now.network.plan ≡ old.network.plan
-    → OnOk result (seen now.network ≡ (step old.network.plan (seen old.network) (event.Connect from to)).state) → now.adjacencies ≡ old.adjacencies → now.hellos ≡ old.hellos → IsAt d old → OnOk result (IsAt (after_line plan d (line.Open from to)) now)
+pub open_done_after : {A : Type 0} (result : Result A NetStop) (old now : DiscoveryLists) (plan : Plan) (d : Discovery) (from to : EdgeId) → are_joined plan from.0 to.0 ≡ true
+    → may_open d from to ≡ true → plan ≡ old.network.plan → now.network.plan ≡ old.network.plan
+    → OnOk result (seen now.network ≡ (step old.network.plan (seen old.network) (event.Connect from to)).state) → now.adjacencies ≡ old.adjacencies → now.hellos ≡ old.hellos
+    → IsAt d old → OnOk result (IsAt (after_line plan d (line.Open from to)) now)
 open_done_after (Err stop) old now plan d from to joined may same kept state table hellos at = tt
 open_done_after (Ok done) old now plan d from to joined may same kept state table hellos at = rw (joined, may) (record {
   network = state ∙ (λ i. (step (sym same i) (at.network i) (event.Connect from to)).state);

@@ -29,7 +29,8 @@ way_first plan all now same trace notes at = record {
   comes = λ i. course (same i) (at.network i) (trace i) (notes i) (script_acts plan (opened plan) all);
 }
 
-pub way_next : (plan : Plan) (all items left : List ScriptLine) (line : ScriptLine) (old now : DiscoveryLists) → items ≡ line ∷ left → old.network.plan ≡ plan → ((d : Discovery) → IsAt d old → HasDone old now (acts_of old.network.plan d line))
+pub way_next : (plan : Plan) (all items left : List ScriptLine) (line : ScriptLine) (old now : DiscoveryLists) → items ≡ line ∷ left → old.network.plan ≡ plan
+    → ((d : Discovery) → IsAt d old → HasDone old now (acts_of old.network.plan d line))
     → ((d : Discovery) → IsAt d old → IsAt (after_line old.network.plan d line) now) → IsUnderWay plan all items old → IsUnderWay plan all left now
 way_next plan all items left line old now split same acts after begun =
     let way : IsUnderWay plan all (line ∷ left) old = subst (λ (ls : List ScriptLine). IsUnderWay plan all ls old) split begun in
@@ -54,7 +55,8 @@ way_ended plan all items now none begun =
     way.comes
 
 -- the events are those of a run
-pub events_ran : (plan : Plan) (lines : List ScriptLine) (n : DiscoveryLists) (stop : Option NetStop) → ended_at n stop ≡ script_course plan lines → ended n.network stop ≡ ran plan (empty_network plan) [] (events_made plan lines)
+pub events_ran : (plan : Plan) (lines : List ScriptLine) (n : DiscoveryLists) (stop : Option NetStop) → ended_at n stop ≡ script_course plan lines → ended n.network stop
+    ≡ ran plan (empty_network plan) [] (events_made plan lines)
 events_ran plan lines n stop is = ap network_of is ∙ course_ran plan (empty_network plan) [] [] (script_acts plan (opened plan) lines)
 
 -- the next line names places of the plan

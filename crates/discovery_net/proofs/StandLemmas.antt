@@ -78,7 +78,8 @@ turns_none : (plan : Plan) (next : NetworkState → Option Event) → ((s : Netw
 turns_none plan next none zero s = tt
 turns_none plan next none (suc n) s = by (next s) (none s) (λ event. turns_none plan next none n (step plan s event).state)
   where
-    by : (o : Option Event) → none_of o → ((event : Event) → AreNoConnects (turns plan next n (step plan s event).state)) → AreNoConnects (event_and o (λ event. turns plan next n (step plan s event).state))
+    by : (o : Option Event) → none_of o → ((event : Event) → AreNoConnects (turns plan next n (step plan s event).state))
+        → AreNoConnects (event_and o (λ event. turns plan next n (step plan s event).state))
     by None is later = tt
     by (Some event) is later = (is, later event)
 
@@ -150,7 +151,8 @@ IsAmong a b (lapse ∷ lapses) = ((a ≡ lapse.edge.0) × (b ≡ lapse.peer.0)) 
 
 module _ (plan : Plan) where
   -- the network and what lives are as they were, or other ends are gone
-  held_still : (old now : NetworkState) (histories later : ℕ → List Deed) → ((a b : ℕ) → stands now a b ≡ true → stands old a b ≡ true) → ((a b : ℕ) → live b (histories a) ≡ true → live b (later a) ≡ true)
+  held_still : (old now : NetworkState) (histories later : ℕ → List Deed) → ((a b : ℕ) → stands now a b ≡ true → stands old a b ≡ true)
+      → ((a b : ℕ) → live b (histories a) ≡ true → live b (later a) ≡ true)
       → Held plan old histories → Held plan now later
   held_still old now histories later fewer lives held a b is =
       let before = held a b (fewer a b is) in
@@ -161,7 +163,8 @@ module _ (plan : Plan) where
   held_hello d from to hold held = by (are_joined plan from.0 to.0)
     where
       by : (joined : Bool)
-          → Held plan (state_after plan d.network (events_in (if joined then Tells (note.Hello (length d.hellos + 1) from to (octets_of plan (next_hello d from to hold))) ∷ [] else Tells note.Idle ∷ [])))
+          → Held plan (state_after plan d.network (events_in
+          (if joined then Tells (note.Hello (length d.hellos + 1) from to (octets_of plan (next_hello d from to hold))) ∷ [] else Tells note.Idle ∷ [])))
           (if joined then with_deed from (said to.0 hold) d.histories else d.histories)
       by true = held_still d.network d.network d.histories (with_deed from (said to.0 hold) d.histories) (λ a b is. is) (λ a b is. said_lives from to.0 hold d.histories a b ∙ is) held
       by false = held
@@ -169,7 +172,8 @@ module _ (plan : Plan) where
   held_bring : (d : Discovery) (number : ℕ) → Held plan d.network d.histories → Held plan (after_line plan d (line.Bring number)).network (after_line plan d (line.Bring number)).histories
   held_bring d number held = by (hello_of d number)
     where
-      told : (hello : Hello) (lived : Bool) → Held plan d.network (heard_at (Some hello) d.histories) → Held plan (state_after plan d.network (events_in (if lived then [] else Tells (note.Up hello.to hello.from) ∷ []))) (heard_at (Some hello) d.histories)
+      told : (hello : Hello) (lived : Bool) → Held plan d.network (heard_at (Some hello) d.histories)
+          → Held plan (state_after plan d.network (events_in (if lived then [] else Tells (note.Up hello.to hello.from) ∷ []))) (heard_at (Some hello) d.histories)
       told hello true is = is
       told hello false is = is
 
@@ -187,7 +191,8 @@ module _ (plan : Plan) where
       connected : may_open d from to ≡ true → Held plan (step plan d.network (Connect from to)).state d.histories
       connected both a b is = of (come_by_connections plan d.network (Connect from to) a b is)
         where
-          at : (m n : ℕ) → (a ≡ m) × (b ≡ n) → m < length plan.edges → n < length plan.edges → live n (d.histories m) ≡ true → (a < length plan.edges) × ((b < length plan.edges) × (live b (d.histories a) ≡ true))
+          at : (m n : ℕ) → (a ≡ m) × (b ≡ n) → m < length plan.edges → n < length plan.edges → live n (d.histories m) ≡ true → (a < length plan.edges)
+              × ((b < length plan.edges) × (live b (d.histories a) ≡ true))
           at m n same one other lives = (rw same.0 one, (rw same.1 other, (λ i. live (same.1 i) (d.histories (same.0 i))) ∙ lives))
 
           of : (stands d.network a b ≡ true) ⊎ (connects_them (Connect from to) a b ≡ true) → (a < length plan.edges) × ((b < length plan.edges) × (live b (d.histories a) ≡ true))
@@ -232,7 +237,8 @@ module _ (plan : Plan) where
       lost : NetworkState
       lost = (step plan network (Lose lapse.edge lapse.peer)).state
 
-      by : (up : Bool) → stands network lapse.edge.0 lapse.peer.0 ≡ up → ((s : NetworkState) → IsAmong a b lapses → stands (state_after plan s (events_in (downs plan s lapses))) a b ≡ true → ⊥) → ((a ≡ lapse.edge.0) × (b ≡ lapse.peer.0)) ⊎ IsAmong a b lapses
+      by : (up : Bool) → stands network lapse.edge.0 lapse.peer.0 ≡ up
+          → ((s : NetworkState) → IsAmong a b lapses → stands (state_after plan s (events_in (downs plan s lapses))) a b ≡ true → ⊥) → ((a ≡ lapse.edge.0) × (b ≡ lapse.peer.0)) ⊎ IsAmong a b lapses
           → stands (state_after plan network (events_in (if up then Does (Lose lapse.edge lapse.peer) ∷ downs plan lost lapses else downs plan network lapses))) a b ≡ true → ⊥
       by true here again (inl at) is =
           let still : stands lost a b ≡ true = downs_stood lapses lost a b is in
@@ -245,7 +251,8 @@ module _ (plan : Plan) where
       by true here again (inr later) is = again lost later is
       by false here again (inr later) is = again network later is
 
-  among_with : (ends : ℕ → Bool) (edge : EdgeId) (b : ℕ) (behind : List Lapse) (place count : ℕ) → place ≤ b → b < place + count → ends b ≡ true → IsAmong edge.0 b (lapses_with ends edge place count behind)
+  among_with : (ends : ℕ → Bool) (edge : EdgeId) (b : ℕ) (behind : List Lapse) (place count : ℕ) → place ≤ b → b < place + count → ends b ≡ true
+      → IsAmong edge.0 b (lapses_with ends edge place count behind)
   among_with ends edge b behind place zero least most is = absurd (omega (arith, least, most))
   among_with ends edge b behind place (suc count) least most is = elim (cases_Bool (b == place)) [
     | inl same ↦
@@ -253,7 +260,8 @@ module _ (plan : Plan) where
         let here : ends place ≡ true = ap ends (sym at) ∙ is in
         rw here (inl (refl, at))
     | inr other ↦
-        let later : IsAmong edge.0 b (lapses_with ends edge (place + 1) count behind) = among_with ends edge b behind (place + 1) count (grind (arith, nat_tests, other, least)) (omega (arith, most)) is in
+        let later : IsAmong edge.0 b (lapses_with ends edge (place + 1) count behind) =
+        among_with ends edge b behind (place + 1) count (grind (arith, nat_tests, other, least)) (omega (arith, most)) is in
         by (ends place) later
   ]
     where
@@ -271,13 +279,15 @@ module _ (plan : Plan) where
       by true later = inr later
       by false later = later
 
-  among_from : (histories : ℕ → List Deed) (peers a b place count : ℕ) → place ≤ a → a < place + count → b < peers → ends_by_tick (histories a) b ≡ true → IsAmong a b (lapses_from histories peers place count)
+  among_from : (histories : ℕ → List Deed) (peers a b place count : ℕ) → place ≤ a → a < place + count → b < peers → ends_by_tick (histories a) b ≡ true
+      → IsAmong a b (lapses_from histories peers place count)
   among_from histories peers a b place zero least most within is = absurd (omega (arith, least, most))
   among_from histories peers a b place (suc count) least most within is = elim (cases_Bool (a == place)) [
     | inl same ↦
         let at : a ≡ place = eqb-true a place same in
         subst (λ (n : ℕ). IsAmong n b (lapses_from histories peers place (suc count))) (sym at)
-        (among_with (ends_by_tick (histories place)) (record { 0 = place }) b (lapses_from histories peers (place + 1) count) 0 peers (omega arith) (omega (arith, within)) (ap (λ (n : ℕ). ends_by_tick (histories n) b) (sym at) ∙ is))
+        (among_with (ends_by_tick (histories place)) (record { 0 = place }) b (lapses_from histories peers (place + 1) count) 0 peers (omega arith) (omega (arith, within))
+        (ap (λ (n : ℕ). ends_by_tick (histories n) b) (sym at) ∙ is))
     | inr other ↦
         among_behind (ends_by_tick (histories place)) (record { 0 = place }) a b (lapses_from histories peers (place + 1) count) 0 peers
         (among_from histories peers a b (place + 1) count (grind (arith, nat_tests, other, least)) (omega (arith, most)) within is)
@@ -304,7 +314,8 @@ module _ (plan : Plan) where
   held_line d line.Tick of_plan held = held_tick d held
   held_line d (line.Do command) of_plan held = held_do d command of_plan.1 held
 
-  held_lines : (d : Discovery) (lines : List ScriptLine) → AllByRecursion (IsLineOf plan) lines → Held plan d.network d.histories → Held plan (after_lines plan d lines).network (after_lines plan d lines).histories
+  held_lines : (d : Discovery) (lines : List ScriptLine) → AllByRecursion (IsLineOf plan) lines → Held plan d.network d.histories
+      → Held plan (after_lines plan d lines).network (after_lines plan d lines).histories
   held_lines d [] are held = held
   held_lines d (l ∷ lines) are held = held_lines (after_line plan d l) lines are.1 (held_line d l are.0 held)
 

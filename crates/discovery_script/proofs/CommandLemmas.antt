@@ -37,7 +37,8 @@ checked_fine : (event word : ℕ) (b : Bool) → word ≤ 5 → Fine Any (checke
 checked_fine event word true early = tt
 checked_fine event word false early = early
 
-then_fine : {A B : Type 0} (P : A → Type 0) (Q : B → Type 0) (read : Result A ScenarioFault) (next : A → Result B ScenarioFault) → Fine P read → ((x : A) → P x → Fine Q (next x)) → Fine Q (read >>= next)
+then_fine : {A B : Type 0} (P : A → Type 0) (Q : B → Type 0) (read : Result A ScenarioFault) (next : A → Result B ScenarioFault) → Fine P read → ((x : A) → P x → Fine Q (next x))
+    → Fine Q (read >>= next)
 then_fine P Q (Ok x) next fine on = on x fine
 then_fine P Q (Err fault) next fine on = fine
 
@@ -69,7 +70,8 @@ module _ {B : Type 0} (Q : B → Type 0) (event : ℕ) (text : List ℕ) where
       then_fine Any Q _ _ (said_fine first event 2 text (omega arith))
       (λ x a. then_fine Any Q _ _ (said_fine next event 3 text (omega arith)) (λ y b. then_fine Any Q _ _ (ends_fine event 4 text (omega arith)) (λ e c. is x y)))
 
-  of_four : {X Y Z : Type 0} (first : List ℕ → Option X) (next : List ℕ → Option Y) (last : List ℕ → Option Z) (make : X → Y → Z → Result B ScenarioFault) → ((x : X) (y : Y) (z : Z) → Fine Q (make x y z))
+  of_four : {X Y Z : Type 0} (first : List ℕ → Option X) (next : List ℕ → Option Y) (last : List ℕ → Option Z) (make : X → Y → Z → Result B ScenarioFault)
+      → ((x : X) (y : Y) (z : Z) → Fine Q (make x y z))
       → Fine Q (said_word first event 2 text >>= (λ x. said_word next event 3 text >>= (λ y. said_word last event 4 text >>= (λ z. ends_before event 5 text >>= (λ e. make x y z)))))
   of_four first next last make is =
       then_fine Any Q _ _ (said_fine first event 2 text (omega arith))

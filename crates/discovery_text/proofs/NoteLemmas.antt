@@ -29,7 +29,8 @@ noted_from plan written count trace front behind notes index none within counts 
     ∙ ap (λ (l : List Entry). (entry_lines plan front ++ note_line plan placed.note) ++ noted_lines plan placed.entries l (drop (index + 1) notes)) (sym after)))
 
 -- behind the last note the entries that are left stand
-pub noted_end : (plan : Plan) (written : ℕ) (trace : List Entry) (notes : List PlacedNote) (index : ℕ) → length notes ≤ index → noted_lines plan written trace (drop index notes) ≡ entry_lines plan trace
+pub noted_end : (plan : Plan) (written : ℕ) (trace : List Entry) (notes : List PlacedNote) (index : ℕ) → length notes ≤ index → noted_lines plan written trace (drop index notes)
+    ≡ entry_lines plan trace
 noted_end plan written trace notes index past = at_drop_all (noted_lines plan written trace) notes index past
 
 -- the last piece is put, or a call fails at it

@@ -29,15 +29,18 @@ pub changed_first : (to : DomainChange) (old : List (Option Domain)) → AreChan
 changed_first to old = record { len = refl; before = λ k below. absurd (omega arith); after = λ k above. refl }
 
 -- the next domain is as it was
-next_was : (to : DomainChange) (old now : List (Option Domain)) (place : ℕ) (x : Option Domain) → AreChangedTo to old now place → place < length now → x ≡ get_or now place x → x ≡ slice_index_or old place None
+next_was : (to : DomainChange) (old now : List (Option Domain)) (place : ℕ) (x : Option Domain) → AreChangedTo to old now place → place < length now → x ≡ get_or now place x → x
+    ≡ slice_index_or old place None
 next_was to old now place x are within read = read ∙ (same_read now place x None within ∙ are.after place (omega arith))
 
-pub may_change : (to : DomainChange) (old now : List (Option Domain)) (place : ℕ) (x : Option Domain) → All (MayChange to) old → AreChangedTo to old now place → place < length now → x ≡ get_or now place x → MayChange to x
+pub may_change : (to : DomainChange) (old now : List (Option Domain)) (place : ℕ) (x : Option Domain) → All (MayChange to) old → AreChangedTo to old now place → place < length now → x
+    ≡ get_or now place x → MayChange to x
 may_change to old now place x may are within read =
     let there : place < length old = omega (arith, are.len, within) in
     subst (MayChange to) (sym (next_was to old now place x are within read ∙ sym (same_read old place x None there))) (may place x there)
 
-pub changed_more : (to : DomainChange) (old now : List (Option Domain)) (place : ℕ) (x y : Option Domain) → AreChangedTo to old now place → place < length now → x ≡ get_or now place x → IsKeptChanged to x y
+pub changed_more : (to : DomainChange) (old now : List (Option Domain)) (place : ℕ) (x y : Option Domain) → AreChangedTo to old now place → place < length now → x ≡ get_or now place x
+    → IsKeptChanged to x y
     → AreChangedTo to old (slice_set now place y) (place + 1)
 changed_more to old now place x y are within read one = record {
   len = length-set now place y ∙ are.len;
@@ -75,7 +78,8 @@ changed_all to old now place are past = record {
         (subst (IsKeptChanged to None) (sym (past_end None now k (omega (arith, are.len, above)))) (changed_none to))
 
 -- a list of which each item is that of another list after a change
-pub all_mapped : (f : Option Domain → Option Domain) (old now : List (Option Domain)) → length now ≡ length old → ((k : ℕ) → slice_index_or now k None ≡ f (slice_index_or old k None)) → now ≡ map f old
+pub all_mapped : (f : Option Domain → Option Domain) (old now : List (Option Domain)) → length now ≡ length old → ((k : ℕ) → slice_index_or now k None ≡ f (slice_index_or old k None))
+    → now ≡ map f old
 all_mapped f [] [] long each = refl
 all_mapped f [] (y ∷ now) long each = absurd (omega (arith, long))
 all_mapped f (x ∷ old) [] long each = absurd (omega (arith, long))

@@ -46,7 +46,8 @@ pub new_next : (plan : Plan) (me : EdgeId) (place : ℕ) (domains now : List (Op
     → IsNew plan me (record { 0 = place }) service.age kept → now ≡ domains ++ kept ∷ []
     → AreNew plan me (place + 1) now
 new_next plan me place domains now kept services service are same within read is pushed =
-    let at : slice_get plan.services place ≡ Some service = subst (λ (l : List ServicePlan). slice_get l place ≡ Some service) same (slice_get_read services (length services) place service refl within read) in
+    let at : slice_get plan.services place ≡ Some service =
+    subst (λ (l : List ServicePlan). slice_get l place ≡ Some service) same (slice_get_read services (length services) place service refl within read) in
     subst (AreNew plan me (place + 1)) (sym pushed) (next_new plan me place domains kept service are at is)
 
 -- ---- the ports of wires are closed one by one
@@ -63,7 +64,8 @@ pub closed_next : (ports : List Port) (old now next : ℕ → Bool) (k : ℕ)
     → ((p : ℕ) → next p ≡ (now p && not (nat_eq p k && is_wire (slice_get ports k))))
     → (p : ℕ) → next p ≡ (old p && not (nat_lt p (k + 1) && is_wire (slice_get ports p)))
 closed_next ports old now next k so_far one p = one p ∙ (ap (λ (b : Bool). b && not (nat_eq p k && is_wire (slice_get ports k))) (so_far p) ∙ by (nat_eq p k) refl) where
-  by : (same : Bool) → nat_eq p k ≡ same → (old p && not (nat_lt p k && is_wire (slice_get ports p))) && not (same && is_wire (slice_get ports k)) ≡ (old p && not (nat_lt p (k + 1) && is_wire (slice_get ports p)))
+  by : (same : Bool) → nat_eq p k ≡ same → (old p && not (nat_lt p k && is_wire (slice_get ports p))) && not (same && is_wire (slice_get ports k))
+      ≡ (old p && not (nat_lt p (k + 1) && is_wire (slice_get ports p)))
   by false is = and_true (old p && not (nat_lt p k && is_wire (slice_get ports p))) ∙ ap (λ (b : Bool). old p && not (b && is_wire (slice_get ports p))) (sym (lt_next p k is))
   by true is =
       let at : p ≡ k = eqb-true p k is in

@@ -25,7 +25,8 @@ before_push (y ∷ xs) x d (suc k) within = before_push xs x d k (omega arith)
 filtered : (port : ℕ) (entries : List MacEntry) → length (filter (λ e. not (e.port == port)) entries) ≤ length entries
 filtered port [] = omega arith
 filtered port (x ∷ entries) = by (x.port == port) (filtered port entries) where
-  by : (b : Bool) → length (filter (λ e. not (e.port == port)) entries) ≤ length entries → length (cond (not b) (x ∷ filter (λ e. not (e.port == port)) entries) (filter (λ e. not (e.port == port)) entries)) ≤ suc (length entries)
+  by : (b : Bool) → length (filter (λ e. not (e.port == port)) entries) ≤ length entries
+      → length (cond (not b) (x ∷ filter (λ e. not (e.port == port)) entries) (filter (λ e. not (e.port == port)) entries)) ≤ suc (length entries)
   by true few = omega (arith, few)
   by false few = omega (arith, few)
 

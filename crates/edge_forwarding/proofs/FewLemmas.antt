@@ -20,13 +20,14 @@ few_without_port (Some p) entries few = few_filtered (λ e. not (nat_eq e.port p
 
 -- a new address is held only where there is room for it
 few_learned : (entries : List MacEntry) (entry : MacEntry) → length entries ≤ most_addresses → length (learned (table_of entries) entry) ≤ most_addresses
-few_learned entries entry few = elim (has_address entries entry.address) as (λ v. length (cond v (replaced entry entries) (cond (has_room (table_of entries)) (entries ++ entry ∷ []) entries)) ≤ most_addresses) [
-  | true ↦ rw (length-replaced entry entries) few
-  | false ↦ elim (cases_Bool (has_room (table_of entries))) [
-    | inl room ↦ rw room (omega (arith, length-append entries (entry ∷ []), ltb-true (length entries) most_addresses room))
-    | inr full ↦ rw full few
-  ]
-]
+few_learned entries entry few = elim (has_address entries entry.address) as
+    (λ v. length (cond v (replaced entry entries) (cond (has_room (table_of entries)) (entries ++ entry ∷ []) entries)) ≤ most_addresses) [
+      | true ↦ rw (length-replaced entry entries) few
+      | false ↦ elim (cases_Bool (has_room (table_of entries))) [
+        | inl room ↦ rw room (omega (arith, length-append entries (entry ∷ []), ltb-true (length entries) most_addresses room))
+        | inr full ↦ rw full few
+      ]
+    ]
 
 pub few_heard : (entries : List MacEntry) (source : Mac) (arrival now : ℕ) → length entries ≤ most_addresses → length (heard entries source arrival now) ≤ most_addresses
 few_heard entries source arrival now few =

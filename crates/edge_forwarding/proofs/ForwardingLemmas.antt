@@ -68,7 +68,8 @@ IsKeptIn f service kept = IsDomainKept f.plan f.me (circuits_in f) (told_in f) f
 pub the_kept : (f : ForwardingLists) (service : ServiceId) (kept : Option Domain) → WasRead f service kept → IsKeptIn f service kept
 the_kept f service kept was = subst (IsKeptIn f service) (read_is f service kept was) (was.is.domains service.0 was.within)
 
-pub the_domain : (f : ForwardingLists) (service : ServiceId) (kept : Option Domain) (domain : Domain) → WasRead f service kept → kept ≡ Some domain → IsDomain f.plan f.me (circuits_in f) (told_in f) f.ticks service domain
+pub the_domain : (f : ForwardingLists) (service : ServiceId) (kept : Option Domain) (domain : Domain) → WasRead f service kept → kept ≡ Some domain
+    → IsDomain f.plan f.me (circuits_in f) (told_in f) f.ticks service domain
 the_domain f service kept domain was some = subst (IsKeptIn f service) some (the_kept f service kept was)
 
 pub the_ports : (f : ForwardingLists) (service : ServiceId) (kept : Option Domain) (domain : Domain) → WasRead f service kept → kept ≡ Some domain → domain.bridge.ports ≡ ports_of f.plan service f.me
@@ -83,10 +84,12 @@ ticks_at f service kept domain was some = (the_domain f service kept domain was 
 pub few_at : (f : ForwardingLists) (service : ServiceId) (kept : Option Domain) (domain : Domain) → WasRead f service kept → kept ≡ Some domain → length domain.bridge.entries ≤ most_addresses
 few_at f service kept domain was some = (the_domain f service kept domain was some).few
 
-pub within_at : (f : ForwardingLists) (service : ServiceId) (kept : Option Domain) (domain : Domain) → WasRead f service kept → kept ≡ Some domain → (p : ℕ) → has domain.forwarding p ≡ true → p < length domain.bridge.ports
+pub within_at : (f : ForwardingLists) (service : ServiceId) (kept : Option Domain) (domain : Domain) → WasRead f service kept → kept ≡ Some domain → (p : ℕ) → has domain.forwarding p
+    ≡ true → p < length domain.bridge.ports
 within_at f service kept domain was some p on = opens_within (circuits_in f) (told_in f) domain.bridge.ports p (sym ((the_domain f service kept domain was some).forwarding p) ∙ on)
 
-pub on_at : (f : ForwardingLists) (service : ServiceId) (kept : Option Domain) (domain : Domain) (arrival : ℕ) → WasRead f service kept → kept ≡ Some domain → open_ports f service arrival ≡ true → has domain.forwarding arrival ≡ true
+pub on_at : (f : ForwardingLists) (service : ServiceId) (kept : Option Domain) (domain : Domain) (arrival : ℕ) → WasRead f service kept → kept ≡ Some domain
+    → open_ports f service arrival ≡ true → has domain.forwarding arrival ≡ true
 on_at f service kept domain arrival was some on =
     (the_domain f service kept domain was some).forwarding arrival ∙ (ap (λ (ports : List Port). port_opens (circuits_in f) (told_in f) ports arrival) (the_ports f service kept domain was some) ∙ on)
 
@@ -108,7 +111,8 @@ all_put P domains service after count place here others k below = subst (P (reco
   by true same = subst (λ (n : ℕ). P (record { 0 = n }) after) (sym (eqb-true k service.0 same)) here
   by false apart = others k apart below
 
-pub forwarding_put : (f : ForwardingLists) (service : ServiceId) (after : Option Domain) → IsForwarding f → service.0 < length f.plan.services → IsKeptIn f service after → IsForwarding (put_kept f service after)
+pub forwarding_put : (f : ForwardingLists) (service : ServiceId) (after : Option Domain) → IsForwarding f → service.0 < length f.plan.services → IsKeptIn f service after
+    → IsForwarding (put_kept f service after)
 forwarding_put f service after is within here = record {
   checked = is.checked;
   circuits = is.circuits;
@@ -117,7 +121,8 @@ forwarding_put f service after is within here = record {
   domains = all_put (IsKeptIn f) f.domains service after (length f.plan.services) (place_of f service is within) here (λ k apart below. is.domains k below);
 }
 
-pub seen_put : (f : ForwardingLists) (service : ServiceId) (after : Option Domain) (edge : EdgeState) → service.0 < length f.domains → with_forwarding (put_kept f service after) edge ≡ with_addresses service (entries_of after) (with_forwarding f edge)
+pub seen_put : (f : ForwardingLists) (service : ServiceId) (after : Option Domain) (edge : EdgeState) → service.0 < length f.domains → with_forwarding (put_kept f service after) edge
+    ≡ with_addresses service (entries_of after) (with_forwarding f edge)
 unfolding with_forwarding with_addresses
 seen_put f service after edge place = λ i. record (with_forwarding f edge) { learned = λ k. learned k i }
   where
@@ -154,16 +159,19 @@ heard_kept f service kept domain after entries was some is none few =
       few = subst (λ (d : Domain). length d.bridge.entries ≤ most_addresses) (sym is) few;
     })
 
-pub heard_seen : (f : ForwardingLists) (service : ServiceId) (kept : Option Domain) (domain after : Domain) (frame : List ℕ) (arrival : ℕ) (edge : EdgeState) → WasRead f service kept → kept ≡ Some domain
+pub heard_seen : (f : ForwardingLists) (service : ServiceId) (kept : Option Domain) (domain after : Domain) (frame : List ℕ) (arrival : ℕ) (edge : EdgeState) → WasRead f service kept
+    → kept ≡ Some domain
     → after ≡ with_entries domain (heard domain.bridge.entries (source frame) arrival f.ticks)
     → with_forwarding (put_kept f service (Some after)) edge ≡ hearing service frame arrival (with_forwarding f edge)
 heard_seen f service kept domain after frame arrival edge was some is =
     seen_put f service (Some after) edge (place_of f service was.is was.within)
     ∙ (ap (λ (d : Domain). with_addresses service d.bridge.entries (with_forwarding f edge)) is
-    ∙ (ap (λ (es : List MacEntry). with_addresses service (heard es (source frame) arrival f.ticks) (with_forwarding f edge)) (sym (learned_in f service edge ∙ ap entries_of (read_is f service kept was ∙ some)))
+    ∙ (ap (λ (es : List MacEntry). with_addresses service (heard es (source frame) arrival f.ticks) (with_forwarding f edge))
+    (sym (learned_in f service edge ∙ ap entries_of (read_is f service kept was ∙ some)))
     ∙ ap (λ (n : ℕ). with_addresses service (heard (addresses_of (with_forwarding f edge) service) (source frame) arrival n) (with_forwarding f edge)) (sym (ticks_in f edge))))
 
-pub heard_targets : (f : ForwardingLists) (service : ServiceId) (kept : Option Domain) (domain after : Domain) (frame : List ℕ) (arrival : ℕ) (targets : List ℕ) → WasRead f service kept → kept ≡ Some domain
+pub heard_targets : (f : ForwardingLists) (service : ServiceId) (kept : Option Domain) (domain after : Domain) (frame : List ℕ) (arrival : ℕ) (targets : List ℕ)
+    → WasRead f service kept → kept ≡ Some domain
     → ((p : ℕ) → has targets p ≡ is_target domain.bridge.ports (has domain.forwarding) arrival (known_port after.bridge.entries (destination frame)) p)
     → has targets ≡ is_target (ports_of f.plan service f.me) (open_ports f service) arrival (known_port (entries_of (domain_of (put_kept f service (Some after)) service.0)) (destination frame))
 heard_targets f service kept domain after frame arrival targets was some decided =
@@ -172,8 +180,10 @@ heard_targets f service kept domain after frame arrival targets was some decided
     same_tests (has domain.forwarding) (open_ports f service)
     (λ p. (the_domain f service kept domain was some).forwarding p ∙ ap (λ (ps : List Port). port_opens (circuits_in f) (told_in f) ps p) ports) in
     let learned : after.bridge.entries ≡ entries_of (domain_of (put_kept f service (Some after)) service.0) =
-    sym (ap entries_of (view_at None f.domains service.0 (Some after) service.0 (place_of f service was.is was.within) ∙ ap (λ (b : Bool). cond b (Some after) (view None f.domains service.0)) (eq-eqb service.0 service.0 refl))) in
-    same_tests (has targets) (is_target (ports_of f.plan service f.me) (open_ports f service) arrival (known_port (entries_of (domain_of (put_kept f service (Some after)) service.0)) (destination frame)))
+    sym (ap entries_of (view_at None f.domains service.0 (Some after) service.0 (place_of f service was.is was.within)
+    ∙ ap (λ (b : Bool). cond b (Some after) (view None f.domains service.0)) (eq-eqb service.0 service.0 refl))) in
+    same_tests (has targets) (is_target (ports_of f.plan service f.me) (open_ports f service) arrival
+    (known_port (entries_of (domain_of (put_kept f service (Some after)) service.0)) (destination frame)))
     (λ p. decided p
     ∙ (ap (λ (ps : List Port). is_target ps (has domain.forwarding) arrival (known_port after.bridge.entries (destination frame)) p) ports
     ∙ (ap (λ (t : ℕ → Bool). is_target (ports_of f.plan service f.me) t arrival (known_port after.bridge.entries (destination frame)) p) forward
@@ -185,7 +195,8 @@ none_after_port : (now : ℕ) (found : Option ℕ) (entries : List MacEntry) →
 none_after_port now None entries none = none
 none_after_port now (Some p) entries none = none_after_filtered (λ e. not (nat_eq e.port p)) now entries _ none refl
 
-kept_forgot : (plan : Plan) (me : EdgeId) (on : ℕ → Bool) (told : ℕ → Option Down) (ticks : ℕ) (service : ServiceId) (test : Port → Bool) (kept : Option Domain) → IsDomainKept plan me on told ticks service kept → IsDomainKept plan me on told ticks service (forgot_kept test kept)
+kept_forgot : (plan : Plan) (me : EdgeId) (on : ℕ → Bool) (told : ℕ → Option Down) (ticks : ℕ) (service : ServiceId) (test : Port → Bool) (kept : Option Domain)
+    → IsDomainKept plan me on told ticks service kept → IsDomainKept plan me on told ticks service (forgot_kept test kept)
 kept_forgot plan me on told ticks service test None is = is
 kept_forgot plan me on told ticks service test (Some domain) is = record {
   ports = is.ports;
@@ -200,18 +211,21 @@ nothing_forgot : (found : Option ℕ) → without_port found [] ≡ []
 nothing_forgot None = refl
 nothing_forgot (Some p) = refl
 
-entries_forgot : (plan : Plan) (me : EdgeId) (on : ℕ → Bool) (told : ℕ → Option Down) (ticks : ℕ) (service : ServiceId) (test : Port → Bool) (kept : Option Domain) → IsDomainKept plan me on told ticks service kept
+entries_forgot : (plan : Plan) (me : EdgeId) (on : ℕ → Bool) (told : ℕ → Option Down) (ticks : ℕ) (service : ServiceId) (test : Port → Bool) (kept : Option Domain)
+    → IsDomainKept plan me on told ticks service kept
     → entries_of (forgot_kept test kept) ≡ without_port (position test (ports_of plan service me)) (entries_of kept)
 entries_forgot plan me on told ticks service test None is = sym (nothing_forgot (position test (ports_of plan service me)))
 entries_forgot plan me on told ticks service test (Some domain) is = ap (λ (ports : List Port). without_port (position test ports) domain.bridge.entries) is.ports
 
-pub forgot_is : (f : ForwardingLists) (service : ServiceId) (test : Port → Bool) (kept after : Option Domain) → WasRead f service kept → after ≡ forgot_kept test kept → IsForwarding (put_kept f service after)
+pub forgot_is : (f : ForwardingLists) (service : ServiceId) (test : Port → Bool) (kept after : Option Domain) → WasRead f service kept → after ≡ forgot_kept test kept
+    → IsForwarding (put_kept f service after)
 forgot_is f service test kept after was is =
     forwarding_put f service after was.is was.within
     (subst (IsKeptIn f service) (sym is) (kept_forgot f.plan f.me (circuits_in f) (told_in f) f.ticks service test kept (the_kept f service kept was)))
 
 pub forgot_seen : (f : ForwardingLists) (service : ServiceId) (test : Port → Bool) (kept after : Option Domain) (edge : EdgeState) → WasRead f service kept → after ≡ forgot_kept test kept
-    → with_forwarding (put_kept f service after) edge ≡ with_addresses service (without_port (position test (ports_of f.plan service f.me)) (addresses_of (with_forwarding f edge) service)) (with_forwarding f edge)
+    → with_forwarding (put_kept f service after) edge
+    ≡ with_addresses service (without_port (position test (ports_of f.plan service f.me)) (addresses_of (with_forwarding f edge) service)) (with_forwarding f edge)
 forgot_seen f service test kept after edge was is =
     seen_put f service after edge (place_of f service was.is was.within)
     ∙ ap (λ (es : List MacEntry). with_addresses service es (with_forwarding f edge))
@@ -221,7 +235,8 @@ forgot_seen f service test kept after edge was is =
 
 -- what was learned at a wire is forgotten
 pub wire_forgot : (f : ForwardingLists) (service : ServiceId) (wire : WireId) (row : WirePlan) (after : Option Domain) (edge : EdgeState) → wire_row f.plan wire ≡ Some row → row.service ≡ service
-    → with_forwarding (put_kept f service after) edge ≡ with_addresses service (without_port (position (is_wire_port wire) (ports_of f.plan service f.me)) (addresses_of (with_forwarding f edge) service)) (with_forwarding f edge)
+    → with_forwarding (put_kept f service after) edge
+    ≡ with_addresses service (without_port (position (is_wire_port wire) (ports_of f.plan service f.me)) (addresses_of (with_forwarding f edge) service)) (with_forwarding f edge)
     → with_forwarding (put_kept f service after) edge ≡ forgetting_wire f.plan wire (wire_row f.plan wire) (with_forwarding f edge)
 unfolding with_forwarding
 wire_forgot f service wire row after edge at of is_now =
@@ -247,12 +262,14 @@ entries_withdrew : (from : ℕ) (addresses : List Mac) (kept : Option Domain) �
 entries_withdrew from addresses None = refl
 entries_withdrew from addresses (Some domain) = refl
 
-pub withdrew_is : (f : ForwardingLists) (service : ServiceId) (from : ℕ) (addresses : List Mac) (kept after : Option Domain) → WasRead f service kept → after ≡ withdrawn_kept from addresses kept → IsForwarding (put_kept f service after)
+pub withdrew_is : (f : ForwardingLists) (service : ServiceId) (from : ℕ) (addresses : List Mac) (kept after : Option Domain) → WasRead f service kept → after
+    ≡ withdrawn_kept from addresses kept → IsForwarding (put_kept f service after)
 withdrew_is f service from addresses kept after was is =
     forwarding_put f service after was.is was.within
     (subst (IsKeptIn f service) (sym is) (kept_withdrew f.plan f.me (circuits_in f) (told_in f) f.ticks service from addresses kept (the_kept f service kept was)))
 
-pub withdrew_seen : (f : ForwardingLists) (service : ServiceId) (from : ℕ) (addresses : List Mac) (kept after : Option Domain) (edge : EdgeState) → WasRead f service kept → after ≡ withdrawn_kept from addresses kept
+pub withdrew_seen : (f : ForwardingLists) (service : ServiceId) (from : ℕ) (addresses : List Mac) (kept after : Option Domain) (edge : EdgeState) → WasRead f service kept → after
+    ≡ withdrawn_kept from addresses kept
     → with_forwarding (put_kept f service after) edge ≡ withdrawing_at service addresses from (with_forwarding f edge)
 withdrew_seen f service from addresses kept after edge was is =
     seen_put f service after edge (place_of f service was.is was.within)
@@ -269,7 +286,8 @@ turned_entries test on None (Some after) is = absurd is
 turned_entries test on (Some kept) None is = absurd is
 turned_entries test on (Some kept) (Some after) is = ap (λ (b : BridgeState). b.entries) is.bridge
 
-same_learned : (f : ForwardingLists) (service : ServiceId) (kept after : Option Domain) → WasRead f service kept → entries_of after ≡ entries_of kept → (k : ℕ) → entries_of (view None (slice_set f.domains service.0 after) k) ≡ entries_of (view None f.domains k)
+same_learned : (f : ForwardingLists) (service : ServiceId) (kept after : Option Domain) → WasRead f service kept → entries_of after ≡ entries_of kept → (k : ℕ)
+    → entries_of (view None (slice_set f.domains service.0 after) k) ≡ entries_of (view None f.domains k)
 same_learned f service kept after was same k = ap entries_of (view_at None f.domains service.0 after k (place_of f service was.is was.within)) ∙ by (nat_eq k service.0) refl where
   by : (b : Bool) → nat_eq k service.0 ≡ b → entries_of (cond b after (view None f.domains k)) ≡ entries_of (view None f.domains k)
   by false is = refl
@@ -317,7 +335,8 @@ kept_opens plan me on next told then ticks service (Some domain) same is = recor
 abbrev pub turned_forwarding : ForwardingLists → CircuitId → ServiceId → Bool → Option Domain → ForwardingLists
 turned_forwarding f circuit service turned after = record f { circuits_on = slice_set f.circuits_on circuit.0 turned; domains = slice_set f.domains service.0 after }
 
-pub turned_is : (f : ForwardingLists) (circuit : CircuitId) (row : CircuitPlan) (service : ServiceId) (kept after : Option Domain) (turned : Bool) → WasRead f service kept → circuit_row f.plan circuit ≡ Some row → row.service ≡ service
+pub turned_is : (f : ForwardingLists) (circuit : CircuitId) (row : CircuitPlan) (service : ServiceId) (kept after : Option Domain) (turned : Bool) → WasRead f service kept
+    → circuit_row f.plan circuit ≡ Some row → row.service ≡ service
     → IsKeptTurned (is_circuit_port circuit) turned kept after → IsForwarding (turned_forwarding f circuit service turned after)
 turned_is f circuit row service kept after turned was at of turns = record {
   checked = was.is.checked;
@@ -343,12 +362,16 @@ turned_is f circuit row service kept after turned was at of turns = record {
     map_is : view true (slice_set f.circuits_on circuit.0 turned) ≡ put_at (circuits_in f) circuit.0 turned
     map_is = view_set true f.circuits_on circuit.0 turned place
 
-pub turned_seen : (f : ForwardingLists) (circuit : CircuitId) (row : CircuitPlan) (service : ServiceId) (kept after : Option Domain) (turned : Bool) (edge : EdgeState) → WasRead f service kept → circuit_row f.plan circuit ≡ Some row
+pub turned_seen : (f : ForwardingLists) (circuit : CircuitId) (row : CircuitPlan) (service : ServiceId) (kept after : Option Domain) (turned : Bool) (edge : EdgeState)
+    → WasRead f service kept → circuit_row f.plan circuit ≡ Some row
     → IsKeptTurned (is_circuit_port circuit) turned kept after
     → with_forwarding (turned_forwarding f circuit service turned after) edge ≡ with_circuit circuit turned (with_forwarding f edge)
 unfolding with_forwarding with_circuit
 turned_seen f circuit row service kept after turned edge was at turns =
-    λ i. record (with_forwarding f edge) { circuit_on = view_set true f.circuits_on circuit.0 turned place i; learned = λ k. same_learned f service kept after was (turned_entries (is_circuit_port circuit) turned kept after turns) k i }
+    λ i. record (with_forwarding f edge) {
+      circuit_on = view_set true f.circuits_on circuit.0 turned place i;
+      learned = λ k. same_learned f service kept after was (turned_entries (is_circuit_port circuit) turned kept after turns) k i;
+    }
   where
     place : circuit.0 < length f.circuits_on
     place = omega (arith, was.is.circuits, slice_get_within f.plan.circuits circuit.0 row at)
@@ -358,7 +381,8 @@ turned_seen f circuit row service kept after turned edge was at turns =
 abbrev pub told_forwarding : ForwardingLists → WireId → ServiceId → Option Down → Option Domain → ForwardingLists
 told_forwarding f wire service down after = record f { told_down = slice_set f.told_down wire.0 down; domains = slice_set f.domains service.0 after }
 
-pub told_is : (f : ForwardingLists) (wire : WireId) (row : WirePlan) (service : ServiceId) (kept after : Option Domain) (down : Option Down) (up : Bool) → WasRead f service kept → wire_row f.plan wire ≡ Some row → row.service ≡ service
+pub told_is : (f : ForwardingLists) (wire : WireId) (row : WirePlan) (service : ServiceId) (kept after : Option Domain) (down : Option Down) (up : Bool) → WasRead f service kept
+    → wire_row f.plan wire ≡ Some row → row.service ≡ service
     → up ≡ is_up down → IsKeptTurned (is_wire_port wire) up kept after → IsForwarding (told_forwarding f wire service down after)
 told_is f wire row service kept after down up was at of none turns = record {
   checked = was.is.checked;
@@ -385,12 +409,16 @@ told_is f wire row service kept after down up was at of none turns = record {
     map_is : view (Some NoLocal) (slice_set f.told_down wire.0 down) ≡ put_at (told_in f) wire.0 down
     map_is = view_set (Some NoLocal) f.told_down wire.0 down place
 
-pub told_seen : (f : ForwardingLists) (wire : WireId) (row : WirePlan) (service : ServiceId) (kept after : Option Domain) (down : Option Down) (up : Bool) (edge : EdgeState) → WasRead f service kept → wire_row f.plan wire ≡ Some row
+pub told_seen : (f : ForwardingLists) (wire : WireId) (row : WirePlan) (service : ServiceId) (kept after : Option Domain) (down : Option Down) (up : Bool) (edge : EdgeState)
+    → WasRead f service kept → wire_row f.plan wire ≡ Some row
     → IsKeptTurned (is_wire_port wire) up kept after
     → with_forwarding (told_forwarding f wire service down after) edge ≡ with_told_down wire down (with_forwarding f edge)
 unfolding with_forwarding with_told_down
 told_seen f wire row service kept after down up edge was at turns =
-    λ i. record (with_forwarding f edge) { told_down = view_set (Some NoLocal) f.told_down wire.0 down place i; learned = λ k. same_learned f service kept after was (turned_entries (is_wire_port wire) up kept after turns) k i }
+    λ i. record (with_forwarding f edge) {
+      told_down = view_set (Some NoLocal) f.told_down wire.0 down place i;
+      learned = λ k. same_learned f service kept after was (turned_entries (is_wire_port wire) up kept after turns) k i;
+    }
   where
     place : wire.0 < length f.told_down
     place = omega (arith, was.is.each_told, slice_get_within f.plan.wires wire.0 row at)
@@ -410,7 +438,8 @@ view_forgotten (x ∷ xs) (suc k) = view_forgotten xs k
 told_none : (xs : List (Option Down)) → view (Some NoLocal) (map forgotten xs) ≡ nothing_told
 told_none xs = λ i k. view_forgotten xs k i
 
-kept_closed : (plan : Plan) (me : EdgeId) (on : ℕ → Bool) (told : ℕ → Option Down) (ticks : ℕ) (service : ServiceId) (kept after : Option Domain) → IsDomainKept plan me on told ticks service kept → IsKeptClosed kept after
+kept_closed : (plan : Plan) (me : EdgeId) (on : ℕ → Bool) (told : ℕ → Option Down) (ticks : ℕ) (service : ServiceId) (kept after : Option Domain)
+    → IsDomainKept plan me on told ticks service kept → IsKeptClosed kept after
     → IsDomainKept plan me on nothing_told ticks service after
 kept_closed plan me on told ticks service None None is closed = is
 kept_closed plan me on told ticks service None (Some after) is closed = absurd closed
@@ -434,7 +463,8 @@ closed_entries None (Some after) closed = absurd closed
 closed_entries (Some domain) None closed = absurd closed
 closed_entries (Some domain) (Some after) closed = ap (λ (b : BridgeState). b.entries) closed.bridge
 
-pub closed_is : (f : ForwardingLists) (domains : List (Option Domain)) (told : List (Option Down)) → IsForwarding f → AreChanged change.Close f.domains domains → told ≡ map forgotten f.told_down → IsForwarding (record f { domains = domains; told_down = told })
+pub closed_is : (f : ForwardingLists) (domains : List (Option Domain)) (told : List (Option Down)) → IsForwarding f → AreChanged change.Close f.domains domains → told
+    ≡ map forgotten f.told_down → IsForwarding (record f { domains = domains; told_down = told })
 closed_is f domains told is closed forgot = record {
   checked = is.checked;
   circuits = is.circuits;
@@ -464,7 +494,8 @@ none_known : (kept : Option Domain) → entries_of (cleared_kept kept) ≡ []
 none_known None = refl
 none_known (Some domain) = refl
 
-kept_cleared : (plan : Plan) (me : EdgeId) (on : ℕ → Bool) (told : ℕ → Option Down) (ticks : ℕ) (service : ServiceId) (kept : Option Domain) → IsDomainKept plan me on told ticks service kept → IsDomainKept plan me on told ticks service (cleared_kept kept)
+kept_cleared : (plan : Plan) (me : EdgeId) (on : ℕ → Bool) (told : ℕ → Option Down) (ticks : ℕ) (service : ServiceId) (kept : Option Domain)
+    → IsDomainKept plan me on told ticks service kept → IsDomainKept plan me on told ticks service (cleared_kept kept)
 kept_cleared plan me on told ticks service None is = is
 kept_cleared plan me on told ticks service (Some domain) is = record {
   ports = is.ports;
@@ -492,7 +523,8 @@ cleared_seen f edge = λ i. record (with_forwarding f edge) { learned = λ k. (a
 
 -- ---- a tick is counted
 
-kept_later : (plan : Plan) (me : EdgeId) (on : ℕ → Bool) (told : ℕ → Option Down) (ticks now : ℕ) (service : ServiceId) (kept : Option Domain) → ticks ≤ now → IsDomainKept plan me on told ticks service kept → IsDomainKept plan me on told now service kept
+kept_later : (plan : Plan) (me : EdgeId) (on : ℕ → Bool) (told : ℕ → Option Down) (ticks now : ℕ) (service : ServiceId) (kept : Option Domain) → ticks ≤ now
+    → IsDomainKept plan me on told ticks service kept → IsDomainKept plan me on told now service kept
 kept_later plan me on told ticks now service None time is = is
 kept_later plan me on told ticks now service (Some domain) time is = record {
   ports = is.ports;
@@ -523,7 +555,8 @@ view_aged now [] k = refl
 view_aged now (x ∷ kept) zero = refl
 view_aged now (x ∷ kept) (suc k) = view_aged now kept k
 
-kept_aged : (plan : Plan) (me : EdgeId) (on : ℕ → Bool) (told : ℕ → Option Down) (ticks : ℕ) (service : ServiceId) (kept : Option Domain) → IsDomainKept plan me on told ticks service kept → IsDomainKept plan me on told ticks service (aged_kept ticks kept)
+kept_aged : (plan : Plan) (me : EdgeId) (on : ℕ → Bool) (told : ℕ → Option Down) (ticks : ℕ) (service : ServiceId) (kept : Option Domain)
+    → IsDomainKept plan me on told ticks service kept → IsDomainKept plan me on told ticks service (aged_kept ticks kept)
 kept_aged plan me on told ticks service None is = is
 kept_aged plan me on told ticks service (Some domain) is = record {
   ports = is.ports;
@@ -545,7 +578,8 @@ aged_is f is = record {
       (kept_aged f.plan f.me (circuits_in f) (told_in f) f.ticks (record { 0 = k }) (view None f.domains k) (is.domains k below));
 }
 
-entries_aged : (plan : Plan) (me : EdgeId) (on : ℕ → Bool) (told : ℕ → Option Down) (ticks : ℕ) (service : ServiceId) (kept : Option Domain) (row : Option ServicePlan) → service_row plan service ≡ row → (row ≡ None → kept ≡ None) → IsDomainKept plan me on told ticks service kept
+entries_aged : (plan : Plan) (me : EdgeId) (on : ℕ → Bool) (told : ℕ → Option Down) (ticks : ℕ) (service : ServiceId) (kept : Option Domain) (row : Option ServicePlan)
+    → service_row plan service ≡ row → (row ≡ None → kept ≡ None) → IsDomainKept plan me on told ticks service kept
     → entries_of (aged_kept ticks kept) ≡ aged ticks row (entries_of kept)
 entries_aged plan me on told ticks service None None at past is = refl
 entries_aged plan me on told ticks service None (Some row) at past is = refl
@@ -561,7 +595,8 @@ aged_seen f edge is = λ i. record (with_forwarding f edge) { learned = λ k. le
         let past : view None f.domains k ≡ None = past_end None f.domains k (omega (arith, is.services, none_past f.plan.services k at)) in
         rw past refl
     within k (Some row) at =
-        entries_aged f.plan f.me (circuits_in f) (told_in f) f.ticks (record { 0 = k }) (view None f.domains k) (Some row) at (λ none. absurd (cc (none))) (is.domains k (slice_get_within f.plan.services k row at))
+        entries_aged f.plan f.me (circuits_in f) (told_in f) f.ticks (record { 0 = k }) (view None f.domains k) (Some row) at (λ none. absurd (cc (none)))
+        (is.domains k (slice_get_within f.plan.services k row at))
 
     learned : (k : ℕ) → entries_of (view None (map (aged_kept f.ticks) f.domains) k) ≡ aged f.ticks (slice_get f.plan.services k) (entries_of (view None f.domains k))
     learned k = ap entries_of (view_aged f.ticks f.domains k) ∙ within k (slice_get f.plan.services k) refl
@@ -601,13 +636,15 @@ nothing_learned : (plan : Plan) (me : EdgeId) (service : ServiceId) (years : ℕ
 nothing_learned plan me service years None is = refl
 nothing_learned plan me service years (Some domain) is = ap (λ (b : BridgeState). b.entries) is.bridge
 
-learned_none : (plan : Plan) (me : EdgeId) (domains : List (Option Domain)) (k : ℕ) (row : Option ServicePlan) → slice_get plan.services k ≡ row → AreNew plan me (length plan.services) domains → entries_of (view None domains k) ≡ []
+learned_none : (plan : Plan) (me : EdgeId) (domains : List (Option Domain)) (k : ℕ) (row : Option ServicePlan) → slice_get plan.services k ≡ row
+    → AreNew plan me (length plan.services) domains → entries_of (view None domains k) ≡ []
 learned_none plan me domains k None at are =
     let past : view None domains k ≡ None = past_end None domains k (omega (arith, are.len, none_past plan.services k at)) in
     rw past refl
 learned_none plan me domains k (Some row) at are = nothing_learned plan me (record { 0 = k }) row.age (view None domains k) (are.each k row (slice_get_within plan.services k row at) at)
 
-kept_new : (plan : Plan) (me : EdgeId) (service : ServiceId) (row : ServicePlan) (kept : Option Domain) → service_row plan service ≡ Some row → IsNew plan me service row.age kept → IsDomainKept plan me all_on nothing_told 0 service kept
+kept_new : (plan : Plan) (me : EdgeId) (service : ServiceId) (row : ServicePlan) (kept : Option Domain) → service_row plan service ≡ Some row → IsNew plan me service row.age kept
+    → IsDomainKept plan me all_on nothing_told 0 service kept
 kept_new plan me service row None at is = is
 kept_new plan me service row (Some domain) at is =
     let ports : domain.bridge.ports ≡ ports_of plan service me = ap (λ (b : BridgeState). b.ports) is.bridge in
@@ -637,7 +674,8 @@ first_on plan me on told domains are = λ i k. (ap (λ (l : List Bool). view tru
 first_told : (plan : Plan) (me : EdgeId) (on : List Bool) (told : List (Option Down)) (domains : List (Option Domain)) → AreFirst plan me on told domains → view (Some NoLocal) told ≡ nothing_told
 first_told plan me on told domains are = λ i k. (ap (λ (l : List (Option Down)). view (Some NoLocal) l k) are.wires ∙ all_same (length plan.wires) k (Some NoLocal)) i
 
-pub new_is : (plan : Plan) (me : EdgeId) (on : List Bool) (told : List (Option Down)) (domains : List (Option Domain)) → IsChecked plan → AreFirst plan me on told domains → IsForwarding (new_forwarding plan me on told domains)
+pub new_is : (plan : Plan) (me : EdgeId) (on : List Bool) (told : List (Option Down)) (domains : List (Option Domain)) → IsChecked plan → AreFirst plan me on told domains
+    → IsForwarding (new_forwarding plan me on told domains)
 new_is plan me on told domains checked are = record {
   checked = checked;
   circuits = ap (λ (l : List Bool). length l) are.circuits ∙ replicate_length (length plan.circuits) true;
@@ -645,7 +683,8 @@ new_is plan me on told domains checked are = record {
   services = are.services.len;
   domains = λ k below.
       subst (λ (o : ℕ → Bool). IsDomainKept plan me o (view (Some NoLocal) told) 0 (record { 0 = k }) (view None domains k)) (sym (first_on plan me on told domains are))
-      (subst (λ (t : ℕ → Option Down). IsDomainKept plan me all_on t 0 (record { 0 = k }) (view None domains k)) (sym (first_told plan me on told domains are)) (of k (slice_get plan.services k) refl below));
+      (subst (λ (t : ℕ → Option Down). IsDomainKept plan me all_on t 0 (record { 0 = k }) (view None domains k)) (sym (first_told plan me on told domains are))
+      (of k (slice_get plan.services k) refl below));
 }
   where
     of : (k : ℕ) (row : Option ServicePlan) → slice_get plan.services k ≡ row → k < length plan.services → IsDomainKept plan me all_on nothing_told 0 (record { 0 = k }) (view None domains k)
@@ -663,7 +702,8 @@ new_seen plan me on told domains edge are = λ i. record edge {
   told_down = first_told plan me on told domains are i;
 }
 
-pub new_opened : (plan : Plan) (me : EdgeId) (on : List Bool) (told : List (Option Down)) (domains : List (Option Domain)) → AreFirst plan me on told domains → IsNewForwarding plan me (new_forwarding plan me on told domains)
+pub new_opened : (plan : Plan) (me : EdgeId) (on : List Bool) (told : List (Option Down)) (domains : List (Option Domain)) → AreFirst plan me on told domains
+    → IsNewForwarding plan me (new_forwarding plan me on told domains)
 new_opened plan me on told domains are = record { keeps = refl; here = refl; is = λ edge. new_seen plan me on told domains edge are }
 
 -- ---- a circuit of the edge
@@ -730,7 +770,8 @@ bridge_there : (f : ForwardingLists) (service : ServiceId) (domain : Domain) →
 bridge_there f service domain is found (inl unknown) = absurd (omega (arith, found_within f service (Some domain) is found, none_past f.plan.services service.0 unknown))
 bridge_there f service domain is found (inr empty) = absurd ((found_kept f service (Some domain) is found).some empty)
 
-pub lent_some : (f : ForwardingLists) (service : ServiceId) (domain : Domain) → IsForwarding f → slice_get f.domains service.0 ≡ Some (Some domain) → (true ≡ false → HasNone f service) × (HasNone f service → true ≡ false)
+pub lent_some : (f : ForwardingLists) (service : ServiceId) (domain : Domain) → IsForwarding f → slice_get f.domains service.0 ≡ Some (Some domain) → (true ≡ false → HasNone f service)
+    × (HasNone f service → true ≡ false)
 lent_some f service domain is found = (λ lent. absurd (cc (lent)), λ none. absurd (bridge_there f service domain is found none))
 
 pub lent_none : (f : ForwardingLists) (service : ServiceId) → IsForwarding f → slice_get f.domains service.0 ≡ Some None → (false ≡ false → HasNone f service) × (HasNone f service → false ≡ false)
@@ -742,7 +783,8 @@ lent_past f service is found = (λ lent. inl (slice_get_past f.plan.services ser
 pub lent_learned : (f : ForwardingLists) (service : ServiceId) (domain : Domain) → slice_get f.domains service.0 ≡ Some (Some domain) → domain.bridge.entries ≡ entries_of (domain_of f service.0)
 lent_learned f service domain found = ap entries_of (sym (view_of f.domains service.0 None (Some domain) found))
 
-pub lent_ports : (f : ForwardingLists) (service : ServiceId) (domain : Domain) → IsForwarding f → slice_get f.domains service.0 ≡ Some (Some domain) → domain.bridge.ports ≡ ports_of f.plan service f.me
+pub lent_ports : (f : ForwardingLists) (service : ServiceId) (domain : Domain) → IsForwarding f → slice_get f.domains service.0 ≡ Some (Some domain) → domain.bridge.ports
+    ≡ ports_of f.plan service f.me
 lent_ports f service domain is found = (found_kept f service (Some domain) is found).ports
 
 pub lent_age : (f : ForwardingLists) (service : ServiceId) (domain : Domain) → IsForwarding f → slice_get f.domains service.0 ≡ Some (Some domain) → age_of f.plan service ≡ Some domain.bridge.age

@@ -33,7 +33,8 @@ opens_within on told ports p open_at = within (slice_get ports p) refl open_at w
 -- ---- circuits
 
 -- a circuit's port after it was turned, and every other port
-pub turned_port : (on : ℕ → Bool) (told : ℕ → Option Down) (ports : List Port) (circuit : CircuitId) (turned : Bool) (p q : ℕ) → LeadsTo ports q circuit.0 → ((c : ℕ) → LeadsTo ports p c → nat_eq p q ≡ nat_eq c circuit.0)
+pub turned_port : (on : ℕ → Bool) (told : ℕ → Option Down) (ports : List Port) (circuit : CircuitId) (turned : Bool) (p q : ℕ) → LeadsTo ports q circuit.0
+    → ((c : ℕ) → LeadsTo ports p c → nat_eq p q ≡ nat_eq c circuit.0)
     → cond (nat_eq p q) turned (port_opens on told ports p) ≡ port_opens (put_at on circuit.0 turned) told ports p
 turned_port on told ports circuit turned p q leads same = turns (slice_get ports p) refl where
   apart : (x : Option Port) → slice_get ports p ≡ x → ((c : CircuitId) → x ≡ Some (port.Circuit c) → ⊥) → nat_eq p q ≡ false
@@ -88,7 +89,8 @@ turned_elsewhere plan on told circuit row other me turned p is apart = turns (sl
   turns (Some (port.Spoke wire)) at = refl
 
 -- the port that is found for a circuit is open where the circuit is on
-pub found_opens : (on : ℕ → Bool) (told : ℕ → Option Down) (circuit : CircuitId) (ports : List Port) (p : ℕ) → position (is_circuit_port circuit) ports ≡ Some p → port_opens on told ports p ≡ on circuit.0
+pub found_opens : (on : ℕ → Bool) (told : ℕ → Option Down) (circuit : CircuitId) (ports : List Port) (p : ℕ) → position (is_circuit_port circuit) ports ≡ Some p
+    → port_opens on told ports p ≡ on circuit.0
 found_opens on told circuit ports p found = ap (opens on told) ((found_port circuit ports p found).is)
 
 -- ---- wires

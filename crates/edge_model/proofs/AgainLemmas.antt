@@ -290,7 +290,8 @@ rounds_mend plan told one within zero work few = by (mends_once plan told work).
 
   by : (b : Bool) → (mends_once plan told work).failed ≡ b → IsMended plan (cond b (mends_few plan told zero next) next).edge
   by false took = round_mends plan told work (one work.edge.me) took
-  by true failed = absurd (none (count (standing next.edge) (length plan.edges)) (count (standing work.edge) (length plan.edges)) ((round_loses plan told (length plan.edges) work (within work.edge.me)).less failed) few)
+  by true failed = absurd (none (count (standing next.edge) (length plan.edges)) (count (standing work.edge) (length plan.edges))
+      ((round_loses plan told (length plan.edges) work (within work.edge.me)).less failed) few)
 rounds_mend plan told one within (suc fuel) work few = by (rounds_mend plan told one within fuel (mends_once plan told work).work) (mends_once plan told work).failed refl where
   next : Work
   next = (mends_once plan told work).work

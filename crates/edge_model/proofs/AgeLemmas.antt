@@ -87,7 +87,8 @@ module _ (plan : Plan) (told : Answers) where
     status : PwStatus
     status = status_to_tell plan work.edge place
 
-    by : (content : Told) (b : Bool) → (cond b (stays work) (says told place.peer (status_notification place.pw_id status content) (changes (telling_status place status) work))).work.edge.learned ≡ work.edge.learned
+    by : (content : Told) (b : Bool) → (cond b (stays work)
+        (says told place.peer (status_notification place.pw_id status content) (changes (telling_status place status) work))).work.edge.learned ≡ work.edge.learned
     by content true = refl
     by content false = said_learned told place.peer (status_notification place.pw_id status content) (changes (telling_status place status) work)
 
@@ -183,7 +184,8 @@ module _ (plan : Plan) (fit : HasFitPaths plan) (service : ServiceId) (address :
         entry_of-filter (λ e. not (e.port == p)) xs address distinct ∙ (ap (option_filter (λ e. not (e.port == p))) found ∙ ap (λ (b : Bool). cond (not b) (Some entry) None)
         (same_wire_port plan service me entry.port p place.wire.0 q.wire.0 leads (found_wire_port q.wire (ports_of plan service me) p is) ∙ other))
 
-    forgetting_stands : (edge : EdgeState) → IsFound me edge → (q : EndPlace) → nat_eq place.wire.0 q.wire.0 ≡ false → (row : Option WirePlan) → entry_at (forgetting_wire plan q.wire row edge) service address ≡ Some entry
+    forgetting_stands : (edge : EdgeState) → IsFound me edge → (q : EndPlace) → nat_eq place.wire.0 q.wire.0 ≡ false → (row : Option WirePlan)
+        → entry_at (forgetting_wire plan q.wire row edge) service address ≡ Some entry
     unfolding with_addresses
     forgetting_stands edge is q other None = is.found
     forgetting_stands edge is q other (Some row) = by (nat_eq service.0 row.service.0) refl where
@@ -221,7 +223,8 @@ module _ (plan : Plan) (fit : HasFitPaths plan) (service : ServiceId) (address :
     all_stand (q ∷ list) all work is = all_stand list all.1 (cond q.terminal (forgets_down plan q (down_at plan work.edge q) work) work) (one_stands q all.0 work is)
 
     -- a round of mending after which the end forwards
-    mends_stand : (told : Answers) → ((k : ℕ) → told k ≡ true) → (work : Work) → work.edge.me ≡ me → AreDistinctAddresses (addresses_of work.edge service) → entry_at work.edge service address ≡ Some entry
+    mends_stand : (told : Answers) → ((k : ℕ) → told k ≡ true) → (work : Work) → work.edge.me ≡ me → AreDistinctAddresses (addresses_of work.edge service)
+        → entry_at work.edge service address ≡ Some entry
         → down_at plan (mends plan told work).edge place ≡ None → entry_at (mends plan told work).edge service address ≡ Some entry
     mends_stand told takes work same distinct found up =
         ap (λ (w : Work). entry_at w.edge service address) once
@@ -274,7 +277,8 @@ module _ (plan : Plan) (fit : HasFitPaths plan) (service : ServiceId) (address :
               forwards = third_up;
             })
 
-    tick_stands : (told : Answers) → ((k : ℕ) → told k ≡ true) → (row : ServicePlan) → slice_get plan.services service.0 ≡ Some row → (work : Work) → work.edge.me ≡ me → AreDistinctAddresses (addresses_of work.edge service)
+    tick_stands : (told : Answers) → ((k : ℕ) → told k ≡ true) → (row : ServicePlan) → slice_get plan.services service.0 ≡ Some row → (work : Work) → work.edge.me ≡ me
+        → AreDistinctAddresses (addresses_of work.edge service)
         → entry_at work.edge service address ≡ Some entry → is_young (later work.edge.ticks) row.age entry ≡ true → down_at plan (tick_input plan told work).edge place ≡ None
         → entry_at (tick_input plan told work).edge service address ≡ Some entry
     tick_stands told takes row is work same distinct found young up =
@@ -284,7 +288,8 @@ module _ (plan : Plan) (fit : HasFitPaths plan) (service : ServiceId) (address :
         (subst (λ (xs : List MacEntry). AreDistinctAddresses xs) (sym now) (distinct-filter (is_young (later work.edge.ticks) row.age) (addresses_of work.edge service) distinct))
         (ap (λ (xs : List MacEntry). mac_entry_of xs address) now ∙ stays_young (later work.edge.ticks) row.age (addresses_of work.edge service) address entry distinct found young) up
 
-    ticking_stands_by : (told : Answers) → ((k : ℕ) → told k ≡ true) → (row : ServicePlan) → slice_get plan.services service.0 ≡ Some row → (n : ℕ) (work : Work) → work.edge.me ≡ me → AreDistinctAddresses (addresses_of work.edge service)
+    ticking_stands_by : (told : Answers) → ((k : ℕ) → told k ≡ true) → (row : ServicePlan) → slice_get plan.services service.0 ≡ Some row → (n : ℕ) (work : Work) → work.edge.me ≡ me
+        → AreDistinctAddresses (addresses_of work.edge service)
         → entry_at work.edge service address ≡ Some entry → entry.tick ≤ work.edge.ticks → work.edge.ticks + n < entry.tick + row.age → work.edge.ticks + n ≤ 2 ^ 64 - 1
         → ((k : ℕ) → 1 ≤ k → k ≤ n → down_at plan (ticking plan told k work).edge place ≡ None)
         → entry_at (ticking plan told n work).edge service address ≡ Some entry
@@ -296,8 +301,10 @@ module _ (plan : Plan) (fit : HasFitPaths plan) (service : ServiceId) (address :
         let less : work.edge.ticks < 2 ^ 64 - 1 = less_of plan service address work.edge.ticks n (2 ^ 64 - 1) counts in
         let now : next.edge.ticks ≡ work.edge.ticks + 1 = tick.ticks ∙ next_tick plan service address work.edge.ticks less in
         ticking_stands_by told takes row is n next (tick.me ∙ same) (tick.distinct distinct)
-        (tick_stands told takes row is begun same distinct found (fresh plan service address work.edge.ticks row.age entry.tick less past (next_within_less work.edge.ticks n (entry.tick + row.age) within)) (up 1 (omega arith) (omega arith)))
-        (before_next entry.tick work.edge.ticks _ now past) (next_within work.edge.ticks _ n (entry.tick + row.age) now within) (rest_of plan service address work.edge.ticks _ n (2 ^ 64 - 1) now counts)
+        (tick_stands told takes row is begun same distinct found
+        (fresh plan service address work.edge.ticks row.age entry.tick less past (next_within_less work.edge.ticks n (entry.tick + row.age) within)) (up 1 (omega arith) (omega arith)))
+        (before_next entry.tick work.edge.ticks _ now past) (next_within work.edge.ticks _ n (entry.tick + row.age) now within)
+        (rest_of plan service address work.edge.ticks _ n (2 ^ 64 - 1) now counts)
         (λ k some most. up (suc k) (omega arith) (omega (arith, most)))
 
 -- ---- the law
@@ -317,7 +324,8 @@ addresses_last_their_age = record {
       ticking_stands plan service address told row heard.is n work entry heard.distinct heard.found here (equal_at_most entry.tick work.edge.ticks heard.now)
       (starts_within entry.tick work.edge.ticks n row.age heard.now within) counts;
   stands_by_wire = λ plan told n work service row address entry place fit takes heard at up counts within.
-      ticking_stands_by plan fit service address entry place work.edge.me at.here (wire_at (ports_of plan service work.edge.me) entry.port at.x place.wire at.at at.to_wire) told takes row heard.is n work refl
+      ticking_stands_by plan fit service address entry place work.edge.me at.here
+      (wire_at (ports_of plan service work.edge.me) entry.port at.x place.wire at.at at.to_wire) told takes row heard.is n work refl
       heard.distinct heard.found (equal_at_most entry.tick work.edge.ticks heard.now) (starts_within entry.tick work.edge.ticks n row.age heard.now within) counts up;
   goes = λ plan told n work service row address entry heard counts some more.
       ticking_goes plan service address told row heard.is n work entry heard.distinct heard.found (equal_at_most entry.tick work.edge.ticks heard.now)

@@ -190,7 +190,8 @@ module _ (plan : Plan) (service : ServiceId) (address : Mac) where
 
   -- what each bridge forgets at a tick
   pub at_forgot_is : (told : Answers) (row : ServicePlan) → slice_get plan.services service.0 ≡ Some row → (work : Work)
-      → addresses_of (changes (forgetting plan) (ticks_sessions told 0 (length plan.edges) (changes counted work))).edge service ≡ filter (is_young (later work.edge.ticks) row.age) (addresses_of work.edge service)
+      → addresses_of (changes (forgetting plan) (ticks_sessions told 0 (length plan.edges) (changes counted work))).edge service
+      ≡ filter (is_young (later work.edge.ticks) row.age) (addresses_of work.edge service)
   unfolding changes with_learned with_ticks with_kept
   at_forgot_is told row is work =
       let ticked : Work = ticks_sessions told 0 (length plan.edges) (changes counted work) in
@@ -207,7 +208,8 @@ module _ (plan : Plan) (service : ServiceId) (address : Mac) where
     distinct = λ distinct. last.distinct (young_distinct distinct);
     none = λ distinct none. gone_still distinct (at_forgot ∙ none_comes young_now before address distinct none);
     stands = λ distinct entry found here fresh.
-        last.kept (young_distinct distinct) entry (at_forgot ∙ stays_young now row.age before address entry distinct found fresh) (at_same plan service entry work.edge forgot.edge sessions.edge.me here);
+        last.kept (young_distinct distinct) entry (at_forgot ∙ stays_young now row.age before address entry distinct found fresh)
+        (at_same plan service entry work.edge forgot.edge sessions.edge.me here);
     fades = λ distinct entry found fresh. elim (last.less (young_distinct distinct)) [
       | inl same ↦ inl (same ∙ (at_forgot ∙ stays_young now row.age before address entry distinct found fresh))
       | inr none ↦ inr none
@@ -269,7 +271,8 @@ module _ (plan : Plan) (service : ServiceId) (address : Mac) where
   pub rest_of : (t now n limit : ℕ) → now ≡ t + 1 → t + suc n ≤ limit → now + n ≤ limit
   rest_of t now n limit is within = omega (arith, is, within)
 
-  ticking_none : (told : Answers) (row : ServicePlan) → slice_get plan.services service.0 ≡ Some row → (n : ℕ) (work : Work) → AreDistinctAddresses (addresses_of work.edge service) → entry_at work.edge service address ≡ None
+  ticking_none : (told : Answers) (row : ServicePlan) → slice_get plan.services service.0 ≡ Some row → (n : ℕ) (work : Work) → AreDistinctAddresses (addresses_of work.edge service)
+      → entry_at work.edge service address ≡ None
       → entry_at (ticking plan told n work).edge service address ≡ None
   ticking_none told row is zero work distinct none = none
   ticking_none told row is (suc n) work distinct none =
@@ -277,8 +280,10 @@ module _ (plan : Plan) (service : ServiceId) (address : Mac) where
       let tick : TicksOnce row work.edge (tick_input plan told begun).edge = one_tick told row is begun in
       ticking_none told row is n (tick_input plan told begun) (tick.distinct distinct) (tick.none distinct none)
 
-  pub ticking_stands : (told : Answers) (row : ServicePlan) → slice_get plan.services service.0 ≡ Some row → (n : ℕ) (work : Work) (entry : MacEntry) → AreDistinctAddresses (addresses_of work.edge service)
-      → entry_at work.edge service address ≡ Some entry → IsAtCircuit plan work.edge service entry → entry.tick ≤ work.edge.ticks → work.edge.ticks + n < entry.tick + row.age → work.edge.ticks + n ≤ 2 ^ 64 - 1
+  pub ticking_stands : (told : Answers) (row : ServicePlan) → slice_get plan.services service.0 ≡ Some row → (n : ℕ) (work : Work) (entry : MacEntry)
+      → AreDistinctAddresses (addresses_of work.edge service)
+      → entry_at work.edge service address ≡ Some entry → IsAtCircuit plan work.edge service entry → entry.tick ≤ work.edge.ticks → work.edge.ticks + n < entry.tick + row.age
+      → work.edge.ticks + n ≤ 2 ^ 64 - 1
       → entry_at (ticking plan told n work).edge service address ≡ Some entry
   ticking_stands told row is zero work entry distinct found here past within counts = found
   ticking_stands told row is (suc n) work entry distinct found here past within counts =
@@ -294,8 +299,10 @@ module _ (plan : Plan) (service : ServiceId) (address : Mac) where
       after : (tick t now : ℕ) → now ≡ t + 1 → tick ≤ t → tick ≤ now
       after tick t now is past = omega (arith, is, past)
 
-  pub ticking_goes : (told : Answers) (row : ServicePlan) → slice_get plan.services service.0 ≡ Some row → (n : ℕ) (work : Work) (entry : MacEntry) → AreDistinctAddresses (addresses_of work.edge service)
-      → entry_at work.edge service address ≡ Some entry → entry.tick ≤ work.edge.ticks → work.edge.ticks < entry.tick + row.age → entry.tick + row.age ≤ work.edge.ticks + n → work.edge.ticks + n ≤ 2 ^ 64 - 1
+  pub ticking_goes : (told : Answers) (row : ServicePlan) → slice_get plan.services service.0 ≡ Some row → (n : ℕ) (work : Work) (entry : MacEntry)
+      → AreDistinctAddresses (addresses_of work.edge service)
+      → entry_at work.edge service address ≡ Some entry → entry.tick ≤ work.edge.ticks → work.edge.ticks < entry.tick + row.age → entry.tick + row.age ≤ work.edge.ticks + n
+      → work.edge.ticks + n ≤ 2 ^ 64 - 1
       → entry_at (ticking plan told n work).edge service address ≡ None
   ticking_goes told row is zero work entry distinct found past young_yet due counts = absurd (clash work.edge.ticks (entry.tick + row.age) young_yet due) where
     clash : (t limit : ℕ) → t < limit → limit ≤ t + zero → ⊥

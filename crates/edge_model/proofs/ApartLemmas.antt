@@ -94,7 +94,8 @@ module _ (plan : Plan) (told : Answers) (edge : EdgeState) (calls : List LinkCal
 
   -- ---- behind a router alert
 
-  alerts_apart : (entry : StackEntry) (payload : List ℕ) (place : Option EndPlace) → entry_of (behind_entry octets) ≡ Ok entry → has_alert (entry_of octets) ≡ true → advertiser plan edge entry.label ≡ place
+  alerts_apart : (entry : StackEntry) (payload : List ℕ) (place : Option EndPlace) → entry_of (behind_entry octets) ≡ Ok entry → has_alert (entry_of octets) ≡ true
+      → advertiser plan edge entry.label ≡ place
       → Apart (alerts_end plan told payload place begun)
   unfolding begun
   alerts_apart entry payload None read alert owner = dropped cause.NoLabel
@@ -135,7 +136,8 @@ module _ (plan : Plan) (told : Answers) (edge : EdgeState) (calls : List LinkCal
     owned_apart : Apart offered → Apart (owned plan told octets to.entry (Some place) begun)
     unfolding begun offered
     owned_apart one =
-        subst (λ (b : Bool). Apart (cond b (terminated plan told place to.entry.ttl (wire_row plan place.wire) (end_at edge place).remote (behind_entry octets) begun) (switched plan told octets to.entry place begun))) (sym to.terminal)
+        subst (λ (b : Bool). Apart (cond b (terminated plan told place to.entry.ttl (wire_row plan place.wire) (end_at edge place).remote (behind_entry octets) begun)
+        (switched plan told octets to.entry place begun))) (sym to.terminal)
         (subst (λ (r : Option WirePlan). Apart (terminated plan told place to.entry.ttl r (end_at edge place).remote (behind_entry octets) begun)) (sym to.is)
         (subst (λ (b : Option Binding). Apart (terminated plan told place to.entry.ttl (Some row) b (behind_entry octets) begun)) (sym to.bound) one))
 
@@ -163,11 +165,13 @@ module _ (plan : Plan) (told : Answers) (edge : EdgeState) (calls : List LinkCal
         packet_apart (subst (λ (b : Bool). Apart (by_offer plan told row place binding to.entry.ttl b (behind_entry octets) begun)) (sym cword) (by (nat_eq (length (behind_entry octets)) 0)))
       where
         by : (empty : Bool)
-            → Apart (cond empty (drops cause.Short begun) (cond (is_channel (behind_entry octets)) (verifies_in told place row Header binding (behind_entry octets) begun) (enters plan told row place (behind_entry octets) begun)))
+            → Apart (cond empty (drops cause.Short begun)
+            (cond (is_channel (behind_entry octets)) (verifies_in told place row Header binding (behind_entry octets) begun) (enters plan told row place (behind_entry octets) begun)))
         by true = dropped cause.Short
         by false =
             subst (λ (b : Bool). Apart (cond b (verifies_in told place row Header binding (behind_entry octets) begun) (enters plan told row place (behind_entry octets) begun))) (sym channel)
-            (verifies_in_apart Header to.entry place row binding (behind_entry octets) (record { read = to.read; channel = channel; owner = to.owner; terminal = to.terminal; is = to.is; bound = to.bound }))
+            (verifies_in_apart Header to.entry place row binding (behind_entry octets)
+            (record { read = to.read; channel = channel; owner = to.owner; terminal = to.terminal; is = to.is; bound = to.bound }))
 
     pub expiry_apart : to.entry.ttl ≡ 1 → channel_under row edge.me binding ≡ Some Expiry → Apart (on_packet plan told edge calls octets)
     unfolding begun offered
@@ -180,7 +184,8 @@ module _ (plan : Plan) (told : Answers) (edge : EdgeState) (calls : List LinkCal
       by false cword =
           subst (λ (b : Bool). Apart (cond b (verifies told place row Expiry binding (behind_entry octets) begun) (enters plan told row place (behind_entry octets) begun)))
           (sym (ap (λ (n : ℕ). nat_eq n 1 && is_picked Expiry (channel_under row edge.me binding)) last ∙ ap (is_picked Expiry) picks)) is_verified
-      by true cword = absurd (no_expiry (offer_of row edge.me.0).vccv binding.told.vccv (length binding.told.points) (sym (ap (λ (b : Bool). picked (offer_of row edge.me.0).vccv binding.told.vccv b (length binding.told.points)) cword) ∙ picks))
+      by true cword = absurd (no_expiry (offer_of row edge.me.0).vccv binding.told.vccv (length binding.told.points)
+          (sym (ap (λ (b : Bool). picked (offer_of row edge.me.0).vccv binding.told.vccv b (length binding.told.points)) cword) ∙ picks))
 
 pub echoes_stay_apart : EchoesStayApart
 echoes_stay_apart = record {

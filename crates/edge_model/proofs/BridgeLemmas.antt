@@ -73,7 +73,22 @@ pub record LearnsOnly (old new : EdgeState) : Type 0 where
   pub pings : new.next_ping ≡ old.next_ping
 
 pub learns_not : (edge : EdgeState) → LearnsOnly edge edge
-learns_not edge = record { me = refl; circuits = refl; ticks = refl; peering = refl; wires = refl; bits = refl; ends = refl; downs = refl; priorities = refl; chosen = refl; labels = refl; kept = refl; places = refl; pings = refl }
+learns_not edge = record {
+  me = refl;
+  circuits = refl;
+  ticks = refl;
+  peering = refl;
+  wires = refl;
+  bits = refl;
+  ends = refl;
+  downs = refl;
+  priorities = refl;
+  chosen = refl;
+  labels = refl;
+  kept = refl;
+  places = refl;
+  pings = refl;
+}
 
 pub learns_then : (a b c : EdgeState) → LearnsOnly a b → LearnsOnly b c → LearnsOnly a c
 learns_then a b c first next = record {
@@ -115,7 +130,22 @@ learns_is old new only = λ i. record {
 
 addresses_learn : (service : ServiceId) (entries : List MacEntry) (edge : EdgeState) → LearnsOnly edge (with_addresses service entries edge)
 unfolding with_addresses
-addresses_learn service entries edge = record { me = refl; circuits = refl; ticks = refl; peering = refl; wires = refl; bits = refl; ends = refl; downs = refl; priorities = refl; chosen = refl; labels = refl; kept = refl; places = refl; pings = refl }
+addresses_learn service entries edge = record {
+  me = refl;
+  circuits = refl;
+  ticks = refl;
+  peering = refl;
+  wires = refl;
+  bits = refl;
+  ends = refl;
+  downs = refl;
+  priorities = refl;
+  chosen = refl;
+  labels = refl;
+  kept = refl;
+  places = refl;
+  pings = refl;
+}
 
 -- ---- the edge forgets
 
@@ -271,22 +301,26 @@ received_bridges plan told came service arrival (Err why) work = drops_bridges w
 -- ---- a packet
 
 -- what comes of an echo packet
-echoes_bridges : (told : Answers) (place : EndPlace) (kind : Cc) (binding : Binding) (ip : List ℕ) (read : Result Echo VccvFault) (work : Work) → BridgesOnly work (echoes told place kind binding ip read work)
+echoes_bridges : (told : Answers) (place : EndPlace) (kind : Cc) (binding : Binding) (ip : List ℕ) (read : Result Echo VccvFault) (work : Work)
+    → BridgesOnly work (echoes told place kind binding ip read work)
 echoes_bridges told place kind binding ip (Err why) work = drops_bridges (vccv_cause_of why) work
 echoes_bridges told place kind binding ip (Ok (Answer sequence)) work = gives_bridges (effect.Pong place.wire sequence) work refl
 echoes_bridges told place kind binding ip (Ok (Request from to sequence long)) work = sends_bridges told place arrival.Own (channel_octets kind binding (answer_packet ip)) work
 
-verifies_bridges : (told : Answers) (place : EndPlace) (row : WirePlan) (kind : Cc) (binding : Binding) (payload : List ℕ) (work : Work) → BridgesOnly work (verifies told place row kind binding payload work)
+verifies_bridges : (told : Answers) (place : EndPlace) (row : WirePlan) (kind : Cc) (binding : Binding) (payload : List ℕ) (work : Work)
+    → BridgesOnly work (verifies told place row kind binding payload work)
 verifies_bridges told place row kind binding payload work =
     echoes_bridges told place kind binding (ip_packet_of (has_header kind) payload) (reading (has_header kind) (ping_number row) payload) work
 
-verifies_in_bridges : (told : Answers) (place : EndPlace) (row : WirePlan) (kind : Cc) (binding : Binding) (payload : List ℕ) (work : Work) → BridgesOnly work (verifies_in told place row kind binding payload work)
+verifies_in_bridges : (told : Answers) (place : EndPlace) (row : WirePlan) (kind : Cc) (binding : Binding) (payload : List ℕ) (work : Work)
+    → BridgesOnly work (verifies_in told place row kind binding payload work)
 verifies_in_bridges told place row kind binding payload work = by (is_picked kind (channel_under row work.edge.me binding)) where
   by : (b : Bool) → BridgesOnly work (cond b (verifies told place row kind binding payload work) (drops cause.NotOffered work))
   by true = verifies_bridges told place row kind binding payload work
   by false = drops_bridges cause.NotOffered work
 
-alerts_by_bridges : (told : Answers) (place : EndPlace) (row : Option WirePlan) (remote : Option Binding) (payload : List ℕ) (work : Work) → BridgesOnly work (alerts_by told place row remote payload work)
+alerts_by_bridges : (told : Answers) (place : EndPlace) (row : Option WirePlan) (remote : Option Binding) (payload : List ℕ) (work : Work)
+    → BridgesOnly work (alerts_by told place row remote payload work)
 alerts_by_bridges told place None remote payload work = drops_bridges cause.NotOffered work
 alerts_by_bridges told place (Some row) None payload work = drops_bridges cause.NotOffered work
 alerts_by_bridges told place (Some row) (Some binding) payload work = verifies_in_bridges told place row Alert binding payload work
@@ -315,14 +349,16 @@ enters_bridges plan told row place payload work = by (is_up (down_at plan work.e
   by true = bridges_frame_bridges plan told row place payload work
   by false = drops_bridges cause.Down work
 
-by_control_word_bridges : (plan : Plan) (told : Answers) (row : WirePlan) (place : EndPlace) (binding : Binding) (payload : List ℕ) (work : Work) → BridgesOnly work (by_control_word plan told row place binding payload work)
+by_control_word_bridges : (plan : Plan) (told : Answers) (row : WirePlan) (place : EndPlace) (binding : Binding) (payload : List ℕ) (work : Work)
+    → BridgesOnly work (by_control_word plan told row place binding payload work)
 by_control_word_bridges plan told row place binding payload work = by (length payload == 0) (is_channel payload) where
   by : (none channel : Bool) → BridgesOnly work (cond none (drops cause.Short work) (cond channel (verifies_in told place row Header binding payload work) (enters plan told row place payload work)))
   by true channel = drops_bridges cause.Short work
   by false true = verifies_in_bridges told place row Header binding payload work
   by false false = enters_bridges plan told row place payload work
 
-by_ttl_bridges : (plan : Plan) (told : Answers) (row : WirePlan) (place : EndPlace) (binding : Binding) (ttl : ℕ) (payload : List ℕ) (work : Work) → BridgesOnly work (by_ttl plan told row place binding ttl payload work)
+by_ttl_bridges : (plan : Plan) (told : Answers) (row : WirePlan) (place : EndPlace) (binding : Binding) (ttl : ℕ) (payload : List ℕ) (work : Work)
+    → BridgesOnly work (by_ttl plan told row place binding ttl payload work)
 by_ttl_bridges plan told row place binding ttl payload work = by (ttl == 1 && is_picked Expiry (channel_under row work.edge.me binding)) where
   by : (b : Bool) → BridgesOnly work (cond b (verifies told place row Expiry binding payload work) (enters plan told row place payload work))
   by true = verifies_bridges told place row Expiry binding payload work
@@ -356,13 +392,15 @@ switched_bridges plan told octets entry place work = by (wire_row plan place.wir
 owned_bridges : (plan : Plan) (told : Answers) (octets : List ℕ) (entry : StackEntry) (place : Option EndPlace) (work : Work) → BridgesOnly work (owned plan told octets entry place work)
 owned_bridges plan told octets entry None work = drops_bridges cause.NoLabel work
 owned_bridges plan told octets entry (Some place) work = by place.terminal where
-  by : (b : Bool) → BridgesOnly work (cond b (terminated plan told place entry.ttl (wire_row plan place.wire) (end_at work.edge place).remote (behind_entry octets) work) (switched plan told octets entry place work))
+  by : (b : Bool) → BridgesOnly work (cond b (terminated plan told place entry.ttl (wire_row plan place.wire) (end_at work.edge place).remote (behind_entry octets) work)
+      (switched plan told octets entry place work))
   by true = terminated_bridges plan told place entry.ttl (wire_row plan place.wire) (end_at work.edge place).remote (behind_entry octets) work
   by false = switched_bridges plan told octets entry place work
 
 labelled_bridges : (plan : Plan) (told : Answers) (octets : List ℕ) (entry : StackEntry) (work : Work) → BridgesOnly work (labelled plan told octets entry work)
 labelled_bridges plan told octets entry work = by (nat_lt entry.label least_label) entry.bottom where
-  by : (reserved bottom : Bool) → BridgesOnly work (cond reserved (drops cause.NoLabel work) (cond bottom (owned plan told octets entry (advertiser plan work.edge entry.label) work) (drops cause.NotBottom work)))
+  by : (reserved bottom : Bool) → BridgesOnly work
+      (cond reserved (drops cause.NoLabel work) (cond bottom (owned plan told octets entry (advertiser plan work.edge entry.label) work) (drops cause.NotBottom work)))
   by true bottom = drops_bridges cause.NoLabel work
   by false true = owned_bridges plan told octets entry (advertiser plan work.edge entry.label) work
   by false false = drops_bridges cause.NotBottom work
@@ -434,7 +472,8 @@ module _ (plan : Plan) (told : Answers) (work : Work) where
   numbers_ping : (place : EndPlace) (octets : List ℕ) → PingOutcome work (sends told place arrival.Own octets (changes (pinging place.wire) work))
   unfolding changes with_next_ping
   numbers_ping place octets =
-      let bridges : BridgesOnly (changes (pinging place.wire) work) (sends told place arrival.Own octets (changes (pinging place.wire) work)) = sends_bridges told place arrival.Own octets (changes (pinging place.wire) work) in
+      let bridges : BridgesOnly (changes (pinging place.wire) work) (sends told place arrival.Own octets (changes (pinging place.wire) work)) =
+      sends_bridges told place arrival.Own octets (changes (pinging place.wire) work) in
       PingGoes (record {
         pings = (pinging place.wire work.edge).next_ping;
         edge = sends_edge told place arrival.Own octets (changes (pinging place.wire) work);

@@ -35,7 +35,8 @@ telling_down role bits status end = by end.local end.remote where
 -- ---- the same choice
 
 -- where ends would forward as before, the choice is the same
-pub choice_same : (plan : Plan) (old new : EdgeState) → new.me ≡ old.me → new.bits ≡ old.bits → new.priority ≡ old.priority → ((wire k bits : ℕ) → down role.Chosen bits (new.ends wire k) ≡ down role.Chosen bits (old.ends wire k))
+pub choice_same : (plan : Plan) (old new : EdgeState) → new.me ≡ old.me → new.bits ≡ old.bits → new.priority ≡ old.priority
+    → ((wire k bits : ℕ) → down role.Chosen bits (new.ends wire k) ≡ down role.Chosen bits (old.ends wire k))
     → (service : ServiceId) → choice plan new service ≡ choice plan old service
 choice_same plan old new me bits priorities downs service =
     ap (λ (k : EdgeId). among k (map (spoke_at new) (spoke_places plan k service))) me ∙ ap (among old.me) (all (spoke_places plan old.me service))

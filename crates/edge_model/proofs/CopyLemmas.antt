@@ -54,7 +54,8 @@ found_end plan me wire place found =
 -- ---- a target is no arrival
 
 -- the circuit of a row that serves a service is one of the service
-pub row_service : (plan : Plan) (service : ServiceId) (edge : EdgeId) (circuit : CircuitId) (row : CircuitPlan) → circuit_row plan circuit ≡ Some row → is_circuit_at service edge.0 row ≡ true → service_of plan circuit ≡ Some service
+pub row_service : (plan : Plan) (service : ServiceId) (edge : EdgeId) (circuit : CircuitId) (row : CircuitPlan) → circuit_row plan circuit ≡ Some row → is_circuit_at service edge.0 row
+    ≡ true → service_of plan circuit ≡ Some service
 row_service plan service edge circuit row is serve =
     let same : row.service.0 ≡ service.0 = eqb-true row.service.0 service.0 (and_parts (nat_eq row.service.0 service.0) (nat_eq row.edge.0 edge.0) serve).0 in
     ap (λ (r : Option CircuitPlan). option_map (λ (row : CircuitPlan). row.service) r) is ∙ ap (λ (n : ℕ). Some (record { 0 = n })) same

@@ -263,41 +263,50 @@ unfolding changes down gives idles ones_plus posts reading with_addresses with_e
 drops_type = refl
 
 -- a header of six words, a fragment, another protocol, or fewer octets than its total length says
-drops_options : (on_packet_at_b one one (channel_header ++ 70 ∷ 0 ∷ 0 ∷ 28 ∷ 0 ∷ 0 ∷ 0 ∷ 0 ∷ 255 ∷ 1 ∷ 166 ∷ 222 ∷ 10 ∷ 0 ∷ 0 ∷ 1 ∷ 10 ∷ 0 ∷ 0 ∷ 2 ∷ 8 ∷ 0 ∷ 247 ∷ 154 ∷ 0 ∷ 100 ∷ 0 ∷ 1 ∷ [])).effects ≡ Dropped cause.Ip ∷ []
+drops_options : (on_packet_at_b one one (channel_header ++ 70 ∷ 0 ∷ 0 ∷ 28 ∷ 0 ∷ 0 ∷ 0 ∷ 0 ∷ 255 ∷ 1 ∷ 166 ∷ 222 ∷ 10 ∷ 0 ∷ 0 ∷ 1 ∷ 10 ∷ 0 ∷ 0 ∷ 2 ∷ 8 ∷ 0 ∷ 247 ∷ 154 ∷ 0 ∷ 100 ∷ 0 ∷ 1
+    ∷ [])).effects ≡ Dropped cause.Ip ∷ []
 unfolding changes down gives idles ones_plus posts reading with_addresses with_end with_next_ping without_ends with_kept
 drops_options = refl
 
-drops_fragment : (on_packet_at_b one one (channel_header ++ 69 ∷ 0 ∷ 0 ∷ 28 ∷ 0 ∷ 0 ∷ 32 ∷ 0 ∷ 255 ∷ 1 ∷ 135 ∷ 222 ∷ 10 ∷ 0 ∷ 0 ∷ 1 ∷ 10 ∷ 0 ∷ 0 ∷ 2 ∷ 8 ∷ 0 ∷ 247 ∷ 154 ∷ 0 ∷ 100 ∷ 0 ∷ 1 ∷ [])).effects ≡ Dropped cause.Ip ∷ []
+drops_fragment : (on_packet_at_b one one (channel_header ++ 69 ∷ 0 ∷ 0 ∷ 28 ∷ 0 ∷ 0 ∷ 32 ∷ 0 ∷ 255 ∷ 1 ∷ 135 ∷ 222 ∷ 10 ∷ 0 ∷ 0 ∷ 1 ∷ 10 ∷ 0 ∷ 0 ∷ 2 ∷ 8 ∷ 0 ∷ 247 ∷ 154 ∷ 0 ∷ 100 ∷ 0
+    ∷ 1 ∷ [])).effects ≡ Dropped cause.Ip ∷ []
 unfolding changes down gives idles ones_plus posts reading with_addresses with_end with_next_ping without_ends with_kept
 drops_fragment = refl
 
-drops_protocol : (on_packet_at_b one one (channel_header ++ 69 ∷ 0 ∷ 0 ∷ 28 ∷ 0 ∷ 0 ∷ 0 ∷ 0 ∷ 255 ∷ 17 ∷ 167 ∷ 206 ∷ 10 ∷ 0 ∷ 0 ∷ 1 ∷ 10 ∷ 0 ∷ 0 ∷ 2 ∷ 8 ∷ 0 ∷ 247 ∷ 154 ∷ 0 ∷ 100 ∷ 0 ∷ 1 ∷ [])).effects ≡ Dropped cause.Ip ∷ []
+drops_protocol : (on_packet_at_b one one (channel_header ++ 69 ∷ 0 ∷ 0 ∷ 28 ∷ 0 ∷ 0 ∷ 0 ∷ 0 ∷ 255 ∷ 17 ∷ 167 ∷ 206 ∷ 10 ∷ 0 ∷ 0 ∷ 1 ∷ 10 ∷ 0 ∷ 0 ∷ 2 ∷ 8 ∷ 0 ∷ 247 ∷ 154 ∷ 0 ∷ 100 ∷ 0
+    ∷ 1 ∷ [])).effects ≡ Dropped cause.Ip ∷ []
 unfolding changes down gives idles ones_plus posts reading with_addresses with_end with_next_ping without_ends with_kept
 drops_protocol = refl
 
-drops_cut : (on_packet_at_b one one (channel_header ++ 69 ∷ 0 ∷ 0 ∷ 28 ∷ 0 ∷ 0 ∷ 0 ∷ 0 ∷ 255 ∷ 1 ∷ 167 ∷ 222 ∷ 10 ∷ 0 ∷ 0 ∷ 1 ∷ 10 ∷ 0 ∷ 0 ∷ 2 ∷ 8 ∷ 0 ∷ 247 ∷ 154 ∷ 0 ∷ 100 ∷ 0 ∷ [])).effects ≡ Dropped cause.Ip ∷ []
+drops_cut : (on_packet_at_b one one (channel_header ++ 69 ∷ 0 ∷ 0 ∷ 28 ∷ 0 ∷ 0 ∷ 0 ∷ 0 ∷ 255 ∷ 1 ∷ 167 ∷ 222 ∷ 10 ∷ 0 ∷ 0 ∷ 1 ∷ 10 ∷ 0 ∷ 0 ∷ 2 ∷ 8 ∷ 0 ∷ 247 ∷ 154 ∷ 0 ∷ 100 ∷ 0
+    ∷ [])).effects ≡ Dropped cause.Ip ∷ []
 unfolding changes down gives idles ones_plus posts reading with_addresses with_end with_next_ping without_ends with_kept
 drops_cut = refl
 
 -- a wrong checksum of the header, or of the message
-drops_header_sum : (on_packet_at_b one one (channel_header ++ 69 ∷ 0 ∷ 0 ∷ 28 ∷ 0 ∷ 0 ∷ 0 ∷ 0 ∷ 255 ∷ 1 ∷ 167 ∷ 223 ∷ 10 ∷ 0 ∷ 0 ∷ 1 ∷ 10 ∷ 0 ∷ 0 ∷ 2 ∷ 8 ∷ 0 ∷ 247 ∷ 154 ∷ 0 ∷ 100 ∷ 0 ∷ 1 ∷ [])).effects ≡ Dropped cause.Checksum ∷ []
+drops_header_sum : (on_packet_at_b one one (channel_header ++ 69 ∷ 0 ∷ 0 ∷ 28 ∷ 0 ∷ 0 ∷ 0 ∷ 0 ∷ 255 ∷ 1 ∷ 167 ∷ 223 ∷ 10 ∷ 0 ∷ 0 ∷ 1 ∷ 10 ∷ 0 ∷ 0 ∷ 2 ∷ 8 ∷ 0 ∷ 247 ∷ 154 ∷ 0 ∷ 100 ∷ 0
+    ∷ 1 ∷ [])).effects ≡ Dropped cause.Checksum ∷ []
 unfolding changes down gives idles ones_plus posts reading with_addresses with_end with_next_ping without_ends with_kept
 drops_header_sum = refl
 
-drops_message_sum : (on_packet_at_b one one (channel_header ++ 69 ∷ 0 ∷ 0 ∷ 28 ∷ 0 ∷ 0 ∷ 0 ∷ 0 ∷ 255 ∷ 1 ∷ 167 ∷ 222 ∷ 10 ∷ 0 ∷ 0 ∷ 1 ∷ 10 ∷ 0 ∷ 0 ∷ 2 ∷ 8 ∷ 0 ∷ 247 ∷ 154 ∷ 0 ∷ 100 ∷ 0 ∷ 2 ∷ [])).effects ≡ Dropped cause.Checksum ∷ []
+drops_message_sum : (on_packet_at_b one one (channel_header ++ 69 ∷ 0 ∷ 0 ∷ 28 ∷ 0 ∷ 0 ∷ 0 ∷ 0 ∷ 255 ∷ 1 ∷ 167 ∷ 222 ∷ 10 ∷ 0 ∷ 0 ∷ 1 ∷ 10 ∷ 0 ∷ 0 ∷ 2 ∷ 8 ∷ 0 ∷ 247 ∷ 154 ∷ 0 ∷ 100 ∷ 0
+    ∷ 2 ∷ [])).effects ≡ Dropped cause.Checksum ∷ []
 unfolding changes down gives idles ones_plus posts reading with_addresses with_end with_next_ping without_ends with_kept
 drops_message_sum = refl
 
 -- another type than echo, another code than 0, or the identifier of another wire
-drops_timestamp : (on_packet_at_b one one (channel_header ++ 69 ∷ 0 ∷ 0 ∷ 28 ∷ 0 ∷ 0 ∷ 0 ∷ 0 ∷ 255 ∷ 1 ∷ 167 ∷ 222 ∷ 10 ∷ 0 ∷ 0 ∷ 1 ∷ 10 ∷ 0 ∷ 0 ∷ 2 ∷ 13 ∷ 0 ∷ 242 ∷ 154 ∷ 0 ∷ 100 ∷ 0 ∷ 1 ∷ [])).effects ≡ Dropped cause.Icmp ∷ []
+drops_timestamp : (on_packet_at_b one one (channel_header ++ 69 ∷ 0 ∷ 0 ∷ 28 ∷ 0 ∷ 0 ∷ 0 ∷ 0 ∷ 255 ∷ 1 ∷ 167 ∷ 222 ∷ 10 ∷ 0 ∷ 0 ∷ 1 ∷ 10 ∷ 0 ∷ 0 ∷ 2 ∷ 13 ∷ 0 ∷ 242 ∷ 154 ∷ 0 ∷ 100 ∷ 0
+    ∷ 1 ∷ [])).effects ≡ Dropped cause.Icmp ∷ []
 unfolding changes down gives idles ones_plus posts reading with_addresses with_end with_next_ping without_ends with_kept
 drops_timestamp = refl
 
-drops_code : (on_packet_at_b one one (channel_header ++ 69 ∷ 0 ∷ 0 ∷ 28 ∷ 0 ∷ 0 ∷ 0 ∷ 0 ∷ 255 ∷ 1 ∷ 167 ∷ 222 ∷ 10 ∷ 0 ∷ 0 ∷ 1 ∷ 10 ∷ 0 ∷ 0 ∷ 2 ∷ 8 ∷ 1 ∷ 247 ∷ 153 ∷ 0 ∷ 100 ∷ 0 ∷ 1 ∷ [])).effects ≡ Dropped cause.Icmp ∷ []
+drops_code : (on_packet_at_b one one (channel_header ++ 69 ∷ 0 ∷ 0 ∷ 28 ∷ 0 ∷ 0 ∷ 0 ∷ 0 ∷ 255 ∷ 1 ∷ 167 ∷ 222 ∷ 10 ∷ 0 ∷ 0 ∷ 1 ∷ 10 ∷ 0 ∷ 0 ∷ 2 ∷ 8 ∷ 1 ∷ 247 ∷ 153 ∷ 0 ∷ 100 ∷ 0 ∷ 1
+    ∷ [])).effects ≡ Dropped cause.Icmp ∷ []
 unfolding changes down gives idles ones_plus posts reading with_addresses with_end with_next_ping without_ends with_kept
 drops_code = refl
 
-drops_identifier : (on_packet_at_b one one (channel_header ++ 69 ∷ 0 ∷ 0 ∷ 28 ∷ 0 ∷ 0 ∷ 0 ∷ 0 ∷ 255 ∷ 1 ∷ 167 ∷ 222 ∷ 10 ∷ 0 ∷ 0 ∷ 1 ∷ 10 ∷ 0 ∷ 0 ∷ 2 ∷ 8 ∷ 0 ∷ 247 ∷ 153 ∷ 0 ∷ 101 ∷ 0 ∷ 1 ∷ [])).effects ≡ Dropped cause.Icmp ∷ []
+drops_identifier : (on_packet_at_b one one (channel_header ++ 69 ∷ 0 ∷ 0 ∷ 28 ∷ 0 ∷ 0 ∷ 0 ∷ 0 ∷ 255 ∷ 1 ∷ 167 ∷ 222 ∷ 10 ∷ 0 ∷ 0 ∷ 1 ∷ 10 ∷ 0 ∷ 0 ∷ 2 ∷ 8 ∷ 0 ∷ 247 ∷ 153 ∷ 0 ∷ 101 ∷ 0
+    ∷ 1 ∷ [])).effects ≡ Dropped cause.Icmp ∷ []
 unfolding changes down gives idles ones_plus posts reading with_addresses with_end with_next_ping without_ends with_kept
 drops_identifier = refl
 
@@ -340,7 +349,8 @@ near_edge = with_end place_at_a (record { local = advertised three; remote = bou
 
 -- the switching point advertises label 16 to the first edge and 17 to the third one
 abbrev point : EdgeState
-point = with_end after (record { local = Advertised 17 past; remote = bound_to (content three) }) (with_end before (record { local = advertised three; remote = bound_to (content three) }) (empty_edge long_plan b))
+point = with_end after (record { local = Advertised 17 past; remote = bound_to (content three) })
+    (with_end before (record { local = advertised three; remote = bound_to (content three) }) (empty_edge long_plan b))
 
 abbrev far_edge : EdgeState
 far_edge = with_end place_at_c (record { local = advertised three; remote = Some (record { label = 17; told = past }) }) (empty_edge long_plan c)

@@ -161,7 +161,8 @@ went_on_fits : (k : ℕ) (peer : EdgeId) (old new : Phase) (failed : Bool) (work
 went_on_fits k peer old new true work fits = ends_fit k peer reason.LinkFault work fits
 went_on_fits k peer old new false work fits = tells_fit k peer old new work fits
 
-comes_of_fits : (told : Answers) (k : ℕ) (peer : EdgeId) (kept : Peering) (outcome : Outcome) (work : Work) → (nat_eq k peer.0 ≡ true → FitsAfter outcome) → Fits k work → Fits k (comes_of told peer kept outcome work)
+comes_of_fits : (told : Answers) (k : ℕ) (peer : EdgeId) (kept : Peering) (outcome : Outcome) (work : Work) → (nat_eq k peer.0 ≡ true → FitsAfter outcome) → Fits k work
+    → Fits k (comes_of told peer kept outcome work)
 comes_of_fits told k peer kept Stay work after fits = fits
 comes_of_fits told k peer kept (Goes next replies) work after fits =
     let gone : Work = changes (with_peering peer (Some (with_session next kept))) work in
@@ -219,7 +220,8 @@ unfolding with_end with_kept
 released_keeps label None edge = refl
 released_keeps label (Some place) edge = refl
 
-pub named_keeps : (plan : Plan) (peer : EdgeId) (fec : PwFec) (one all : EndState → EndState) (pw_id : Option ℕ) (edge : EdgeState) → (with_named plan peer fec one all pw_id edge).peering ≡ edge.peering
+pub named_keeps : (plan : Plan) (peer : EdgeId) (fec : PwFec) (one all : EndState → EndState) (pw_id : Option ℕ) (edge : EdgeState)
+    → (with_named plan peer fec one all pw_id edge).peering ≡ edge.peering
 unfolding with_ends_beside with_kept
 named_keeps plan peer fec one all None edge = refl
 named_keeps plan peer fec one all (Some pw_id) edge = changed_keeps one (end_named plan edge.me peer pw_id) edge
@@ -247,7 +249,8 @@ mend_steps plan told k = record {
       let status : PwStatus = status_to_tell plan work.edge place in
       says_fits told k place.peer (status_notification place.pw_id status content) (changes (telling_status place status) work) fits;
   tells_piece = λ place label content addresses work advertised fits. says_fits told k place.peer (mac_withdrawal place.pw_id addresses content) work fits;
-  forgets_wire = λ place why work is terminal down. same_fits k work (changes (forgetting_wire plan place.wire (wire_row plan place.wire)) work) (forgetting_only plan place.wire (wire_row plan place.wire) work).edge.peering;
+  forgets_wire = λ place why work is terminal down. same_fits k work (changes (forgetting_wire plan place.wire (wire_row plan place.wire)) work)
+      (forgetting_only plan place.wire (wire_row plan place.wire) work).edge.peering;
   tells_down = λ place work is terminal other fits. fits;
 }
 
@@ -267,7 +270,8 @@ hear_steps plan told k = record {
   released = λ peer fec label work there fits.
       changes_fit k (λ edge. with_released label (end_of_fec plan edge peer fec) edge) work (released_keeps label (end_of_fec plan work.edge peer fec) work.edge) fits;
   states = λ peer fec status work there fits.
-      changes_fit k (with_named plan peer fec (stated status) (group_stated fec.group status) fec.pw_id) work (named_keeps plan peer fec (stated status) (group_stated fec.group status) fec.pw_id work.edge) fits;
+      changes_fit k (with_named plan peer fec (stated status) (group_stated fec.group status) fec.pw_id) work
+      (named_keeps plan peer fec (stated status) (group_stated fec.group status) fec.pw_id work.edge) fits;
   clears = λ service addresses from work. same_fits k work (changes (withdrawing_at service addresses from) work) (withdrawing_only service addresses from work).edge.peering;
 }
 

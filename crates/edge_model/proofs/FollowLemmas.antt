@@ -181,7 +181,8 @@ up_stands : (kept : Option Peering) → is_up_with kept ≡ true → kept ≡ No
 up_stands None up none = absurd (cc (up))
 up_stands (Some kept) up none = absurd (cc (none))
 
-advertised_stands : (edge : EdgeState) (place : EndPlace) (label : ℕ) (content : Told) → EndsFollowSessions edge → (end_at edge place).local ≡ Advertised label content → edge.peering place.peer.0 ≡ None → ⊥
+advertised_stands : (edge : EdgeState) (place : EndPlace) (label : ℕ) (content : Told) → EndsFollowSessions edge → (end_at edge place).local ≡ Advertised label content
+    → edge.peering place.peer.0 ≡ None → ⊥
 advertised_stands edge place label content follows is none =
     let wrong : Idle false ≡ Advertised label content = sym (ap (λ (e : EndState). e.local) (follows place.wire.0 place.peer.0 none)) ∙ is in
     absurd (cc (wrong))
@@ -211,7 +212,8 @@ mend_follows plan told = record {
   joined = follows_then;
   advertises = λ place label content work here idle wished given.
       change_says_follows told place.peer (mapping place.pw_id label content) (advertising place label content) work
-      (λ follows. giving_follows label (with_end place (advertised label content (end_at work.edge place)) work.edge) (end_follows place (advertised label content (end_at work.edge place)) work.edge (up_stands (work.edge.peering place.peer.0) (wish_up plan work.edge place content wished)) follows));
+      (λ follows. giving_follows label (with_end place (advertised label content (end_at work.edge place)) work.edge)
+      (end_follows place (advertised label content (end_at work.edge place)) work.edge (up_stands (work.edge.peering place.peer.0) (wish_up plan work.edge place content wished)) follows));
   withdraws = λ place label content work here is wished.
       change_says_follows told place.peer (withdrawal place.pw_id label content) (withdrawing place) work
       (λ follows. end_follows place (withdrawn (end_at work.edge place)) work.edge (advertised_stands work.edge place label content follows is) follows);
@@ -220,7 +222,8 @@ mend_follows plan told = record {
       change_says_follows told place.peer (status_notification place.pw_id _ content) (telling_status place _) work
       (λ follows. end_follows place _ work.edge (advertised_stands work.edge place label content follows is) follows);
   tells_piece = λ place label content addresses work is. says_follows told place.peer (mac_withdrawal place.pw_id addresses content) work;
-  forgets_wire = λ place why work here terminal is. learns_follow work (changes (forgetting_wire plan place.wire (wire_row plan place.wire)) work) (forgetting_only plan place.wire (wire_row plan place.wire) work).edge;
+  forgets_wire = λ place why work here terminal is. learns_follow work (changes (forgetting_wire plan place.wire (wire_row plan place.wire)) work)
+      (forgetting_only plan place.wire (wire_row plan place.wire) work).edge;
   tells_down = λ place work here terminal other follows. follows;
 }
 
@@ -250,7 +253,8 @@ hear_follows plan told = record {
       changes_follow (with_end_changed (bound binding) (Some place)) work
       (changed_follows peer (bound binding) (Some place) work.edge (λ p same. end_of_fec_beside plan work.edge peer fec p (is ∙ same)) there);
   unbinds = λ peer fec label work there.
-      changes_follow (with_named plan peer fec (unbound label) (group_unbound fec.group) fec.pw_id) work (named_follows plan peer fec (unbound label) (group_unbound fec.group) fec.pw_id work.edge there);
+      changes_follow (with_named plan peer fec (unbound label) (group_unbound fec.group) fec.pw_id) work
+      (named_follows plan peer fec (unbound label) (group_unbound fec.group) fec.pw_id work.edge there);
   released = λ peer fec label work there.
       changes_follow (λ edge. with_released label (end_of_fec plan edge peer fec) edge) work
       (released_follows peer label (end_of_fec plan work.edge peer fec) work.edge (λ p is. end_of_fec_beside plan work.edge peer fec p is) there);

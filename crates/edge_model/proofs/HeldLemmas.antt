@@ -97,7 +97,8 @@ rehold_set : (other : Holding) (peer : EdgeId) (kept : Option Peering) (work : W
     → changes (with_peering peer (option_map (with_held other peer.0) kept)) (rehold other work) ≡ rehold other (changes (with_peering peer kept) work)
 unfolding changes with_peering
 rehold_set other peer kept work = ap (over work) (λ i k. each k i) where
-  each : (k : ℕ) → cond (nat_eq k peer.0) (option_map (with_held other peer.0) kept) (option_map (with_held other k) (work.edge.peering k)) ≡ option_map (with_held other k) (cond (nat_eq k peer.0) kept (work.edge.peering k))
+  each : (k : ℕ) → cond (nat_eq k peer.0) (option_map (with_held other peer.0) kept) (option_map (with_held other k) (work.edge.peering k))
+      ≡ option_map (with_held other k) (cond (nat_eq k peer.0) kept (work.edge.peering k))
   each k = elim (cases_Bool (nat_eq k peer.0)) [
     | inl here ↦ rw here (ap (λ (n : ℕ). option_map (with_held other n) kept) (sym (eqb-true k peer.0 here)))
     | inr away ↦ rw away refl
@@ -108,7 +109,8 @@ there_held : (other : Holding) (k : ℕ) (kept : Option Peering) → is_there (o
 there_held other k None = refl
 there_held other k (Some kept) = refl
 
-put_octets_held : (other : Holding) (peer : EdgeId) (bytes : List ℕ) (taken : Bool) (work : Work) → put_octets peer bytes taken (rehold other work) ≡ rehold_spoken other (put_octets peer bytes taken work)
+put_octets_held : (other : Holding) (peer : EdgeId) (bytes : List ℕ) (taken : Bool) (work : Work) → put_octets peer bytes taken (rehold other work)
+    ≡ rehold_spoken other (put_octets peer bytes taken work)
 unfolding gives puts changes with_spoken
 put_octets_held other peer bytes false work = refl
 put_octets_held other peer bytes true work =
@@ -127,11 +129,13 @@ put_reply_held told other peer reply work = to (work.edge.peering peer.0) where
   to None = refl
   to (Some kept) = put_octets_held other peer (octets_of kept reply) (next_answer told work) work
 
-put_replies_held : (told : Answers) (other : Holding) (peer : EdgeId) (replies : List Reply) (work : Work) → put_replies told peer replies (rehold other work) ≡ rehold_spoken other (put_replies told peer replies work)
+put_replies_held : (told : Answers) (other : Holding) (peer : EdgeId) (replies : List Reply) (work : Work) → put_replies told peer replies (rehold other work)
+    ≡ rehold_spoken other (put_replies told peer replies work)
 put_replies_held told other peer [] work = refl
 put_replies_held told other peer (reply ∷ replies) work =
     let put : Spoken = put_reply told peer reply work in
-    ap (λ (s : Spoken). puts_on (put_replies told peer replies) s.failed s.work) (put_reply_held told other peer reply work) ∙ on put.failed put.work (put_replies_held told other peer replies put.work)
+    ap (λ (s : Spoken). puts_on (put_replies told peer replies) s.failed s.work) (put_reply_held told other peer reply work)
+    ∙ on put.failed put.work (put_replies_held told other peer replies put.work)
   where
     on : (failed : Bool) (next : Work) → put_replies told peer replies (rehold other next) ≡ rehold_spoken other (put_replies told peer replies next)
         → puts_on (put_replies told peer replies) failed (rehold other next) ≡ rehold_spoken other (puts_on (put_replies told peer replies) failed next)
@@ -150,7 +154,8 @@ ends_held other peer why work = ap (λ (w : Work). ends_of w) (rehold_set other 
 tells_held : (other : Holding) (peer : EdgeId) (old new : Phase) (work : Work) → tells_change peer old new (rehold other work) ≡ rehold other (tells_change peer old new work)
 unfolding gives
 tells_held other peer old new work = by (is_same_phase old new) where
-  by : (same : Bool) → cond same (rehold other work) (gives (effect.Session peer (phase_name new)) (rehold other work)) ≡ rehold other (cond same work (gives (effect.Session peer (phase_name new)) work))
+  by : (same : Bool) → cond same (rehold other work) (gives (effect.Session peer (phase_name new)) (rehold other work))
+      ≡ rehold other (cond same work (gives (effect.Session peer (phase_name new)) work))
   by true = refl
   by false = refl
 
@@ -186,7 +191,8 @@ clears_held other peer work =
     by true = refl
     by false = refl
 
-pub with_ends_held : (told : Answers) (other : Holding) (peer : EdgeId) (event : SessionEvent) (work : Work) → happens_with_ends told peer event (rehold other work) ≡ rehold other (happens_with_ends told peer event work)
+pub with_ends_held : (told : Answers) (other : Holding) (peer : EdgeId) (event : SessionEvent) (work : Work) → happens_with_ends told peer event (rehold other work)
+    ≡ rehold other (happens_with_ends told peer event work)
 with_ends_held told other peer event work = ap (clears_ends peer) (happens_held told other peer event work) ∙ clears_held other peer (happens told peer event work)
 
 had_put_held : (other : Holding) (peer : EdgeId) (failed : Bool) (work : Work)
@@ -199,7 +205,8 @@ had_said_held other peer put =
     ap (λ (w : Work). record { work = w; failed = put.failed })
     (ap (clears_ends peer) (had_put_held other peer put.failed put.work) ∙ clears_held other peer (had_put peer put))
 
-pub says_held : (told : Answers) (other : Holding) (peer : EdgeId) (message : ℕ → Message) (work : Work) → says told peer message (rehold other work) ≡ rehold_spoken other (says told peer message work)
+pub says_held : (told : Answers) (other : Holding) (peer : EdgeId) (message : ℕ → Message) (work : Work) → says told peer message (rehold other work)
+    ≡ rehold_spoken other (says told peer message work)
 says_held told other peer message work = to (work.edge.peering peer.0) where
   to : (kept : Option Peering) → says_to told peer message (option_map (with_held other peer.0) kept) (rehold other work) ≡ rehold_spoken other (says_to told peer message kept work)
   to None = refl
@@ -228,7 +235,8 @@ wish_held plan other edge place = of (wire_row plan place.wire) where
 abbrev MendsAlike : Holding → (Work → Spoken) → Type 0
 MendsAlike other mend = (work : Work) → mend (rehold other work) ≡ rehold_spoken other (mend work)
 
-advertises_held : (told : Answers) (other : Holding) (place : EndPlace) (wished : Option Told) (work : Work) → advertises_wish told place wished (rehold other work) ≡ rehold_spoken other (advertises_wish told place wished work)
+advertises_held : (told : Answers) (other : Holding) (place : EndPlace) (wished : Option Told) (work : Work) → advertises_wish told place wished (rehold other work)
+    ≡ rehold_spoken other (advertises_wish told place wished work)
 unfolding changes with_end with_next_label with_kept
 advertises_held told other place None work = refl
 advertises_held told other place (Some content) work = by (label_to_give work.edge) where
@@ -248,7 +256,8 @@ mends_end_held : (plan : Plan) (told : Answers) (other : Holding) (place : EndPl
 mends_end_held plan told other place work = of (end_at work.edge place).local where
   of : (local : LocalPart) → mends_local plan told place local (rehold other work) ≡ rehold_spoken other (mends_local plan told place local work)
   of (Idle true) = refl
-  of (Idle false) = ap (λ (wished : Option Told). advertises_wish told place wished (rehold other work)) (wish_held plan other work.edge place) ∙ advertises_held told other place (wish plan work.edge place) work
+  of (Idle false) = ap (λ (wished : Option Told). advertises_wish told place wished (rehold other work)) (wish_held plan other work.edge place)
+      ∙ advertises_held told other place (wish plan work.edge place) work
   of (Advertised label content) =
       ap (λ (wished : Option Told). withdraws_unless told place label content wished (rehold other work)) (wish_held plan other work.edge place)
       ∙ withdraws_held told other place label content (wish plan work.edge place) work
@@ -257,7 +266,8 @@ mends_end_held plan told other place work = of (end_at work.edge place).local wh
 mends_status_held : (plan : Plan) (told : Answers) (other : Holding) (place : EndPlace) → MendsAlike other (mends_status plan told place)
 unfolding changes with_end with_kept
 mends_status_held plan told other place work = of (end_at work.edge place).local where
-  over_last : (content : Told) (status : PwStatus) (last : Option PwStatus) → tells_over told place content status last (rehold other work) ≡ rehold_spoken other (tells_over told place content status last work)
+  over_last : (content : Told) (status : PwStatus) (last : Option PwStatus) → tells_over told place content status last (rehold other work)
+      ≡ rehold_spoken other (tells_over told place content status last work)
   over_last content status None = refl
   over_last content status (Some last) = by (nat_eq last.0 status.0) where
     telling_it : Work → Work
@@ -296,7 +306,8 @@ each_end_held other mend alike (place ∷ places) m =
 tells_downs_held : (plan : Plan) (other : Holding) (places : List EndPlace) (work : Work) → tells_downs plan places (rehold other work) ≡ rehold other (tells_downs plan places work)
 unfolding changes gives with_told_down
 tells_downs_held plan other [] work = refl
-tells_downs_held plan other (place ∷ places) work = ap (tells_downs plan places) (one place.terminal) ∙ tells_downs_held plan other places (cond place.terminal (tells_down place (down_at plan work.edge place) work) work)
+tells_downs_held plan other (place ∷ places) work =
+    ap (tells_downs plan places) (one place.terminal) ∙ tells_downs_held plan other places (cond place.terminal (tells_down place (down_at plan work.edge place) work) work)
   where
     tell : (down : Option Down) → tells_down place down (rehold other work) ≡ rehold other (tells_down place down work)
     tell down = by (nat_eq (cause_number (work.edge.told_down place.wire.0)) (cause_number down)) where
@@ -305,16 +316,19 @@ tells_downs_held plan other (place ∷ places) work = ap (tells_downs plan place
       by true = refl
       by false = refl
 
-    one : (b : Bool) → cond b (tells_down place (down_at plan work.edge place) (rehold other work)) (rehold other work) ≡ rehold other (cond b (tells_down place (down_at plan work.edge place) work) work)
+    one : (b : Bool) → cond b (tells_down place (down_at plan work.edge place) (rehold other work)) (rehold other work)
+        ≡ rehold other (cond b (tells_down place (down_at plan work.edge place) work) work)
     one true = tell (down_at plan work.edge place)
     one false = refl
 
 -- a change of the edge that what is held does not matter to
-changes_held : (other : Holding) (change : EdgeState → EdgeState) (work : Work) → change (reheld other work.edge) ≡ reheld other (change work.edge) → changes change (rehold other work) ≡ rehold other (changes change work)
+changes_held : (other : Holding) (change : EdgeState → EdgeState) (work : Work) → change (reheld other work.edge) ≡ reheld other (change work.edge) → changes change (rehold other work)
+    ≡ rehold other (changes change work)
 unfolding changes
 changes_held other change work same = ap (λ (edge : EdgeState). record work { edge = edge }) same
 
-forgetting_held : (plan : Plan) (other : Holding) (wire : WireId) (row : Option WirePlan) (edge : EdgeState) → forgetting_wire plan wire row (reheld other edge) ≡ reheld other (forgetting_wire plan wire row edge)
+forgetting_held : (plan : Plan) (other : Holding) (wire : WireId) (row : Option WirePlan) (edge : EdgeState) → forgetting_wire plan wire row (reheld other edge)
+    ≡ reheld other (forgetting_wire plan wire row edge)
 unfolding with_addresses
 forgetting_held plan other wire None edge = refl
 forgetting_held plan other wire (Some row) edge = refl
@@ -328,7 +342,8 @@ forgets_downs_held plan other (place ∷ places) work =
     forget None = refl
     forget (Some why) = changes_held other (forgetting_wire plan place.wire (wire_row plan place.wire)) work (forgetting_held plan other place.wire (wire_row plan place.wire) work.edge)
 
-    one : (b : Bool) → cond b (forgets_down plan place (down_at plan work.edge place) (rehold other work)) (rehold other work) ≡ rehold other (cond b (forgets_down plan place (down_at plan work.edge place) work) work)
+    one : (b : Bool) → cond b (forgets_down plan place (down_at plan work.edge place) (rehold other work)) (rehold other work)
+        ≡ rehold other (cond b (forgets_down plan place (down_at plan work.edge place) work) work)
     one true = forget (down_at plan work.edge place)
     one false = refl
 
@@ -345,8 +360,10 @@ mends_once_held plan told other work =
     let moved : Spoken → Spoken = each_end (mends_choice plan told work.edge.chosen) places in
     let third : Spoken = moved second in
     ap (λ (s : Spoken). last places s)
-    (ap (λ (s : Spoken). moved (each_end (mends_status plan told) places (then_changes (choosing plan) s))) (each_end_held other (mends_end plan told) (mends_end_held plan told other) places (stays work))
-    ∙ (ap (λ (w : Work). moved (each_end (mends_status plan told) places (record { work = w; failed = first.failed }))) (changes_held other (choosing plan) first.work (choosing_held plan other first.work.edge))
+    (ap (λ (s : Spoken). moved (each_end (mends_status plan told) places (then_changes (choosing plan) s)))
+    (each_end_held other (mends_end plan told) (mends_end_held plan told other) places (stays work))
+    ∙ (ap (λ (w : Work). moved (each_end (mends_status plan told) places (record { work = w; failed = first.failed })))
+    (changes_held other (choosing plan) first.work (choosing_held plan other first.work.edge))
     ∙ (ap moved (each_end_held other (mends_status plan told) (mends_status_held plan told other) places chosen)
     ∙ each_end_held other (mends_choice plan told work.edge.chosen) (mends_choice_held plan told other work.edge.chosen) places second)))
     ∙ ap (λ (w : Work). record { work = w; failed = third.failed })
@@ -358,7 +375,8 @@ mends_once_held plan told other work =
 mends_few_held : (plan : Plan) (told : Answers) (other : Holding) (n : ℕ) (work : Work) → mends_few plan told n (rehold other work) ≡ rehold other (mends_few plan told n work)
 mends_few_held plan told other zero work = refl
 mends_few_held plan told other (suc n) work =
-    ap (mends_again (mends_few plan told n)) (mends_once_held plan told other work) ∙ by (mends_once plan told work).failed (mends_once plan told work).work (mends_few_held plan told other n (mends_once plan told work).work)
+    ap (mends_again (mends_few plan told n)) (mends_once_held plan told other work)
+    ∙ by (mends_once plan told work).failed (mends_once plan told work).work (mends_few_held plan told other n (mends_once plan told work).work)
   where
     by : (failed : Bool) (next : Work) → mends_few plan told n (rehold other next) ≡ rehold other (mends_few plan told n next)
         → mends_again (mends_few plan told n) (record { work = rehold other next; failed = failed }) ≡ rehold other (mends_again (mends_few plan told n) (record { work = next; failed = failed }))
@@ -370,7 +388,8 @@ mends_held plan told other work = mends_few_held plan told other (suc (length pl
 
 -- ---- messages about pseudowires
 
-releases_held : (told : Answers) (other : Holding) (peer : EdgeId) (fec : PwFec) (label : Option ℕ) (work : Work) → releases_label told peer fec label (rehold other work) ≡ rehold other (releases_label told peer fec label work)
+releases_held : (told : Answers) (other : Holding) (peer : EdgeId) (fec : PwFec) (label : Option ℕ) (work : Work) → releases_label told peer fec label (rehold other work)
+    ≡ rehold other (releases_label told peer fec label work)
 releases_held told other peer fec label work = ap (λ (s : Spoken). s.work) (says_held told other peer (release fec label) work)
 
 maps_held : (plan : Plan) (told : Answers) (other : Holding) (peer : EdgeId) (fec : PwFec) (binding : Binding) (place : Option EndPlace) (work : Work)
@@ -389,7 +408,8 @@ maps_held plan told other peer fec binding (Some place) work = by (takes_content
   by true = refl
   by false = releases_held told other peer fec (Some binding.label) (drops_it work)
 
-changed_held : (other : Holding) (change : EndState → EndState) (place : Option EndPlace) (edge : EdgeState) → with_end_changed change place (reheld other edge) ≡ reheld other (with_end_changed change place edge)
+changed_held : (other : Holding) (change : EndState → EndState) (place : Option EndPlace) (edge : EdgeState) → with_end_changed change place (reheld other edge)
+    ≡ reheld other (with_end_changed change place edge)
 unfolding with_end with_kept
 changed_held other change None edge = refl
 changed_held other change (Some place) edge = refl
@@ -426,16 +446,19 @@ status_held plan other peer code (Some status) (Some fec) work = by (nat_eq code
 
 -- ---- a MAC withdraw
 
-tells_pieces_held : (told : Answers) (other : Holding) (place : EndPlace) (pieces : List (List Mac)) (work : Work) → tells_pieces told place pieces (rehold other work) ≡ rehold other (tells_pieces told place pieces work)
+tells_pieces_held : (told : Answers) (other : Holding) (place : EndPlace) (pieces : List (List Mac)) (work : Work) → tells_pieces told place pieces (rehold other work)
+    ≡ rehold other (tells_pieces told place pieces work)
 tells_pieces_held told other place [] work = refl
 tells_pieces_held told other place (piece ∷ pieces) work =
     ap (λ (s : Spoken). tells_pieces told place pieces s.work) (tells_piece_held told other place piece work) ∙ tells_pieces_held told other place pieces (tells_piece told place piece work).work
 
-tells_by_held : (told : Answers) (other : Holding) (addresses : List Mac) (place : Option EndPlace) (work : Work) → tells_by told addresses place (rehold other work) ≡ rehold other (tells_by told addresses place work)
+tells_by_held : (told : Answers) (other : Holding) (addresses : List Mac) (place : Option EndPlace) (work : Work) → tells_by told addresses place (rehold other work)
+    ≡ rehold other (tells_by told addresses place work)
 tells_by_held told other addresses None work = refl
 tells_by_held told other addresses (Some place) work = tells_pieces_held told other place (pieces_of addresses) work
 
-tells_at_held : (plan : Plan) (told : Answers) (other : Holding) (addresses : List Mac) (x : Port) (work : Work) → tells_at plan told addresses x (rehold other work) ≡ rehold other (tells_at plan told addresses x work)
+tells_at_held : (plan : Plan) (told : Answers) (other : Holding) (addresses : List Mac) (x : Port) (work : Work) → tells_at plan told addresses x (rehold other work)
+    ≡ rehold other (tells_at plan told addresses x work)
 tells_at_held plan told other addresses (port.Circuit circuit) work = refl
 tells_at_held plan told other addresses (port.Mesh wire) work = tells_by_held told other addresses (wire_end plan work.edge.me wire) work
 tells_at_held plan told other addresses (port.Spoke wire) work = tells_by_held told other addresses (wire_end plan work.edge.me wire) work
@@ -458,7 +481,8 @@ passes_on_held plan told other addresses service from (Some role) work =
     let ports : List Port = ports_of plan service work.edge.me in
     tells_ports_held plan told other (is_passed_to role ports from) addresses 0 ports work
 
-withdrawing_held : (other : Holding) (service : ServiceId) (addresses : List Mac) (from : ℕ) (edge : EdgeState) → withdrawing_at service addresses from (reheld other edge) ≡ reheld other (withdrawing_at service addresses from edge)
+withdrawing_held : (other : Holding) (service : ServiceId) (addresses : List Mac) (from : ℕ) (edge : EdgeState) → withdrawing_at service addresses from (reheld other edge)
+    ≡ reheld other (withdrawing_at service addresses from edge)
 unfolding with_addresses
 withdrawing_held other service addresses from edge = refl
 
@@ -498,7 +522,8 @@ advises_held told other peer None work = refl
 advises_held told other peer (Some reply) work =
     ap (λ (s : Spoken). (had_said peer s).work) (put_reply_held told other peer reply work) ∙ ap (λ (s : Spoken). s.work) (had_said_held other peer (put_reply told peer reply work))
 
-acts_on_held : (plan : Plan) (told : Answers) (other : Holding) (peer : EdgeId) (message : Message) (work : Work) → acts_on plan told peer message (rehold other work) ≡ rehold other (acts_on plan told peer message work)
+acts_on_held : (plan : Plan) (told : Answers) (other : Holding) (peer : EdgeId) (message : Message) (work : Work) → acts_on plan told peer message (rehold other work)
+    ≡ rehold other (acts_on plan told peer message work)
 acts_on_held plan told other peer (LabelMapping id fec label status points) work = maps_held plan told other peer fec (binding_in fec label status points) (end_of_fec plan work.edge peer fec) work
 acts_on_held plan told other peer (LabelWithdraw id fec label) work = withdraw_held plan told other peer fec label work
 acts_on_held plan told other peer (LabelRelease id fec label) work =
@@ -507,7 +532,8 @@ acts_on_held plan told other peer (Notification id code status fec) work = statu
 acts_on_held plan told other peer (AddressWithdraw id addresses fec macs) work = mac_withdraw_held plan told other peer fec macs work
 acts_on_held plan told other peer message work = advises_held told other peer (advice_of message) work
 
-acts_held : (plan : Plan) (told : Answers) (other : Holding) (peer : EdgeId) (message : Message) (up : Bool) (work : Work) → acts plan told peer message up (rehold other work) ≡ rehold other (acts plan told peer message up work)
+acts_held : (plan : Plan) (told : Answers) (other : Holding) (peer : EdgeId) (message : Message) (up : Bool) (work : Work) → acts plan told peer message up (rehold other work)
+    ≡ rehold other (acts plan told peer message up work)
 acts_held plan told other peer message false work = refl
 acts_held plan told other peer message true work =
     ap (λ (b : Bool). cond b (acts_on plan told peer message (rehold other work)) (rehold other work)) (there_held other peer.0 (work.edge.peering peer.0)) ∙ by (has_end work.edge peer)
@@ -516,7 +542,8 @@ acts_held plan told other peer message true work =
     by true = acts_on_held plan told other peer message work
     by false = refl
 
-hears_one_held : (plan : Plan) (told : Answers) (other : Holding) (peer : EdgeId) (message : Message) (work : Work) → hears_one plan told peer message (rehold other work) ≡ rehold other (hears_one plan told peer message work)
+hears_one_held : (plan : Plan) (told : Answers) (other : Holding) (peer : EdgeId) (message : Message) (work : Work) → hears_one plan told peer message (rehold other work)
+    ≡ rehold other (hears_one plan told peer message work)
 hears_one_held plan told other peer message work =
     let up : Bool = was_up (work.edge.peering peer.0) in
     ap (λ (b : Bool). acts plan told peer message b (happens_with_ends told peer (Received message) (rehold other work))) (same (work.edge.peering peer.0))
@@ -530,9 +557,11 @@ hears_one_held plan told other peer message work =
 hears_message_held : (plan : Plan) (told : Answers) (other : Holding) (peer : EdgeId) (message : Message) (work : Work)
     → hears_message plan told peer message (rehold other work) ≡ rehold other (hears_message plan told peer message work)
 hears_message_held plan told other peer message work =
-    ap (λ (b : Bool). cond b (mends plan told (hears_one plan told peer message (rehold other work))) (rehold other work)) (there_held other peer.0 (work.edge.peering peer.0)) ∙ by (has_end work.edge peer)
+    ap (λ (b : Bool). cond b (mends plan told (hears_one plan told peer message (rehold other work))) (rehold other work)) (there_held other peer.0 (work.edge.peering peer.0))
+    ∙ by (has_end work.edge peer)
   where
-    by : (b : Bool) → cond b (mends plan told (hears_one plan told peer message (rehold other work))) (rehold other work) ≡ rehold other (cond b (mends plan told (hears_one plan told peer message work)) work)
+    by : (b : Bool) → cond b (mends plan told (hears_one plan told peer message (rehold other work))) (rehold other work)
+        ≡ rehold other (cond b (mends plan told (hears_one plan told peer message work)) work)
     by true = ap (mends plan told) (hears_one_held plan told other peer message work) ∙ mends_held plan told other (hears_one plan told peer message work)
     by false = refl
 
@@ -542,9 +571,11 @@ hears_messages_held plan told other peer [] work = refl
 hears_messages_held plan told other peer (message ∷ messages) work =
     ap (hears_messages plan told peer messages) (hears_message_held plan told other peer message work) ∙ hears_messages_held plan told other peer messages (hears_message plan told peer message work)
 
-pub hears_pdu_held : (plan : Plan) (told : Answers) (other : Holding) (peer : EdgeId) (pdu : Pdu) (work : Work) → hears_pdu plan told peer pdu (rehold other work) ≡ rehold other (hears_pdu plan told peer pdu work)
+pub hears_pdu_held : (plan : Plan) (told : Answers) (other : Holding) (peer : EdgeId) (pdu : Pdu) (work : Work) → hears_pdu plan told peer pdu (rehold other work)
+    ≡ rehold other (hears_pdu plan told peer pdu work)
 hears_pdu_held plan told other peer pdu work =
-    ap (hears_messages plan told peer pdu.messages) (with_ends_held told other peer (Heard pdu.id) work) ∙ hears_messages_held plan told other peer pdu.messages (happens_with_ends told peer (Heard pdu.id) work)
+    ap (hears_messages plan told peer pdu.messages) (with_ends_held told other peer (Heard pdu.id) work)
+    ∙ hears_messages_held plan told other peer pdu.messages (happens_with_ends told peer (Heard pdu.id) work)
 
 -- ---- octets that are no PDU end the session
 
@@ -640,7 +671,8 @@ hears_few_held plan told peer octets (suc n) more work = within (λ rest next. h
   Again = (rest : List ℕ) (next : Work) → hears_few plan told peer n rest (rehold other next) ≡ hears_few plan told peer n rest next
 
   front : Again → (kept : Peering) → work.edge.peering peer.0 ≡ Some kept → (stands : Front)
-      → hears_front plan told peer (hears_few plan told peer n) (with_held other peer.0 kept) more stands (rehold other work) ≡ hears_front plan told peer (hears_few plan told peer n) kept more stands work
+      → hears_front plan told peer (hears_few plan told peer n) (with_held other peer.0 kept) more stands (rehold other work)
+      ≡ hears_front plan told peer (hears_few plan told peer n) kept more stands work
   front again kept is More = set_held peer octets (Some (record kept { held = more })) work
   front again kept is (Got pdu rest) = ap (hears_few plan told peer n rest) (hears_pdu_held plan told other peer pdu work) ∙ again rest (hears_pdu plan told peer pdu work)
   front again kept is (Bad fault) =
@@ -648,6 +680,7 @@ hears_few_held plan told peer octets (suc n) more work = within (λ rest next. h
       with_ends_held told other peer (Refused (refusal_of fault)) work ∙ held_none peer octets refused (refused_gone told peer (refusal_of fault) work)
 
   within : Again → (kept : Option Peering) → work.edge.peering peer.0 ≡ kept
-      → hears_within plan told peer (hears_few plan told peer n) more (option_map (with_held other peer.0) kept) (rehold other work) ≡ hears_within plan told peer (hears_few plan told peer n) more kept work
+      → hears_within plan told peer (hears_few plan told peer n) more (option_map (with_held other peer.0) kept) (rehold other work)
+      ≡ hears_within plan told peer (hears_few plan told peer n) more kept work
   within again None is = held_none peer octets work is
   within again (Some kept) is = front again kept is (front_of kept.session.max_pdu more)

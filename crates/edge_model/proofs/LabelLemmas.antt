@@ -102,7 +102,8 @@ unfolding with_end with_kept
 released_keeps label None edge = refl
 released_keeps label (Some place) edge = refl
 
-named_keeps : (plan : Plan) (peer : EdgeId) (fec : PwFec) (one all : EndState → EndState) (pw_id : Option ℕ) (edge : EdgeState) → (with_named plan peer fec one all pw_id edge).next_label ≡ edge.next_label
+named_keeps : (plan : Plan) (peer : EdgeId) (fec : PwFec) (one all : EndState → EndState) (pw_id : Option ℕ) (edge : EdgeState)
+    → (with_named plan peer fec one all pw_id edge).next_label ≡ edge.next_label
 unfolding with_ends_beside with_kept
 named_keeps plan peer fec one all None edge = refl
 named_keeps plan peer fec one all (Some pw_id) edge = changed_keeps one (end_named plan edge.me peer pw_id) edge
@@ -131,7 +132,8 @@ mend_rises plan told = record {
   tells_piece = λ place label content addresses work is.
       let message : ℕ → Message = mac_withdrawal place.pw_id addresses content in
       session_rises work (says told place.peer message work).work (says_works told any place.peer message work refl);
-  forgets_wire = λ place why work here terminal is. learns_rise work (changes (forgetting_wire plan place.wire (wire_row plan place.wire)) work) (forgetting_only plan place.wire (wire_row plan place.wire) work).edge;
+  forgets_wire = λ place why work here terminal is. learns_rise work (changes (forgetting_wire plan place.wire (wire_row plan place.wire)) work)
+      (forgetting_only plan place.wire (wire_row plan place.wire) work).edge;
   tells_down = λ place work here terminal other. rises_not work;
 }
 

@@ -108,7 +108,8 @@ module _ (plan : Plan) (told : Answers) (takes : TakesAll told) where
     by true = tells_piece_takes place [] work
     by false = refl
 
-  each_end_takes : (mend : EndPlace → Work → Spoken) → ((place : EndPlace) (work : Work) → (mend place work).failed ≡ false) → (places : List EndPlace) (m : Spoken) → m.failed ≡ false → (each_end mend places m).failed ≡ false
+  each_end_takes : (mend : EndPlace → Work → Spoken) → ((place : EndPlace) (work : Work) → (mend place work).failed ≡ false) → (places : List EndPlace) (m : Spoken) → m.failed ≡ false
+      → (each_end mend places m).failed ≡ false
   each_end_takes mend each [] m none = none
   each_end_takes mend each (place ∷ places) m none =
       each_end_takes mend each places (and_says m (mend place)) (ap (λ (b : Bool). b || (mend place m.work).failed) none ∙ each place m.work)

@@ -191,7 +191,8 @@ mends_once_not plan told work mended =
     let moved : Spoken → Spoken = each_end (mends_choice plan told work.edge.chosen) places in
     let third : moved (stays work) ≡ stays work =
     each_end_not (mends_choice plan told work.edge.chosen) work places
-    (all_map (λ place. is_told plan work.edge place ≡ true) (λ place. mends_choice plan told work.edge.chosen place work ≡ stays work) (λ place is. mends_choice_not plan told place work) places mended.statuses) in
+    (all_map (λ place. is_told plan work.edge place ≡ true) (λ place. mends_choice plan told work.edge.chosen place work ≡ stays work)
+    (λ place is. mends_choice_not plan told place work) places mended.statuses) in
     ap (λ (s : Spoken). last places s)
     (ap (λ (s : Spoken). moved (each_end (mends_status plan told) places (then_changes (choosing plan) s))) first
     ∙ (ap (λ (w : Work). moved (each_end (mends_status plan told) places (stays w))) (choosing_not plan work mended.chosen) ∙ (ap moved second ∙ third)))
@@ -361,7 +362,8 @@ end_else place end edge wire k apart = elim (cases_Bool (nat_eq wire place.wire.
   | inr away ↦ rw away refl
 ]
 
-remote_put : (place : EndPlace) (end : EndState) (edge : EdgeState) → end.remote ≡ (end_at edge place).remote → (wire k : ℕ) → ((with_end place end edge).ends wire k).remote ≡ (edge.ends wire k).remote
+remote_put : (place : EndPlace) (end : EndState) (edge : EdgeState) → end.remote ≡ (end_at edge place).remote → (wire k : ℕ) → ((with_end place end edge).ends wire k).remote
+    ≡ (edge.ends wire k).remote
 remote_put place end edge same wire k = elim (cases_Bool (is_at place wire k)) [
   | inl here ↦
       (let w : wire ≡ place.wire.0 = eqb-true wire place.wire.0 (first_holds (nat_eq wire place.wire.0) (nat_eq k place.peer.0) here) in
@@ -370,7 +372,8 @@ remote_put place end edge same wire k = elim (cases_Bool (is_at place wire k)) [
   | inr apart ↦ ap (λ (e : EndState). e.remote) (end_else place end edge wire k apart)
 ]
   where
-    both : wire ≡ place.wire.0 → k ≡ place.peer.0 → (end_at (with_end place end edge) place).remote ≡ (end_at edge place).remote → ((with_end place end edge).ends wire k).remote ≡ (edge.ends wire k).remote
+    both : wire ≡ place.wire.0 → k ≡ place.peer.0 → (end_at (with_end place end edge) place).remote ≡ (end_at edge place).remote → ((with_end place end edge).ends wire k).remote
+        ≡ (edge.ends wire k).remote
     both w p e =
         ap (λ (n : ℕ). ((with_end place end edge).ends n k).remote) w ∙ (ap (λ (n : ℕ). ((with_end place end edge).ends place.wire.0 n).remote) p
         ∙ (e ∙ (ap (λ (n : ℕ). (edge.ends place.wire.0 n).remote) (sym p) ∙ ap (λ (n : ℕ). (edge.ends n k).remote) (sym w))))
@@ -401,7 +404,8 @@ changed_step place end label kept old new remote left spoken = record {
   labels = λ none. ap (λ (n : ℕ). not (is_some (number_to_give n new.kept))) spoken.labels ∙ (ap (λ (ks : List Kept). not (is_some (number_to_give label ks))) spoken.kept ∙ left none);
 }
 
-changed_end : (place : EndPlace) (end : EndState) (label : ℕ) (kept : List Kept) (old new : EdgeState) → IsSpoken (with_next_label label (with_kept kept (with_end place end old))) new → end_at new place ≡ end
+changed_end : (place : EndPlace) (end : EndState) (label : ℕ) (kept : List Kept) (old new : EdgeState) → IsSpoken (with_next_label label (with_kept kept (with_end place end old))) new
+    → end_at new place ≡ end
 unfolding with_end with_next_label with_kept
 changed_end place end label kept old new spoken = ap (λ (ends : ℕ → ℕ → EndState). ends place.wire.0 place.peer.0) spoken.ends ∙ end_put place end old
 
@@ -450,7 +454,8 @@ end_mends plan told place work = of (end_at work.edge place).local refl where
         step = step;
         mended = mended_by plan said.work.edge place (Some content) (none_to_give said.work.edge) (Advertised label content)
             (wish_steady plan a said.work.edge place step.steady ∙ wished) refl
-            (ap (λ (e : EndState). e.local) (changed_end place end (next_after a.next_label) (without label a.kept) a said.work.edge spoken) ∙ ap (λ (l : LocalPart). (advertised label content (record { local = l; remote = (end_at a place).remote })).local) is)
+            (ap (λ (e : EndState). e.local) (changed_end place end (next_after a.next_label) (without label a.kept) a said.work.edge spoken)
+            ∙ ap (λ (l : LocalPart). (advertised label content (record { local = l; remote = (end_at a place).remote })).local) is)
             ∙ stands_itself place content;
       }
     where
@@ -484,7 +489,8 @@ end_mends plan told place work = of (end_at work.edge place).local refl where
         record {
           step = changed_step place end a.next_label a.kept a said.work.edge refl (λ left. left) spoken;
           mended = mended_by plan said.work.edge place (wish plan said.work.edge place) (none_to_give said.work.edge) (Withdrawing label) refl refl
-              (ap (λ (e : EndState). e.local) (changed_end place end a.next_label a.kept a said.work.edge spoken) ∙ ap (λ (l : LocalPart). (withdrawn (record { local = l; remote = (end_at a place).remote })).local) is);
+              (ap (λ (e : EndState). e.local) (changed_end place end a.next_label a.kept a said.work.edge spoken)
+              ∙ ap (λ (l : LocalPart). (withdrawn (record { local = l; remote = (end_at a place).remote })).local) is);
         }
   told_it label content is true still none =
       stayed (mended_by plan a place (wish plan a place) (none_to_give a) (Advertised label content) refl refl is ∙ still)
@@ -505,7 +511,8 @@ record EndTells (plan : Plan) (place : EndPlace) (old new : EdgeState) : Type 0 
   downs : (role : EndRole) (bits : ℕ) → down role bits (end_at new place) ≡ down role bits (end_at old place)
   told : is_told plan new place ≡ true
 
-end_tells : (plan : Plan) (told : Answers) (place : EndPlace) (work : Work) → (mends_status plan told place work).failed ≡ false → EndTells plan place work.edge (mends_status plan told place work).work.edge
+end_tells : (plan : Plan) (told : Answers) (place : EndPlace) (work : Work) → (mends_status plan told place work).failed ≡ false
+    → EndTells plan place work.edge (mends_status plan told place work).work.edge
 unfolding changes with_end with_next_label with_kept
 end_tells plan told place work = of (end_at work.edge place).local refl where
   a : EdgeState
@@ -517,12 +524,14 @@ end_tells plan told place work = of (end_at work.edge place).local refl where
   stayed : is_told plan a place ≡ true → EndTells plan place a a
   stayed now = record { step = step_not place a; same = λ at wished none_left. refl; downs = λ role bits. refl; told = now }
 
-  after : (label : ℕ) (content : Told) → (end_at a place).local ≡ Advertised label content → (said : Spoken) → IsSpoken (telling_status place status a) said.work.edge → EndTells plan place a said.work.edge
+  after : (label : ℕ) (content : Told) → (end_at a place).local ≡ Advertised label content → (said : Spoken) → IsSpoken (telling_status place status a) said.work.edge
+      → EndTells plan place a said.work.edge
   after label content is said spoken =
       let end : EndState = telling status (end_at a place) in
       let step : EndStep place a said.work.edge = changed_step place end a.next_label a.kept a said.work.edge refl (λ left. left) spoken in
       let there : (end_at said.work.edge place).local ≡ (telling status (record { local = Advertised label content; remote = (end_at a place).remote })).local =
-      ap (λ (e : EndState). e.local) (changed_end place end a.next_label a.kept a said.work.edge spoken) ∙ ap (λ (l : LocalPart). (telling status (record { local = l; remote = (end_at a place).remote })).local) is in
+      ap (λ (e : EndState). e.local) (changed_end place end a.next_label a.kept a said.work.edge spoken)
+      ∙ ap (λ (l : LocalPart). (telling status (record { local = l; remote = (end_at a place).remote })).local) is in
       record {
         step = step;
         same = λ at wished none_left. ap (tells_wish at wished none_left) there ∙ (stands_alike at content status wished ∙ ap (tells_wish at wished none_left) (sym is));
@@ -531,7 +540,8 @@ end_tells plan told place work = of (end_at work.edge place).local refl where
             ∙ (ap (λ (s : PwStatus). nat_eq status.0 s.0) (status_steady plan a said.work.edge place step.steady) ∙ eq-eqb status.0 status.0 refl);
       }
 
-  over : (label : ℕ) (content : Told) → (end_at a place).local ≡ Advertised label content → (last : Option PwStatus) → content.status ≡ last → (tells_over told place content status last work).failed ≡ false
+  over : (label : ℕ) (content : Told) → (end_at a place).local ≡ Advertised label content → (last : Option PwStatus) → content.status ≡ last
+      → (tells_over told place content status last work).failed ≡ false
       → EndTells plan place a (tells_over told place content status last work).work.edge
   over label content is None carried none = stayed (ap (tells_now status.0) is ∙ ap (is_status status.0) carried)
   over label content is (Some last) carried none = by (nat_eq last.0 status.0) refl none where
@@ -585,7 +595,8 @@ mended_still plan place old new steady left same is =
     ∙ (same (wish plan old place) (none_to_give new)
     ∙ fewer place (wish plan old place) (none_to_give old) (none_to_give new) (end_at old place).local left is)
 
-mends_keeps : (plan : Plan) (p q : EndPlace) (old new : EdgeState) → EndMends plan q old new → (p.wire.0 ≡ q.wire.0 → p.terminal ≡ q.terminal) → is_mended plan old p ≡ true → is_mended plan new p ≡ true
+mends_keeps : (plan : Plan) (p q : EndPlace) (old new : EdgeState) → EndMends plan q old new → (p.wire.0 ≡ q.wire.0 → p.terminal ≡ q.terminal) → is_mended plan old p ≡ true
+    → is_mended plan new p ≡ true
 mends_keeps plan p q old new mends side is = elim (cases_Bool (is_at q p.wire.0 p.peer.0)) [
   | inl here ↦
       (let w : p.wire.0 ≡ q.wire.0 = eqb-true p.wire.0 q.wire.0 (first_holds (nat_eq p.wire.0 q.wire.0) (nat_eq p.peer.0 q.peer.0) here) in
@@ -611,7 +622,8 @@ tells_keeps_mended plan p q old new tells is = mended_still plan p old new tells
     | inr apart ↦ ap (λ (e : EndState). tells_wish p wished none_left e.local) (tells.step.others p.wire.0 p.peer.0 apart)
   ]
 
-tells_keeps_told : (plan : Plan) (p q : EndPlace) (old new : EdgeState) → EndTells plan q old new → (p.wire.0 ≡ q.wire.0 → p.terminal ≡ q.terminal) → is_told plan old p ≡ true → is_told plan new p ≡ true
+tells_keeps_told : (plan : Plan) (p q : EndPlace) (old new : EdgeState) → EndTells plan q old new → (p.wire.0 ≡ q.wire.0 → p.terminal ≡ q.terminal) → is_told plan old p ≡ true
+    → is_told plan new p ≡ true
 tells_keeps_told plan p q old new tells side is = elim (cases_Bool (is_at q p.wire.0 p.peer.0)) [
   | inl here ↦
       (let w : p.wire.0 ≡ q.wire.0 = eqb-true p.wire.0 q.wire.0 (first_holds (nat_eq p.wire.0 q.wire.0) (nat_eq p.peer.0 q.peer.0) here) in
@@ -623,7 +635,8 @@ tells_keeps_told plan p q old new tells side is = elim (cases_Bool (is_at q p.wi
 ]
 
 -- a status that was told is no cause for any end not to forward
-tells_keeps_downs : (plan : Plan) (q : EndPlace) (old new : EdgeState) → EndTells plan q old new → (wire k : ℕ) (role : EndRole) (bits : ℕ) → down role bits (new.ends wire k) ≡ down role bits (old.ends wire k)
+tells_keeps_downs : (plan : Plan) (q : EndPlace) (old new : EdgeState) → EndTells plan q old new → (wire k : ℕ) (role : EndRole) (bits : ℕ) → down role bits (new.ends wire k)
+    ≡ down role bits (old.ends wire k)
 tells_keeps_downs plan q old new tells wire k role bits = elim (cases_Bool (is_at q wire k)) [
   | inl here ↦
       (let w : wire ≡ q.wire.0 = eqb-true wire q.wire.0 (first_holds (nat_eq wire q.wire.0) (nat_eq k q.peer.0) here) in
@@ -700,9 +713,11 @@ spoken_chosen : (plan : Plan) (old new : EdgeState) → IsSpoken old new → Has
 spoken_chosen plan old new spoken chosen service =
     ap (λ (map : ℕ → Option WireId). map service) spoken.chosen
     ∙ (chosen service
-    ∙ sym (choice_same plan old new spoken.me spoken.bits spoken.priorities (λ wire k bits. ap (λ (ends : ℕ → ℕ → EndState). down role.Chosen bits (ends wire k)) spoken.ends) (record { 0 = service })))
+    ∙ sym (choice_same plan old new spoken.me spoken.bits spoken.priorities (λ wire k bits. ap (λ (ends : ℕ → ℕ → EndState). down role.Chosen bits (ends wire k)) spoken.ends)
+    (record { 0 = service })))
 
-passes : (mend : EndPlace → Work → Spoken) (places : EndPlace → Type 0) (throughout : EdgeState → Type 0) (so : EndPlace → EdgeState → Type 0) → IsPass mend places throughout so → (list : List EndPlace)
+passes : (mend : EndPlace → Work → Spoken) (places : EndPlace → Type 0) (throughout : EdgeState → Type 0) (so : EndPlace → EdgeState → Type 0) → IsPass mend places throughout so
+    → (list : List EndPlace)
     → AllByRecursion places list → (m : Spoken) → (each_end mend list m).failed ≡ false → throughout m.work.edge → Passed places throughout so list m.work.edge (each_end mend list m).work.edge
 passes mend places throughout so pass [] all m none holds = record { still = holds; made = tt; kept = λ p here is. is }
 passes mend places throughout so pass (q ∷ rest) all m none holds =
@@ -751,7 +766,8 @@ module _ (plan : Plan) (told : Answers) (me : EdgeId) where
       mended = λ p is. tells_keeps_mended plan p q work.edge (mends_status plan told q work).work.edge (end_tells plan told q work none) (stays.mended p is);
     };
     makes = λ q work here none stays. (end_tells plan told q work none).told;
-    keeps = λ p q work one other none stays is. tells_keeps_told plan p q work.edge (mends_status plan told q work).work.edge (end_tells plan told q work none) (λ w. same_side plan me p q one other w) is;
+    keeps = λ p q work one other none stays is. tells_keeps_told plan p q work.edge (mends_status plan told q work).work.edge (end_tells plan told q work none)
+        (λ w. same_side plan me p q one other w) is;
   }
 
 -- ---- the edge chooses
@@ -760,7 +776,8 @@ module _ (plan : Plan) (told : Answers) (me : EdgeId) where
 wish_there : (plan : Plan) (chosen : ℕ → Option WireId) (edge : EdgeState) (place : EndPlace) → is_some (wish plan (with_chosen chosen edge) place) ≡ is_some (wish plan edge place)
 unfolding with_chosen
 wish_there plan chosen edge place = of (wire_row plan place.wire) where
-  there : (up terminal tells : Bool) (one other : Told) (passed : Option Told) → is_some (cond up (cond terminal (cond tells (Some one) None) passed) None) ≡ is_some (cond up (cond terminal (cond tells (Some other) None) passed) None)
+  there : (up terminal tells : Bool) (one other : Told) (passed : Option Told) → is_some (cond up (cond terminal (cond tells (Some one) None) passed) None)
+      ≡ is_some (cond up (cond terminal (cond tells (Some other) None) passed) None)
   there true true true one other passed = refl
   there true true false one other passed = refl
   there true false tells one other passed = refl
@@ -982,7 +999,8 @@ one_told plan me one q here work = of q.terminal refl where
       by_place : is_down_told plan new q ≡ true
       by_place = rw (terminal, eq-eqb q.wire.0 q.wire.0 refl) (eq-eqb (cause_number down) (cause_number down) refl)
 
-      at_wire : (p : EndPlace) → IsEndOf plan me p → p.terminal ≡ true → (b : Bool) → nat_eq p.wire.0 q.wire.0 ≡ b → nat_eq (cause_number (a.told_down p.wire.0)) (cause_number (down_at plan a p)) ≡ true
+      at_wire : (p : EndPlace) → IsEndOf plan me p → p.terminal ≡ true → (b : Bool) → nat_eq p.wire.0 q.wire.0 ≡ b
+          → nat_eq (cause_number (a.told_down p.wire.0)) (cause_number (down_at plan a p)) ≡ true
           → nat_eq (cause_number (cond b down (a.told_down p.wire.0))) (cause_number (down_at plan a p)) ≡ true
       at_wire p there own true same is =
           let w : p.wire.0 ≡ q.wire.0 = eqb-true p.wire.0 q.wire.0 same in
@@ -1012,7 +1030,8 @@ pub record HaveTold (plan : Plan) (me : EdgeId) (list : List EndPlace) (old new 
   pub so : AllByRecursion (λ q. is_down_told plan new q ≡ true) list
   pub keeps : (p : EndPlace) → IsEndOf plan me p → is_down_told plan old p ≡ true → is_down_told plan new p ≡ true
 
-pub all_told : (plan : Plan) (me : EdgeId) → HasOneEnd plan me → (list : List EndPlace) → AllByRecursion (IsEndOf plan me) list → (work : Work) → HaveTold plan me list work.edge (tells_downs plan list work).edge
+pub all_told : (plan : Plan) (me : EdgeId) → HasOneEnd plan me → (list : List EndPlace) → AllByRecursion (IsEndOf plan me) list → (work : Work)
+    → HaveTold plan me list work.edge (tells_downs plan list work).edge
 unfolding tells_one
 all_told plan me one [] all work = record { downs = work.edge.told_down; is = refl; so = tt; keeps = λ p here is. is }
 all_told plan me one (q ∷ list) all work =
@@ -1033,7 +1052,8 @@ round_mends plan told work one none =
     record {
       ends = at_me (λ me. AllByRecursion (λ p. is_mended plan last p ≡ true) (end_places plan me))
           (all_map (λ p. is_mended plan first.work.edge p ≡ true) (λ p. is_mended plan last p ≡ true)
-          (λ p is. subst (λ (e : EdgeState). is_mended plan e p ≡ true) (sym at_last) (spoken_mended plan p second.work.edge third.work.edge moved (statuses.still.mended p (choosing_mended plan p first.work is)))) places ends.made);
+          (λ p is. subst (λ (e : EdgeState). is_mended plan e p ≡ true) (sym at_last)
+          (spoken_mended plan p second.work.edge third.work.edge moved (statuses.still.mended p (choosing_mended plan p first.work is)))) places ends.made);
       chosen = subst (HasChosen plan) (sym at_last) choice_made;
       statuses = at_me (λ me. AllByRecursion (λ p. is_told plan last p ≡ true) (end_places plan me))
           (all_map (λ p. is_told plan second.work.edge p ≡ true) (λ p. is_told plan last p ≡ true)
@@ -1078,7 +1098,8 @@ round_mends plan told work one none =
         (fails_not_before (mends_status plan told) places chosen none_second) (steady_not work.edge)
 
     statuses : Passed (IsEndOf plan me) (λ now. StaysMended plan chosen.work.edge now) (λ p now. is_told plan now p ≡ true) places chosen.work.edge second.work.edge
-    statuses = passes (mends_status plan told) (IsEndOf plan me) (λ now. StaysMended plan chosen.work.edge now) (λ p now. is_told plan now p ≡ true) (second_pass plan told me chosen.work.edge) places all chosen
+    statuses = passes (mends_status plan told) (IsEndOf plan me) (λ now. StaysMended plan chosen.work.edge now) (λ p now. is_told plan now p ≡ true)
+        (second_pass plan told me chosen.work.edge) places all chosen
         none_second (record { steady = steady_not chosen.work.edge; downs = λ wire k role bits. refl; mended = λ p is. is })
 
     moved : IsSpoken second.work.edge third.work.edge
@@ -1089,7 +1110,8 @@ round_mends plan told work one none =
     still_chosen service =
         ap (λ (map : ℕ → Option WireId). map service) statuses.still.steady.chosen
         ∙ (choosing_is plan first.work service
-        ∙ sym (choice_same plan chosen.work.edge second.work.edge statuses.still.steady.me statuses.still.steady.bits statuses.still.steady.priorities (λ wire k bits. statuses.still.downs wire k role.Chosen bits) (record { 0 = service })))
+        ∙ sym (choice_same plan chosen.work.edge second.work.edge statuses.still.steady.me statuses.still.steady.bits statuses.still.steady.priorities
+        (λ wire k bits. statuses.still.downs wire k role.Chosen bits) (record { 0 = service })))
 
     learns : LearnsOnly third.work.edge forgot.edge
     learns = (forgets_downs_only plan places third.work).edge

@@ -134,7 +134,8 @@ module _ (plan : Plan) (told : Answers) (edge : EdgeState) (calls : List LinkCal
       }
   posted_back peer wire bytes back place to on false = record { work = PacketIsDropped cause.LinkFault refl; hears = HearsNone refl }
 
-  echoes_works : (place : EndPlace) (row : WirePlan) (kind : Cc) (binding : Binding) → ComesInChannel plan edge octets place row kind binding → (read : Result Echo VccvFault) → echo_of row kind octets ≡ read
+  echoes_works : (place : EndPlace) (row : WirePlan) (kind : Cc) (binding : Binding) → ComesInChannel plan edge octets place row kind binding → (read : Result Echo VccvFault)
+      → echo_of row kind octets ≡ read
       → Works (echoes told place kind binding (ip_packet_of (has_header kind) (channel_payload kind octets)) read begun)
   unfolding begun gives
   echoes_works place row kind binding by (Err why) is = dropped (vccv_cause_of why)
@@ -145,7 +146,22 @@ module _ (plan : Plan) (told : Answers) (edge : EdgeState) (calls : List LinkCal
       }
   echoes_works place row kind binding by (Ok (Request from to sequence long)) is =
       posted_back place.peer place.wire (channel_octets kind binding (answer_packet (ip_packet_of (has_header kind) (channel_payload kind octets))))
-      (record { kind = kind; place = place; row = row; binding = binding; by = by; from = from; to = to; sequence = sequence; long = long; asked = is; same = refl; back = refl; own = refl; answered = refl })
+      (record {
+        kind = kind;
+        place = place;
+        row = row;
+        binding = binding;
+        by = by;
+        from = from;
+        to = to;
+        sequence = sequence;
+        long = long;
+        asked = is;
+        same = refl;
+        back = refl;
+        own = refl;
+        answered = refl;
+      })
       place refl refl (next_answer told begun)
 
   verifies_works : (place : EndPlace) (row : WirePlan) (kind : Cc) (binding : Binding) → ComesInChannel plan edge octets place row kind binding
@@ -200,7 +216,8 @@ module _ (plan : Plan) (told : Answers) (edge : EdgeState) (calls : List LinkCal
     by false true is = verifies_in_works Header entry place row binding opens.read is opens.owner opens.terminal opens.is opens.bound
     by false false is = enters_works entry place row binding opens
 
-  terminated_works : (entry : StackEntry) (place : EndPlace) (row : Option WirePlan) (remote : Option Binding) → entry_of octets ≡ Ok entry → advertiser plan edge entry.label ≡ Some place → place.terminal ≡ true
+  terminated_works : (entry : StackEntry) (place : EndPlace) (row : Option WirePlan) (remote : Option Binding) → entry_of octets ≡ Ok entry → advertiser plan edge entry.label
+      ≡ Some place → place.terminal ≡ true
       → wire_row plan place.wire ≡ row → (end_at edge place).remote ≡ remote → Works (terminated plan told place entry.ttl row remote (behind_entry octets) begun)
   unfolding begun
   terminated_works entry place None remote read owner terminal is bound = dropped cause.Down
@@ -208,24 +225,42 @@ module _ (plan : Plan) (told : Answers) (edge : EdgeState) (calls : List LinkCal
   terminated_works entry place (Some row) (Some binding) read owner terminal is bound =
       by_offer_works entry place row binding (offer_of row edge.me.0).cword (record { read = read; owner = owner; terminal = terminal; is = is; bound = bound })
 
-  switched_works : (entry : StackEntry) (place : EndPlace) → entry_of octets ≡ Ok entry → advertiser plan edge entry.label ≡ Some place → place.terminal ≡ false → Works (switched plan told octets entry place begun)
+  switched_works : (entry : StackEntry) (place : EndPlace) → entry_of octets ≡ Ok entry → advertiser plan edge entry.label ≡ Some place → place.terminal ≡ false
+      → Works (switched plan told octets entry place begun)
   unfolding begun gives posts
   switched_works entry place read owner passing = by (wire_row plan place.wire) refl where
-    posted : (row : WirePlan) → wire_row plan place.wire ≡ Some row → (to : EdgeId) → mate row edge.me.0 place.peer.0 ≡ Some to → (binding : Binding) → (edge.ends place.wire.0 to.0).remote ≡ Some binding → nat_eq entry.ttl 1 ≡ false
+    posted : (row : WirePlan) → wire_row plan place.wire ≡ Some row → (to : EdgeId) → mate row edge.me.0 place.peer.0 ≡ Some to → (binding : Binding)
+        → (edge.ends place.wire.0 to.0).remote ≡ Some binding → nat_eq entry.ttl 1 ≡ false
         → (taken : Bool) → Works (had_posted (towards to place) (arrival.Wire place.wire) (relabelled binding.label (entry.ttl - 1) octets) taken begun)
     posted row is to mate_is binding bound living true =
         record {
-          work = PacketGoesOn (record { place = place; row = row; entry = entry; read = read; owner = owner; passing = passing; is = is; to = to; mate_is = mate_is; binding = binding; bound = bound; living = living; sent = refl });
+          work = PacketGoesOn (record {
+            place = place;
+            row = row;
+            entry = entry;
+            read = read;
+            owner = owner;
+            passing = passing;
+            is = is;
+            to = to;
+            mate_is = mate_is;
+            binding = binding;
+            bound = bound;
+            living = living;
+            sent = refl;
+          });
           hears = HearsNone refl;
         }
     posted row is to mate_is binding bound living false = record { work = PacketIsDropped cause.LinkFault refl; hears = HearsNone refl }
 
-    pick : (row : WirePlan) → wire_row plan place.wire ≡ Some row → (to : EdgeId) → mate row edge.me.0 place.peer.0 ≡ Some to → (binding : Binding) → (edge.ends place.wire.0 to.0).remote ≡ Some binding → (b : Bool) → nat_eq entry.ttl 1 ≡ b
+    pick : (row : WirePlan) → wire_row plan place.wire ≡ Some row → (to : EdgeId) → mate row edge.me.0 place.peer.0 ≡ Some to → (binding : Binding)
+        → (edge.ends place.wire.0 to.0).remote ≡ Some binding → (b : Bool) → nat_eq entry.ttl 1 ≡ b
         → Works (switched_under told octets entry place to (cond b (Err Expired) (Ok binding.label)) begun)
     pick row is to mate_is binding bound true living = dropped cause.Expired
     pick row is to mate_is binding bound false living = posted row is to mate_is binding bound living (next_answer told begun)
 
-    swap : (row : WirePlan) → wire_row plan place.wire ≡ Some row → (to : EdgeId) → mate row edge.me.0 place.peer.0 ≡ Some to → (remote : Option Binding) → (edge.ends place.wire.0 to.0).remote ≡ remote → Works (switched_under told octets entry place to (label_onward remote entry.ttl) begun)
+    swap : (row : WirePlan) → wire_row plan place.wire ≡ Some row → (to : EdgeId) → mate row edge.me.0 place.peer.0 ≡ Some to → (remote : Option Binding)
+        → (edge.ends place.wire.0 to.0).remote ≡ remote → Works (switched_under told octets entry place to (label_onward remote entry.ttl) begun)
     swap row is to mate_is None bound = dropped cause.NoBinding
     swap row is to mate_is (Some binding) bound = pick row is to mate_is binding bound (nat_eq entry.ttl 1) refl
 
@@ -249,7 +284,8 @@ module _ (plan : Plan) (told : Answers) (edge : EdgeState) (calls : List LinkCal
   labelled_works : (entry : StackEntry) → entry_of octets ≡ Ok entry → Works (labelled plan told octets entry begun)
   unfolding begun
   labelled_works entry read = by (nat_lt entry.label least_label) entry.bottom where
-    by : (reserved bottom : Bool) → Works (cond reserved (drops cause.NoLabel begun) (cond bottom (owned plan told octets entry (advertiser plan edge entry.label) begun) (drops cause.NotBottom begun)))
+    by : (reserved bottom : Bool) → Works (cond reserved (drops cause.NoLabel begun)
+        (cond bottom (owned plan told octets entry (advertiser plan edge entry.label) begun) (drops cause.NotBottom begun)))
     by true bottom = dropped cause.NoLabel
     by false true = owned_works entry (advertiser plan edge entry.label) read refl
     by false false = dropped cause.NotBottom
@@ -290,7 +326,8 @@ packet_worked : (plan : Plan) (told : Answers) (edge : EdgeState) (calls : List 
 unfolding begun
 packet_worked plan told edge calls octets = opened_works plan told edge calls octets (entry_of octets) refl
 
-pub packet_work : (plan : Plan) (told : Answers) (edge : EdgeState) (calls : List LinkCall) (octets : List ℕ) → PacketWork plan edge octets (packet_input plan told octets (beginning edge calls)).effects
+pub packet_work : (plan : Plan) (told : Answers) (edge : EdgeState) (calls : List LinkCall) (octets : List ℕ)
+    → PacketWork plan edge octets (packet_input plan told octets (beginning edge calls)).effects
 packet_work plan told edge calls octets = (packet_worked plan told edge calls octets).work
 
 pub packet_hears : (plan : Plan) (told : Answers) (edge : EdgeState) (calls : List LinkCall) (octets : List ℕ) → HearsAFrame plan edge octets (packet_input plan told octets (beginning edge calls))
@@ -349,7 +386,8 @@ work_stays plan edge octets es (PacketGoesOn out) = subst (AllStayBehind plan ed
 work_stays plan edge octets es (PacketIsAnswered peer wire bytes back one) = subst (AllStayBehind plan edge octets) (sym one) (inr (inr back), tt)
 work_stays plan edge octets es (PacketIsTold wire sequence answer one) = subst (AllStayBehind plan edge octets) (sym one) (answer, tt)
 
-pub packet_stays : (plan : Plan) (told : Answers) (edge : EdgeState) (calls : List LinkCall) (octets : List ℕ) → AllStayBehind plan edge octets (packet_input plan told octets (beginning edge calls)).effects
+pub packet_stays : (plan : Plan) (told : Answers) (edge : EdgeState) (calls : List LinkCall) (octets : List ℕ)
+    → AllStayBehind plan edge octets (packet_input plan told octets (beginning edge calls)).effects
 packet_stays plan told edge calls octets = work_stays plan edge octets (packet_input plan told octets (beginning edge calls)).effects (packet_work plan told edge calls octets)
 
 pub packets_stay_local : PacketsStayLocal
@@ -385,7 +423,8 @@ module _ (plan : Plan) (told : Answers) (octets frame : List ℕ) (work : Work) 
   offered_is : (binding : Binding) (ttl : ℕ) (cword tagged : Bool) (mtu : ℕ) → nat_eq ttl 1 ≡ false → frame_behind tagged mtu (behind_control cword (behind_entry octets)) ≡ Ok frame
       → enters plan told row place (behind_entry octets) work ≡ heard → by_offer plan told row place binding ttl cword (behind_entry octets) work ≡ heard
   offered_is binding ttl false tagged mtu living formed entered =
-      ap (λ (b : Bool). cond (b && is_picked Expiry (channel_under row work.edge.me binding)) (verifies told place row Expiry binding (behind_entry octets) work) (enters plan told row place (behind_entry octets) work)) living
+      ap (λ (b : Bool). cond (b && is_picked Expiry (channel_under row work.edge.me binding)) (verifies told place row Expiry binding (behind_entry octets) work)
+      (enters plan told row place (behind_entry octets) work)) living
       ∙ entered
   offered_is binding ttl true tagged mtu living formed entered =
       let no = no_channel tagged mtu (behind_entry octets) frame formed in
@@ -419,7 +458,8 @@ module _ (plan : Plan) (told : Answers) (octets frame : List ℕ) (work : Work) 
       ∙ (ap (λ (b : Bool). cond b (drops cause.NoLabel work) (cond entry.bottom (owned plan told octets entry (advertiser plan work.edge entry.label) work) (drops cause.NotBottom work))) given
       ∙ (ap (λ (b : Bool). cond b (owned plan told octets entry (advertiser plan work.edge entry.label) work) (drops cause.NotBottom work)) bottom
       ∙ (ap (λ (o : Option EndPlace). owned plan told octets entry o work) comes.owner
-      ∙ (ap (λ (b : Bool). cond b (terminated plan told place entry.ttl (wire_row plan place.wire) (end_at work.edge place).remote (behind_entry octets) work) (switched plan told octets entry place work)) comes.terminal
+      ∙ (ap (λ (b : Bool). cond b (terminated plan told place entry.ttl (wire_row plan place.wire) (end_at work.edge place).remote (behind_entry octets) work)
+      (switched plan told octets entry place work)) comes.terminal
       ∙ terminated_is binding comes.entry.ttl bound comes.is comes.forwards living formed)))))
 
 -- ---- the end by which a packet comes

@@ -73,7 +73,8 @@ as_hearer plan told peer (suc n) octets work fits = within (λ rest next here. a
       ∙ ap (λ (max : ℕ). settled peer (hear_front (hearer plan told peer) (hear_few (hearer plan told peer) n) work octets (front_of max octets))) (sym (smaller kept.session.max_pdu mine))
 
 -- and its maximum stays one that a session can have
-hearer_fits : (plan : Plan) (told : Answers) (peer : EdgeId) (n : ℕ) (octets : List ℕ) (work : Work) → HasFitMaximum (work.edge.peering peer.0) → HasFitMaximum ((hear_few (hearer plan told peer) n octets work).state.edge.peering peer.0)
+hearer_fits : (plan : Plan) (told : Answers) (peer : EdgeId) (n : ℕ) (octets : List ℕ) (work : Work) → HasFitMaximum (work.edge.peering peer.0)
+    → HasFitMaximum ((hear_few (hearer plan told peer) n octets work).state.edge.peering peer.0)
 hearer_fits plan told peer zero octets work fits = fits
 hearer_fits plan told peer (suc n) octets work fits = within (λ rest next here. hearer_fits plan told peer n rest next here) (maximum (work.edge.peering peer.0)) where
   Again : Type 0
@@ -113,9 +114,11 @@ settled_input plan told peer more left stands = by (left.state.edge.peering peer
       ∙ (ap (hears plan told peer (left.rest ++ more)) (held_is peer left.rest kept left.state is)
       ∙ sym (ap (λ (o : Option Peering). hears_on plan told peer more o held) there))
 
-settled_none : (plan : Plan) (told : Answers) (peer : EdgeId) (more : List ℕ) (left : Left Work) → has_end (settled peer left).edge peer ≡ false → hears plan told peer (left.rest ++ more) left.state ≡ settled peer left
+settled_none : (plan : Plan) (told : Answers) (peer : EdgeId) (more : List ℕ) (left : Left Work) → has_end (settled peer left).edge peer ≡ false
+    → hears plan told peer (left.rest ++ more) left.state ≡ settled peer left
 settled_none plan told peer more left ended = by (left.state.edge.peering peer.0) refl ended where
-  by : (kept : Option Peering) → left.state.edge.peering peer.0 ≡ kept → has_end (holds peer left.rest kept left.state).edge peer ≡ false → hears plan told peer (left.rest ++ more) left.state ≡ holds peer left.rest kept left.state
+  by : (kept : Option Peering) → left.state.edge.peering peer.0 ≡ kept → has_end (holds peer left.rest kept left.state).edge peer ≡ false
+      → hears plan told peer (left.rest ++ more) left.state ≡ holds peer left.rest kept left.state
   by None none gone = ap (λ (o : Option Peering). hears_within plan told peer (hears_few plan told peer (length (left.rest ++ more))) (left.rest ++ more) o left.state) none
   by (Some kept) is gone =
       let there : has_end (changes (with_peering peer (Some (holding left.rest kept))) left.state).edge peer ≡ true = ap is_there (is_set peer (Some (holding left.rest kept)) left.state) in
@@ -139,7 +142,8 @@ gives_up plan told peer octets more work are fits ended =
     let first : hears plan told peer octets work ≡ settled peer left = as_hearer plan told peer (suc (length octets)) octets work fits in
     rest_first plan told peer octets more work are fits ∙ (settled_none plan told peer more left (subst (λ (w : Work). has_end w.edge peer ≡ false) first ended) ∙ sym first)
 
-behind_held : (plan : Plan) (told : Answers) (peer : EdgeId) (octets more : List ℕ) (kept : Peering) (work : Work) → AreOctets (kept.held ++ (octets ++ more)) → HasFitMaximum (work.edge.peering peer.0)
+behind_held : (plan : Plan) (told : Answers) (peer : EdgeId) (octets more : List ℕ) (kept : Peering) (work : Work) → AreOctets (kept.held ++ (octets ++ more))
+    → HasFitMaximum (work.edge.peering peer.0)
     → has_end (hears_on plan told peer octets (Some kept) work).edge peer ≡ true
     → hears_on plan told peer (octets ++ more) (Some kept) work
     ≡ hears_on plan told peer more ((hears_on plan told peer octets (Some kept) work).edge.peering peer.0) (hears_on plan told peer octets (Some kept) work)

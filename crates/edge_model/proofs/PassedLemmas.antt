@@ -166,7 +166,8 @@ end_wire plan me wire place found = eqb-true place.wire.0 wire.0 (of place.wire.
 told_none : {So : List Effect → Type 0} (es : List Effect) → So [] → GivesMore es es So
 told_none es so = record { more = []; given = sym (append-nil es); so = so }
 
-was_told_more : (place : EndPlace) (content : Told) (kept : Peering) (front es back : List Effect) (piece : List Mac) → WasTold place content kept es piece → WasTold place content kept (front ++ (es ++ back)) piece
+was_told_more : (place : EndPlace) (content : Told) (kept : Peering) (front es back : List Effect) (piece : List Mac) → WasTold place content kept es piece
+    → WasTold place content kept (front ++ (es ++ back)) piece
 was_told_more place content kept front es back piece told = record {
   before = front ++ told.before;
   after = told.after ++ back;
@@ -214,7 +215,7 @@ module _ (plan : Plan) (first : EdgeState) (service : ServiceId) (from : ℕ) (a
       at_work new is tells = subst (λ (w : Work). GivesMore work.effects w.effects IsIt) (sym is) tells
 
       of : Saying told place.peer message work → GivesMore work.effects (says told place.peer message work).work.effects IsIt
-      of (Quiet add_zero all) = at_work work (ap (λ (s : Spoken). s.work) all) (told_none work.effects tt)
+      of (Quiet none all) = at_work work (ap (λ (s : Spoken). s.work) all) (told_none work.effects tt)
       of (Taken kept is all) =
           let stood : Stood first work.edge place.peer.0 kept = since.stood place.peer.0 kept is in
           at_work (put_octets place.peer (message_octets_of kept message) true work).work (ap (λ (s : Spoken). s.work) all)
@@ -268,7 +269,8 @@ module _ (plan : Plan) (first : EdgeState) (service : ServiceId) (from : ℕ) (a
   targets = is_passed_to role.Core ports from
 
   -- the end of a wire at a port by which the withdrawal may go on
-  may_by : (p : ℕ) (x : Port) (wire : WireId) (place : EndPlace) → slice_get ports p ≡ Some x → ((w : WireId) → is_wire_port w x ≡ nat_eq wire.0 w.0) → targets p ≡ true → wire_end plan first.me wire ≡ Some place
+  may_by : (p : ℕ) (x : Port) (wire : WireId) (place : EndPlace) → slice_get ports p ≡ Some x → ((w : WireId) → is_wire_port w x ≡ nat_eq wire.0 w.0) → targets p ≡ true
+      → wire_end plan first.me wire ≡ Some place
       → MayGoOnBy plan first service from place
   may_by p x wire place at leads passed here =
       let w : place.wire.0 ≡ wire.0 = end_wire plan first.me wire place here in
@@ -340,7 +342,8 @@ module _ (plan : Plan) (first : EdgeState) (service : ServiceId) (from : ℕ) (a
       more = one.alone.more ++ next.more;
       given = next.given ∙ (ap (λ (l : List Effect). l ++ next.more) one.alone.given ∙ append_assoc a.effects one.alone.more next.more);
       so = all-map (WasTold place content kept next.more) (WasTold place content kept (one.alone.more ++ next.more)) pieces
-          (λ piece was. subst (λ (l : List Effect). WasTold place content kept (one.alone.more ++ l) piece) (append-nil next.more) (was_told_more place content kept one.alone.more next.more [] piece was)) next.so;
+          (λ piece was. subst (λ (l : List Effect). WasTold place content kept (one.alone.more ++ l) piece) (append-nil next.more)
+          (was_told_more place content kept one.alone.more next.more [] piece was)) next.so;
     }
 
     there : (o : Option Peering) → is_there o ≡ true → (k : Peering) × (o ≡ Some k)
@@ -380,8 +383,8 @@ module _ (plan : Plan) (first : EdgeState) (service : ServiceId) (from : ℕ) (a
             then.peers ∙ ap (λ (k : Peering). k.session.peers) one
 
         of : Saying told place.peer message work → has_end (says told place.peer message work).work.edge place.peer ≡ true → Reaches (piece ∷ []) work (says told place.peer message work).work
-        of (Quiet add_zero all) after =
-            let wrong : Some at_work.0 ≡ None = sym at_work.1 ∙ add_zero in
+        of (Quiet none all) after =
+            let wrong : Some at_work.0 ≡ None = sym at_work.1 ∙ none in
             absurd (cc (wrong))
         of (Taken now is all) after =
             subst (λ (w : Work). Reaches (piece ∷ []) work w) (sym (ap (λ (s : Spoken). s.work) all))
@@ -440,7 +443,8 @@ module _ (plan : Plan) (first : EdgeState) (service : ServiceId) (from : ℕ) (a
     at_port (port.Mesh wire) leads work since = at_wire wire leads work since
     at_port (port.Spoke wire) leads work since = at_wire wire leads work since
 
-    ports_reach : (p : ℕ) (xs : List Port) → IsRest p xs → (i : ℕ) (x : Port) → slice_get xs i ≡ Some x → is_wire_port place.wire x ≡ true → targets (p + i) ≡ true → (work : Work) → Since first work.edge
+    ports_reach : (p : ℕ) (xs : List Port) → IsRest p xs → (i : ℕ) (x : Port) → slice_get xs i ≡ Some x → is_wire_port place.wire x ≡ true → targets (p + i) ≡ true → (work : Work)
+        → Since first work.edge
         → has_end (copies targets (tells_at plan told addresses) p xs work).edge place.peer ≡ true → Reaches (pieces_of addresses) work (copies targets (tells_at plan told addresses) p xs work)
     ports_reach p [] rest i x at leads passed work since stands = absurd (cc (at))
     ports_reach p (y ∷ xs) rest zero x at leads passed work since stands =
@@ -478,7 +482,8 @@ hears_is : (plan : Plan) (told : Answers) (peer : EdgeId) (fec : PwFec) (address
 unfolding changes with_addresses
 hears_is plan told peer fec addresses service from work comes =
     ap (λ (o : Option EndPlace). clears_by plan told addresses o work) comes.named
-    ∙ (ap (λ (b : Bool). cond b (clears_wire plan told addresses comes.place (wire_row plan comes.place.wire) work) (tells_by told addresses (end_beyond plan work.edge.me comes.place) work)) comes.terminal
+    ∙ (ap (λ (b : Bool). cond b (clears_wire plan told addresses comes.place (wire_row plan comes.place.wire) work)
+    (tells_by told addresses (end_beyond plan work.edge.me comes.place) work)) comes.terminal
     ∙ (ap (λ (o : Option WirePlan). clears_wire plan told addresses comes.place o work) comes.is
     ∙ (ap (λ (o : Option ℕ). clears_at plan told addresses comes.row.service o work) comes.found
     ∙ (ap (λ (s : ServiceId). clears_at plan told addresses s (Some from) work) comes.of_service
@@ -494,9 +499,11 @@ reaches : (plan : Plan) (told : Answers) (peer : EdgeId) (fec : PwFec) (addresse
     → GivesMore work.effects (hears_mac_withdraw plan told peer (Some fec) (Some addresses) work).effects (λ more. AllByRecursion (WasTold place content kept more) (pieces_of addresses))
 unfolding changes
 reaches plan told peer fec addresses service from place content kept work comes by stands =
-    subst (λ (w : Work). (has_end w.edge place.peer ≡ true) → GivesMore work.effects w.effects (λ more. AllByRecursion (WasTold place content kept more) (pieces_of addresses))) (sym (hears_is plan told peer fec addresses service from work comes))
+    subst (λ (w : Work). (has_end w.edge place.peer ≡ true) → GivesMore work.effects w.effects (λ more. AllByRecursion (WasTold place content kept more) (pieces_of addresses)))
+    (sym (hears_is plan told peer fec addresses service from work comes))
     (λ there.
-    ports_reach plan work.edge service from addresses told place content kept by 0 (ports_of plan service work.edge.me) (λ i x at. ap (slice_get (ports_of plan service work.edge.me)) (from_none i) ∙ at)
+    ports_reach plan work.edge service from addresses told place content kept by 0 (ports_of plan service work.edge.me)
+    (λ i x at. ap (slice_get (ports_of plan service work.edge.me)) (from_none i) ∙ at)
     by.may.p by.may.x by.may.at by.may.to_wire (ap (is_passed_to role.Core (ports_of plan service work.edge.me) from) (from_none by.may.p) ∙ by.may.passed)
     (begun service addresses from work) (begun_since service addresses from work) there) stands
 
@@ -505,11 +512,14 @@ alone : (plan : Plan) (told : Answers) (peer : EdgeId) (fec : PwFec) (addresses 
     → GivesMore work.effects (hears_mac_withdraw plan told peer (Some fec) (Some addresses) work).effects (AllByRecursion (IsOfPassing plan work.edge service from (pieces_of addresses)))
 unfolding changes
 alone plan told peer fec addresses service from work comes =
-    subst (λ (w : Work). GivesMore work.effects w.effects (AllByRecursion (IsOfPassing plan work.edge service from (pieces_of addresses)))) (sym (hears_is plan told peer fec addresses service from work comes))
-    (ports_pass plan work.edge service from addresses told 0 (ports_of plan service work.edge.me) (λ i x at. ap (slice_get (ports_of plan service work.edge.me)) (from_none i) ∙ at) (begun service addresses from work) (begun_since service addresses from work)).alone
+    subst (λ (w : Work). GivesMore work.effects w.effects (AllByRecursion (IsOfPassing plan work.edge service from (pieces_of addresses))))
+    (sym (hears_is plan told peer fec addresses service from work comes))
+    (ports_pass plan work.edge service from addresses told 0 (ports_of plan service work.edge.me) (λ i x at. ap (slice_get (ports_of plan service work.edge.me)) (from_none i) ∙ at)
+    (begun service addresses from work) (begun_since service addresses from work)).alone
 
 -- what came by a spoke goes to a mesh wire
-goes_to_mesh : (ports : List Port) (from p : ℕ) (spoke mesh : WireId) → slice_get ports from ≡ Some (port.Spoke spoke) → slice_get ports p ≡ Some (port.Mesh mesh) → is_passed_to role.Core ports from p ≡ true
+goes_to_mesh : (ports : List Port) (from p : ℕ) (spoke mesh : WireId) → slice_get ports from ≡ Some (port.Spoke spoke) → slice_get ports p ≡ Some (port.Mesh mesh)
+    → is_passed_to role.Core ports from p ≡ true
 goes_to_mesh ports from p spoke mesh here there =
     ap (λ (o : Option Port). (is_wire o && not (p == from)) && not (is_mesh_port ports from && is_mesh_port ports p)) there
     ∙ (ap (λ (b : Bool). not b && not (is_mesh_port ports from && is_mesh_port ports p)) apart

@@ -84,7 +84,8 @@ module _ (plan : Plan) (told : Answers) (edge : EdgeState) (calls : List LinkCal
       })
       (next_answer told (changes (pinging place.wire) begun))
 
-  in_works : (place : EndPlace) (row : WirePlan) (binding : Binding) → Asks place row binding → (kind : Option Cc) → channel_under row edge.me binding ≡ kind → Works (pings_in plan told place row binding kind begun)
+  in_works : (place : EndPlace) (row : WirePlan) (binding : Binding) → Asks place row binding → (kind : Option Cc) → channel_under row edge.me binding ≡ kind
+      → Works (pings_in plan told place row binding kind begun)
   unfolding begun
   in_works place row binding end None picked = idle
   in_works place row binding end (Some kind) picked = asks_works place row binding kind end picked (edge_address plan edge.me) (far_address plan edge.me row) refl refl

@@ -50,23 +50,28 @@ along wire row me segment (first ∷ next ∷ rest) =
     all-append (IsEndAlong wire row me (first ∷ next ∷ rest)) (places_at wire row me segment first next) (places_along wire row me (segment + 1) (next ∷ rest))
     (at_segment wire row me segment first next rest)
     (all-map (IsEndAlong wire row me (next ∷ rest)) (IsEndAlong wire row me (first ∷ next ∷ rest)) (places_along wire row me (segment + 1) (next ∷ rest))
-    (λ place h. record { of_wire = h.of_wire; pw_id = h.pw_id; terminal = h.terminal; joined = rw h.joined (or_true ((nat_eq me.0 first.0 && nat_eq place.peer.0 next.0) || (nat_eq place.peer.0 first.0 && nat_eq me.0 next.0))) })
+    (λ place h. record {
+      of_wire = h.of_wire;
+      pw_id = h.pw_id;
+      terminal = h.terminal;
+      joined = rw h.joined (or_true ((nat_eq me.0 first.0 && nat_eq place.peer.0 next.0) || (nat_eq place.peer.0 first.0 && nat_eq me.0 next.0)));
+    })
     (along wire row me (segment + 1) (next ∷ rest)))
 
 from : (plan : Plan) (me : EdgeId) (wire : ℕ) (rows : List WirePlan) → ((k : ℕ) → slice_get rows k ≡ slice_get plan.wires (wire + k)) → AllByRecursion (IsEndOf plan me) (places_from me wire rows)
-from plan me wire [] same_number = tt
-from plan me wire (row ∷ rows) same_number =
+from plan me wire [] same = tt
+from plan me wire (row ∷ rows) same =
     all-append (IsEndOf plan me) (places_along (record { 0 = wire }) row me 0 row.path) (places_from me (wire + 1) rows)
     (all-map (IsEndAlong (record { 0 = wire }) row me row.path) (IsEndOf plan me) (places_along (record { 0 = wire }) row me 0 row.path)
     (λ place h. record {
       row = row;
-      is = ap (λ (w : WireId). slice_get plan.wires w.0) h.of_wire ∙ (ap (slice_get plan.wires) (add_zero wire) ∙ sym (same_number 0));
+      is = ap (λ (w : WireId). slice_get plan.wires w.0) h.of_wire ∙ (ap (slice_get plan.wires) (add_zero wire) ∙ sym (same 0));
       pw_id = h.pw_id;
       terminal = h.terminal;
       joined = h.joined;
     })
     (along (record { 0 = wire }) row me 0 row.path))
-    (from plan me (wire + 1) rows (λ k. same_number (suc k) ∙ ap (slice_get plan.wires) (step_into wire k)))
+    (from plan me (wire + 1) rows (λ k. same (suc k) ∙ ap (slice_get plan.wires) (step_into wire k)))
 
 pub places_are : (plan : Plan) (me : EdgeId) → AllByRecursion (IsEndOf plan me) (end_places plan me)
 places_are plan me = from plan me 0 plan.wires (λ k. ap (slice_get plan.wires) (from_none_back k))

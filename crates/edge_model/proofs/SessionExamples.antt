@@ -78,7 +78,8 @@ keep_alive_of_b = 0 ∷ 1 ∷ 0 ∷ 14 ∷ 10 ∷ 0 ∷ 0 ∷ 2 ∷ 0 ∷ 0 ∷ 
 
 -- label 16 for the wire with PW ID 100, raw, with the control word, an MTU of 1500 octets and no failure
 abbrev mapping_of_b : List ℕ
-mapping_of_b = 0 ∷ 1 ∷ 0 ∷ 50 ∷ 10 ∷ 0 ∷ 0 ∷ 2 ∷ 0 ∷ 0 ∷ 4 ∷ 0 ∷ 0 ∷ 40 ∷ 0 ∷ 0 ∷ 0 ∷ 3 ∷ 1 ∷ 0 ∷ 0 ∷ 16 ∷ 128 ∷ 128 ∷ 5 ∷ 8 ∷ 0 ∷ 0 ∷ 0 ∷ 0 ∷ 0 ∷ 0 ∷ 0 ∷ 100 ∷ 1 ∷ 4 ∷ 5 ∷ 220 ∷ 2 ∷ 0 ∷ 0 ∷ 4 ∷ 0 ∷ 0 ∷ 0 ∷ 16 ∷ 137 ∷ 106 ∷ 0 ∷ 4 ∷ 0 ∷ 0 ∷ 0 ∷ 0 ∷ []
+mapping_of_b = 0 ∷ 1 ∷ 0 ∷ 50 ∷ 10 ∷ 0 ∷ 0 ∷ 2 ∷ 0 ∷ 0 ∷ 4 ∷ 0 ∷ 0 ∷ 40 ∷ 0 ∷ 0 ∷ 0 ∷ 3 ∷ 1 ∷ 0 ∷ 0 ∷ 16 ∷ 128 ∷ 128 ∷ 5 ∷ 8 ∷ 0 ∷ 0 ∷ 0 ∷ 0 ∷ 0 ∷ 0 ∷ 0 ∷ 100 ∷ 1 ∷ 4 ∷ 5 ∷ 220 ∷ 2 ∷ 0
+    ∷ 0 ∷ 4 ∷ 0 ∷ 0 ∷ 0 ∷ 16 ∷ 137 ∷ 106 ∷ 0 ∷ 4 ∷ 0 ∷ 0 ∷ 0 ∷ 0 ∷ []
 
 -- the passive end waits, the active one speaks
 waits : (connected taken a b).effects ≡ Session b name.Initialized ∷ []
@@ -186,7 +187,8 @@ none_yet = refl
 
 -- with the 64th one it is free before the edge mends its ends, and is given
 abbrev last_mapping_of_b : List ℕ
-last_mapping_of_b = 0 ∷ 1 ∷ 0 ∷ 50 ∷ 10 ∷ 0 ∷ 0 ∷ 2 ∷ 0 ∷ 0 ∷ 4 ∷ 0 ∷ 0 ∷ 40 ∷ 0 ∷ 0 ∷ 0 ∷ 3 ∷ 1 ∷ 0 ∷ 0 ∷ 16 ∷ 128 ∷ 128 ∷ 5 ∷ 8 ∷ 0 ∷ 0 ∷ 0 ∷ 0 ∷ 0 ∷ 0 ∷ 0 ∷ 100 ∷ 1 ∷ 4 ∷ 5 ∷ 220 ∷ 2 ∷ 0 ∷ 0 ∷ 4 ∷ 0 ∷ 15 ∷ 255 ∷ 255 ∷ 137 ∷ 106 ∷ 0 ∷ 4 ∷ 0 ∷ 0 ∷ 0 ∷ 0 ∷ []
+last_mapping_of_b = 0 ∷ 1 ∷ 0 ∷ 50 ∷ 10 ∷ 0 ∷ 0 ∷ 2 ∷ 0 ∷ 0 ∷ 4 ∷ 0 ∷ 0 ∷ 40 ∷ 0 ∷ 0 ∷ 0 ∷ 3 ∷ 1 ∷ 0 ∷ 0 ∷ 16 ∷ 128 ∷ 128 ∷ 5 ∷ 8 ∷ 0 ∷ 0 ∷ 0 ∷ 0 ∷ 0 ∷ 0 ∷ 0 ∷ 100 ∷ 1 ∷ 4 ∷ 5 ∷ 220
+    ∷ 2 ∷ 0 ∷ 0 ∷ 4 ∷ 0 ∷ 15 ∷ 255 ∷ 255 ∷ 137 ∷ 106 ∷ 0 ∷ 4 ∷ 0 ∷ 0 ∷ 0 ∷ 0 ∷ []
 
 given_again : (tick_of_b (tick_of_b up_without).edge).effects ≡ Said a last_mapping_of_b ∷ Wire (record { 0 = 0 }) (Some NoRemote) ∷ []
 unfolding changes down gives idles puts with_addresses with_chosen with_end with_ends_beside with_learned with_next_label with_peering one_more with_spoken with_ticks with_told_down without_ends without_peerings with_kept

@@ -81,7 +81,20 @@ pub own_effects : (test : Effect → Bool) (es : List Effect) → GivesOnly test
 own_effects test es gives = ap (are_all test) gives.given ∙ gives.own
 
 besides_still : (mine : ℕ → Bool) (edge : EdgeState) → IsBesides mine edge edge
-besides_still mine edge = record { me = refl; circuits = refl; learned = refl; ticks = refl; others = λ k apart. refl; wires = refl; bits = refl; ends = λ wire k apart. refl; downs = refl; priorities = refl; chosen = refl; labels = refl }
+besides_still mine edge = record {
+  me = refl;
+  circuits = refl;
+  learned = refl;
+  ticks = refl;
+  others = λ k apart. refl;
+  wires = refl;
+  bits = refl;
+  ends = λ wire k apart. refl;
+  downs = refl;
+  priorities = refl;
+  chosen = refl;
+  labels = refl;
+}
 
 pub gives_none : (test : Effect → Bool) (es : List Effect) → GivesOnly test es es
 gives_none test es = record { more = []; given = sym (append-nil es); own = refl }
@@ -133,7 +146,20 @@ is_apart mine k p own apart = elim (cases_Bool (nat_eq k p)) [
 peering_works : (mine : ℕ → Bool) (peer : EdgeId) (kept : Option Peering) (work : Work) → mine peer.0 ≡ true → IsSessionWork mine work (changes (with_peering peer kept) work)
 unfolding changes with_peering
 peering_works mine peer kept work own = record {
-  edge = record { me = refl; circuits = refl; learned = refl; ticks = refl; others = λ k apart. rw (is_apart mine k peer.0 own apart) refl; wires = refl; bits = refl; ends = λ wire k apart. refl; downs = refl; priorities = refl; chosen = refl; labels = refl };
+  edge = record {
+    me = refl;
+    circuits = refl;
+    learned = refl;
+    ticks = refl;
+    others = λ k apart. rw (is_apart mine k peer.0 own apart) refl;
+    wires = refl;
+    bits = refl;
+    ends = λ wire k apart. refl;
+    downs = refl;
+    priorities = refl;
+    chosen = refl;
+    labels = refl;
+  };
   effects = gives_none (is_of_session mine) work.effects;
   idle = refl;
 }
@@ -153,7 +179,20 @@ puts_works mine peer bytes taken work = record { edge = besides_still mine work.
 spoken_works : (mine : ℕ → Bool) (peer : EdgeId) (work : Work) → mine peer.0 ≡ true → IsSessionWork mine work (changes (with_spoken peer) work)
 unfolding changes with_peering with_spoken
 spoken_works mine peer work own = record {
-  edge = record { me = refl; circuits = refl; learned = refl; ticks = refl; others = λ k apart. rw (is_apart mine k peer.0 own apart) refl; wires = refl; bits = refl; ends = λ wire k apart. refl; downs = refl; priorities = refl; chosen = refl; labels = refl };
+  edge = record {
+    me = refl;
+    circuits = refl;
+    learned = refl;
+    ticks = refl;
+    others = λ k apart. rw (is_apart mine k peer.0 own apart) refl;
+    wires = refl;
+    bits = refl;
+    ends = λ wire k apart. refl;
+    downs = refl;
+    priorities = refl;
+    chosen = refl;
+    labels = refl;
+  };
   effects = gives_none (is_of_session mine) work.effects;
   idle = refl;
 }
@@ -168,7 +207,8 @@ put_octets_works mine peer bytes true work own =
     works_then mine work called (gives (effect.Said peer bytes) spoken) (puts_works mine peer bytes true work)
     (works_then mine called spoken (gives (effect.Said peer bytes) spoken) (spoken_works mine peer called own) (gives_works mine (effect.Said peer bytes) spoken own))
 
-put_reply_works : (told : Answers) (mine : ℕ → Bool) (peer : EdgeId) (reply : Reply) (kept : Option Peering) (work : Work) → mine peer.0 ≡ true → IsSessionWork mine work (put_reply_to told peer reply kept work).work
+put_reply_works : (told : Answers) (mine : ℕ → Bool) (peer : EdgeId) (reply : Reply) (kept : Option Peering) (work : Work) → mine peer.0 ≡ true
+    → IsSessionWork mine work (put_reply_to told peer reply kept work).work
 put_reply_works told mine peer reply None work own = works_not mine work
 put_reply_works told mine peer reply (Some kept) work own = put_octets_works mine peer (octets_of kept reply) (next_answer told work) work own
 
@@ -204,7 +244,8 @@ went_on_works mine peer old new put own = by put.failed where
   by true = ends_work mine peer reason.LinkFault put.work own
   by false = tells_work mine peer old new put.work own
 
-comes_of_works : (told : Answers) (mine : ℕ → Bool) (peer : EdgeId) (kept : Peering) (outcome : Outcome) (work : Work) → mine peer.0 ≡ true → IsSessionWork mine work (comes_of told peer kept outcome work)
+comes_of_works : (told : Answers) (mine : ℕ → Bool) (peer : EdgeId) (kept : Peering) (outcome : Outcome) (work : Work) → mine peer.0 ≡ true
+    → IsSessionWork mine work (comes_of told peer kept outcome work)
 comes_of_works told mine peer kept Stay work own = works_not mine work
 comes_of_works told mine peer kept (Goes next replies) work own =
     let gone : Work = changes (with_peering peer (Some (with_session next kept))) work in
@@ -215,7 +256,8 @@ comes_of_works told mine peer kept (Ends why replies) work own =
     let put : Spoken = put_replies told peer replies work in
     works_then mine work put.work (ends peer why put.work) (put_replies_work told mine peer replies work own) (ends_work mine peer why put.work own)
 
-happens_to_works : (told : Answers) (mine : ℕ → Bool) (peer : EdgeId) (event : SessionEvent) (kept : Option Peering) (work : Work) → mine peer.0 ≡ true → IsSessionWork mine work (happens_to told peer event kept work)
+happens_to_works : (told : Answers) (mine : ℕ → Bool) (peer : EdgeId) (event : SessionEvent) (kept : Option Peering) (work : Work) → mine peer.0 ≡ true
+    → IsSessionWork mine work (happens_to told peer event kept work)
 happens_to_works told mine peer event None work own = works_not mine work
 happens_to_works told mine peer event (Some kept) work own = comes_of_works told mine peer kept (outcome_of kept.session event) work own
 
@@ -275,12 +317,26 @@ clears_works mine peer work own = by (has_end work.edge peer) where
   by : (stands : Bool) → IsSessionWork mine work (cond stands work (changes (losing_ends peer) work))
   by true = works_not mine work
   by false = record {
-    edge = record { me = refl; circuits = refl; learned = refl; ticks = refl; others = λ k apart. refl; wires = refl; bits = refl; ends = λ wire k apart. rw (is_apart mine k peer.0 own apart) refl; downs = refl; priorities = refl; chosen = refl; labels = refl };
+    edge = record {
+      me = refl;
+      circuits = refl;
+      learned = refl;
+      ticks = refl;
+      others = λ k apart. refl;
+      wires = refl;
+      bits = refl;
+      ends = λ wire k apart. rw (is_apart mine k peer.0 own apart) refl;
+      downs = refl;
+      priorities = refl;
+      chosen = refl;
+      labels = refl;
+    };
     effects = gives_none (is_of_session mine) work.effects;
     idle = refl;
   }
 
-pub happens_with_ends_works : (told : Answers) (mine : ℕ → Bool) (peer : EdgeId) (event : SessionEvent) (work : Work) → mine peer.0 ≡ true → IsSessionWork mine work (happens_with_ends told peer event work)
+pub happens_with_ends_works : (told : Answers) (mine : ℕ → Bool) (peer : EdgeId) (event : SessionEvent) (work : Work) → mine peer.0 ≡ true
+    → IsSessionWork mine work (happens_with_ends told peer event work)
 happens_with_ends_works told mine peer event work own =
     let happened : Work = happens told peer event work in
     works_then mine work happened (clears_ends peer happened) (happens_works told mine peer event work own) (clears_works mine peer happened own)
@@ -306,7 +362,8 @@ reply_works told mine peer reply work own =
     let put : Spoken = put_reply told peer reply work in
     works_then mine work put.work (had_put peer put) (put_reply_works told mine peer reply (work.edge.peering peer.0) work own) (had_put_works mine peer put own)
 
-says_to_works : (told : Answers) (mine : ℕ → Bool) (peer : EdgeId) (message : ℕ → Message) (kept : Option Peering) (work : Work) → mine peer.0 ≡ true → IsSessionWork mine work (says_to told peer message kept work).work
+says_to_works : (told : Answers) (mine : ℕ → Bool) (peer : EdgeId) (message : ℕ → Message) (kept : Option Peering) (work : Work) → mine peer.0 ≡ true
+    → IsSessionWork mine work (says_to told peer message kept work).work
 says_to_works told mine peer message None work own = works_not mine work
 says_to_works told mine peer message (Some kept) work own =
     let said : Work = had_put peer (put_octets peer (message_octets_of kept message) (next_answer told work) work) in
@@ -336,7 +393,20 @@ holds_works mine peer octets (Some kept) work own = peering_works mine peer (Som
 pub meeting_works : (mine : ℕ → Bool) (peer : EdgeId) (work : Work) → IsSessionWork mine work (changes (meeting peer) work)
 unfolding changes with_kept
 meeting_works mine peer work = record {
-  edge = record { me = refl; circuits = refl; learned = refl; ticks = refl; others = λ k apart. refl; wires = refl; bits = refl; ends = λ wire k apart. refl; downs = refl; priorities = refl; chosen = refl; labels = refl };
+  edge = record {
+    me = refl;
+    circuits = refl;
+    learned = refl;
+    ticks = refl;
+    others = λ k apart. refl;
+    wires = refl;
+    bits = refl;
+    ends = λ wire k apart. refl;
+    downs = refl;
+    priorities = refl;
+    chosen = refl;
+    labels = refl;
+  };
   effects = gives_none (is_of_session mine) work.effects;
   idle = refl;
 }

@@ -202,7 +202,8 @@ pub advertises_wish_signals : (told : Answers) (place : EndPlace) (wished : Opti
 advertises_wish_signals told place None work = signals_not work
 advertises_wish_signals told place (Some content) work = advertises_end_signals told place content work
 
-pub withdraws_unless_signals : (told : Answers) (place : EndPlace) (label : ℕ) (content : Told) (wished : Option Told) (work : Work) → IsSignalWork work (withdraws_unless told place label content wished work).work
+pub withdraws_unless_signals : (told : Answers) (place : EndPlace) (label : ℕ) (content : Told) (wished : Option Told) (work : Work)
+    → IsSignalWork work (withdraws_unless told place label content wished work).work
 withdraws_unless_signals told place label content wished work = by (stands place content wished) where
   by : (b : Bool) → IsSignalWork work (cond b (stays work) (withdraws told place label content work)).work
   by true = signals_not work
@@ -217,7 +218,8 @@ mends_local_signals plan told place (Withdrawing label) work = signals_not work
 pub mends_end_signals : (plan : Plan) (told : Answers) (place : EndPlace) (work : Work) → IsSignalWork work (mends_end plan told place work).work
 mends_end_signals plan told place work = mends_local_signals plan told place (end_at work.edge place).local work
 
-pub tells_over_signals : (told : Answers) (place : EndPlace) (content : Told) (status : PwStatus) (last : Option PwStatus) (work : Work) → IsSignalWork work (tells_over told place content status last work).work
+pub tells_over_signals : (told : Answers) (place : EndPlace) (content : Told) (status : PwStatus) (last : Option PwStatus) (work : Work)
+    → IsSignalWork work (tells_over told place content status last work).work
 tells_over_signals told place content status None work = signals_not work
 tells_over_signals told place content status (Some last) work = by (nat_eq last.0 status.0) where
   by : (b : Bool) → IsSignalWork work (cond b (stays work) (tells_new_status told place content status work)).work
@@ -289,7 +291,8 @@ mend_signals plan told = record {
   chooses = chooses_signals plan;
   tells_status = λ place label content last work here is status other. tells_new_status_signals told place content _ work;
   tells_piece = λ place label content addresses work is. says_signals told place.peer (mac_withdrawal place.pw_id addresses content) work;
-  forgets_wire = λ place why work here terminal is. forget_signals work (changes (forgetting_wire plan place.wire (wire_row plan place.wire)) work) (forgetting_only plan place.wire (wire_row plan place.wire) work);
+  forgets_wire = λ place why work here terminal is. forget_signals work (changes (forgetting_wire plan place.wire (wire_row plan place.wire)) work)
+      (forgetting_only plan place.wire (wire_row plan place.wire) work);
   tells_down = λ place work here terminal other. tells_wire_signals place.wire (down_at plan work.edge place) work;
 }
 
@@ -306,7 +309,8 @@ hear_signals plan told = record {
   released = λ peer fec label work there.
       changes_signals (λ edge. with_released label (end_of_fec plan edge peer fec) edge) work (released_signals label (end_of_fec plan work.edge peer fec) work.edge);
   states = λ peer fec status work there.
-      changes_signals (with_named plan peer fec (stated status) (group_stated fec.group status) fec.pw_id) work (named_signals plan peer fec (stated status) (group_stated fec.group status) fec.pw_id work.edge);
+      changes_signals (with_named plan peer fec (stated status) (group_stated fec.group status) fec.pw_id) work
+      (named_signals plan peer fec (stated status) (group_stated fec.group status) fec.pw_id work.edge);
   clears = λ service addresses from work. forget_signals work (changes (withdrawing_at service addresses from) work) (withdrawing_only service addresses from work);
 }
 
@@ -368,7 +372,8 @@ unfolding idles
 idles_input work = record { edge = signalled_not work.edge; effects = gives_none is_of_signalling work.effects }
 
 -- the edge has heard, and mends
-pub heard_signals : (plan : Plan) (told : Answers) (peer : EdgeId) (octets : List ℕ) (kept : Peering) (work : Work) → IsSignalWork work (mends plan told (hears_on plan told peer octets (Some kept) work))
+pub heard_signals : (plan : Plan) (told : Answers) (peer : EdgeId) (octets : List ℕ) (kept : Peering) (work : Work)
+    → IsSignalWork work (mends plan told (hears_on plan told peer octets (Some kept) work))
 heard_signals plan told peer octets kept work =
     let heard : Work = hears_on plan told peer octets (Some kept) work in
     signals_then work heard (mends plan told heard) (hears_on_signals plan told peer octets (Some kept) work) (mends_signals plan told heard)

@@ -183,6 +183,7 @@ holds_nothing : (on_mapping.edge.ends 0 0).remote ≡ None
 unfolding gives posts puts changes with_end with_peering with_spoken with_kept
 holds_nothing = refl
 
-releases_it : on_mapping.effects ≡ Said a (0 ∷ 1 ∷ 0 ∷ 38 ∷ 10 ∷ 0 ∷ 0 ∷ 2 ∷ 0 ∷ 0 ∷ 4 ∷ 3 ∷ 0 ∷ 28 ∷ 0 ∷ 0 ∷ 0 ∷ 1 ∷ 1 ∷ 0 ∷ 0 ∷ 12 ∷ 128 ∷ 128 ∷ 5 ∷ 4 ∷ 0 ∷ 0 ∷ 0 ∷ 0 ∷ 0 ∷ 0 ∷ 0 ∷ 100 ∷ 2 ∷ 0 ∷ 0 ∷ 4 ∷ 0 ∷ 0 ∷ 0 ∷ 16 ∷ []) ∷ []
+releases_it : on_mapping.effects ≡ Said a (0 ∷ 1 ∷ 0 ∷ 38 ∷ 10 ∷ 0 ∷ 0 ∷ 2 ∷ 0 ∷ 0 ∷ 4 ∷ 3 ∷ 0 ∷ 28 ∷ 0 ∷ 0 ∷ 0 ∷ 1 ∷ 1 ∷ 0 ∷ 0 ∷ 12 ∷ 128 ∷ 128 ∷ 5 ∷ 4 ∷ 0 ∷ 0 ∷ 0 ∷ 0 ∷ 0 ∷ 0 ∷ 0
+    ∷ 100 ∷ 2 ∷ 0 ∷ 0 ∷ 4 ∷ 0 ∷ 0 ∷ 0 ∷ 16 ∷ []) ∷ []
 unfolding gives posts puts changes with_end with_peering with_spoken with_kept
 releases_it = refl

@@ -203,7 +203,8 @@ module _ (plan : Plan) (told : Answers) (work : Work) (checked : IsChecked plan)
   input_synced Restart = restart_synced plan work
   input_synced Tick = mends_synced plan told (changes (forgetting plan) (ticks_sessions told 0 (length plan.edges) (changes counted work))) checked
   input_synced (Frame circuit bytes) =
-      learns_synced plan work.edge (frame_input plan told circuit bytes.now (circuit_row plan circuit) work).edge (frame_bridges plan told circuit bytes.now (circuit_row plan circuit) work).edge synced
+      learns_synced plan work.edge (frame_input plan told circuit bytes.now (circuit_row plan circuit) work).edge
+      (frame_bridges plan told circuit bytes.now (circuit_row plan circuit) work).edge synced
   input_synced (Packet bytes) = learns_synced plan work.edge (packet_input plan told bytes.now work).edge (packet_bridges plan told bytes.now work).edge synced
   input_synced (Circuit circuit on) = circuit_synced circuit on (circuit_row plan circuit)
   input_synced (Wire wire on) = mended_synced (passes plan work.edge.me wire && not (is_same on (work.edge.wire_on wire.0))) (changes (turned_wire wire on) work)

@@ -177,7 +177,8 @@ module _ (plan : Plan) (told : Answers) (R : Work → Work → Type 0) (steps : 
       me = (says_works told any place.peer (withdrawal place.pw_id label content) (changes (withdrawing place) work) refl).edge.me;
     }
 
-  mends_local_walks : (place : EndPlace) (local : LocalPart) (work : Work) → IsEndAt plan work.edge.me place → (end_at work.edge place).local ≡ local → Walks R work (mends_local plan told place local work).work
+  mends_local_walks : (place : EndPlace) (local : LocalPart) (work : Work) → IsEndAt plan work.edge.me place → (end_at work.edge place).local ≡ local
+      → Walks R work (mends_local plan told place local work).work
   mends_local_walks place (Idle true) work here is = walks_not steps work
   mends_local_walks place (Idle false) work here is = advertises_wish_walks place (wish plan work.edge place) work here is refl
   mends_local_walks place (Advertised label content) work here is = withdraws_walks place label content (wish plan work.edge place) work here is refl
@@ -205,7 +206,8 @@ module _ (plan : Plan) (told : Answers) (R : Work → Work → Type 0) (steps : 
     by true same = walks_not steps work
     by false other = record {
       holds = steps.tells_status place label content last work here told_it is other;
-      me = (says_works told any place.peer (status_notification place.pw_id (status_to_tell plan work.edge place) content) (changes (telling_status place (status_to_tell plan work.edge place)) work) refl).edge.me;
+      me = (says_works told any place.peer (status_notification place.pw_id (status_to_tell plan work.edge place) content)
+          (changes (telling_status place (status_to_tell plan work.edge place)) work) refl).edge.me;
     }
 
   mends_status_of_walks : (place : EndPlace) (local : LocalPart) (work : Work) → IsEndAt plan work.edge.me place → (end_at work.edge place).local ≡ local
@@ -219,7 +221,8 @@ module _ (plan : Plan) (told : Answers) (R : Work → Work → Type 0) (steps : 
 
   -- ---- a spoke that was chosen anew tells that addresses have moved
 
-  tells_piece_by_walks : (place : EndPlace) (addresses : List Mac) (local : LocalPart) (work : Work) → (end_at work.edge place).local ≡ local → Walks R work (tells_piece_by told place addresses local work).work
+  tells_piece_by_walks : (place : EndPlace) (addresses : List Mac) (local : LocalPart) (work : Work) → (end_at work.edge place).local ≡ local
+      → Walks R work (tells_piece_by told place addresses local work).work
   tells_piece_by_walks place addresses (Idle declined) work is = walks_not steps work
   tells_piece_by_walks place addresses (Advertised label content) work is = record {
     holds = steps.tells_piece place label content addresses work is;
@@ -250,7 +253,8 @@ module _ (plan : Plan) (told : Answers) (R : Work → Work → Type 0) (steps : 
       → Walks R work (forgets_down plan place down work)
   unfolding changes
   forgets_down_walks place None work here terminal is = walks_not steps work
-  forgets_down_walks place (Some why) work here terminal is = record { holds = steps.forgets_wire place why work here terminal is; me = forgetting_me plan place.wire (wire_row plan place.wire) work.edge }
+  forgets_down_walks place (Some why) work here terminal is =
+      record { holds = steps.forgets_wire place why work here terminal is; me = forgetting_me plan place.wire (wire_row plan place.wire) work.edge }
 
   forgets_downs_walks : (before places : List EndPlace) (work : Work) → end_places plan work.edge.me ≡ before ++ places → Walks R work (forgets_downs plan places work)
   forgets_downs_walks before [] work are = walks_not steps work
@@ -324,7 +328,8 @@ mends_once_holds plan told R steps work = (mends_once_walks plan told R steps wo
 pub mends_holds : (plan : Plan) (told : Answers) (R : Work → Work → Type 0) → MendSteps plan told R → (work : Work) → R work (mends plan told work)
 mends_holds plan told R steps work = (mends_few_walks plan told R steps (suc (length plan.edges)) work).holds
 
-pub tells_piece_holds : (plan : Plan) (told : Answers) (R : Work → Work → Type 0) → MendSteps plan told R → (place : EndPlace) (addresses : List Mac) (work : Work) → R work (tells_piece told place addresses work).work
+pub tells_piece_holds : (plan : Plan) (told : Answers) (R : Work → Work → Type 0) → MendSteps plan told R → (place : EndPlace) (addresses : List Mac) (work : Work)
+    → R work (tells_piece told place addresses work).work
 tells_piece_holds plan told R steps place addresses work = (tells_piece_walks plan told R steps place addresses work).holds
 
 -- ---- an edge hears
@@ -369,7 +374,8 @@ module _ (plan : Plan) (told : Answers) (R : Work → Work → Type 0) (steps : 
   refuses_holds peer fec place binding work there is =
       let gone : Work = changes (with_end_changed (unbound None) (Some place)) work in
       steps.mend.joined work gone (releases_label told peer fec (Some binding.label) gone)
-      (subst (λ (edge : EdgeState). R work (record work { edge = edge })) (named_alone plan peer fec place (unbound None) (group_unbound fec.group) work.edge is) (steps.unbinds peer fec None work there))
+      (subst (λ (edge : EdgeState). R work (record work { edge = edge })) (named_alone plan peer fec place (unbound None) (group_unbound fec.group) work.edge is)
+      (steps.unbinds peer fec None work there))
       (steps.releases peer fec (Some binding.label) gone)
 
   maps_to_holds : (peer : EdgeId) (fec : PwFec) (binding : Binding) (place : Option EndPlace) (work : Work) → has_end work.edge peer ≡ true → end_of_fec plan work.edge peer fec ≡ place
@@ -377,7 +383,8 @@ module _ (plan : Plan) (told : Answers) (R : Work → Work → Type 0) (steps : 
   maps_to_holds peer fec binding None work there is = steps.releases peer fec (Some binding.label) work
   maps_to_holds peer fec binding (Some place) work there is = by (takes_content plan work.edge.me place binding.told) refl where
     by : (b : Bool) → takes_content plan work.edge.me place binding.told ≡ b
-        → R work (cond b (changes (with_end_changed (bound binding) (Some place)) work) (releases_label told peer fec (Some binding.label) (changes (with_end_changed (unbound None) (Some place)) work)))
+        → R work (cond b (changes (with_end_changed (bound binding) (Some place)) work)
+        (releases_label told peer fec (Some binding.label) (changes (with_end_changed (unbound None) (Some place)) work)))
     by true taken = steps.binds peer fec place binding work there is taken
     by false refused = refuses_holds peer fec place binding work there is
 
@@ -668,7 +675,8 @@ module _ (plan : Plan) (told : Answers) (R : Work → Work → Type 0) (steps : 
     by true = verifies_holds place row kind binding payload work
     by false = steps.drops cause.NotOffered work
 
-  by_offer_holds : (row : WirePlan) (place : EndPlace) (binding : Binding) (ttl : ℕ) (cword : Bool) (payload : List ℕ) (work : Work) → R work (by_offer plan told row place binding ttl cword payload work)
+  by_offer_holds : (row : WirePlan) (place : EndPlace) (binding : Binding) (ttl : ℕ) (cword : Bool) (payload : List ℕ) (work : Work)
+      → R work (by_offer plan told row place binding ttl cword payload work)
   by_offer_holds row place binding ttl false payload work = by (nat_eq ttl 1 && is_picked Expiry (channel_under row work.edge.me binding)) where
     by : (b : Bool) → R work (cond b (verifies told place row Expiry binding payload work) (enters plan told row place payload work))
     by true = verifies_holds place row Expiry binding payload work
@@ -701,13 +709,15 @@ module _ (plan : Plan) (told : Answers) (R : Work → Work → Type 0) (steps : 
   owned_holds : (octets : List ℕ) (entry : StackEntry) (place : Option EndPlace) (work : Work) → R work (owned plan told octets entry place work)
   owned_holds octets entry None work = steps.drops cause.NoLabel work
   owned_holds octets entry (Some place) work = by place.terminal where
-    by : (b : Bool) → R work (cond b (terminated plan told place entry.ttl (wire_row plan place.wire) (end_at work.edge place).remote (behind_entry octets) work) (switched plan told octets entry place work))
+    by : (b : Bool) → R work (cond b (terminated plan told place entry.ttl (wire_row plan place.wire) (end_at work.edge place).remote (behind_entry octets) work)
+        (switched plan told octets entry place work))
     by true = terminated_holds place entry.ttl (wire_row plan place.wire) (end_at work.edge place).remote (behind_entry octets) work
     by false = switched_holds octets entry place work
 
   labelled_holds : (octets : List ℕ) (entry : StackEntry) (work : Work) → R work (labelled plan told octets entry work)
   labelled_holds octets entry work = by (nat_lt entry.label least_label) entry.bottom where
-    by : (reserved bottom : Bool) → R work (cond reserved (drops cause.NoLabel work) (cond bottom (owned plan told octets entry (advertiser plan work.edge entry.label) work) (drops cause.NotBottom work)))
+    by : (reserved bottom : Bool) → R work (cond reserved (drops cause.NoLabel work)
+        (cond bottom (owned plan told octets entry (advertiser plan work.edge entry.label) work) (drops cause.NotBottom work)))
     by true bottom = steps.drops cause.NoLabel work
     by false true = owned_holds octets entry (advertiser plan work.edge entry.label) work
     by false false = steps.drops cause.NotBottom work

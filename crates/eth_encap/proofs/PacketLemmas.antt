@@ -19,7 +19,8 @@ use Rattle.std.proofs.Math.Seq.{take-append_seam}
 pub packed_behind : (entry control frame base one rest two : List ℕ) (at count : ℕ) → one ≡ (entry ++ control) ++ drop at base → at ≡ length (entry ++ control)
     → rest ≡ frame ++ drop count (drop at one) → count ≡ length frame → two ≡ take at one ++ rest → two ≡ (entry ++ (control ++ frame)) ++ drop (at + count) base
 packed_behind entry control frame base one rest two at count begun place written counted joined =
-    let front : take at one ≡ entry ++ control = ap (λ (l : List ℕ). take at l) begun ∙ (ap (λ (n : ℕ). take n ((entry ++ control) ++ drop at base)) place ∙ take-append_seam (entry ++ control) (drop at base)) in
+    let front : take at one ≡ entry ++ control = ap (λ (l : List ℕ). take at l) begun
+    ∙ (ap (λ (n : ℕ). take n ((entry ++ control) ++ drop at base)) place ∙ take-append_seam (entry ++ control) (drop at base)) in
     let behind : drop at one ≡ drop at base = ap (λ (l : List ℕ). drop at l) begun ∙ drop-append-drop at base (entry ++ control) at (omega arith) (sym place) in
     let last : drop count (drop at one) ≡ drop (at + count) base = ap (λ (l : List ℕ). drop count l) behind ∙ drop-drop count at base in
     joined ∙ (ap (λ (l : List ℕ). l ++ rest) front
@@ -74,7 +75,8 @@ untested false false false false mtu x frame is = is
 tagged_again : (vlan mtu : ℕ) (frame : List ℕ) → vlan < 4096 → IsInner mtu frame → frame_in true mtu (dress (Some vlan) frame) ≡ Ok frame
 tagged_again vlan mtu frame fits inside =
     let dressed : List ℕ = dress (Some vlan) frame in
-    untested (nat_lt (length dressed) 14) (not (nat_eq (pair_at dressed 12) tag_protocol)) (nat_lt (length dressed) 18) (not (nat_eq (vlan_id_of dressed) vlan)) mtu (take 12 dressed ++ drop 16 dressed) frame
+    untested (nat_lt (length dressed) 14) (not (nat_eq (pair_at dressed 12) tag_protocol)) (nat_lt (length dressed) 18) (not (nat_eq (vlan_id_of dressed) vlan)) mtu
+    (take 12 dressed ++ drop 16 dressed) frame
     (inner-dress (Some vlan) mtu frame fits (record { header = inside.least; room = inside.most }))
 
 raw_again : (mtu : ℕ) (frame : List ℕ) → IsInner mtu frame → frame_in false mtu frame ≡ Ok frame

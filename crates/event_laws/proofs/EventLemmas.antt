@@ -66,10 +66,14 @@ reads plan (Connect from to) number plays names planned ranged =
 reads plan (Deliver from to count) number plays names planned ranged =
     let word : List ℕ = codes "deliver" in
     let rest : List (List ℕ) = edge_name plan from ∷ edge_name plan to ∷ decimal count ∷ [] in
-    let whole : AreWhole (word ∷ rest) = (literal word refl, (edge_whole plan from names planned.0, (edge_whole plan to names planned.1, (decimal_whole count (omega (arith, ranged.0, ranged.1)), tt)))) in
+    let whole : AreWhole (word ∷ rest) = (
+      literal word refl,
+      (edge_whole plan from names planned.0, (edge_whole plan to names planned.1, (decimal_whole count (omega (arith, ranged.0, ranged.1)), tt))),
+    ) in
     let said2 = said_is (place_in (edge_names plan.edges)) number 2 (joined_words (word ∷ rest)) (edge_name plan from) from.0 (word_is 2 word rest whole) (edge_said plan from names planned.0) in
     let said3 = said_is (place_in (edge_names plan.edges)) number 3 (joined_words (word ∷ rest)) (edge_name plan to) to.0 (word_is 3 word rest whole) (edge_said plan to names planned.1) in
-    let said4 = said_is (decimal_from 1 65535) number 4 (joined_words (word ∷ rest)) (decimal count) count (word_is 4 word rest whole) (number_said 1 65535 count (omega (arith, ranged.0, ranged.1)) (omega (arith, ranged.0, ranged.1)) (omega (arith, ranged.0, ranged.1))) in
+    let said4 = said_is (decimal_from 1 65535) number 4 (joined_words (word ∷ rest)) (decimal count) count (word_is 4 word rest whole)
+    (number_said 1 65535 count (omega (arith, ranged.0, ranged.1)) (omega (arith, ranged.0, ranged.1)) (omega (arith, ranged.0, ranged.1))) in
     let ends5 = ends_is number 5 (joined_words (word ∷ rest)) (word_is 5 word rest whole) in
     by_word (names_of plan) number plays word rest (One (Deliver from to count)) whole.0 (rw (said2, said3, said4, ends5) refl)
 reads plan (Lose edge peer) number plays names planned ranged =
@@ -96,7 +100,8 @@ reads plan (Frame circuit octets) number plays names planned ranged =
     let word : List ℕ = codes "frame" in
     let rest : List (List ℕ) = circuit_name plan circuit ∷ hex octets ∷ [] in
     let whole : AreWhole (word ∷ rest) = (literal word refl, (circuit_whole plan circuit names planned.0, (octets_whole octets ranged.each, tt))) in
-    let said2 = said_is (place_in (circuit_names plan.circuits)) number 2 (joined_words (word ∷ rest)) (circuit_name plan circuit) circuit.0 (word_is 2 word rest whole) (circuit_said plan circuit names planned.0) in
+    let said2 = said_is (place_in (circuit_names plan.circuits)) number 2 (joined_words (word ∷ rest)) (circuit_name plan circuit) circuit.0 (word_is 2 word rest whole)
+    (circuit_said plan circuit names planned.0) in
     let said3 = said_is frame_of number 3 (joined_words (word ∷ rest)) (hex octets) octets (word_is 3 word rest whole) (frame_said octets ranged) in
     let ends4 = ends_is number 4 (joined_words (word ∷ rest)) (word_is 4 word rest whole) in
     by_word (names_of plan) number plays word rest (One (Frame circuit octets)) whole.0 (rw (said2, said3, ends4) refl)
@@ -104,21 +109,24 @@ reads plan (Arrive packet) number plays names planned ranged =
     let word : List ℕ = codes "arrive" in
     let rest : List (List ℕ) = decimal packet ∷ [] in
     let whole : AreWhole (word ∷ rest) = (literal word refl, (decimal_whole packet (omega (arith, ranged.0, ranged.1)), tt)) in
-    let said2 = said_is (decimal_from 1 (2 ^ 64 - 1)) number 2 (joined_words (word ∷ rest)) (decimal packet) packet (word_is 2 word rest whole) (number_said 1 (2 ^ 64 - 1) packet (omega (arith, ranged.0, ranged.1)) (omega (arith, ranged.0, ranged.1)) (omega (arith, ranged.0, ranged.1))) in
+    let said2 = said_is (decimal_from 1 (2 ^ 64 - 1)) number 2 (joined_words (word ∷ rest)) (decimal packet) packet (word_is 2 word rest whole)
+    (number_said 1 (2 ^ 64 - 1) packet (omega (arith, ranged.0, ranged.1)) (omega (arith, ranged.0, ranged.1)) (omega (arith, ranged.0, ranged.1))) in
     let ends3 = ends_is number 3 (joined_words (word ∷ rest)) (word_is 3 word rest whole) in
     by_word (names_of plan) number plays word rest (One (Arrive packet)) whole.0 (rw (said2, ends3) refl)
 reads plan (Discard packet) number plays names planned ranged =
     let word : List ℕ = codes "drop" in
     let rest : List (List ℕ) = decimal packet ∷ [] in
     let whole : AreWhole (word ∷ rest) = (literal word refl, (decimal_whole packet (omega (arith, ranged.0, ranged.1)), tt)) in
-    let said2 = said_is (decimal_from 1 (2 ^ 64 - 1)) number 2 (joined_words (word ∷ rest)) (decimal packet) packet (word_is 2 word rest whole) (number_said 1 (2 ^ 64 - 1) packet (omega (arith, ranged.0, ranged.1)) (omega (arith, ranged.0, ranged.1)) (omega (arith, ranged.0, ranged.1))) in
+    let said2 = said_is (decimal_from 1 (2 ^ 64 - 1)) number 2 (joined_words (word ∷ rest)) (decimal packet) packet (word_is 2 word rest whole)
+    (number_said 1 (2 ^ 64 - 1) packet (omega (arith, ranged.0, ranged.1)) (omega (arith, ranged.0, ranged.1)) (omega (arith, ranged.0, ranged.1))) in
     let ends3 = ends_is number 3 (joined_words (word ∷ rest)) (word_is 3 word rest whole) in
     by_word (names_of plan) number plays word rest (One (Discard packet)) whole.0 (rw (said2, ends3) refl)
 reads plan (Again packet) number plays names planned ranged =
     let word : List ℕ = codes "again" in
     let rest : List (List ℕ) = decimal packet ∷ [] in
     let whole : AreWhole (word ∷ rest) = (literal word refl, (decimal_whole packet (omega (arith, ranged.0, ranged.1)), tt)) in
-    let said2 = said_is (decimal_from 1 (2 ^ 64 - 1)) number 2 (joined_words (word ∷ rest)) (decimal packet) packet (word_is 2 word rest whole) (number_said 1 (2 ^ 64 - 1) packet (omega (arith, ranged.0, ranged.1)) (omega (arith, ranged.0, ranged.1)) (omega (arith, ranged.0, ranged.1))) in
+    let said2 = said_is (decimal_from 1 (2 ^ 64 - 1)) number 2 (joined_words (word ∷ rest)) (decimal packet) packet (word_is 2 word rest whole)
+    (number_said 1 (2 ^ 64 - 1) packet (omega (arith, ranged.0, ranged.1)) (omega (arith, ranged.0, ranged.1)) (omega (arith, ranged.0, ranged.1))) in
     let ends3 = ends_is number 3 (joined_words (word ∷ rest)) (word_is 3 word rest whole) in
     by_word (names_of plan) number plays word rest (One (Again packet)) whole.0 (rw (said2, ends3) refl)
 reads plan (Wire edge wire on) number plays names planned ranged =
@@ -134,7 +142,8 @@ reads plan (Circuit circuit on) number plays names planned ranged =
     let word : List ℕ = codes "circuit" in
     let rest : List (List ℕ) = circuit_name plan circuit ∷ switch_name on ∷ [] in
     let whole : AreWhole (word ∷ rest) = (literal word refl, (circuit_whole plan circuit names planned, (switch_whole on, tt))) in
-    let said2 = said_is (place_in (circuit_names plan.circuits)) number 2 (joined_words (word ∷ rest)) (circuit_name plan circuit) circuit.0 (word_is 2 word rest whole) (circuit_said plan circuit names planned) in
+    let said2 = said_is (place_in (circuit_names plan.circuits)) number 2 (joined_words (word ∷ rest)) (circuit_name plan circuit) circuit.0 (word_is 2 word rest whole)
+    (circuit_said plan circuit names planned) in
     let said3 = said_is switch_of number 3 (joined_words (word ∷ rest)) (switch_name on) on (word_is 3 word rest whole) (switch_said on) in
     let ends4 = ends_is number 4 (joined_words (word ∷ rest)) (word_is 4 word rest whole) in
     by_word (names_of plan) number plays word rest (One (Circuit circuit on)) whole.0 (rw (said2, said3, ends4) refl)
@@ -144,7 +153,8 @@ reads plan (Status edge wire bits) number plays names planned ranged =
     let whole : AreWhole (word ∷ rest) = (literal word refl, (edge_whole plan edge names planned.0, (wire_whole plan wire names planned.1, (decimal_whole bits (omega (arith, planned.2)), tt)))) in
     let said2 = said_is (place_in (edge_names plan.edges)) number 2 (joined_words (word ∷ rest)) (edge_name plan edge) edge.0 (word_is 2 word rest whole) (edge_said plan edge names planned.0) in
     let said3 = said_is (place_in (wire_names plan.wires)) number 3 (joined_words (word ∷ rest)) (wire_name plan wire) wire.0 (word_is 3 word rest whole) (wire_said plan wire names planned.1) in
-    let said4 = said_is (decimal_from 0 31) number 4 (joined_words (word ∷ rest)) (decimal bits) bits (word_is 4 word rest whole) (number_said 0 31 bits (omega (arith, planned.2)) (omega (arith, planned.2)) (omega (arith, planned.2))) in
+    let said4 = said_is (decimal_from 0 31) number 4 (joined_words (word ∷ rest)) (decimal bits) bits (word_is 4 word rest whole)
+    (number_said 0 31 bits (omega (arith, planned.2)) (omega (arith, planned.2)) (omega (arith, planned.2))) in
     let ends5 = ends_is number 5 (joined_words (word ∷ rest)) (word_is 5 word rest whole) in
     by_word (names_of plan) number plays word rest (One (Status edge wire bits)) whole.0 (rw (said2, said3, said4, ends5) refl)
 reads plan (Priority edge wire priority) number plays names planned ranged =
@@ -153,7 +163,8 @@ reads plan (Priority edge wire priority) number plays names planned ranged =
     let whole : AreWhole (word ∷ rest) = (literal word refl, (edge_whole plan edge names planned.0, (wire_whole plan wire names planned.1, (decimal_whole priority (omega (arith, ranged)), tt)))) in
     let said2 = said_is (place_in (edge_names plan.edges)) number 2 (joined_words (word ∷ rest)) (edge_name plan edge) edge.0 (word_is 2 word rest whole) (edge_said plan edge names planned.0) in
     let said3 = said_is (place_in (wire_names plan.wires)) number 3 (joined_words (word ∷ rest)) (wire_name plan wire) wire.0 (word_is 3 word rest whole) (wire_said plan wire names planned.1) in
-    let said4 = said_is (decimal_from 0 255) number 4 (joined_words (word ∷ rest)) (decimal priority) priority (word_is 4 word rest whole) (number_said 0 255 priority (omega (arith, ranged)) (omega (arith, ranged)) (omega (arith, ranged))) in
+    let said4 = said_is (decimal_from 0 255) number 4 (joined_words (word ∷ rest)) (decimal priority) priority (word_is 4 word rest whole)
+    (number_said 0 255 priority (omega (arith, ranged)) (omega (arith, ranged)) (omega (arith, ranged))) in
     let ends5 = ends_is number 5 (joined_words (word ∷ rest)) (word_is 5 word rest whole) in
     by_word (names_of plan) number plays word rest (One (Priority edge wire priority)) whole.0 (rw (said2, said3, said4, ends5) refl)
 reads plan (Ping edge wire) number plays names planned ranged =

@@ -62,7 +62,8 @@ unfolding word_at
 word_is number word words whole = word_of (number - 1) word words whole
 
 -- what a word says that is there
-pub said_is : {A : Type 0} (reader : List ℕ → Option A) (event number : ℕ) (text word : List ℕ) (value : A) → word_at number text ≡ Some word → reader word ≡ Some value → said_word reader event number text ≡ Ok value
+pub said_is : {A : Type 0} (reader : List ℕ → Option A) (event number : ℕ) (text word : List ℕ) (value : A) → word_at number text ≡ Some word → reader word ≡ Some value
+    → said_word reader event number text ≡ Ok value
 said_is reader event number text word value at reads = rw (at, reads) refl
 
 -- no word of this number

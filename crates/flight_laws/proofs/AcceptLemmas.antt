@@ -38,7 +38,8 @@ use Rattle.flight_laws.proofs.PlanLemmas.{addresses_apart, both_in}
 -- ---- what is passed on
 
 -- the other side of `from` at a switching point is `to`: what it holds of `from`, with its point, is what it should tell `to`
-pub wanted_tells : (plan : Plan) (row : WirePlan) (me from to : EdgeId) (content : Told) → has_repeat row.path ≡ false → mate_on row.path me.0 from.0 ≡ Some to → TellsExpected plan row from.0 me.0 content
+pub wanted_tells : (plan : Plan) (row : WirePlan) (me from to : EdgeId) (content : Told) → has_repeat row.path ≡ false → mate_on row.path me.0 from.0 ≡ Some to
+    → TellsExpected plan row from.0 me.0 content
     → TellsExpected plan row me.0 to.0 (past_point (own_point row.pw_id (edge_address plan me) (edge_address plan from)) content)
 wanted_tells plan row me from to content once is tells = record {
   content = same;
@@ -83,7 +84,8 @@ module _ (plan : Plan) (checked : IsChecked plan) (me : EdgeId) (own : EdgePlan)
     turned a b h = grind (arith, nat_tests)
 
   -- a way of other edges has no point with the own address
-  none_own : (row : WirePlan) (before : EdgeId) (way : List EdgeId) → list_all (λ (e : EdgeId). not (e.0 == me.0)) way ≡ true → list_any (is_point_at own.address) (map point_of (points_on plan row (before ∷ way))) ≡ false
+  none_own : (row : WirePlan) (before : EdgeId) (way : List EdgeId) → list_all (λ (e : EdgeId). not (e.0 == me.0)) way ≡ true
+      → list_any (is_point_at own.address) (map point_of (points_on plan row (before ∷ way))) ≡ false
   none_own row before [] all = refl
   none_own row before (point ∷ way) all =
       let parts = and_parts (not (point.0 == me.0)) (list_all (λ (e : EdgeId). not (e.0 == me.0)) way) all in
@@ -96,7 +98,8 @@ module _ (plan : Plan) (checked : IsChecked plan) (me : EdgeId) (own : EdgePlan)
   points_clear row [] all = refl
   points_clear row (before ∷ way) all = none_own row before way (second_holds (not (before.0 == me.0)) (list_all (λ (e : EdgeId). not (e.0 == me.0)) way) all)
 
-  accepts_expected : (row : WirePlan) (from to : EdgeId) (content : Told) → IsWireOf plan row → mate_on row.path me.0 from.0 ≡ Some to → TellsExpected plan row from.0 me.0 content → accepts own.address content ≡ true
+  accepts_expected : (row : WirePlan) (from to : EdgeId) (content : Told) → IsWireOf plan row → mate_on row.path me.0 from.0 ≡ Some to → TellsExpected plan row from.0 me.0 content
+      → accepts own.address content ≡ true
   accepts_expected row from to content wire is tells =
       ap (accepts own.address) tells.content ∙ all (clear (mate_passes row.path me.0 from.0 to is)) (few (points_heard plan row me from to wire.once wire.most is))
     where
@@ -116,7 +119,8 @@ module _ (plan : Plan) (checked : IsChecked plan) (me : EdgeId) (own : EdgePlan)
 -- ---- what an end takes
 
 -- an edge on a path has a row in the plan
-pub row_there : (plan : Plan) (me peer : EdgeId) (row : WirePlan) → IsWireOf plan row → joins me.0 peer.0 row.path ≡ true → {P : Type 0} → ((own : EdgePlan) → slice_get plan.edges me.0 ≡ Some own → P) → P
+pub row_there : (plan : Plan) (me peer : EdgeId) (row : WirePlan) → IsWireOf plan row → joins me.0 peer.0 row.path ≡ true → {P : Type 0}
+    → ((own : EdgePlan) → slice_get plan.edges me.0 ≡ Some own → P) → P
 row_there plan me peer row wire joined {P} follows_it = by (slice_get plan.edges me.0) refl where
   within : nat_lt me.0 (length plan.edges) ≡ true
   within = (both_in plan row.path me.0 peer.0 wire.edges joined).0
@@ -130,13 +134,16 @@ row_there plan me peer row wire joined {P} follows_it = by (slice_get plan.edges
   by (Some own) is = follows_it own is
 
 -- where the edge has not the wire's end, it has another side
-pub passes_to : (plan : Plan) (me : EdgeId) (place : EndPlace) → IsChecked plan → (is : IsEndOf plan me place) → place.terminal ≡ false → (to : EdgeId) × (mate_on is.row.path me.0 place.peer.0 ≡ Some to)
+pub passes_to : (plan : Plan) (me : EdgeId) (place : EndPlace) → IsChecked plan → (is : IsEndOf plan me place) → place.terminal ≡ false → (to : EdgeId)
+    × (mate_on is.row.path me.0 place.peer.0 ≡ Some to)
 passes_to plan me place checked is passes =
     let apart = or_parts (is_first me.0 is.row.path) (is_last me.0 is.row.path) (sym is.terminal ∙ passes) in
-    has_mate is.row.path place.peer me (row_holds (IsWireOf plan) plan.wires place.wire.0 is.row is.is checked.wires).once (sym (joins_turned is.row.path me.0 place.peer.0) ∙ is.joined) apart.0 apart.1
+    has_mate is.row.path place.peer me (row_holds (IsWireOf plan) plan.wires place.wire.0 is.row is.is checked.wires).once
+    (sym (joins_turned is.row.path me.0 place.peer.0) ∙ is.joined) apart.0 apart.1
 
 -- an end takes what it is expected to hear
-pub takes_expected : (plan : Plan) (me : EdgeId) (place : EndPlace) (content : Told) → IsChecked plan → (is : IsEndOf plan me place) → TellsExpected plan is.row place.peer.0 me.0 content → takes_content plan me place content ≡ true
+pub takes_expected : (plan : Plan) (me : EdgeId) (place : EndPlace) (content : Told) → IsChecked plan → (is : IsEndOf plan me place)
+    → TellsExpected plan is.row place.peer.0 me.0 content → takes_content plan me place content ≡ true
 takes_expected plan me place content checked is tells = by place.terminal refl where
   wire : IsWireOf plan is.row
   wire = row_holds (IsWireOf plan) plan.wires place.wire.0 is.row is.is checked.wires
@@ -145,14 +152,16 @@ takes_expected plan me place content checked is tells = by place.terminal refl w
   accepted passes =
       let mated = passes_to plan me place checked is passes in
       row_there plan me place.peer is.row wire is.joined {P = accepts_at (edge_address plan me) content ≡ true}
-      (λ own own_is. ap (λ (o : Option EdgePlan). accepts_at (option_map (λ (r : EdgePlan). r.address) o) content) own_is ∙ accepts_expected plan checked me own own_is is.row place.peer mated.0 content wire mated.1 tells)
+      (λ own own_is. ap (λ (o : Option EdgePlan). accepts_at (option_map (λ (r : EdgePlan). r.address) o) content) own_is
+      ∙ accepts_expected plan checked me own own_is is.row place.peer mated.0 content wire mated.1 tells)
 
   by : (terminal : Bool) → place.terminal ≡ terminal → terminal || accepts_at (edge_address plan me) content ≡ true
   by true is_end = refl
   by false passes = accepted passes
 
 -- the end that the FEC of a planned mapping names takes what the mapping tells
-pub takes_told : (plan : Plan) (me peer : EdgeId) (fec : PwFec) (place : EndPlace) (content : Told) → IsChecked plan → TellsOfWire plan peer.0 me.0 fec content → option_and_then (end_named plan me peer) fec.pw_id ≡ Some place
+pub takes_told : (plan : Plan) (me peer : EdgeId) (fec : PwFec) (place : EndPlace) (content : Told) → IsChecked plan → TellsOfWire plan peer.0 me.0 fec content
+    → option_and_then (end_named plan me peer) fec.pw_id ≡ Some place
     → takes_content plan me place content ≡ true
 takes_told plan me peer fec place content checked tells found =
     let near : NamedEnd plan me peer tells.wire tells.row = end_of plan me peer tells.wire tells.row checked tells.is (sym (joins_turned tells.row.path peer.0 me.0) ∙ tells.joined) in

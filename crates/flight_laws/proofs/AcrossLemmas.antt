@@ -103,7 +103,8 @@ module _ (plan : Plan) (checked : IsChecked plan) (me from to : EdgeId) (wire : 
   statuses = (find_holds (λ (p : EndPlace). is_told plan edge p ≡ true) (is_named to row.pw_id) (end_places plan me) near.place mended.statuses near.named).holds
 
   -- what it should tell, by what it holds on the other side
-  wish_is : wish plan edge near.place ≡ cond (edge.wire_on wire.0 && is_up_with (edge.peering to.0)) (wanted (own_point row.pw_id (edge_address plan me) (edge_address plan from)) (edge.ends wire.0 from.0).remote) None
+  wish_is : wish plan edge near.place ≡ cond (edge.wire_on wire.0 && is_up_with (edge.peering to.0))
+      (wanted (own_point row.pw_id (edge_address plan me) (edge_address plan from)) (edge.ends wire.0 from.0).remote) None
   wish_is =
       ap (wish_of plan edge near.place) place_row
       ∙ (ap (λ (w : WireId). cond (edge.wire_on w.0 && is_up_with (edge.peering near.place.peer.0)) (wish_by plan edge near.place row) None) near.wire_is
@@ -162,7 +163,8 @@ module _ (plan : Plan) (checked : IsChecked plan) (me from to : EdgeId) (wire : 
     pub passes_on : PassesOn plan me from to wire row edge content
     passes_on = by_held (edge.ends wire.0 from.0).remote refl (edge.wire_on wire.0) (is_up_with (edge.peering to.0)) refl refl (ap (stands near.place content) (sym wish_is) ∙ still)
 
-  none_left : (binding : Binding) → (edge.ends wire.0 from.0).remote ≡ Some binding → edge.wire_on wire.0 ≡ true → is_up_with (edge.peering to.0) ≡ true → (edge.ends wire.0 to.0).local ≡ Idle false → label_to_give edge ≡ None
+  none_left : (binding : Binding) → (edge.ends wire.0 from.0).remote ≡ Some binding → edge.wire_on wire.0 ≡ true → is_up_with (edge.peering to.0) ≡ true → (edge.ends wire.0 to.0).local
+      ≡ Idle false → label_to_give edge ≡ None
   none_left binding held on up idle = none_of (label_to_give edge) (rw (local_is, wished) at ends) where
     none_of : (r : Option ℕ) → not (is_some r) ≡ true → r ≡ None
     none_of None is = refl
@@ -184,10 +186,15 @@ runs_tell_across plan events run me from to wire row is mated =
     tells_across plan run.checked me from to wire row is mated ((network_after plan events).edges me.0) (run_mended_at plan events run me.0) ((run_ruled plan events run).edges me.0).tells
 
 taken : (plan : Plan) (from to : ℕ) → IsChecked plan → (m : Message) → TellsPlan plan from to m → IsTaken plan to from m
-taken plan from to checked (LabelMapping id fec label status points) tells = λ place named. takes_told plan (record { 0 = to }) (record { 0 = from }) fec place (told_with fec status points) checked tells named
+taken plan from to checked (LabelMapping id fec label status points) tells =
+    λ place named. takes_told plan (record { 0 = to }) (record { 0 = from }) fec place (told_with fec status points) checked tells named
 taken plan from to checked m tells = tt
 
 pub runs_take_mappings : RunsTakeMappings
 runs_take_mappings plan events run from to apart =
     let contents : TellsContents plan (network_after plan events) from to = runs_keep_told_rule plan events run from to apart in
-    record { messages = contents.messages; on_way = contents.on_way; taken = all_kept (TellsPlan plan from to) (IsTaken plan to from) contents.messages (taken plan from to run.checked) contents.planned.told }
+    record {
+      messages = contents.messages;
+      on_way = contents.on_way;
+      taken = all_kept (TellsPlan plan from to) (IsTaken plan to from) contents.messages (taken plan from to run.checked) contents.planned.told;
+    }

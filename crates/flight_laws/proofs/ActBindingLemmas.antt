@@ -49,7 +49,8 @@ use Rattle.flight_laws.proofs.ActLemmas.{writable_kind}
 -- ---- for the sender
 
 -- the edge is changed, and nothing is said
-heard_leaves : (plan : Plan) (me peer : EdgeId) (far : EdgeState) (out : List ℕ) (m : Message) (messages : List Message) (change : EdgeState → EdgeState) (work : Work) → ((pw_id label : ℕ) → is_withdrawal_of pw_id label m ≡ false)
+heard_leaves : (plan : Plan) (me peer : EdgeId) (far : EdgeState) (out : List ℕ) (m : Message) (messages : List Message) (change : EdgeState → EdgeState) (work : Work)
+    → ((pw_id label : ℕ) → is_withdrawal_of pw_id label m ≡ false)
     → (change work.edge).peering ≡ work.edge.peering → HearsAs plan me peer m work.edge (change work.edge)
     → LeavesBound plan me peer.0 far out (m ∷ messages) work → LeavesBound plan me peer.0 far out messages (changes change work)
 heard_leaves plan me peer far out m messages change work none same hears leaves = record {
@@ -60,7 +61,8 @@ heard_leaves plan me peer far out m messages change work none same hears leaves 
 }
 
 -- the same where nothing changes
-pub unchanged_leaves : (plan : Plan) (me peer : EdgeId) (far : EdgeState) (out : List ℕ) (m : Message) (messages : List Message) (work : Work) → ((pw_id label : ℕ) → is_withdrawal_of pw_id label m ≡ false)
+pub unchanged_leaves : (plan : Plan) (me peer : EdgeId) (far : EdgeState) (out : List ℕ) (m : Message) (messages : List Message) (work : Work)
+    → ((pw_id label : ℕ) → is_withdrawal_of pw_id label m ≡ false)
     → HearsAs plan me peer m work.edge work.edge → LeavesBound plan me peer.0 far out (m ∷ messages) work → LeavesBound plan me peer.0 far out messages work
 unchanged_leaves plan me peer far out m messages work none hears leaves = record {
   bound = λ ms are is near other. bound_hears plan me peer m work.edge work.edge far ms messages none hears (leaves.bound ms are is near other);
@@ -75,7 +77,8 @@ released_leaves plan me peer far out before after fec label change kept work has
     leaves_spoken plan me peer far out before after kept (release fec label) work (changes change work) (says taken_all peer (release fec label) (changes change work)).work has at
     (of_wires.said (ends_at plan me.0 peer.0) kept.next_id standing.numbered) (changed_said change work peer.0)
     (says_spoken peer kept (release fec label) (changes change work) (ap (λ (e : EdgeState). e.peering peer.0) (changed_edge change work) ∙ (ap (λ (f : ℕ → Option Peering). f peer.0) same ∙ at)))
-    (λ is. subst (λ (e : EdgeState). AreBound plan me.0 peer.0 e far (has.messages ++ release fec label kept.next_id ∷ []) after) (sym (changed_edge change work)) (follows kept.next_id has.messages is)) leaves
+    (λ is. subst (λ (e : EdgeState). AreBound plan me.0 peer.0 e far (has.messages ++ release fec label kept.next_id ∷ []) after) (sym (changed_edge change work))
+    (follows kept.next_id has.messages is)) leaves
   where
     standing : IsStanding (ends_at plan me.0 peer.0) (ends_at plan peer.0 me.0) kept
     standing = rw at at has.talk.here
@@ -97,26 +100,31 @@ unfolding with_ends_beside with_kept
 beside_peering peer change edge = refl
 
 module _ (plan : Plan) (peer : EdgeId) (checked : IsChecked plan) (far : EdgeState) (out : List ℕ) (messages : List Message) (kept : Peering) (work : Work) (has : HasSaid plan work.edge.me peer.0 far out work) (at : work.edge.peering peer.0 ≡ Some kept) where
-  mapping_leaves : (id : ℕ) (fec : PwFec) (label : ℕ) (status : Option PwStatus) (points : List Point) → IsSound (LabelMapping id fec label status points) → TellsOfWire plan peer.0 work.edge.me.0 fec (told_with fec status points)
+  mapping_leaves : (id : ℕ) (fec : PwFec) (label : ℕ) (status : Option PwStatus) (points : List Point) → IsSound (LabelMapping id fec label status points)
+      → TellsOfWire plan peer.0 work.edge.me.0 fec (told_with fec status points)
       → LeavesBound plan work.edge.me peer.0 far out (LabelMapping id fec label status points ∷ messages) work
       → LeavesBound plan work.edge.me peer.0 far out messages (hears_mapping plan taken_all peer fec label status points work)
   mapping_leaves id fec label status points sound tells leaves = by_place (end_of_fec plan work.edge peer fec) refl where
-    by_place : (found : Option EndPlace) → end_of_fec plan work.edge peer fec ≡ found → LeavesBound plan work.edge.me peer.0 far out messages (maps_to plan taken_all peer fec (binding_in fec label status points) found work)
+    by_place : (found : Option EndPlace) → end_of_fec plan work.edge peer fec ≡ found
+        → LeavesBound plan work.edge.me peer.0 far out messages (maps_to plan taken_all peer fec (binding_in fec label status points) found work)
     by_place None none =
         release_leaves plan work.edge.me peer far out (LabelMapping id fec label status points ∷ messages) messages fec (Some label) kept work has at
         (release_is fec (Some label) (writable_kind fec (second_holds (is_some fec.pw_id) (writable_fec fec) sound.1)) sound.0.1.group sound.0.1.pw_id sound.0.2)
         (λ id2 ms is. bound_hears_unknown plan work.edge.me peer id id2 fec label status points work.edge far ms messages (mapping_unknown plan peer id fec label status points work.edge checked none)
         (unknown_released plan peer fec label work.edge checked none) is) leaves
-    by_place (Some place) named = subst (λ (b : Bool). LeavesBound plan work.edge.me peer.0 far out messages (cond b (changes (with_end_changed (bound (binding_in fec label status points)) (Some place)) work)
+    by_place (Some place) named = subst (λ (b : Bool). LeavesBound plan work.edge.me peer.0 far out messages
+        (cond b (changes (with_end_changed (bound (binding_in fec label status points)) (Some place)) work)
         (releases_label taken_all peer fec (Some label) (changes (with_end_changed (unbound None) (Some place)) work))))
         (sym (takes_told plan work.edge.me peer fec place (told_with fec status points) checked tells named))
-        (heard_leaves plan work.edge.me peer far out (LabelMapping id fec label status points) messages (with_end_changed (bound (binding_in fec label status points)) (Some place)) work (λ pw_id own. refl)
+        (heard_leaves plan work.edge.me peer far out (LabelMapping id fec label status points) messages
+        (with_end_changed (bound (binding_in fec label status points)) (Some place)) work (λ pw_id own. refl)
         (changed_keeps (bound (binding_in fec label status points)) (Some place) work.edge) (mapping_known plan peer id fec label status points place work.edge checked named) leaves)
 
   withdraw_leaves : (id : ℕ) (fec : PwFec) (label : Option ℕ) → IsSound (LabelWithdraw id fec label) → LeavesBound plan work.edge.me peer.0 far out (LabelWithdraw id fec label ∷ messages) work
       → LeavesBound plan work.edge.me peer.0 far out messages (hears_withdraw plan taken_all peer fec label work)
   withdraw_leaves id fec label sound leaves =
-      released_leaves plan work.edge.me peer far out (LabelWithdraw id fec label ∷ messages) messages fec label (with_named plan peer fec (unbound label) (group_unbound fec.group) fec.pw_id) kept work has at
+      released_leaves plan work.edge.me peer far out (LabelWithdraw id fec label ∷ messages) messages fec label
+      (with_named plan peer fec (unbound label) (group_unbound fec.group) fec.pw_id) kept work has at
       (named_keeps plan peer fec (unbound label) (group_unbound fec.group) fec.pw_id work.edge)
       (release_is fec label (writable_kind fec sound.1) sound.0.1.group sound.0.1.pw_id sound.0.2)
       (λ id2 ms is. bound_hears_withdrawal plan work.edge.me peer id id2 fec label work.edge (with_named plan peer fec (unbound label) (group_unbound fec.group) fec.pw_id work.edge) far ms messages
@@ -125,20 +133,28 @@ module _ (plan : Plan) (peer : EdgeId) (checked : IsChecked plan) (far : EdgeSta
   status_leaves : (id : ℕ) (code : StatusCode) (status : Option PwStatus) (fec : Option PwFec) → LeavesBound plan work.edge.me peer.0 far out (Notification id code status fec ∷ messages) work
       → LeavesBound plan work.edge.me peer.0 far out messages (hears_status plan peer code status fec work)
   status_leaves id code None fec leaves =
-      unchanged_leaves plan work.edge.me peer far out (Notification id code None fec) messages work (λ pw_id own. refl) (record { label = λ label given. given; local = λ wire row is joined. refl; remote = λ wire row next near is joined alone. refl }) leaves
+      unchanged_leaves plan work.edge.me peer far out (Notification id code None fec) messages work (λ pw_id own. refl)
+      (record { label = λ label given. given; local = λ wire row is joined. refl; remote = λ wire row next near is joined alone. refl }) leaves
   status_leaves id code (Some status) None leaves =
-      unchanged_leaves plan work.edge.me peer far out (Notification id code (Some status) None) messages work (λ pw_id own. refl) (record { label = λ label given. given; local = λ wire row is joined. refl; remote = λ wire row next near is joined alone. refl }) leaves
+      unchanged_leaves plan work.edge.me peer far out (Notification id code (Some status) None) messages work (λ pw_id own. refl)
+      (record { label = λ label given. given; local = λ wire row is joined. refl; remote = λ wire row next near is joined alone. refl }) leaves
   status_leaves id code (Some status) (Some fec) leaves = by_code (nat_eq code.code pw_status_code) refl where
-    by_code : (b : Bool) → nat_eq code.code pw_status_code ≡ b → LeavesBound plan work.edge.me peer.0 far out messages (cond b (changes (with_named plan peer fec (stated status) (group_stated fec.group status) fec.pw_id) work) work)
-    by_code true right = heard_leaves plan work.edge.me peer far out (Notification id code (Some status) (Some fec)) messages (with_named plan peer fec (stated status) (group_stated fec.group status) fec.pw_id) work (λ pw_id own. refl)
+    by_code : (b : Bool) → nat_eq code.code pw_status_code ≡ b
+        → LeavesBound plan work.edge.me peer.0 far out messages (cond b (changes (with_named plan peer fec (stated status) (group_stated fec.group status) fec.pw_id) work) work)
+    by_code true right = heard_leaves plan work.edge.me peer far out (Notification id code (Some status) (Some fec)) messages
+        (with_named plan peer fec (stated status) (group_stated fec.group status) fec.pw_id) work (λ pw_id own. refl)
         (named_keeps plan peer fec (stated status) (group_stated fec.group status) fec.pw_id work.edge) (status_heard_as plan peer id code status fec work.edge checked right) leaves
-    by_code false wrong = unchanged_leaves plan work.edge.me peer far out (Notification id code (Some status) (Some fec)) messages work (λ pw_id own. refl) (other_code plan peer id code status fec work.edge wrong) leaves
+    by_code false wrong = unchanged_leaves plan work.edge.me peer far out (Notification id code (Some status) (Some fec)) messages work (λ pw_id own. refl)
+        (other_code plan peer id code status fec work.edge wrong) leaves
 
-  pub acts_leaves : (m : Message) (other : Peers) → IsSaid other m → withdraws_addresses m ≡ false → TellsPlan plan peer.0 work.edge.me.0 m → LeavesBound plan work.edge.me peer.0 far out (m ∷ messages) work → LeavesBound plan work.edge.me peer.0 far out messages (acts_on plan taken_all peer m work)
+  pub acts_leaves : (m : Message) (other : Peers) → IsSaid other m → withdraws_addresses m ≡ false → TellsPlan plan peer.0 work.edge.me.0 m
+      → LeavesBound plan work.edge.me peer.0 far out (m ∷ messages) work → LeavesBound plan work.edge.me peer.0 far out messages (acts_on plan taken_all peer m work)
   acts_leaves (Initialization id params) other said plain tells leaves =
-      unchanged_leaves plan work.edge.me peer far out (Initialization id params) messages work (λ pw_id own. refl) (record { label = λ label given. given; local = λ wire row is joined. refl; remote = λ wire row next near is joined alone. refl }) leaves
+      unchanged_leaves plan work.edge.me peer far out (Initialization id params) messages work (λ pw_id own. refl)
+      (record { label = λ label given. given; local = λ wire row is joined. refl; remote = λ wire row next near is joined alone. refl }) leaves
   acts_leaves (KeepAlive id) other said plain tells leaves =
-      unchanged_leaves plan work.edge.me peer far out (KeepAlive id) messages work (λ pw_id own. refl) (record { label = λ label given. given; local = λ wire row is joined. refl; remote = λ wire row next near is joined alone. refl }) leaves
+      unchanged_leaves plan work.edge.me peer far out (KeepAlive id) messages work (λ pw_id own. refl)
+      (record { label = λ label given. given; local = λ wire row is joined. refl; remote = λ wire row next near is joined alone. refl }) leaves
   acts_leaves (Notification id code status fec) other said plain tells leaves = status_leaves id code status fec leaves
   acts_leaves (AddressWithdraw id addresses fec macs) other said plain tells leaves = clash (sym plain)
   acts_leaves (LabelMapping id fec label status points) other said plain tells leaves = mapping_leaves id fec label status points said tells leaves
@@ -155,8 +171,10 @@ pub record SparesWires (place : ℕ) (old new : Work) : Type 0 where
   pub spares : Spares place old new
   pub same : HasSameEnds place old.edge new.edge
 
-pub spared_leaves : (plan : Plan) (me : EdgeId) (place : ℕ) (far : EdgeState) (out : List ℕ) (answers : List Message) (old new : Work) → SparesWires place old new → LeavesBound plan me place far out answers old → LeavesBound plan me place far out answers new
-spared_leaves plan me place far out answers old new spared leaves = leaves_same plan me place far out answers old new spared.spares.said (λ near. sym (ap is_there spared.spares.kept) ∙ near) spared.same leaves
+pub spared_leaves : (plan : Plan) (me : EdgeId) (place : ℕ) (far : EdgeState) (out : List ℕ) (answers : List Message) (old new : Work) → SparesWires place old new
+    → LeavesBound plan me place far out answers old → LeavesBound plan me place far out answers new
+spared_leaves plan me place far out answers old new spared leaves =
+    leaves_same plan me place far out answers old new spared.spares.said (λ near. sym (ap is_there spared.spares.kept) ∙ near) spared.same leaves
 
 wires_same : (place : ℕ) (work : Work) → SparesWires place work work
 wires_same place work = record { spares = spares_same place work; same = record { label = λ label given. given; ends = λ wire. refl } }
@@ -167,7 +185,8 @@ wires_then place a b c one next = record {
   same = record { label = λ label given. next.same.label label (one.same.label label given); ends = λ wire. next.same.ends wire ∙ one.same.ends wire };
 }
 
-changes_spare : (place : ℕ) (change : EdgeState → EdgeState) (work : Work) → (change work.edge).peering ≡ work.edge.peering → HasSameEnds place work.edge (change work.edge) → SparesWires place work (changes change work)
+changes_spare : (place : ℕ) (change : EdgeState → EdgeState) (work : Work) → (change work.edge).peering ≡ work.edge.peering → HasSameEnds place work.edge (change work.edge)
+    → SparesWires place work (changes change work)
 unfolding changes
 changes_spare place change work kept same = record { spares = record { kept = ap (λ (f : ℕ → Option Peering). f place) kept; said = refl; closed = refl }; same = same }
 
@@ -213,11 +232,13 @@ module _ (plan : Plan) (peer : EdgeId) (place : ℕ) (apart : nat_eq place peer.
     end_spares end change named = changes_spare place (with_end_changed change (Some end)) work (changed_keeps change (Some end) work.edge)
         (subst (λ (found : Option EndPlace). HasSameEnds place work.edge (with_end_changed change found work.edge)) named (fec_same change fec.pw_id work.edge))
 
-    takes : (end : EndPlace) → end_of_fec plan work.edge peer fec ≡ Some end → (b : Bool) → SparesWires place work (cond b (changes (with_end_changed (bound (binding_in fec label status points)) (Some end)) work)
+    takes : (end : EndPlace) → end_of_fec plan work.edge peer fec ≡ Some end → (b : Bool)
+        → SparesWires place work (cond b (changes (with_end_changed (bound (binding_in fec label status points)) (Some end)) work)
         (releases_label taken_all peer fec (Some label) (changes (with_end_changed (unbound None) (Some end)) work)))
     takes end named true = end_spares end (bound (binding_in fec label status points)) named
     takes end named false =
-        wires_then place work (changes (with_end_changed (unbound None) (Some end)) work) (releases_label taken_all peer fec (Some label) (changes (with_end_changed (unbound None) (Some end)) work)) (end_spares end (unbound None) named)
+        wires_then place work (changes (with_end_changed (unbound None) (Some end)) work)
+        (releases_label taken_all peer fec (Some label) (changes (with_end_changed (unbound None) (Some end)) work)) (end_spares end (unbound None) named)
         (says_spare place peer (release fec (Some label)) (changes (with_end_changed (unbound None) (Some end)) work) apart)
 
     by_place : (found : Option EndPlace) → end_of_fec plan work.edge peer fec ≡ found → SparesWires place work (maps_to plan taken_all peer fec (binding_in fec label status points) found work)
@@ -229,7 +250,8 @@ module _ (plan : Plan) (peer : EdgeId) (place : ℕ) (apart : nat_eq place peer.
   states_spare code (Some status) None work = wires_same place work
   states_spare code (Some status) (Some fec) work = by_code (nat_eq code.code pw_status_code) where
     by_code : (b : Bool) → SparesWires place work (cond b (changes (with_named plan peer fec (stated status) (group_stated fec.group status) fec.pw_id) work) work)
-    by_code true = changes_spare place (with_named plan peer fec (stated status) (group_stated fec.group status) fec.pw_id) work (named_keeps plan peer fec (stated status) (group_stated fec.group status) fec.pw_id work.edge)
+    by_code true = changes_spare place (with_named plan peer fec (stated status) (group_stated fec.group status) fec.pw_id) work
+        (named_keeps plan peer fec (stated status) (group_stated fec.group status) fec.pw_id work.edge)
         (all_same fec (stated status) (group_stated fec.group status) fec.pw_id work.edge)
     by_code false = wires_same place work
 
@@ -241,8 +263,11 @@ module _ (plan : Plan) (peer : EdgeId) (place : ℕ) (apart : nat_eq place peer.
   acts_spare (LabelMapping id fec label status points) other work said plain = maps_spare fec label status points work
   acts_spare (LabelWithdraw id fec label) other work said plain =
       let change : EdgeState → EdgeState = with_named plan peer fec (unbound label) (group_unbound fec.group) fec.pw_id in
-      wires_then place work (changes change work) _ (changes_spare place change work (named_keeps plan peer fec (unbound label) (group_unbound fec.group) fec.pw_id work.edge) (all_same fec (unbound label) (group_unbound fec.group) fec.pw_id work.edge))
+      wires_then place work (changes change work) _
+      (changes_spare place change work (named_keeps plan peer fec (unbound label) (group_unbound fec.group) fec.pw_id work.edge)
+      (all_same fec (unbound label) (group_unbound fec.group) fec.pw_id work.edge))
       (says_spare place peer (release fec label) (changes change work) apart)
   acts_spare (LabelRelease id fec label) other work said plain =
-      changes_spare place (λ edge. with_released label (end_of_fec plan edge peer fec) edge) work (released_keeps label (end_of_fec plan work.edge peer fec) work.edge) (released_same label fec.pw_id work.edge)
+      changes_spare place (λ edge. with_released label (end_of_fec plan edge peer fec) edge) work (released_keeps label (end_of_fec plan work.edge peer fec) work.edge)
+      (released_same label fec.pw_id work.edge)
   acts_spare m other work said plain = absurd said

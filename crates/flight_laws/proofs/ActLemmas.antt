@@ -65,7 +65,8 @@ module _ (limit : ℕ → ℕ) where
   unchanged : (edge : EdgeState) → HasChanged limit edge edge
   unchanged edge = record { peering = refl; me = refl; sound = λ sound. sound }
 
-  end_changes : (change : EndState → EndState) (place : EndPlace) (edge : EdgeState) → KeepsPart (limit place.wire.0) change → is_up_with (edge.peering place.peer.0) ≡ true → HasChanged limit edge (with_end place (change (end_at edge place)) edge)
+  end_changes : (change : EndState → EndState) (place : EndPlace) (edge : EdgeState) → KeepsPart (limit place.wire.0) change → is_up_with (edge.peering place.peer.0) ≡ true
+      → HasChanged limit edge (with_end place (change (end_at edge place)) edge)
   unfolding with_end with_kept
   end_changes change place edge keeps up = record {
     peering = refl;
@@ -74,7 +75,8 @@ module _ (limit : ℕ → ℕ) where
         (up_keeps (limit place.wire.0) change (is_up_with (edge.peering place.peer.0)) (end_at edge place) up keeps (sound.ends place.wire.0 place.peer.0)) sound;
   }
 
-  beside_changes : (change : EndState → EndState) (peer : EdgeId) (edge : EdgeState) → ((most : ℕ) → KeepsPart most change) → is_up_with (edge.peering peer.0) ≡ true → HasChanged limit edge (with_ends_beside peer change edge)
+  beside_changes : (change : EndState → EndState) (peer : EdgeId) (edge : EdgeState) → ((most : ℕ) → KeepsPart most change) → is_up_with (edge.peering peer.0) ≡ true
+      → HasChanged limit edge (with_ends_beside peer change edge)
   unfolding with_ends_beside with_kept
   beside_changes change peer edge keeps up = record {
     peering = refl;
@@ -89,7 +91,8 @@ module _ (limit : ℕ → ℕ) where
     by_place None at = unchanged edge
     by_place (Some place) at = end_changes change place edge (keeps (limit place.wire.0)) (rw (end_named_beside plan edge.me peer pw_id place at) up)
 
-  all_changes : (plan : Plan) (peer : EdgeId) (fec : PwFec) (one all : EndState → EndState) (pw_id : Option ℕ) (edge : EdgeState) → ((most : ℕ) → KeepsPart most one) → ((most : ℕ) → KeepsPart most all) → is_up_with (edge.peering peer.0) ≡ true
+  all_changes : (plan : Plan) (peer : EdgeId) (fec : PwFec) (one all : EndState → EndState) (pw_id : Option ℕ) (edge : EdgeState) → ((most : ℕ) → KeepsPart most one)
+      → ((most : ℕ) → KeepsPart most all) → is_up_with (edge.peering peer.0) ≡ true
       → HasChanged limit edge (with_named plan peer fec one all pw_id edge)
   all_changes plan peer fec one all None edge keeps keeps' up = beside_changes all peer edge keeps' up
   all_changes plan peer fec one all (Some pw_id) edge keeps keeps' up = named_changes plan peer one pw_id edge keeps up
@@ -101,7 +104,8 @@ module _ (limit : ℕ → ℕ) where
     by_id None = unchanged edge
     by_id (Some pw_id) = named_changes plan peer change pw_id edge keeps up
 
-  releasing_changes : (label : Option ℕ) (place : EndPlace) (edge : EdgeState) → ((most : ℕ) → KeepsPart most (released label)) → is_up_with (edge.peering place.peer.0) ≡ true → HasChanged limit edge (releasing label place edge)
+  releasing_changes : (label : Option ℕ) (place : EndPlace) (edge : EdgeState) → ((most : ℕ) → KeepsPart most (released label)) → is_up_with (edge.peering place.peer.0) ≡ true
+      → HasChanged limit edge (releasing label place edge)
   unfolding with_end with_kept
   releasing_changes label place edge keeps up =
       let one : HasChanged limit edge (with_end place (released label (end_at edge place)) edge) = end_changes (released label) place edge (keeps (limit place.wire.0)) up in
@@ -120,7 +124,8 @@ held_stated limit status None small sound = tt
 held_stated limit status (Some binding) small sound = status_sound limit status binding.told small sound
 
 -- either of two ends that are sound
-either_keeps : (limit : ℕ) (b : Bool) (e f : EndState) → IsSoundPart e.local × IsSoundHeld limit e.remote → IsSoundPart f.local × IsSoundHeld limit f.remote → IsSoundPart (cond b e f).local × IsSoundHeld limit (cond b e f).remote
+either_keeps : (limit : ℕ) (b : Bool) (e f : EndState) → IsSoundPart e.local × IsSoundHeld limit e.remote → IsSoundPart f.local × IsSoundHeld limit f.remote
+    → IsSoundPart (cond b e f).local × IsSoundHeld limit (cond b e f).remote
 either_keeps limit true e f one other = one
 either_keeps limit false e f one other = other
 
@@ -170,7 +175,8 @@ few_points : (n : ℕ) → nat_lt n 3 ≡ true → n ≤ 2
 few_points n few = grind (arith, nat_tests)
 
 -- an edge takes of a wire at most so many points
-taken_few : (plan : Plan) (me : EdgeId) (place : EndPlace) (content : Told) → IsEndOf plan me place → takes_content plan me place content ≡ true → length content.points ≤ 3 → length content.points ≤ point_limit plan me.0 place.wire.0
+taken_few : (plan : Plan) (me : EdgeId) (place : EndPlace) (content : Told) → IsEndOf plan me place → takes_content plan me place content ≡ true → length content.points ≤ 3
+    → length content.points ≤ point_limit plan me.0 place.wire.0
 taken_few plan me place content is takes few =
     subst (λ (limit : ℕ). length content.points ≤ limit) (sym (ap (limit_of me) is.is ∙ ap (λ (b : Bool). cond b 3 2) (sym is.terminal))) (by_side place.terminal takes)
   where
@@ -182,7 +188,8 @@ taken_few plan me place content is takes few =
     by_side true takes = few
     by_side false takes = by_address (edge_address plan me) takes
 
-release_changes : (limit : ℕ → ℕ) (plan : Plan) (peer : EdgeId) (label : Option ℕ) (fec : PwFec) (edge : EdgeState) → is_up_with (edge.peering peer.0) ≡ true → HasChanged limit edge (with_released label (end_of_fec plan edge peer fec) edge)
+release_changes : (limit : ℕ → ℕ) (plan : Plan) (peer : EdgeId) (label : Option ℕ) (fec : PwFec) (edge : EdgeState) → is_up_with (edge.peering peer.0) ≡ true
+    → HasChanged limit edge (with_released label (end_of_fec plan edge peer fec) edge)
 release_changes limit plan peer label fec edge up = by_id fec.pw_id where
   by_place : (pw_id : ℕ) (found_passes : Option EndPlace) → end_named plan edge.me peer pw_id ≡ found_passes → HasChanged limit edge (with_released label found_passes edge)
   by_place pw_id None at = unchanged limit edge
@@ -196,18 +203,21 @@ module _ (plan : Plan) (me peer : EdgeId) (other : Peers) (I : Work → Type 0) 
   changed : (change : EdgeState → EdgeState) (work : Work) → HasChanged (point_limit plan me.0) work.edge (change work.edge) → I work → I (changes change work)
   changed change work has i = steady.changes change work has.peering has.me (has.sound (steady.sound work i)) i
 
-  still_up : (change : EdgeState → EdgeState) (work : Work) → HasChanged (point_limit plan me.0) work.edge (change work.edge) → is_up_with (work.edge.peering peer.0) ≡ true → is_up_with ((changes change work).edge.peering peer.0) ≡ true
+  still_up : (change : EdgeState → EdgeState) (work : Work) → HasChanged (point_limit plan me.0) work.edge (change work.edge) → is_up_with (work.edge.peering peer.0) ≡ true
+      → is_up_with ((changes change work).edge.peering peer.0) ≡ true
   unfolding changes
   still_up change work has up = rw has.peering up
 
-  maps : (id : ℕ) (fec : PwFec) (label : ℕ) (status : Option PwStatus) (points : List Point) (work : Work) → is_up_with (work.edge.peering peer.0) ≡ true → IsSound (LabelMapping id fec label status points)
+  maps : (id : ℕ) (fec : PwFec) (label : ℕ) (status : Option PwStatus) (points : List Point) (work : Work) → is_up_with (work.edge.peering peer.0) ≡ true
+      → IsSound (LabelMapping id fec label status points)
       → I work → I (hears_mapping plan taken_all peer fec label status points work)
   maps id fec label status points work up sound i = by_id fec.pw_id refl where
     of_wires : IsOfWires (release fec (Some label))
     of_wires = release_is fec (Some label) (writable_kind fec (second_holds (is_some fec.pw_id) (writable_fec fec) sound.1)) sound.0.1.group sound.0.1.pw_id sound.0.2
 
     takes : (pw_id : ℕ) (place : EndPlace) → end_named plan work.edge.me peer pw_id ≡ Some place → (b : Bool) → takes_content plan work.edge.me place (told_with fec status points) ≡ b
-        → I (cond b (changes (with_end_changed (bound (binding_in fec label status points)) (Some place)) work) (releases_label taken_all peer fec (Some label) (changes (with_end_changed (unbound None) (Some place)) work)))
+        → I (cond b (changes (with_end_changed (bound (binding_in fec label status points)) (Some place)) work)
+        (releases_label taken_all peer fec (Some label) (changes (with_end_changed (unbound None) (Some place)) work)))
     takes pw_id place at true taken = changed (with_end_changed (bound (binding_in fec label status points)) (Some place)) work
         (end_changes (point_limit plan me.0) (bound (binding_in fec label status points)) place work.edge
         (bound_keeps (point_limit plan me.0 place.wire.0) (binding_in fec label status points)
@@ -221,7 +231,8 @@ module _ (plan : Plan) (me peer : EdgeId) (other : Peers) (I : Work → Type 0) 
         end_changes (point_limit plan me.0) (unbound None) place work.edge (unbound_keeps None (point_limit plan me.0 place.wire.0)) (rw (end_named_beside plan work.edge.me peer pw_id place at) up) in
         steady.says peer (release fec (Some label)) (changes change work) (still_up change work has up) of_wires (changed change work has i)
 
-    by_place : (pw_id : ℕ) (found_passes : Option EndPlace) → end_named plan work.edge.me peer pw_id ≡ found_passes → I (maps_to plan taken_all peer fec (binding_in fec label status points) found_passes work)
+    by_place : (pw_id : ℕ) (found_passes : Option EndPlace) → end_named plan work.edge.me peer pw_id ≡ found_passes
+        → I (maps_to plan taken_all peer fec (binding_in fec label status points) found_passes work)
     by_place pw_id None at = steady.says peer (release fec (Some label)) work up of_wires i
     by_place pw_id (Some place) at = takes pw_id place at (takes_content plan work.edge.me place (told_with fec status points)) refl
 
@@ -229,7 +240,8 @@ module _ (plan : Plan) (me peer : EdgeId) (other : Peers) (I : Work → Type 0) 
     by_id None at = clash (sym (ap is_some at) ∙ first_holds (is_some fec.pw_id) (writable_fec fec) sound.1)
     by_id (Some pw_id) at = (by_place pw_id (end_named plan work.edge.me peer pw_id) refl)
 
-  withdraws : (id : ℕ) (fec : PwFec) (label : Option ℕ) (work : Work) → is_up_with (work.edge.peering peer.0) ≡ true → IsSound (LabelWithdraw id fec label) → I work → I (hears_withdraw plan taken_all peer fec label work)
+  withdraws : (id : ℕ) (fec : PwFec) (label : Option ℕ) (work : Work) → is_up_with (work.edge.peering peer.0) ≡ true → IsSound (LabelWithdraw id fec label) → I work
+      → I (hears_withdraw plan taken_all peer fec label work)
   withdraws id fec label work up sound i =
       let change : EdgeState → EdgeState = with_named plan peer fec (unbound label) (group_unbound fec.group) fec.pw_id in
       let has : HasChanged (point_limit plan me.0) work.edge (change work.edge) =
@@ -241,13 +253,15 @@ module _ (plan : Plan) (me peer : EdgeId) (other : Peers) (I : Work → Type 0) 
   releases fec label work up i =
       changed (λ edge. with_released label (end_of_fec plan edge peer fec) edge) work (release_changes (point_limit plan me.0) plan peer label fec work.edge up) i
 
-  states : (code : StatusCode) (status : Option PwStatus) (fec : Option PwFec) (work : Work) → is_up_with (work.edge.peering peer.0) ≡ true → IsState status → I work → I (hears_status plan peer code status fec work)
+  states : (code : StatusCode) (status : Option PwStatus) (fec : Option PwFec) (work : Work) → is_up_with (work.edge.peering peer.0) ≡ true → IsState status → I work
+      → I (hears_status plan peer code status fec work)
   states code None fec work up small i = i
   states code (Some status) None work up small i = i
   states code (Some status) (Some fec) work up small i = by_code (nat_eq code.code pw_status_code) where
     by_code : (b : Bool) → I (cond b (changes (with_named plan peer fec (stated status) (group_stated fec.group status) fec.pw_id) work) work)
     by_code true = changed (with_named plan peer fec (stated status) (group_stated fec.group status) fec.pw_id) work
-        (all_changes (point_limit plan me.0) plan peer fec (stated status) (group_stated fec.group status) fec.pw_id work.edge (stated_keeps status small) (group_stated_keeps fec.group status small) up) i
+        (all_changes (point_limit plan me.0) plan peer fec (stated status) (group_stated fec.group status) fec.pw_id work.edge (stated_keeps status small)
+        (group_stated_keeps fec.group status small) up) i
     by_code false = i
 
   pub steady_acts : (m : Message) (work : Work) → IsSaid other m → withdraws_addresses m ≡ false → is_up_with (work.edge.peering peer.0) ≡ true → I work → I (acts_on plan taken_all peer m work)

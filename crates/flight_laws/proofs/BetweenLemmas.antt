@@ -20,7 +20,8 @@ unfoldable pub out_between : Option Peering → Work → Work → EdgeId → Edg
 out_between far first second from to pipe = held_by far ++ cond (closes from.0 second.effects) [] (cond (is_there far) (pipe ++ said_to to.0 first.effects) pipe)
 
 unfoldable pub back_between : Option Peering → Work → Work → EdgeId → EdgeId → List ℕ → List ℕ
-back_between near first second from to pipe = held_by near ++ cond (is_there near) (cond (closes to.0 first.effects) [] pipe ++ said_to from.0 second.effects) (cond (closes to.0 first.effects) [] pipe)
+back_between near first second from to pipe = held_by near ++ cond (is_there near) (cond (closes to.0 first.effects) [] pipe ++ said_to from.0 second.effects)
+    (cond (closes to.0 first.effects) [] pipe)
 
 -- what a work leaves for each place but its peer
 abbrev pub LeavesOthers : Fact → NetworkState → EdgeId → EdgeId → Work → Type 0
@@ -28,7 +29,8 @@ LeavesOthers P network me peer work = (place : ℕ) → nat_eq place me.0 ≡ fa
 
 pub connected_two : (P : Fact) (network : NetworkState) (from to : EdgeId) (first second : Work) → Turns P → nat_eq from.0 to.0 ≡ false → HoldsOfTwo P network
     → LeavesOthers P network from to first → LeavesOthers P network to from second
-    → P from.0 to.0 first.edge second.edge (out_between (second.edge.peering from.0) first second from to (network.pipes from.0 to.0)) (back_between (first.edge.peering to.0) first second from to (network.pipes to.0 from.0))
+    → P from.0 to.0 first.edge second.edge (out_between (second.edge.peering from.0) first second from to (network.pipes from.0 to.0))
+    (back_between (first.edge.peering to.0) first second from to (network.pipes to.0 from.0))
     → HoldsOfTwo P (connecting from first to second network).state
 unfolding out_between back_between
 connected_two P network from to first second turns between two one_others other_others pair a b apart = elim (cases_Bool (nat_eq a from.0)) [
@@ -83,13 +85,21 @@ connected_two P network from to first second turns between two one_others other_
         rw (other_edge b gone there, all_apart to 0 0 a b second.effects middle here there, all_apart from 0 0 a b first.effects begun away gone, pipes) refl
 
     -- between the two
-    out_is : flight after from.0 to.0 ≡ held_by (second.edge.peering from.0) ++ cond (closes from.0 second.effects) [] (cond (is_there (second.edge.peering from.0)) (network.pipes from.0 to.0 ++ said_to to.0 first.effects) (network.pipes from.0 to.0))
-    out_is = rw (second_edge, all_to to 0 0 from.0 second.effects middle between, all_from from 0 0 to.0 first.effects begun (apart_back from.0 to.0 between), edge_there to second.edge held_edge, pipes) refl
+    out_is : flight after from.0 to.0 ≡ held_by (second.edge.peering from.0) ++ cond (closes from.0 second.effects) []
+        (cond (is_there (second.edge.peering from.0)) (network.pipes from.0 to.0 ++ said_to to.0 first.effects) (network.pipes from.0 to.0))
+    out_is = rw (
+      second_edge,
+      all_to to 0 0 from.0 second.effects middle between,
+      all_from from 0 0 to.0 first.effects begun (apart_back from.0 to.0 between),
+      edge_there to second.edge held_edge,
+      pipes,
+    ) refl
 
     middle_first : is_there ((middle.edges from.0).peering to.0) ≡ is_there (first.edge.peering to.0)
     middle_first = ap (λ (f : ℕ → EdgeState). is_there ((f from.0).peering to.0)) (all_edges from 0 0 first.effects begun) ∙ ap (λ (e : EdgeState). is_there (e.peering to.0)) begun_first
 
-    back_is : flight after to.0 from.0 ≡ held_by (first.edge.peering to.0) ++ cond (is_there (first.edge.peering to.0)) (cond (closes to.0 first.effects) [] (network.pipes to.0 from.0) ++ said_to from.0 second.effects) (cond (closes to.0 first.effects) [] (network.pipes to.0 from.0))
+    back_is : flight after to.0 from.0 ≡ held_by (first.edge.peering to.0) ++ cond (is_there (first.edge.peering to.0))
+        (cond (closes to.0 first.effects) [] (network.pipes to.0 from.0) ++ said_to from.0 second.effects) (cond (closes to.0 first.effects) [] (network.pipes to.0 from.0))
     back_is = rw (first_edge, all_from to 0 0 from.0 second.effects middle between, middle_first, all_to from 0 0 to.0 first.effects begun (apart_back from.0 to.0 between), pipes) refl
 
     -- of the first and another one

@@ -86,7 +86,8 @@ abbrev pub StaysGiven : (ℕ → Bool) → (ℕ → Bool) → Type 0
 StaysGiven next next2 = (label : ℕ) → next label ≡ true → next2 label ≡ true
 
 -- an idle end advertises a label that was not given
-pub binding_advertises : (pw_id : ℕ) (next next2 : ℕ → Bool) (new : ℕ) (declined : Bool) (told : Told) (id : ℕ) (far : Option Binding) (out back : List Message) → StaysGiven next next2 → next new ≡ false → next2 new ≡ true
+pub binding_advertises : (pw_id : ℕ) (next next2 : ℕ → Bool) (new : ℕ) (declined : Bool) (told : Told) (id : ℕ) (far : Option Binding) (out back : List Message) → StaysGiven next next2
+    → next new ≡ false → next2 new ≡ true
     → IsBoundBy pw_id next (Idle declined) far out back → IsBoundBy pw_id next2 (Advertised new told) far (out ++ mapping pw_id new told id ∷ []) back
 binding_advertises pw_id next next2 new declined told id far out back follows none given is = record {
   agrees = after-append pw_id out (mapping pw_id new told id ∷ []) far ∙ mapping_heard pw_id new told id (bound_after pw_id out far);
@@ -143,7 +144,8 @@ binding_tells pw_id next label told content status id far out back is = record {
 
 -- ---- what an edge says of other wires, and of the session
 
-waits_out : (pw_id : ℕ) (next : ℕ → Bool) (near : LocalPart) (out back : List Message) (m : Message) → is_waited_for pw_id next near out back ≡ true → is_waited_for pw_id next near (out ++ m ∷ []) back ≡ true
+waits_out : (pw_id : ℕ) (next : ℕ → Bool) (near : LocalPart) (out back : List Message) (m : Message) → is_waited_for pw_id next near out back ≡ true
+    → is_waited_for pw_id next near (out ++ m ∷ []) back ≡ true
 waits_out pw_id next (Idle declined) out back m waits = refl
 waits_out pw_id next (Advertised label told) out back m waits = waits
 waits_out pw_id next (Withdrawing label) out back m waits =
@@ -156,7 +158,8 @@ waits_out pw_id next (Withdrawing label) out back m waits =
     either true is h = or_left (some_message (is_withdrawal_of pw_id label) (out ++ m ∷ [])) (some_message (is_release_of pw_id label) back) (some_still (is_withdrawal_of pw_id label) out m is)
     either false is h = or_right (some_message (is_withdrawal_of pw_id label) (out ++ m ∷ [])) (some_message (is_release_of pw_id label) back) h
 
-waits_back : (pw_id : ℕ) (next : ℕ → Bool) (near : LocalPart) (out back : List Message) (m : Message) → is_waited_for pw_id next near out back ≡ true → is_waited_for pw_id next near out (back ++ m ∷ []) ≡ true
+waits_back : (pw_id : ℕ) (next : ℕ → Bool) (near : LocalPart) (out back : List Message) (m : Message) → is_waited_for pw_id next near out back ≡ true
+    → is_waited_for pw_id next near out (back ++ m ∷ []) ≡ true
 waits_back pw_id next (Idle declined) out back m waits = refl
 waits_back pw_id next (Advertised label told) out back m waits = waits
 waits_back pw_id next (Withdrawing label) out back m waits =
@@ -259,7 +262,8 @@ binding_answers pw_id next near far out back m old is = record {
 }
 
 -- another end of the edge takes a label
-pub binding_goes_on : (pw_id : ℕ) (next next2 : ℕ → Bool) (near : LocalPart) (far : Option Binding) (out back : List Message) → StaysGiven next next2 → IsBoundBy pw_id next near far out back → IsBoundBy pw_id next2 near far out back
+pub binding_goes_on : (pw_id : ℕ) (next next2 : ℕ → Bool) (near : LocalPart) (far : Option Binding) (out back : List Message) → StaysGiven next next2
+    → IsBoundBy pw_id next near far out back → IsBoundBy pw_id next2 near far out back
 binding_goes_on pw_id next next2 near far out back follows is = record {
   agrees = is.agrees;
   withdrawn = all_weaker (withdraws_old pw_id next near) (withdraws_old pw_id next2 near) out (withdraws_older pw_id next next2 near near (λ label old. still near label old)) is.withdrawn;
@@ -268,7 +272,8 @@ binding_goes_on pw_id next next2 near far out back follows is = record {
 }
   where
     still : (near : LocalPart) (label : ℕ) → is_old next near label ≡ true → is_old next2 near label ≡ true
-    still near label old = and_from (next2 label) (not (has_advertised near label)) (follows label (first_holds (next label) (not (has_advertised near label)) old)) (second_holds (next label) (not (has_advertised near label)) old)
+    still near label old = and_from (next2 label) (not (has_advertised near label)) (follows label (first_holds (next label) (not (has_advertised near label)) old))
+        (second_holds (next label) (not (has_advertised near label)) old)
 
     waits : (near : LocalPart) → is_waited_for pw_id next near out back ≡ true → is_waited_for pw_id next2 near out back ≡ true
     waits (Idle declined) h = refl
@@ -279,7 +284,8 @@ binding_goes_on pw_id next next2 near far out back follows is = record {
         (second_holds (next label) (some_message (is_withdrawal_of pw_id label) out || some_message (is_release_of pw_id label) back) h)
 
 -- an idle end is declined no longer, or is declined
-pub binding_renews : (pw_id : ℕ) (next : ℕ → Bool) (one other : Bool) (far : Option Binding) (out back : List Message) → IsBoundBy pw_id next (Idle one) far out back → IsBoundBy pw_id next (Idle other) far out back
+pub binding_renews : (pw_id : ℕ) (next : ℕ → Bool) (one other : Bool) (far : Option Binding) (out back : List Message) → IsBoundBy pw_id next (Idle one) far out back
+    → IsBoundBy pw_id next (Idle other) far out back
 binding_renews pw_id next one other far out back is = record {
   agrees = is.agrees;
   withdrawn = all_weaker (withdraws_old pw_id next (Idle one)) (withdraws_old pw_id next (Idle other)) out (withdraws_older pw_id next next (Idle one) (Idle other) (λ label old. old)) is.withdrawn;
@@ -294,7 +300,8 @@ binding_begins pw_id next = record { agrees = refl; withdrawn = refl; released =
 -- ---- what is heard
 
 -- the neighbour hears the next message, and it is no withdrawal that the end waits for
-pub binding_heard : (pw_id : ℕ) (next : ℕ → Bool) (near : LocalPart) (far : Option Binding) (m : Message) (out back : List Message) → ((label : ℕ) → near ≡ Withdrawing label → is_withdrawal_of pw_id label m ≡ false)
+pub binding_heard : (pw_id : ℕ) (next : ℕ → Bool) (near : LocalPart) (far : Option Binding) (m : Message) (out back : List Message)
+    → ((label : ℕ) → near ≡ Withdrawing label → is_withdrawal_of pw_id label m ≡ false)
     → IsBoundBy pw_id next near far (m ∷ out) back → IsBoundBy pw_id next near (heard_of pw_id m far) out back
 binding_heard pw_id next near far m out back other is = record {
   agrees = is.agrees;
@@ -303,13 +310,15 @@ binding_heard pw_id next near far m out back other is = record {
   waits = waits near other is.waits;
 }
   where
-    waits : (near : LocalPart) → ((label : ℕ) → near ≡ Withdrawing label → is_withdrawal_of pw_id label m ≡ false) → is_waited_for pw_id next near (m ∷ out) back ≡ true → is_waited_for pw_id next near out back ≡ true
+    waits : (near : LocalPart) → ((label : ℕ) → near ≡ Withdrawing label → is_withdrawal_of pw_id label m ≡ false) → is_waited_for pw_id next near (m ∷ out) back ≡ true
+        → is_waited_for pw_id next near out back ≡ true
     waits (Idle declined) other h = refl
     waits (Advertised label told) other h = h
     waits (Withdrawing label) other h = rw (other label refl) at h
 
 -- it hears a withdrawal, and releases the label
-pub binding_hears_withdrawal : (pw_id : ℕ) (next : ℕ → Bool) (near : LocalPart) (far : Option Binding) (id id2 : ℕ) (fec fec2 : PwFec) (label : Option ℕ) (out back : List Message) → fec2.pw_id ≡ fec.pw_id
+pub binding_hears_withdrawal : (pw_id : ℕ) (next : ℕ → Bool) (near : LocalPart) (far : Option Binding) (id id2 : ℕ) (fec fec2 : PwFec) (label : Option ℕ) (out back : List Message)
+    → fec2.pw_id ≡ fec.pw_id
     → IsBoundBy pw_id next near far (LabelWithdraw id fec label ∷ out) back
     → IsBoundBy pw_id next near (heard_of pw_id (LabelWithdraw id fec label) far) out (back ++ LabelRelease id2 fec2 label ∷ [])
 binding_hears_withdrawal pw_id next near far id id2 fec fec2 label out back same is = record {
@@ -374,7 +383,8 @@ hears_old pw_id next near far id label fec out back old named is = record {
   waits = waits near (rw named at is.waits);
 }
   where
-    waits : (near : LocalPart) → is_waited_for pw_id next near out (LabelRelease id (record fec { pw_id = Some pw_id }) (Some label) ∷ back) ≡ true → is_waited_for pw_id next (release_part (Some label) near) out back ≡ true
+    waits : (near : LocalPart) → is_waited_for pw_id next near out (LabelRelease id (record fec { pw_id = Some pw_id }) (Some label) ∷ back) ≡ true
+        → is_waited_for pw_id next (release_part (Some label) near) out back ≡ true
     waits (Idle declined) h = refl
     waits (Advertised own told) h = by_label (label == own)
       where
@@ -389,8 +399,10 @@ hears_old pw_id next near far id label fec out back old named is = record {
         by_label false h = h
 
 -- the end hears the next message of its neighbour
-pub binding_hears : (pw_id : ℕ) (next : ℕ → Bool) (near : LocalPart) (far : Option Binding) (m : Message) (out back : List Message) → IsBoundBy pw_id next near far out (m ∷ back) → IsBoundBy pw_id next (answered_part pw_id m near) far out back
-binding_hears pw_id next near far (LabelRelease id fec label) out back is = by_name fec.pw_id label refl refl (first_holds (names_old pw_id next near fec.pw_id label) (all_messages (releases_old pw_id next near) back) is.released)
+pub binding_hears : (pw_id : ℕ) (next : ℕ → Bool) (near : LocalPart) (far : Option Binding) (m : Message) (out back : List Message) → IsBoundBy pw_id next near far out (m ∷ back)
+    → IsBoundBy pw_id next (answered_part pw_id m near) far out back
+binding_hears pw_id next near far (LabelRelease id fec label) out back is =
+    by_name fec.pw_id label refl refl (first_holds (names_old pw_id next near fec.pw_id label) (all_messages (releases_old pw_id next near) back) is.released)
   where
     by_name : (named given : Option ℕ) → fec.pw_id ≡ named → label ≡ given → names_old pw_id next near named given ≡ true → IsBoundBy pw_id next (released_by pw_id named given near) far out back
     by_name None given name_is label_is old = clash old

@@ -62,19 +62,24 @@ pub low_end : (limit : ℕ) (up : Bool) (e : EndState) → up ≡ false → IsSo
 low_end limit true e low sound = clash (sym low)
 low_end limit false e low sound = sound
 
-low_bound : {limit limit2 : ℕ → ℕ} → (plan : Plan) (a b : ℕ) (one other : EdgeState) → TellsSoundly limit one → TellsSoundly limit2 other → is_up_with (one.peering b) ≡ false → is_up_with (other.peering a) ≡ false → AreBound plan a b one other [] []
+low_bound : {limit limit2 : ℕ → ℕ} → (plan : Plan) (a b : ℕ) (one other : EdgeState) → TellsSoundly limit one → TellsSoundly limit2 other → is_up_with (one.peering b) ≡ false
+    → is_up_with (other.peering a) ≡ false → AreBound plan a b one other [] []
 low_bound {limit} {limit2} plan a b one other sound sound' low low' = record {
-  near = λ wire row is joined. idle_bound row.pw_id (given_of one) (one.ends wire.0 b).local (other.ends wire.0 a).remote (low_end (limit wire.0) (is_up_with (one.peering b)) (one.ends wire.0 b) low (sound.ends wire.0 b)).0
+  near = λ wire row is joined. idle_bound row.pw_id (given_of one) (one.ends wire.0 b).local (other.ends wire.0 a).remote
+      (low_end (limit wire.0) (is_up_with (one.peering b)) (one.ends wire.0 b) low (sound.ends wire.0 b)).0
       (low_end (limit2 wire.0) (is_up_with (other.peering a)) (other.ends wire.0 a) low' (sound'.ends wire.0 a)).1;
-  far = λ wire row is joined. idle_bound row.pw_id (given_of other) (other.ends wire.0 a).local (one.ends wire.0 b).remote (low_end (limit2 wire.0) (is_up_with (other.peering a)) (other.ends wire.0 a) low' (sound'.ends wire.0 a)).0
+  far = λ wire row is joined. idle_bound row.pw_id (given_of other) (other.ends wire.0 a).local (one.ends wire.0 b).remote
+      (low_end (limit2 wire.0) (is_up_with (other.peering a)) (other.ends wire.0 a) low' (sound'.ends wire.0 a)).0
       (low_end (limit wire.0) (is_up_with (one.peering b)) (one.ends wire.0 b) low (sound.ends wire.0 b)).1;
 }
 
 -- what an end that has opened has said
-opened_says : (plan : Plan) (a b : ℕ) (one other : EdgeState) (back : List Message) (own far : Peers) (me peer : EdgeId) (work : Work) → (has : HasOpened own far me peer work) → AreBound plan a b one other [] back
+opened_says : (plan : Plan) (a b : ℕ) (one other : EdgeState) (back : List Message) (own far : Peers) (me peer : EdgeId) (work : Work) → (has : HasOpened own far me peer work)
+    → AreBound plan a b one other [] back
     → AreBound plan a b one other has.messages back
 opened_says plan a b one other back own far me peer work has bound = elim (cases_Bool (is_active own)) [
-  | inl active ↦ subst (λ (l : List Message). AreBound plan a b one other l back) (sym (has.speaks active).1) (bound_silent plan a b one other [] back (Initialization 1 (proposal own)) (λ pw_id. refl) bound)
+  | inl active ↦ subst (λ (l : List Message). AreBound plan a b one other l back) (sym (has.speaks active).1)
+      (bound_silent plan a b one other [] back (Initialization 1 (proposal own)) (λ pw_id. refl) bound)
   | inr passive ↦ subst (λ (l : List Message). AreBound plan a b one other l back) (sym (has.waits passive).1) bound
 ]
 
@@ -90,7 +95,8 @@ module _ (plan : Plan) (network : NetworkState) (me peer : EdgeId) (one other : 
   On work = ConnectsOn plan network (peers_of one other) (peers_of other one) me peer work × HoldsAll (λ place. nat_eq place peer.0) (λ place. held network me.0 place) work
 
   on_steady : IsSteady plan me On
-  on_steady = held_steady plan me (ConnectsOn plan network (peers_of one other) (peers_of other one) me peer) (λ place. nat_eq place peer.0) (λ place. held network me.0 place) (connects_steady plan network (peers_of one other) (peers_of other one) me peer)
+  on_steady = held_steady plan me (ConnectsOn plan network (peers_of one other) (peers_of other one) me peer) (λ place. nat_eq place peer.0) (λ place. held network me.0 place)
+      (connects_steady plan network (peers_of one other) (peers_of other one) me peer)
 
   opens_talk : (active : Bool) (p : Phase) → is_talk active p None [] [] ≡ true
   opens_talk active phase.Initialized = refl
@@ -142,12 +148,15 @@ module _ (plan : Plan) (network : NetworkState) (me peer : EdgeId) (one other : 
   connects_bound = (
     (
       connects_on plan network me peer one other ordered between fit none,
-      λ place gone. subst (HoldsOctets (held network me.0 place)) (sym (connects_spares place peer (opened_with one other) (begin_at network me) gone).kept) (held_now ((network.edges me.0).peering place)),
+      λ place gone. subst (HoldsOctets (held network me.0 place)) (sym (connects_spares place peer (opened_with one other) (begin_at network me) gone).kept)
+          (held_now ((network.edges me.0).peering place)),
     ),
     λ place away. elim (cases_Bool (nat_eq place peer.0)) [
-      | inl same ↦ subst (λ (k : ℕ). LeavesBound plan me k (network.edges k) (flight network me.0 k) (start.answers k) (connects taken_all peer (opened_with one other) (begin_at network me))) (sym (eqb-true place peer.0 same))
+      | inl same ↦ subst (λ (k : ℕ). LeavesBound plan me k (network.edges k) (flight network me.0 k) (start.answers k)
+          (connects taken_all peer (opened_with one other) (begin_at network me))) (sym (eqb-true place peer.0 same))
           (no_far plan me peer.0 (network.edges peer.0) (flight network me.0 peer.0) (start.answers peer.0) (connects taken_all peer (opened_with one other) (begin_at network me)) none')
-      | inr gone ↦ spared_leaves plan me place (network.edges place) (flight network me.0 place) (start.answers place) (begin_at network me) (connects taken_all peer (opened_with one other) (begin_at network me))
+      | inr gone ↦ spared_leaves plan me place (network.edges place) (flight network me.0 place) (start.answers place) (begin_at network me)
+          (connects taken_all peer (opened_with one other) (begin_at network me))
           (record { spares = connects_spares place peer (opened_with one other) (begin_at network me) gone; same = connects_same place gone }) (begins_bound plan network me place bounds start away)
     ],
   )
@@ -172,14 +181,16 @@ idles_others : (plan : Plan) (network : NetworkState) (me peer : EdgeId) → Bou
 unfolding idles
 idles_others plan network me peer bounds place away gone = begins (AreBoundBy plan) network me place (bounds me.0 place (apart_back place me.0 away))
 
-idles_pair : (plan : Plan) (network : NetworkState) (from to : EdgeId) → (network.edges from.0).peering to.0 ≡ None → (out back : List ℕ) → AreBoundBy plan from.0 to.0 (idles (begin_at network from)).edge (idles (begin_at network to)).edge out back
+idles_pair : (plan : Plan) (network : NetworkState) (from to : EdgeId) → (network.edges from.0).peering to.0 ≡ None → (out back : List ℕ)
+    → AreBoundBy plan from.0 to.0 (idles (begin_at network from)).edge (idles (begin_at network to)).edge out back
 unfolding idles
 idles_pair plan network from to none out back = record { bound = λ messages answers said answered out_is back_is near far. clash (sym (ap is_there none) ∙ near) }
 
 idles_bounds : (plan : Plan) (network : NetworkState) (from to : EdgeId) → Bounds plan network → nat_eq from.0 to.0 ≡ false → (network.edges from.0).peering to.0 ≡ None
     → Bounds plan (connecting from (idles (begin_at network from)) to (idles (begin_at network to)) network).state
 idles_bounds plan network from to bounds between none =
-    connected_two (AreBoundBy plan) network from to (idles (begin_at network from)) (idles (begin_at network to)) (bound_turns plan) between bounds (idles_others plan network from to bounds) (idles_others plan network to from bounds)
+    connected_two (AreBoundBy plan) network from to (idles (begin_at network from)) (idles (begin_at network to)) (bound_turns plan) between bounds
+    (idles_others plan network from to bounds) (idles_others plan network to from bounds)
     (idles_pair plan network from to none _ _)
 
 -- between two ends that have opened, what both have said is on its way
@@ -193,7 +204,8 @@ opened_back : (own other : Peers) (from to : EdgeId) (first second : Work) → (
 unfolding back_between
 opened_back own other from to first second one two = rw (one.shows.keeps, one.shows.ended, two.shows.says, one.nothing) refl
 
-opened_pair_bound : (plan : Plan) (network : NetworkState) (from to : EdgeId) (one other : EdgePlan) (first second : Work) → ends_at plan from.0 to.0 ≡ peers_of one other → ends_at plan to.0 from.0 ≡ peers_of other one
+opened_pair_bound : (plan : Plan) (network : NetworkState) (from to : EdgeId) (one other : EdgePlan) (first second : Work) → ends_at plan from.0 to.0 ≡ peers_of one other
+    → ends_at plan to.0 from.0 ≡ peers_of other one
     → ConnectsOn plan network (peers_of one other) (peers_of other one) from to first → ConnectsOn plan network (peers_of other one) (peers_of one other) to from second
     → AreBoundBy plan from.0 to.0 first.edge second.edge (out_between (second.edge.peering from.0) first second from to []) (back_between (first.edge.peering to.0) first second from to [])
 opened_pair_bound plan network from to one other first second near far here there = record {
@@ -208,36 +220,47 @@ opened_pair_bound plan network from to one other first second near far here ther
 }
   where
     low : AreBound plan to.0 from.0 second.edge first.edge [] []
-    low = low_bound plan to.0 from.0 second.edge first.edge there.sound here.sound (opened_low (peers_of other one) (peers_of one other) to from second there.opened) (opened_low (peers_of one other) (peers_of other one) from to first here.opened)
+    low = low_bound plan to.0 from.0 second.edge first.edge there.sound here.sound (opened_low (peers_of other one) (peers_of one other) to from second there.opened)
+        (opened_low (peers_of one other) (peers_of other one) from to first here.opened)
 
     both : AreBound plan from.0 to.0 first.edge second.edge here.opened.messages there.opened.messages
     both = opened_says plan from.0 to.0 first.edge second.edge there.opened.messages (peers_of one other) (peers_of other one) from to first here.opened
-        (bound_turned plan to.0 from.0 second.edge first.edge there.opened.messages [] (opened_says plan to.0 from.0 second.edge first.edge [] (peers_of other one) (peers_of one other) to from second there.opened low))
+        (bound_turned plan to.0 from.0 second.edge first.edge there.opened.messages []
+        (opened_says plan to.0 from.0 second.edge first.edge [] (peers_of other one) (peers_of one other) to from second there.opened low))
 
-opens_bounds : (plan : Plan) (network : NetworkState) (from to : EdgeId) (one other : EdgePlan) → IsChecked plan → HasTypes plan → IsOrdered plan network → Bounds plan network → nat_eq from.0 to.0 ≡ false → AreEnds (peers_of one other) (peers_of other one)
+opens_bounds : (plan : Plan) (network : NetworkState) (from to : EdgeId) (one other : EdgePlan) → IsChecked plan → HasTypes plan → IsOrdered plan network → Bounds plan network
+    → nat_eq from.0 to.0 ≡ false → AreEnds (peers_of one other) (peers_of other one)
     → ends_at plan from.0 to.0 ≡ peers_of one other → ends_at plan to.0 from.0 ≡ peers_of other one → (network.edges from.0).peering to.0 ≡ None → (network.edges to.0).peering from.0 ≡ None
-    → Bounds plan (connecting from (mends plan taken_all (connects taken_all to (opened_with one other) (begin_at network from))) to (mends plan taken_all (connects taken_all from (opened_with other one) (begin_at network to))) network).state
+    → Bounds plan (connecting from (mends plan taken_all (connects taken_all to (opened_with one other) (begin_at network from))) to
+    (mends plan taken_all (connects taken_all from (opened_with other one) (begin_at network to))) network).state
 opens_bounds plan network from to one other checked types ordered bounds between ends near far none none' =
     let turned : nat_eq to.0 from.0 ≡ false = apart_back from.0 to.0 between in
     let back : AreEnds (peers_of other one) (peers_of one other) = record { one = ends.two; two = ends.one; facing = ends.back; back = ends.facing } in
     all_bound (none_on_way plan network from.0 to.0 ordered between none none') (none_on_way plan network to.0 from.0 ordered turned none' none)
     (mends plan taken_all (connects taken_all to (opened_with one other) (begin_at network from))) (mends plan taken_all (connects taken_all from (opened_with other one) (begin_at network to)))
-    (connected_on plan network from to one other checked types ordered bounds between ends near far none none') (connected_on plan network to from other one checked types ordered bounds turned back far near none' none)
-    (connected_others plan network from to one other checked types ordered bounds between ends near far none none') (connected_others plan network to from other one checked types ordered bounds turned back far near none' none)
+    (connected_on plan network from to one other checked types ordered bounds between ends near far none none')
+    (connected_on plan network to from other one checked types ordered bounds turned back far near none' none)
+    (connected_others plan network from to one other checked types ordered bounds between ends near far none none')
+    (connected_others plan network to from other one checked types ordered bounds turned back far near none' none)
   where
     all_bound : network.pipes from.0 to.0 ≡ [] → network.pipes to.0 from.0 ≡ [] → (first second : Work) → ConnectsOn plan network (peers_of one other) (peers_of other one) from to first
-        → ConnectsOn plan network (peers_of other one) (peers_of one other) to from second → LeavesOthers (AreBoundBy plan) network from to first → LeavesOthers (AreBoundBy plan) network to from second
+        → ConnectsOn plan network (peers_of other one) (peers_of one other) to from second → LeavesOthers (AreBoundBy plan) network from to first
+        → LeavesOthers (AreBoundBy plan) network to from second
         → Bounds plan (connecting from first to second network).state
     all_bound out_none back_none first second here there one_others other_others =
         connected_two (AreBoundBy plan) network from to first second (bound_turns plan) between bounds one_others other_others
         (rw (out_none, back_none) (opened_pair_bound plan network from to one other first second near far here there))
 
-pub connect_bounds : (plan : Plan) (from to : EdgeId) (network : NetworkState) → IsChecked plan → HasTypes plan → IsOrdered plan network → Bounds plan network → Bounds plan (connect_event plan from to network).state
+pub connect_bounds : (plan : Plan) (from to : EdgeId) (network : NetworkState) → IsChecked plan → HasTypes plan → IsOrdered plan network → Bounds plan network
+    → Bounds plan (connect_event plan from to network).state
 connect_bounds plan from to network checked types ordered bounds = can (are_joined plan from.0 to.0) (stands network from.0 to.0) (stands network to.0 from.0) refl refl refl where
-  rows : nat_eq from.0 to.0 ≡ false → (network.edges from.0).peering to.0 ≡ None → (network.edges to.0).peering from.0 ≡ None → (first second : Option EdgePlan) → slice_get plan.edges from.0 ≡ first → slice_get plan.edges to.0 ≡ second
-      → Bounds plan (connecting from (connects_between plan taken_all to first second (begin_at network from)) to (connects_between plan taken_all from second first (begin_at network to)) network).state
+  rows : nat_eq from.0 to.0 ≡ false → (network.edges from.0).peering to.0 ≡ None → (network.edges to.0).peering from.0 ≡ None → (first second : Option EdgePlan)
+      → slice_get plan.edges from.0 ≡ first → slice_get plan.edges to.0 ≡ second
+      → Bounds plan (connecting from (connects_between plan taken_all to first second (begin_at network from)) to
+      (connects_between plan taken_all from second first (begin_at network to)) network).state
   rows between none none' (Some one) (Some other) here there =
-      opens_bounds plan network from to one other checked types ordered bounds between (ends_are plan from.0 to.0 one other checked types here there between) (rw (here, there) refl) (rw (there, here) refl) none none'
+      opens_bounds plan network from to one other checked types ordered bounds between (ends_are plan from.0 to.0 one other checked types here there between) (rw (here, there) refl)
+      (rw (there, here) refl) none none'
   rows between none none' None None here there = idles_bounds plan network from to bounds between none
   rows between none none' None (Some other) here there = idles_bounds plan network from to bounds between none
   rows between none none' (Some one) None here there = idles_bounds plan network from to bounds between none

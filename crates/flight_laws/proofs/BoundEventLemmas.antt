@@ -97,7 +97,8 @@ begins_bound plan network me place bounds start away = record {
       (sym (no_more ((network.edges place).peering me.0) (flight network me.0 place)) ∙ out_is) (start.are place away).octets near far;
 }
 
-pub starts_bound : (plan : Plan) (network : NetworkState) (me : EdgeId) (checked : IsChecked plan) (types : HasTypes plan) → IsOrdered plan network → Bounds plan network → (start : Starts plan network me)
+pub starts_bound : (plan : Plan) (network : NetworkState) (me : EdgeId) (checked : IsChecked plan) (types : HasTypes plan) → IsOrdered plan network → Bounds plan network
+    → (start : Starts plan network me)
     → WorksBound plan network me checked types (λ place. held network me.0 place) start.answers (begin_at network me)
 starts_bound plan network me checked types ordered bounds start = (
   (works_begin plan network me ordered, λ place here. held_now ((network.edges me.0).peering place)),
@@ -106,14 +107,16 @@ starts_bound plan network me checked types ordered bounds start = (
 
 -- ---- the work goes into the network
 
-pub work_bounds : (plan : Plan) (network : NetworkState) (me : EdgeId) (origin hops : ℕ) (checked : IsChecked plan) (types : HasTypes plan) (work : Work) → Bounds plan network → (start : Starts plan network me)
+pub work_bounds : (plan : Plan) (network : NetworkState) (me : EdgeId) (origin hops : ℕ) (checked : IsChecked plan) (types : HasTypes plan) (work : Work) → Bounds plan network
+    → (start : Starts plan network me)
     → WorksBound plan network me checked types (λ place. held network me.0 place) start.answers work → Bounds plan (absorb me origin hops work network).state
 work_bounds plan network me origin hops checked types work bounds start works =
     settle (AreBoundBy plan) network me origin hops work (bound_turns plan) (λ a b apart away gone. bounds a b apart)
     (leaves_octets plan network me checked types (λ place. held network me.0 place) start.answers start.are work works)
 
 -- an input that applies or not
-answer_bounds : (plan : Plan) (network : NetworkState) (me : EdgeId) (applies : Bool) (checked : IsChecked plan) (types : HasTypes plan) (work : Work) → Bounds plan network → (start : Starts plan network me)
+answer_bounds : (plan : Plan) (network : NetworkState) (me : EdgeId) (applies : Bool) (checked : IsChecked plan) (types : HasTypes plan) (work : Work) → Bounds plan network
+    → (start : Starts plan network me)
     → WorksBound plan network me checked types (λ place. held network me.0 place) start.answers work → Bounds plan (answer me 0 0 (cond applies work (idles (begin_at network me))) network).state
 answer_bounds plan network me true checked types work bounds start works = either work.idle where
   either : (b : Bool) → Bounds plan (cond b (idle network) (absorb me 0 0 work network)).state
@@ -123,15 +126,18 @@ answer_bounds plan network me false checked types work bounds start works = rw (
 
 -- ---- an end is lost
 
-losing_bounds : (plan : Plan) (me peer : EdgeId) (network : NetworkState) → IsChecked plan → HasTypes plan → IsOrdered plan network → Bounds plan network → stands network me.0 peer.0 ≡ true → Bounds plan (losing plan me peer network).state
+losing_bounds : (plan : Plan) (me peer : EdgeId) (network : NetworkState) → IsChecked plan → HasTypes plan → IsOrdered plan network → Bounds plan network → stands network me.0 peer.0
+    ≡ true → Bounds plan (losing plan me peer network).state
 losing_bounds plan me peer network checked types ordered bounds up =
     let start : Starts plan network me = starts plan network me ordered in
     work_bounds plan network me 0 0 checked types (losing_work plan network me peer) bounds start
     (subst (WorksBound plan network me checked types (λ place. held network me.0 place) start.answers) (sym (losing_is plan me peer network up))
-    (lost_kept plan me (WorksBound plan network me checked types (λ place. held network me.0 place) start.answers) (bound_work_kept plan network me checked types (λ place. held network me.0 place) start.answers) peer (begin_at network me)
+    (lost_kept plan me (WorksBound plan network me checked types (λ place. held network me.0 place) start.answers)
+    (bound_work_kept plan network me checked types (λ place. held network me.0 place) start.answers) peer (begin_at network me)
     (starts_bound plan network me checked types ordered bounds start)))
 
-pub lose_bounds : (plan : Plan) (me peer : EdgeId) (network : NetworkState) → IsChecked plan → HasTypes plan → IsOrdered plan network → Bounds plan network → Bounds plan (lose_event plan me peer network).state
+pub lose_bounds : (plan : Plan) (me peer : EdgeId) (network : NetworkState) → IsChecked plan → HasTypes plan → IsOrdered plan network → Bounds plan network
+    → Bounds plan (lose_event plan me peer network).state
 lose_bounds plan me peer network checked types ordered bounds = by_stand (stands network me.0 peer.0) refl where
   by_stand : (up : Bool) → stands network me.0 peer.0 ≡ up → Bounds plan (cond up (losing plan me peer network) (idle network)).state
   by_stand true is = losing_bounds plan me peer network checked types ordered bounds is
@@ -150,7 +156,8 @@ restart_bounds plan me network bounds =
 
 -- ---- frames
 
-frame_leaves : (plan : Plan) (network : NetworkState) (me : EdgeId) (work : Work) (place : ℕ) → LeavesFor (AreBoundBy plan) network me work place → LeavesFor (AreBoundBy plan) (with_frame network) me work place
+frame_leaves : (plan : Plan) (network : NetworkState) (me : EdgeId) (work : Work) (place : ℕ) → LeavesFor (AreBoundBy plan) network me work place
+    → LeavesFor (AreBoundBy plan) (with_frame network) me work place
 unfolding with_frame
 frame_leaves plan network me work place leaves = record { bound = leaves.bound }
 
@@ -158,7 +165,8 @@ frame_same : (plan : Plan) (network : NetworkState) → Bounds plan network → 
 unfolding with_frame
 frame_same plan network bounds a b apart = record { bound = (bounds a b apart).bound }
 
-pub frame_bounds : (plan : Plan) (circuit : CircuitId) (octets : List ℕ) (row : Option CircuitPlan) (network : NetworkState) → IsChecked plan → HasTypes plan → IsOrdered plan network → Bounds plan network
+pub frame_bounds : (plan : Plan) (circuit : CircuitId) (octets : List ℕ) (row : Option CircuitPlan) (network : NetworkState) → IsChecked plan → HasTypes plan → IsOrdered plan network
+    → Bounds plan network
     → Bounds plan (frame_event plan circuit octets row network).state
 frame_bounds plan circuit octets None network checked types ordered bounds = bounds
 frame_bounds plan circuit octets (Some row) network checked types ordered bounds = taken (is_own begun.edge row && is_on begun.edge circuit) where
@@ -172,7 +180,8 @@ frame_bounds plan circuit octets (Some row) network checked types ordered bounds
   start = starts plan network row.edge ordered
 
   works : WorksBound plan network row.edge checked types (λ place. held network row.edge.0 place) start.answers full
-  works = received_kept plan row.edge (WorksBound plan network row.edge checked types (λ place. held network row.edge.0 place) start.answers) (bound_work_kept plan network row.edge checked types (λ place. held network row.edge.0 place) start.answers) taken_all
+  works = received_kept plan row.edge (WorksBound plan network row.edge checked types (λ place. held network row.edge.0 place) start.answers)
+      (bound_work_kept plan network row.edge checked types (λ place. held network row.edge.0 place) start.answers) taken_all
       (arrival.Circuit circuit) row.service (port_at plan begun.edge circuit row) (inner_at plan circuit octets) begun (starts_bound plan network row.edge checked types ordered bounds start)
 
   either : (idles_not : Bool) → Bounds plan (cond idles_not (idle network) (entering network circuit octets row full)).state
@@ -187,7 +196,8 @@ frame_bounds plan circuit octets (Some row) network checked types ordered bounds
 
 -- ---- packets
 
-arrived_leaves : (plan : Plan) (number : ℕ) (network : NetworkState) (me : EdgeId) (work : Work) (place : ℕ) → LeavesFor (AreBoundBy plan) network me work place → LeavesFor (AreBoundBy plan) (without_packet number network) me work place
+arrived_leaves : (plan : Plan) (number : ℕ) (network : NetworkState) (me : EdgeId) (work : Work) (place : ℕ) → LeavesFor (AreBoundBy plan) network me work place
+    → LeavesFor (AreBoundBy plan) (without_packet number network) me work place
 unfolding without_packet
 arrived_leaves plan number network me work place leaves = record { bound = leaves.bound }
 
@@ -199,11 +209,14 @@ repeated_same : (plan : Plan) (packet : Packet) (network : NetworkState) → Bou
 unfolding with_copy
 repeated_same plan packet network bounds a b apart = record { bound = (bounds a b apart).bound }
 
-pub arrive_bounds : (plan : Plan) (packet : Option Packet) (network : NetworkState) → IsChecked plan → HasTypes plan → IsOrdered plan network → Bounds plan network → Bounds plan (arrive_event plan packet network).state
+pub arrive_bounds : (plan : Plan) (packet : Option Packet) (network : NetworkState) → IsChecked plan → HasTypes plan → IsOrdered plan network → Bounds plan network
+    → Bounds plan (arrive_event plan packet network).state
 arrive_bounds plan None network checked types ordered bounds = bounds
 arrive_bounds plan (Some packet) network checked types ordered bounds =
-    settle (AreBoundBy plan) (without_packet packet.number network) packet.to packet.origin packet.hops work (bound_turns plan) (λ a b apart away gone. arrived_same plan packet.number network bounds a b apart)
-    (λ place away. arrived_leaves plan packet.number network packet.to work place (leaves_octets plan network packet.to checked types (λ k. held network packet.to.0 k) start.answers start.are work works place away))
+    settle (AreBoundBy plan) (without_packet packet.number network) packet.to packet.origin packet.hops work (bound_turns plan)
+    (λ a b apart away gone. arrived_same plan packet.number network bounds a b apart)
+    (λ place away. arrived_leaves plan packet.number network packet.to work place
+    (leaves_octets plan network packet.to checked types (λ k. held network packet.to.0 k) start.answers start.are work works place away))
   where
     work : Work
     work = packet_work plan network packet
@@ -212,7 +225,8 @@ arrive_bounds plan (Some packet) network checked types ordered bounds =
     start = starts plan network packet.to ordered
 
     works : WorksBound plan network packet.to checked types (λ place. held network packet.to.0 place) start.answers work
-    works = packet_kept plan packet.to (WorksBound plan network packet.to checked types (λ place. held network packet.to.0 place) start.answers) (bound_work_kept plan network packet.to checked types (λ place. held network packet.to.0 place) start.answers) taken_all
+    works = packet_kept plan packet.to (WorksBound plan network packet.to checked types (λ place. held network packet.to.0 place) start.answers)
+        (bound_work_kept plan network packet.to checked types (λ place. held network packet.to.0 place) start.answers) taken_all
         packet.bytes (begin_at network packet.to) (starts_bound plan network packet.to checked types ordered bounds start)
 
 pub discard_bounds : (plan : Plan) (packet : Option Packet) (network : NetworkState) → Bounds plan network → Bounds plan (discard_event packet network).state
@@ -230,35 +244,46 @@ pub circuit_bounds : (plan : Plan) (circuit : CircuitId) (on : Bool) (row : Opti
 circuit_bounds plan circuit on None network checked types ordered bounds = bounds
 circuit_bounds plan circuit on (Some row) network checked types ordered bounds =
     let start : Starts plan network row.edge = starts plan network row.edge ordered in
-    answer_bounds plan network row.edge (is_own (begin_at network row.edge).edge row && not (is_same on (is_on (begin_at network row.edge).edge circuit))) checked types (mends plan taken_all (changes (turned plan circuit row on) (begin_at network row.edge)))
-    bounds start (circuit_kept plan row.edge (WorksBound plan network row.edge checked types (λ k. held network row.edge.0 k) start.answers) (bound_work_kept plan network row.edge checked types (λ k. held network row.edge.0 k) start.answers) circuit row on
+    answer_bounds plan network row.edge (is_own (begin_at network row.edge).edge row && not (is_same on (is_on (begin_at network row.edge).edge circuit))) checked types
+    (mends plan taken_all (changes (turned plan circuit row on) (begin_at network row.edge)))
+    bounds start (circuit_kept plan row.edge (WorksBound plan network row.edge checked types (λ k. held network row.edge.0 k) start.answers)
+    (bound_work_kept plan network row.edge checked types (λ k. held network row.edge.0 k) start.answers) circuit row on
     (begin_at network row.edge) (starts_bound plan network row.edge checked types ordered bounds start))
 
-pub wire_bounds : (plan : Plan) (me : EdgeId) (wire : WireId) (on : Bool) (network : NetworkState) → IsChecked plan → HasTypes plan → IsOrdered plan network → Bounds plan network → Bounds plan (wire_event plan me wire on network).state
+pub wire_bounds : (plan : Plan) (me : EdgeId) (wire : WireId) (on : Bool) (network : NetworkState) → IsChecked plan → HasTypes plan → IsOrdered plan network → Bounds plan network
+    → Bounds plan (wire_event plan me wire on network).state
 wire_bounds plan me wire on network checked types ordered bounds =
     let start : Starts plan network me = starts plan network me ordered in
-    answer_bounds plan network me (passes plan (begin_at network me).edge.me wire && not (is_same on ((begin_at network me).edge.wire_on wire.0))) checked types (mends plan taken_all (changes (turned_wire wire on) (begin_at network me))) bounds start
-    (wire_kept plan me (WorksBound plan network me checked types (λ k. held network me.0 k) start.answers) (bound_work_kept plan network me checked types (λ k. held network me.0 k) start.answers) wire on (begin_at network me)
+    answer_bounds plan network me (passes plan (begin_at network me).edge.me wire && not (is_same on ((begin_at network me).edge.wire_on wire.0))) checked types
+    (mends plan taken_all (changes (turned_wire wire on) (begin_at network me))) bounds start
+    (wire_kept plan me (WorksBound plan network me checked types (λ k. held network me.0 k) start.answers)
+    (bound_work_kept plan network me checked types (λ k. held network me.0 k) start.answers) wire on (begin_at network me)
     (starts_bound plan network me checked types ordered bounds start))
 
-pub status_bounds : (plan : Plan) (me : EdgeId) (wire : WireId) (bits : ℕ) (network : NetworkState) → IsChecked plan → HasTypes plan → bits ≤ 31 → IsOrdered plan network → Bounds plan network → Bounds plan (status_event plan me wire bits network).state
+pub status_bounds : (plan : Plan) (me : EdgeId) (wire : WireId) (bits : ℕ) (network : NetworkState) → IsChecked plan → HasTypes plan → bits ≤ 31 → IsOrdered plan network
+    → Bounds plan network → Bounds plan (status_event plan me wire bits network).state
 status_bounds plan me wire bits network checked types few ordered bounds =
     let start : Starts plan network me = starts plan network me ordered in
-    answer_bounds plan network me (ends_here plan (begin_at network me).edge.me wire && not (nat_eq bits ((begin_at network me).edge.bits wire.0))) checked types (mends plan taken_all (changes (with_bits wire bits) (begin_at network me))) bounds start
-    (bits_kept plan me (WorksBound plan network me checked types (λ k. held network me.0 k) start.answers) (bound_work_kept plan network me checked types (λ k. held network me.0 k) start.answers) wire bits (begin_at network me) few
+    answer_bounds plan network me (ends_here plan (begin_at network me).edge.me wire && not (nat_eq bits ((begin_at network me).edge.bits wire.0))) checked types
+    (mends plan taken_all (changes (with_bits wire bits) (begin_at network me))) bounds start
+    (bits_kept plan me (WorksBound plan network me checked types (λ k. held network me.0 k) start.answers)
+    (bound_work_kept plan network me checked types (λ k. held network me.0 k) start.answers) wire bits (begin_at network me) few
     (starts_bound plan network me checked types ordered bounds start))
 
-pub priority_bounds : (plan : Plan) (me : EdgeId) (wire : WireId) (priority : ℕ) (network : NetworkState) → IsChecked plan → HasTypes plan → IsOrdered plan network → Bounds plan network → Bounds plan (priority_event plan me wire priority network).state
+pub priority_bounds : (plan : Plan) (me : EdgeId) (wire : WireId) (priority : ℕ) (network : NetworkState) → IsChecked plan → HasTypes plan → IsOrdered plan network
+    → Bounds plan network → Bounds plan (priority_event plan me wire priority network).state
 priority_bounds plan me wire priority network checked types ordered bounds =
     let start : Starts plan network me = starts plan network me ordered in
     answer_bounds plan network me (is_own_spoke (begin_at network me).edge.me (wire_row plan wire) && not (nat_eq priority ((begin_at network me).edge.priority wire.0))) checked types
     (mends plan taken_all (changes (with_priority wire priority) (begin_at network me))) bounds start
-    (priority_kept plan me (WorksBound plan network me checked types (λ k. held network me.0 k) start.answers) (bound_work_kept plan network me checked types (λ k. held network me.0 k) start.answers) wire priority (begin_at network me)
+    (priority_kept plan me (WorksBound plan network me checked types (λ k. held network me.0 k) start.answers)
+    (bound_work_kept plan network me checked types (λ k. held network me.0 k) start.answers) wire priority (begin_at network me)
     (starts_bound plan network me checked types ordered bounds start))
 
 -- ---- pings
 
-pub ping_bounds : (plan : Plan) (me : EdgeId) (wire : WireId) (network : NetworkState) → IsChecked plan → HasTypes plan → IsOrdered plan network → Bounds plan network → Bounds plan (ping_event plan me wire network).state
+pub ping_bounds : (plan : Plan) (me : EdgeId) (wire : WireId) (network : NetworkState) → IsChecked plan → HasTypes plan → IsOrdered plan network → Bounds plan network
+    → Bounds plan (ping_event plan me wire network).state
 ping_bounds plan me wire network checked types ordered bounds = by (ping_outcome plan taken_all wire (begin_at network me)) where
   start : Starts plan network me
   start = starts plan network me ordered
@@ -272,7 +297,8 @@ ping_bounds plan me wire network checked types ordered bounds = by (ping_outcome
       (answer_bounds plan network me false checked types (begin_at network me) bounds start works)
   by (PingGoes only) =
       answer_bounds plan network me true checked types (ping_work plan network me wire) bounds start
-      (ping_kept plan me (WorksBound plan network me checked types (λ k. held network me.0 k) start.answers) (bound_work_kept plan network me checked types (λ k. held network me.0 k) start.answers) wire (begin_at network me) only works)
+      (ping_kept plan me (WorksBound plan network me checked types (λ k. held network me.0 k) start.answers)
+      (bound_work_kept plan network me checked types (λ k. held network me.0 k) start.answers) wire (begin_at network me) only works)
 
 -- ---- octets are delivered
 
@@ -348,7 +374,8 @@ module _ (plan : Plan) (from to : EdgeId) (count : ℕ) (network : NetworkState)
       (
         hears_begin plan from to (drop count pipe) network kept ordered apart at pair,
         λ place away. elim (cases_Bool (nat_eq place from.0)) [
-          | inl same ↦ rw same (subst (λ (k : ℕ). LeavesBound plan to k (later.edges k) (flight later to.0 k) pair.answers (begin_at network to)) (sym (eqb-true place from.0 same)) (moved_leaves from.0 pair.answers peer_leaves))
+          | inl same ↦ rw same (subst (λ (k : ℕ). LeavesBound plan to k (later.edges k) (flight later to.0 k) pair.answers (begin_at network to)) (sym (eqb-true place from.0 same))
+              (moved_leaves from.0 pair.answers peer_leaves))
           | inr gone ↦ rw gone (moved_leaves place (start.answers place) (begins_bound plan network to place bounds start away))
         ],
       ),
@@ -356,10 +383,12 @@ module _ (plan : Plan) (from to : EdgeId) (count : ℕ) (network : NetworkState)
     ),
   )
 
-  heard : HasHeard from (ends_at plan from.0 to.0) (HearsAll plan later to from off checked types (λ place. held network to.0 place) start.answers) (later.pipes from.0 to.0) (hears_few plan taken_all from (suc (length octets)) octets (begin_at network to))
+  heard : HasHeard from (ends_at plan from.0 to.0) (HearsAll plan later to from off checked types (λ place. held network to.0 place) start.answers) (later.pipes from.0 to.0)
+      (hears_few plan taken_all from (suc (length octets)) octets (begin_at network to))
   heard = rw rest_pipe
       (few_heard plan from (ends_at plan from.0 to.0) pair.talk.here.between.two (HearsAll plan later to from off checked types (λ place. held network to.0 place) start.answers)
-      (message_heard plan to from (ends_at plan from.0 to.0) (HearsAll plan later to from off checked types (λ place. held network to.0 place) start.answers) (all_kept plan later to from off checked types (λ place. held network to.0 place) start.answers))
+      (message_heard plan to from (ends_at plan from.0 to.0) (HearsAll plan later to from off checked types (λ place. held network to.0 place) start.answers)
+      (all_kept plan later to from off checked types (λ place. held network to.0 place) start.answers))
       (suc (length octets)) octets (drop count pipe) pair.answers (begin_at network to) pair.talk.answered whole hears_all)
 
   work : Work
@@ -373,7 +402,8 @@ module _ (plan : Plan) (from to : EdgeId) (count : ℕ) (network : NetworkState)
 
   deliver_bound : WorksBound plan later to checked types still_held still_heard work
   unfolding work octets still_held still_heard
-  deliver_bound = mends_keep plan to (WorksBound plan later to checked types still_held still_heard) (bound_work_kept plan later to checked types still_held still_heard).rows (hears_few plan taken_all from (suc (length octets)) octets (begin_at network to))
+  deliver_bound = mends_keep plan to (WorksBound plan later to checked types still_held still_heard) (bound_work_kept plan later to checked types still_held still_heard).rows
+      (hears_few plan taken_all from (suc (length octets)) octets (begin_at network to))
       (heard_bound plan later to from off checked types (λ place. held network to.0 place) start.answers (hears_few plan taken_all from (suc (length octets)) octets (begin_at network to)) heard)
 
   still_are : (place : ℕ) → nat_eq place to.0 ≡ false → AreAnswers plan later to place (still_held place) (still_heard place)
@@ -383,28 +413,38 @@ module _ (plan : Plan) (from to : EdgeId) (count : ℕ) (network : NetworkState)
     | inr gone ↦ rw gone (record { said = (start.are place away).said; octets = ap (λ (l : List ℕ). held network to.0 place ++ l) (later_pipes place gone) ∙ (start.are place away).octets })
   ]
 
-  pub delivered_bounds : Bounds plan (absorb to 0 0 (octets_input plan taken_all from (take count (network.pipes from.0 to.0)) (Some kept) (begin_at network to)) (with_pipe from to (drop count (network.pipes from.0 to.0)) network)).state
+  pub delivered_bounds : Bounds plan (absorb to 0 0 (octets_input plan taken_all from (take count (network.pipes from.0 to.0)) (Some kept) (begin_at network to))
+      (with_pipe from to (drop count (network.pipes from.0 to.0)) network)).state
   unfolding later pipe work
   delivered_bounds = settle (AreBoundBy plan) later to 0 0 work (bound_turns plan)
-      (λ a b between away gone. rw (pipe_edges from to (drop count pipe) network, pipe_to from to (drop count pipe) network a b gone, pipe_to from to (drop count pipe) network b a away) (bounds a b between))
+      (λ a b between away gone. rw (
+        pipe_edges from to (drop count pipe) network,
+        pipe_to from to (drop count pipe) network a b gone,
+        pipe_to from to (drop count pipe) network b a away,
+      ) (bounds a b between))
       (leaves_octets plan later to checked types still_held still_heard still_are work deliver_bound)
 
-delivering_bounds : (plan : Plan) (from to : EdgeId) (count : ℕ) (network : NetworkState) (near : Option Peering) → IsChecked plan → HasTypes plan → IsOrdered plan network → Bounds plan network → KeepsToldRule plan network → nat_eq from.0 to.0 ≡ false
+delivering_bounds : (plan : Plan) (from to : EdgeId) (count : ℕ) (network : NetworkState) (near : Option Peering) → IsChecked plan → HasTypes plan → IsOrdered plan network
+    → Bounds plan network → KeepsToldRule plan network → nat_eq from.0 to.0 ≡ false
     → (network.edges to.0).peering from.0 ≡ near → is_there near ≡ true → Bounds plan (delivering plan from to count network).state
 delivering_bounds plan from to count network None checked types ordered bounds told apart at up = clash up
-delivering_bounds plan from to count network (Some kept) checked types ordered bounds told apart at up = rw at (delivered_bounds plan from to count network kept checked types ordered bounds told apart at)
+delivering_bounds plan from to count network (Some kept) checked types ordered bounds told apart at up =
+    rw at (delivered_bounds plan from to count network kept checked types ordered bounds told apart at)
 
-pub deliver_bounds : (plan : Plan) (from to : EdgeId) (count : ℕ) (network : NetworkState) → IsChecked plan → HasTypes plan → IsOrdered plan network → Bounds plan network → KeepsToldRule plan network → Bounds plan (deliver_event plan from to count network).state
+pub deliver_bounds : (plan : Plan) (from to : EdgeId) (count : ℕ) (network : NetworkState) → IsChecked plan → HasTypes plan → IsOrdered plan network → Bounds plan network
+    → KeepsToldRule plan network → Bounds plan (deliver_event plan from to count network).state
 deliver_bounds plan from to count network checked types ordered bounds told = by_stand (stands network to.0 from.0) refl where
   some : stands network to.0 from.0 ≡ true → (drained : Bool) → Bounds plan (cond drained (losing plan to from network) (delivering plan from to count network)).state
   some is true = losing_bounds plan to from network checked types ordered bounds is
   some is false = delivering_bounds plan from to count network ((network.edges to.0).peering from.0) checked types ordered bounds told (stands_apart plan network from.0 to.0 ordered is) refl is
 
-  which : stands network to.0 from.0 ≡ true → (any : Bool) → Bounds plan (cond any (cond (is_drained_pipe network from.0 to.0) (losing plan to from network) (delivering plan from to count network)) (idle network)).state
+  which : stands network to.0 from.0 ≡ true → (any : Bool)
+      → Bounds plan (cond any (cond (is_drained_pipe network from.0 to.0) (losing plan to from network) (delivering plan from to count network)) (idle network)).state
   which is true = some is (is_drained_pipe network from.0 to.0)
   which is false = bounds
 
   by_stand : (up : Bool) → stands network to.0 from.0 ≡ up
-      → Bounds plan (cond (up && (not (is_drained_pipe network from.0 to.0) || not (stands network from.0 to.0))) (cond (is_drained_pipe network from.0 to.0) (losing plan to from network) (delivering plan from to count network)) (idle network)).state
+      → Bounds plan (cond (up && (not (is_drained_pipe network from.0 to.0) || not (stands network from.0 to.0)))
+      (cond (is_drained_pipe network from.0 to.0) (losing plan to from network) (delivering plan from to count network)) (idle network)).state
   by_stand true is = which is _
   by_stand false is = bounds

@@ -36,10 +36,13 @@ use Rattle.flight_laws.proofs.WorkLemmas.{with_peering_spares}
 rows_both : (plan : Plan) (me : EdgeId) (I J : Work → Type 0) → KeptByRows plan me I → KeptByRows plan me J → KeptByRows plan me (λ work. I work × J work)
 rows_both plan me I J one other = record {
   placed = λ work both. one.placed work both.0;
-  advertises = λ place label content work is at wished given both. (one.advertises place label content work is at wished given both.0, other.advertises place label content work is at wished given both.1);
+  advertises = λ place label content work is at wished given both.
+      (one.advertises place label content work is at wished given both.0, other.advertises place label content work is at wished given both.1);
   withdraws = λ place label content work is at wished both. (one.withdraws place label content work is at wished both.0, other.withdraws place label content work is at wished both.1);
-  tells = λ place label content last work is at told changed both. (one.tells place label content last work is at told changed both.0, other.tells place label content last work is at told changed both.1);
-  clears = λ place label content addresses work is at piece both. (one.clears place label content addresses work is at piece both.0, other.clears place label content addresses work is at piece both.1);
+  tells = λ place label content last work is at told changed both.
+      (one.tells place label content last work is at told changed both.0, other.tells place label content last work is at told changed both.1);
+  clears = λ place label content addresses work is at piece both.
+      (one.clears place label content addresses work is at piece both.0, other.clears place label content addresses work is at piece both.1);
   tells_down = λ place down work is both. (one.tells_down place down work is both.0, other.tells_down place down work is both.1);
   others = λ change work keeps peering both. (one.others change work keeps peering both.0, other.others change work keeps peering both.1);
 }
@@ -51,7 +54,8 @@ hearing_both plan me peer other I J one two = record {
   sender = λ messages work both. (one.sender messages work both.0, two.sender messages work both.1);
   gone = λ m messages work at both. (one.gone m messages work at both.0, two.gone m messages work at both.1);
   event = λ m messages kept work at said ends both. (one.event m messages kept work at said ends both.0, two.event m messages kept work at said ends both.1);
-  acts = λ m messages kept work at up said plain pseudowires both. (one.acts m messages kept work at up said plain pseudowires both.0, two.acts m messages kept work at up said plain pseudowires both.1);
+  acts = λ m messages kept work at up said plain pseudowires both.
+      (one.acts m messages kept work at up said plain pseudowires both.0, two.acts m messages kept work at up said plain pseudowires both.1);
   goes_by = λ m messages kept work at up said addresses both. (one.goes_by m messages kept work at up said addresses both.0, two.goes_by m messages kept work at up said addresses both.1);
   mends = λ messages. rows_both plan me (I messages) (J messages) (one.mends messages) (two.mends messages);
 }
@@ -95,7 +99,8 @@ module _ (plan : Plan) (network : NetworkState) (me peer : EdgeId) (apart : nat_
     HearsAll messages work = HearsHeld messages work × HearsBound plan network me peer apart checked types others messages work
 
     pub all_kept : KeptByHearing plan me peer (ends_at plan peer.0 me.0) HearsAll
-    all_kept = hearing_both plan me peer (ends_at plan peer.0 me.0) HearsHeld (HearsBound plan network me peer apart checked types others) held_kept (bound_kept plan network me peer apart checked types others)
+    all_kept = hearing_both plan me peer (ends_at plan peer.0 me.0) HearsHeld (HearsBound plan network me peer apart checked types others) held_kept
+        (bound_kept plan network me peer apart checked types others)
 
     abbrev pub held_after : List ℕ → ℕ → List ℕ
     held_after rest place = cond (nat_eq place peer.0) rest (held place)
@@ -110,7 +115,8 @@ module _ (plan : Plan) (network : NetworkState) (me peer : EdgeId) (apart : nat_
     holding_said rest None work place = refl
     holding_said rest (Some kept) work place = refl
 
-    there_then : (place : ℕ) (rest : List ℕ) (near : Option Peering) (work : Work) → work.edge.peering peer.0 ≡ near → is_there ((holds peer rest near work).edge.peering place) ≡ true → is_there (work.edge.peering place) ≡ true
+    there_then : (place : ℕ) (rest : List ℕ) (near : Option Peering) (work : Work) → work.edge.peering peer.0 ≡ near → is_there ((holds peer rest near work).edge.peering place) ≡ true
+        → is_there (work.edge.peering place) ≡ true
     unfolding changes with_peering
     there_then place rest None work at there = there
     there_then place rest (Some kept) work at there = elim (cases_Bool (nat_eq place peer.0)) [
@@ -123,7 +129,8 @@ module _ (plan : Plan) (network : NetworkState) (me peer : EdgeId) (apart : nat_
     now_held rest None work at = rw at tt
     now_held rest (Some kept) work at = rw (same_number peer.0) refl
 
-    still_held : (place : ℕ) (octets rest : List ℕ) (near : Option Peering) (work : Work) → nat_eq place peer.0 ≡ false → HoldsOctets octets (work.edge.peering place) → HoldsOctets octets ((holds peer rest near work).edge.peering place)
+    still_held : (place : ℕ) (octets rest : List ℕ) (near : Option Peering) (work : Work) → nat_eq place peer.0 ≡ false → HoldsOctets octets (work.edge.peering place)
+        → HoldsOctets octets ((holds peer rest near work).edge.peering place)
     still_held place octets rest None work away is = is
     still_held place octets rest (Some kept) work away is = subst (HoldsOctets octets) (sym (with_peering_spares place peer (Some (record kept { held = rest })) work away).kept) is
 
@@ -141,5 +148,6 @@ module _ (plan : Plan) (network : NetworkState) (me peer : EdgeId) (apart : nat_
           ),
           λ place off. leaves_same plan me place (network.edges place) (flight network me.0 place) (answers_for plan network me peer apart checked types others heard.later place) heard.last
               (holds peer heard.rest (heard.last.edge.peering peer.0) heard.last) (holding_said heard.rest (heard.last.edge.peering peer.0) heard.last place)
-              (there_then place heard.rest (heard.last.edge.peering peer.0) heard.last refl) (holding_same heard.rest (heard.last.edge.peering peer.0) heard.last place refl) (heard.keeps.1.0.1 place off),
+              (there_then place heard.rest (heard.last.edge.peering peer.0) heard.last refl) (holding_same heard.rest (heard.last.edge.peering peer.0) heard.last place refl)
+              (heard.keeps.1.0.1 place off),
         )

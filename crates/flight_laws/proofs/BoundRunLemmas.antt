@@ -43,7 +43,8 @@ use Rattle.flight_laws.proofs.RunLemmas.{both_apart, empty_ordered, none_said, r
 
 -- ---- runs
 
-brings_bounds : (plan : Plan) (event : Event) (network : NetworkState) → IsChecked plan → HasTypes plan → IsEventOf plan event → IsOrdered plan network → IsRuledNetwork plan network → KeepsToldRule plan network → Bounds plan network → Bounds plan (brings plan event network).state
+brings_bounds : (plan : Plan) (event : Event) (network : NetworkState) → IsChecked plan → HasTypes plan → IsEventOf plan event → IsOrdered plan network → IsRuledNetwork plan network
+    → KeepsToldRule plan network → Bounds plan network → Bounds plan (brings plan event network).state
 brings_bounds plan (Connect from to) network checked types planned ordered ruled told bounds = connect_bounds plan from to network checked types ordered bounds
 brings_bounds plan (Deliver from to count) network checked types planned ordered ruled told bounds = deliver_bounds plan from to count network checked types ordered bounds told
 brings_bounds plan (Lose me peer) network checked types planned ordered ruled told bounds = lose_bounds plan me peer network checked types ordered bounds
@@ -59,11 +60,13 @@ brings_bounds plan (Discard number) network checked types planned ordered ruled 
 brings_bounds plan (Again number) network checked types planned ordered ruled told bounds = again_bounds plan (packet_at network number) network bounds
 brings_bounds plan (Ping me wire) network checked types planned ordered ruled told bounds = ping_bounds plan me wire network checked types ordered bounds
 
-after_bounds : (plan : Plan) (events : List Event) (network : NetworkState) → IsChecked plan → HasTypes plan → All (IsEventOf plan) events → IsOrdered plan network → IsRuledNetwork plan network → Bounds plan network → Bounds plan (state_after plan network events)
+after_bounds : (plan : Plan) (events : List Event) (network : NetworkState) → IsChecked plan → HasTypes plan → All (IsEventOf plan) events → IsOrdered plan network
+    → IsRuledNetwork plan network → Bounds plan network → Bounds plan (state_after plan network events)
 after_bounds plan [] network checked types planned ordered ruled bounds = bounds
 after_bounds plan (e ∷ es) network checked types planned ordered ruled bounds =
     let here : IsEventOf plan e = All-head (IsEventOf plan) e es planned in
-    after_bounds plan es (step plan network e).state checked types (All-tail (IsEventOf plan) e es planned) (step_keeps plan e network checked types here ordered).ordered (brings_ruled plan e network checked types here ordered ruled)
+    after_bounds plan es (step plan network e).state checked types (All-tail (IsEventOf plan) e es planned) (step_keeps plan e network checked types here ordered).ordered
+    (brings_ruled plan e network checked types here ordered ruled)
     (brings_bounds plan e network checked types here ordered ruled (keeps_told_rule plan network ordered ruled) bounds)
 
 -- no end stands yet
@@ -116,7 +119,8 @@ any_wire plan service a b (row ∷ rows) all some = elim (cases_Bool (is_wire_of
   | inr later ↦ any_wire plan service a b rows (All-tail (IsWireOf plan) row rows all) (rw later at some)
 ]
 
-pub settled : (plan : Plan) (network : NetworkState) (service : ServiceId) (a b : ℕ) → IsChecked plan → is_quiet plan network service ≡ true → are_joined_by plan service a b ≡ true → is_settled network a b ≡ true
+pub settled : (plan : Plan) (network : NetworkState) (service : ServiceId) (a b : ℕ) → IsChecked plan → is_quiet plan network service ≡ true → are_joined_by plan service a b ≡ true
+    → is_settled network a b ≡ true
 settled plan network service a b checked quiet joined =
     let inside = any_wire plan service a b plan.wires checked.wires joined in
     joined_settled (are_joined_by plan service a b) joined
@@ -153,8 +157,10 @@ agreed : (plan : Plan) (network : NetworkState) (a b : ℕ) → IsStillBetween n
 agreed plan network a b quiet now wire row is joined =
     let out : now.pair.messages ≡ [] = none_said (ends_at plan a b).me now.pair.messages (sym quiet.out ∙ now.pair.out_is) in
     let back : now.pair.answers ≡ [] = none_said (ends_at plan b a).me now.pair.answers (sym quiet.back ∙ now.pair.back_is) in
-    let near : IsBoundBy row.pw_id (given_of (network.edges a)) ((network.edges a).ends wire.0 b).local ((network.edges b).ends wire.0 a).remote [] [] = rw (out, back) at (now.bound.near wire row is joined) in
-    let far : IsBoundBy row.pw_id (given_of (network.edges b)) ((network.edges b).ends wire.0 a).local ((network.edges a).ends wire.0 b).remote [] [] = rw (back, out) at (now.bound.far wire row is joined) in
+    let near : IsBoundBy row.pw_id (given_of (network.edges a)) ((network.edges a).ends wire.0 b).local ((network.edges b).ends wire.0 a).remote [] [] =
+    rw (out, back) at (now.bound.near wire row is joined) in
+    let far : IsBoundBy row.pw_id (given_of (network.edges b)) ((network.edges b).ends wire.0 a).local ((network.edges a).ends wire.0 b).remote [] [] =
+    rw (back, out) at (now.bound.far wire row is joined) in
     record {
       near = far.agrees;
       far = near.agrees;
@@ -166,8 +172,10 @@ agreed plan network a b quiet now wire row is joined =
 
 unbound : (plan : Plan) (network : NetworkState) (a b : ℕ) → IsOrdered plan network → stands network a b ≡ false → stands network b a ≡ false → OfWires plan network a b IsUnbound
 unbound plan network a b ordered gone gone' wire row is joined =
-    let one = low_end (point_limit plan a wire.0) (is_up_with ((network.edges a).peering b)) ((network.edges a).ends wire.0 b) (gone_up ((network.edges a).peering b) gone) ((ordered.sound a).ends wire.0 b) in
-    let other = low_end (point_limit plan b wire.0) (is_up_with ((network.edges b).peering a)) ((network.edges b).ends wire.0 a) (gone_up ((network.edges b).peering a) gone') ((ordered.sound b).ends wire.0 a) in
+    let one = low_end (point_limit plan a wire.0) (is_up_with ((network.edges a).peering b)) ((network.edges a).ends wire.0 b) (gone_up ((network.edges a).peering b) gone)
+    ((ordered.sound a).ends wire.0 b) in
+    let other = low_end (point_limit plan b wire.0) (is_up_with ((network.edges b).peering a)) ((network.edges b).ends wire.0 a) (gone_up ((network.edges b).peering a) gone')
+    ((ordered.sound b).ends wire.0 a) in
     record { one_idle = one.0; other_idle = other.0; near = one.1; far = other.1 }
 
 pub runs_settle : RunsSettle

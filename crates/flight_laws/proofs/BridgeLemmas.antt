@@ -95,7 +95,8 @@ pings_are old new only =
 
 -- ---- a frame or a packet is bridged
 
-pub received_bridged : (plan : Plan) (told : Answers) (came : Arrival) (service : ServiceId) (arrival : Option ℕ) (read : Result (List ℕ) DropCause) (work : Work) → IsBridged work (received plan told came service arrival read work)
+pub received_bridged : (plan : Plan) (told : Answers) (came : Arrival) (service : ServiceId) (arrival : Option ℕ) (read : Result (List ℕ) DropCause) (work : Work)
+    → IsBridged work (received plan told came service arrival read work)
 received_bridged plan told came service arrival read work = bridges_are work _ (received_bridges plan told came service arrival read work)
 
 pub packet_bridged : (plan : Plan) (told : Answers) (octets : List ℕ) (work : Work) → IsBridged work (packet_input plan told octets work)

@@ -59,7 +59,8 @@ entering_keeps plan network circuit octets row work ordered works =
     let kept = work_keeps plan (with_frame network) row.edge (next_origin network) 0 work (frame_ordered plan network ordered) (frame_works plan network row.edge work works) in
     record { ordered = kept.ordered; good = (tt, kept.good) }
 
-pub frame_keeps : (plan : Plan) (circuit : CircuitId) (octets : List ℕ) (row : Option CircuitPlan) (network : NetworkState) → IsChecked plan → HasTypes plan → IsOrdered plan network → KeepsOrder plan (frame_event plan circuit octets row network)
+pub frame_keeps : (plan : Plan) (circuit : CircuitId) (octets : List ℕ) (row : Option CircuitPlan) (network : NetworkState) → IsChecked plan → HasTypes plan → IsOrdered plan network
+    → KeepsOrder plan (frame_event plan circuit octets row network)
 frame_keeps plan circuit octets None network checked types ordered = idle_keeps plan network ordered
 frame_keeps plan circuit octets (Some row) network checked types ordered = taken (is_own begun.edge row && is_on begun.edge circuit) where
   begun : Work
@@ -71,7 +72,8 @@ frame_keeps plan circuit octets (Some row) network checked types ordered = taken
   either : (idles_not : Bool) → KeepsOrder plan (cond idles_not (idle network) (entering network circuit octets row full))
   either true = idle_keeps plan network ordered
   either false = entering_keeps plan network circuit octets row full ordered
-      (received_kept plan row.edge (WorksOn plan network row.edge) (works_kept plan network row.edge checked types) taken_all (arrival.Circuit circuit) row.service (port_at plan begun.edge circuit row) (inner_at plan circuit octets) begun (works_begin plan network row.edge ordered))
+      (received_kept plan row.edge (WorksOn plan network row.edge) (works_kept plan network row.edge checked types) taken_all (arrival.Circuit circuit) row.service
+      (port_at plan begun.edge circuit row) (inner_at plan circuit octets) begun (works_begin plan network row.edge ordered))
 
   taken : (b : Bool) → KeepsOrder plan (cond (cond b full (idles begun)).idle (idle network) (entering network circuit octets row (cond b full (idles begun))))
   taken true = either full.idle
@@ -96,7 +98,8 @@ arrive_keeps plan None network checked types ordered = idle_keeps plan network o
 arrive_keeps plan (Some packet) network checked types ordered =
     work_keeps plan (without_packet packet.number network) packet.to packet.origin packet.hops (packet_work plan network packet) (arrived_ordered plan packet.number network ordered)
     (arrived_works plan packet.number network packet.to (packet_work plan network packet)
-    (packet_kept plan packet.to (WorksOn plan network packet.to) (works_kept plan network packet.to checked types) taken_all packet.bytes (begin_at network packet.to) (works_begin plan network packet.to ordered)))
+    (packet_kept plan packet.to (WorksOn plan network packet.to) (works_kept plan network packet.to checked types) taken_all packet.bytes (begin_at network packet.to)
+    (works_begin plan network packet.to ordered)))
 
 pub discard_keeps : (plan : Plan) (packet : Option Packet) (network : NetworkState) → IsOrdered plan network → KeepsOrder plan (discard_event packet network)
 discard_keeps plan None network ordered = idle_keeps plan network ordered
@@ -108,27 +111,35 @@ again_keeps plan (Some packet) network ordered = record { ordered = repeated_ord
 
 -- ---- circuits
 
-pub circuit_keeps : (plan : Plan) (circuit : CircuitId) (on : Bool) (row : Option CircuitPlan) (network : NetworkState) → IsChecked plan → HasTypes plan → IsOrdered plan network → KeepsOrder plan (circuit_event plan circuit on row network)
+pub circuit_keeps : (plan : Plan) (circuit : CircuitId) (on : Bool) (row : Option CircuitPlan) (network : NetworkState) → IsChecked plan → HasTypes plan → IsOrdered plan network
+    → KeepsOrder plan (circuit_event plan circuit on row network)
 circuit_keeps plan circuit on None network checked types ordered = idle_keeps plan network ordered
 circuit_keeps plan circuit on (Some row) network checked types ordered =
-    answer_keeps plan network row.edge (is_own (begin_at network row.edge).edge row && not (is_same on (is_on (begin_at network row.edge).edge circuit))) (mends plan taken_all (changes (turned plan circuit row on) (begin_at network row.edge))) ordered
+    answer_keeps plan network row.edge (is_own (begin_at network row.edge).edge row && not (is_same on (is_on (begin_at network row.edge).edge circuit)))
+    (mends plan taken_all (changes (turned plan circuit row on) (begin_at network row.edge))) ordered
     (circuit_kept plan row.edge (WorksOn plan network row.edge) (works_kept plan network row.edge checked types) circuit row on (begin_at network row.edge) (works_begin plan network row.edge ordered))
 
 -- ---- wires
 
-pub wire_keeps : (plan : Plan) (me : EdgeId) (wire : WireId) (on : Bool) (network : NetworkState) → IsChecked plan → HasTypes plan → IsOrdered plan network → KeepsOrder plan (wire_event plan me wire on network)
+pub wire_keeps : (plan : Plan) (me : EdgeId) (wire : WireId) (on : Bool) (network : NetworkState) → IsChecked plan → HasTypes plan → IsOrdered plan network
+    → KeepsOrder plan (wire_event plan me wire on network)
 wire_keeps plan me wire on network checked types ordered =
-    answer_keeps plan network me (passes plan (begin_at network me).edge.me wire && not (is_same on ((begin_at network me).edge.wire_on wire.0))) (mends plan taken_all (changes (turned_wire wire on) (begin_at network me))) ordered
+    answer_keeps plan network me (passes plan (begin_at network me).edge.me wire && not (is_same on ((begin_at network me).edge.wire_on wire.0)))
+    (mends plan taken_all (changes (turned_wire wire on) (begin_at network me))) ordered
     (wire_kept plan me (WorksOn plan network me) (works_kept plan network me checked types) wire on (begin_at network me) (works_begin plan network me ordered))
 
-pub status_keeps : (plan : Plan) (me : EdgeId) (wire : WireId) (bits : ℕ) (network : NetworkState) → IsChecked plan → HasTypes plan → bits ≤ 31 → IsOrdered plan network → KeepsOrder plan (status_event plan me wire bits network)
+pub status_keeps : (plan : Plan) (me : EdgeId) (wire : WireId) (bits : ℕ) (network : NetworkState) → IsChecked plan → HasTypes plan → bits ≤ 31 → IsOrdered plan network
+    → KeepsOrder plan (status_event plan me wire bits network)
 status_keeps plan me wire bits network checked types few ordered =
-    answer_keeps plan network me (ends_here plan (begin_at network me).edge.me wire && not (nat_eq bits ((begin_at network me).edge.bits wire.0))) (mends plan taken_all (changes (with_bits wire bits) (begin_at network me))) ordered
+    answer_keeps plan network me (ends_here plan (begin_at network me).edge.me wire && not (nat_eq bits ((begin_at network me).edge.bits wire.0)))
+    (mends plan taken_all (changes (with_bits wire bits) (begin_at network me))) ordered
     (bits_kept plan me (WorksOn plan network me) (works_kept plan network me checked types) wire bits (begin_at network me) few (works_begin plan network me ordered))
 
-pub priority_keeps : (plan : Plan) (me : EdgeId) (wire : WireId) (priority : ℕ) (network : NetworkState) → IsChecked plan → HasTypes plan → IsOrdered plan network → KeepsOrder plan (priority_event plan me wire priority network)
+pub priority_keeps : (plan : Plan) (me : EdgeId) (wire : WireId) (priority : ℕ) (network : NetworkState) → IsChecked plan → HasTypes plan → IsOrdered plan network
+    → KeepsOrder plan (priority_event plan me wire priority network)
 priority_keeps plan me wire priority network checked types ordered =
-    answer_keeps plan network me (is_own_spoke (begin_at network me).edge.me (wire_row plan wire) && not (nat_eq priority ((begin_at network me).edge.priority wire.0))) (mends plan taken_all (changes (with_priority wire priority) (begin_at network me))) ordered
+    answer_keeps plan network me (is_own_spoke (begin_at network me).edge.me (wire_row plan wire) && not (nat_eq priority ((begin_at network me).edge.priority wire.0)))
+    (mends plan taken_all (changes (with_priority wire priority) (begin_at network me))) ordered
     (priority_kept plan me (WorksOn plan network me) (works_kept plan network me checked types) wire priority (begin_at network me) (works_begin plan network me ordered))
 
 -- ---- pings

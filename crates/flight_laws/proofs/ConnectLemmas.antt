@@ -72,14 +72,16 @@ rests own passive = rw passive refl
 
 -- before the session starts
 open_end : (me peer : EdgeId) (kept : Peering) (work : Work) → work.effects ≡ [] → IsFine me work
-    → Shows peer.0 (gives (Session peer name.Initialized) (changes (with_peering peer (Some kept)) work)) (Some kept) [] false × IsFine me (gives (Session peer name.Initialized) (changes (with_peering peer (Some kept)) work))
+    → Shows peer.0 (gives (Session peer name.Initialized) (changes (with_peering peer (Some kept)) work)) (Some kept) [] false
+    × IsFine me (gives (Session peer name.Initialized) (changes (with_peering peer (Some kept)) work))
 unfolding gives changes with_peering
 open_end me peer kept work none fine = (
   record { keeps = rw (same_number peer.0) refl; says = rw none refl; ended = rw none refl },
   record { place = fine.place; idle = fine.idle; well = well-append work.effects (Session peer name.Initialized) fine.well tt },
 )
 
-stands_open : (one other : EdgePlan) (kept : Peering) → AreEnds (peers_of one other) (peers_of other one) → kept.session.peers ≡ peers_of one other → kept.session.max_pdu ≡ 4096 → kept.next_id < 2 ^ 32
+stands_open : (one other : EdgePlan) (kept : Peering) → AreEnds (peers_of one other) (peers_of other one) → kept.session.peers ≡ peers_of one other → kept.session.max_pdu ≡ 4096
+    → kept.next_id < 2 ^ 32
     → (kept.session.phase ≡ phase.Initialized → is_active (peers_of one other) ≡ false) → IsStanding (peers_of one other) (peers_of other one) kept
 stands_open one other kept ends same long id passive = record { peers = same; between = ends; least = omega (arith, long); most = omega (arith, long); numbered = id; passive = passive }
 
@@ -171,7 +173,8 @@ connects_opens : (me peer : EdgeId) (one other : EdgePlan) (work : Work) → Are
 unfolding started
 connects_opens me peer one other work ends none fine =
     let met : Work = changes (meeting peer) work in
-    let has : HasOpened (peers_of one other) (peers_of other one) me peer (started peer one other met) = starts_opens me peer one other met ends (met_says peer work ∙ none) (met_fine me peer work fine) in
+    let has : HasOpened (peers_of one other) (peers_of other one) me peer (started peer one other met) =
+    starts_opens me peer one other met ends (met_says peer work ∙ none) (met_fine me peer work fine) in
     opened_spared (peers_of one other) (peers_of other one) me peer (started peer one other met) (connects taken_all peer (opened_with one other) work)
     (clears_fine me peer (started peer one other met) has.fine) (clears_spares peer.0 peer (started peer one other met)) has
 
@@ -232,7 +235,8 @@ connects_steady plan network own other me peer = record {
     left = but_spared plan network me (λ k. nat_eq k peer.0) work (gives e work) (λ j. gives_spares j e work silent) on.left;
   };
   says = λ to message work up is on. there_up (work.edge.peering to.0) (ConnectsOn plan network own other me peer (says taken_all to message work).work) up (λ kept at state. record {
-    opened = opened_spared own other me peer work (says taken_all to message work).work (says_fine me to message work on.opened.fine) (says_spares peer.0 to message work (to_another to work up on.opened)) on.opened;
+    opened = opened_spared own other me peer work (says taken_all to message work).work (says_fine me to message work on.opened.fine)
+        (says_spares peer.0 to message work (to_another to work up on.opened)) on.opened;
     sound = says_sound to message work on.sound;
     alone = (says_spares me.0 to message work (apart_from me to kept work on.alone at)).kept ∙ on.alone;
     left = but_says plan network me (λ k. nat_eq k peer.0) to message kept work at state is on.left;
@@ -245,7 +249,8 @@ connects_steady plan network own other me peer = record {
       | inr apart ↦ apart
     ]
 
-pub connects_on : (plan : Plan) (network : NetworkState) (me peer : EdgeId) (one other : EdgePlan) → IsOrdered plan network → nat_eq me.0 peer.0 ≡ false → AreEnds (peers_of one other) (peers_of other one) → (network.edges me.0).peering peer.0 ≡ None
+pub connects_on : (plan : Plan) (network : NetworkState) (me peer : EdgeId) (one other : EdgePlan) → IsOrdered plan network → nat_eq me.0 peer.0 ≡ false
+    → AreEnds (peers_of one other) (peers_of other one) → (network.edges me.0).peering peer.0 ≡ None
     → ConnectsOn plan network (peers_of one other) (peers_of other one) me peer (connects taken_all peer (opened_with one other) (begin_at network me))
 connects_on plan network me peer one other ordered between ends none = record {
   opened = connects_opens me peer one other (begin_at network me) ends refl (record { place = ordered.placed me.0; idle = refl; well = tt });
@@ -253,11 +258,13 @@ connects_on plan network me peer one other ordered between ends none = record {
       (open_sound peer (opened_with one other) (changes (meeting peer) (begin_at network me)) (ap (λ (f : ℕ → Option Peering). f peer.0) (met_peering peer (begin_at network me)) ∙ none) refl
       (met_sound peer (begin_at network me) (ordered.sound me.0)));
   alone = (connects_spares me.0 peer (opened_with one other) (begin_at network me) between).kept ∙ ordered.alone me.0;
-  left = λ place away here. left_spared (ends_at plan me.0 place) (ends_at plan place me.0) place ((network.edges place).peering me.0) (flight network me.0 place) (network.pipes place me.0) (begin_at network me) (connects taken_all peer (opened_with one other) (begin_at network me))
+  left = λ place away here. left_spared (ends_at plan me.0 place) (ends_at plan place me.0) place ((network.edges place).peering me.0) (flight network me.0 place)
+      (network.pipes place me.0) (begin_at network me) (connects taken_all peer (opened_with one other) (begin_at network me))
       (connects_spares place peer (opened_with one other) (begin_at network me) here) ((works_begin plan network me ordered).left place away);
 }
 
-pub mended_on : (plan : Plan) (network : NetworkState) (me peer : EdgeId) (one other : EdgePlan) → IsChecked plan → HasTypes plan → IsOrdered plan network → nat_eq me.0 peer.0 ≡ false → AreEnds (peers_of one other) (peers_of other one) → (network.edges me.0).peering peer.0 ≡ None
+pub mended_on : (plan : Plan) (network : NetworkState) (me peer : EdgeId) (one other : EdgePlan) → IsChecked plan → HasTypes plan → IsOrdered plan network → nat_eq me.0 peer.0 ≡ false
+    → AreEnds (peers_of one other) (peers_of other one) → (network.edges me.0).peering peer.0 ≡ None
     → ConnectsOn plan network (peers_of one other) (peers_of other one) me peer (mends plan taken_all (connects taken_all peer (opened_with one other) (begin_at network me)))
 mended_on plan network me peer one other checked types ordered between ends none =
     mends_keep plan me (ConnectsOn plan network (peers_of one other) (peers_of other one) me peer)
@@ -277,16 +284,21 @@ pub record HasConnected (plan : Plan) (network : NetworkState) (me peer : EdgeId
 leaves_others : (plan : Plan) (network : NetworkState) (me peer : EdgeId) (work : Work) → HasConnected plan network me peer work → LeavesOthers (IsPaired plan) network me peer work
 leaves_others plan network me peer work connected place away here = (connected.left place away here).leaves
 
-connecting_edges : (from to : EdgeId) (first second : Work) (network : NetworkState) → (connecting from first to second network).state.edges ≡ (with_edge to second.edge (with_edge from first.edge network)).edges
+connecting_edges : (from to : EdgeId) (first second : Work) (network : NetworkState) → (connecting from first to second network).state.edges
+    ≡ (with_edge to second.edge (with_edge from first.edge network)).edges
 connecting_edges from to first second network =
-    all_edges to 0 0 second.effects (absorb_all from 0 0 first.effects (with_edge to second.edge (with_edge from first.edge network))) ∙ all_edges from 0 0 first.effects (with_edge to second.edge (with_edge from first.edge network))
+    all_edges to 0 0 second.effects (absorb_all from 0 0 first.effects (with_edge to second.edge (with_edge from first.edge network)))
+    ∙ all_edges from 0 0 first.effects (with_edge to second.edge (with_edge from first.edge network))
 
-connecting_keeps : (plan : Plan) (network : NetworkState) (from to : EdgeId) (first second : Work) → nat_eq from.0 to.0 ≡ false → IsOrdered plan network → HasConnected plan network from to first → HasConnected plan network to from second
-    → IsPaired plan from.0 to.0 first.edge second.edge (out_between (second.edge.peering from.0) first second from to (network.pipes from.0 to.0)) (back_between (first.edge.peering to.0) first second from to (network.pipes to.0 from.0))
+connecting_keeps : (plan : Plan) (network : NetworkState) (from to : EdgeId) (first second : Work) → nat_eq from.0 to.0 ≡ false → IsOrdered plan network
+    → HasConnected plan network from to first → HasConnected plan network to from second
+    → IsPaired plan from.0 to.0 first.edge second.edge (out_between (second.edge.peering from.0) first second from to (network.pipes from.0 to.0))
+    (back_between (first.edge.peering to.0) first second from to (network.pipes to.0 from.0))
     → KeepsOrder plan (connecting from first to second network)
 connecting_keeps plan network from to first second between ordered one other pair = record {
   ordered = record {
-    two = connected_two (IsPaired plan) network from to first second (pair_turned plan) between ordered.two (leaves_others plan network from to first one) (leaves_others plan network to from second other) pair;
+    two = connected_two (IsPaired plan) network from to first second (pair_turned plan) between ordered.two (leaves_others plan network from to first one)
+        (leaves_others plan network to from second other) pair;
     alone = λ a. by_place (λ k e. e.peering k ≡ None) a one.alone other.alone (ordered.alone a);
     placed = λ a. by_place (λ k e. e.me ≡ record { 0 = k }) a one.place other.place (ordered.placed a);
     sound = λ a. by_place (λ k e. TellsSoundly (point_limit plan k) e) a one.sound other.sound (ordered.sound a);
@@ -297,7 +309,8 @@ connecting_keeps plan network from to first second between ordered one other pai
   where
     by_place : (Q : ℕ → EdgeState → Type 0) (a : ℕ) → Q from.0 first.edge → Q to.0 second.edge → Q a (network.edges a) → Q a ((connecting from first to second network).state.edges a)
     by_place Q a here there else_where = rw (connecting_edges from to first second network) (elim (cases_Bool (nat_eq a to.0)) [
-      | inl is ↦ subst (λ (k : ℕ). Q k ((with_edge to second.edge (with_edge from first.edge network)).edges k)) (sym (eqb-true a to.0 is)) (rw (edge_there to second.edge (with_edge from first.edge network)) there)
+      | inl is ↦ subst (λ (k : ℕ). Q k ((with_edge to second.edge (with_edge from first.edge network)).edges k)) (sym (eqb-true a to.0 is))
+          (rw (edge_there to second.edge (with_edge from first.edge network)) there)
       | inr away ↦ rw (edge_else to second.edge (with_edge from first.edge network) a away) (elim (cases_Bool (nat_eq a from.0)) [
         | inl is ↦ subst (λ (k : ℕ). Q k ((with_edge from first.edge network).edges k)) (sym (eqb-true a from.0 is)) (rw (edge_there from first.edge network) here)
         | inr gone ↦ rw (edge_else from first.edge network a gone) else_where
@@ -308,14 +321,16 @@ connecting_keeps plan network from to first second between ordered one other pai
 opened_steps : (own other : Peers) (me peer : EdgeId) (first second : Work) (one : HasOpened own other me peer first) (two : HasOpened other own peer me second)
     → is_in_step own (Some one.kept) (Some two.kept) one.messages two.messages ≡ true
 opened_steps own other me peer first second one two =
-    let turned : is_active other ≡ not (is_active own) = ends_agree.one_active own other one.stands.between.facing one.stands.between.one.me one.stands.between.one.peer one.stands.between.one.proper in
+    let turned : is_active other ≡ not (is_active own) =
+    ends_agree.one_active own other one.stands.between.facing one.stands.between.one.me one.stands.between.one.peer one.stands.between.one.proper in
     elim (cases_Bool (is_active own)) [
       | inl active ↦ (let here = one.speaks active in let there = two.waits (turned ∙ ap (λ (b : Bool). not b) active) in rw (active, here.0, here.1, there.0, there.1) refl)
       | inr passive ↦ (let here = one.waits passive in let there = two.speaks (turned ∙ ap (λ (b : Bool). not b) passive) in rw (passive, here.0, here.1, there.0, there.1) refl)
     ]
 
 pub opened_pair : (own other : Peers) (from to : EdgeId) (first second : Work) → HasOpened own other from to first → HasOpened other own to from second
-    → ArePaired own other (first.edge.peering to.0) (second.edge.peering from.0) (out_between (second.edge.peering from.0) first second from to []) (back_between (first.edge.peering to.0) first second from to [])
+    → ArePaired own other (first.edge.peering to.0) (second.edge.peering from.0) (out_between (second.edge.peering from.0) first second from to [])
+    (back_between (first.edge.peering to.0) first second from to [])
 unfolding out_between back_between
 opened_pair own other from to first second one two =
     rw (one.shows.keeps, two.shows.keeps, one.shows.ended, two.shows.ended, one.shows.says, two.shows.says)
@@ -328,7 +343,8 @@ opened_pair own other from to first second one two =
     })
 
 -- nothing is on its way between ends of which none stands
-pub none_on_way : (plan : Plan) (network : NetworkState) (a b : ℕ) → IsOrdered plan network → nat_eq a b ≡ false → (network.edges a).peering b ≡ None → (network.edges b).peering a ≡ None → network.pipes a b ≡ []
+pub none_on_way : (plan : Plan) (network : NetworkState) (a b : ℕ) → IsOrdered plan network → nat_eq a b ≡ false → (network.edges a).peering b ≡ None → (network.edges b).peering a
+    ≡ None → network.pipes a b ≡ []
 none_on_way plan network a b ordered apart one two =
     let pair : ArePaired (ends_at plan a b) (ends_at plan b a) None None (network.pipes a b) (network.pipes b a) = rw (one, two) at (ordered.two a b apart) in
     pair.out_is ∙ ap (octets_of_all (ends_at plan a b).me) (empty pair.messages (first_holds _ _ pair.talk.steps))
@@ -356,7 +372,8 @@ idles_has plan network me peer ordered = record {
   well = tt;
   sound = ordered.sound me.0;
   alone = ordered.alone me.0;
-  left = λ place away here. left_spared (ends_at plan me.0 place) (ends_at plan place me.0) place ((network.edges place).peering me.0) (flight network me.0 place) (network.pipes place me.0) (begin_at network me) (idles (begin_at network me))
+  left = λ place away here. left_spared (ends_at plan me.0 place) (ends_at plan place me.0) place ((network.edges place).peering me.0) (flight network me.0 place)
+      (network.pipes place me.0) (begin_at network me) (idles (begin_at network me))
       (record { kept = refl; said = refl; closed = refl }) ((works_begin plan network me ordered).left place away);
 }
 
@@ -370,17 +387,22 @@ idles_pair : (plan : Plan) (network : NetworkState) (from to : EdgeId) → IsOrd
     (back_between ((network.edges from.0).peering to.0) (idles (begin_at network from)) (idles (begin_at network to)) from to (network.pipes to.0 from.0))
 unfolding idles out_between back_between
 idles_pair plan network from to ordered between =
-    rw (same_pipe (is_there ((network.edges to.0).peering from.0)) (network.pipes from.0 to.0), same_pipe (is_there ((network.edges from.0).peering to.0)) (network.pipes to.0 from.0)) (ordered.two from.0 to.0 between)
+    rw (same_pipe (is_there ((network.edges to.0).peering from.0)) (network.pipes from.0 to.0), same_pipe (is_there ((network.edges from.0).peering to.0)) (network.pipes to.0 from.0))
+    (ordered.two from.0 to.0 between)
 
-idles_keep : (plan : Plan) (network : NetworkState) (from to : EdgeId) → IsOrdered plan network → nat_eq from.0 to.0 ≡ false → KeepsOrder plan (connecting from (idles (begin_at network from)) to (idles (begin_at network to)) network)
+idles_keep : (plan : Plan) (network : NetworkState) (from to : EdgeId) → IsOrdered plan network → nat_eq from.0 to.0 ≡ false
+    → KeepsOrder plan (connecting from (idles (begin_at network from)) to (idles (begin_at network to)) network)
 unfolding idles
 idles_keep plan network from to ordered between =
-    connecting_keeps plan network from to (idles (begin_at network from)) (idles (begin_at network to)) between ordered (idles_has plan network from to ordered) (idles_has plan network to from ordered) (idles_pair plan network from to ordered between)
+    connecting_keeps plan network from to (idles (begin_at network from)) (idles (begin_at network to)) between ordered (idles_has plan network from to ordered)
+    (idles_has plan network to from ordered) (idles_pair plan network from to ordered between)
 
-opens_keep : (plan : Plan) (network : NetworkState) (from to : EdgeId) (one other : EdgePlan) → IsChecked plan → HasTypes plan → IsOrdered plan network → nat_eq from.0 to.0 ≡ false → AreEnds (peers_of one other) (peers_of other one)
+opens_keep : (plan : Plan) (network : NetworkState) (from to : EdgeId) (one other : EdgePlan) → IsChecked plan → HasTypes plan → IsOrdered plan network → nat_eq from.0 to.0 ≡ false
+    → AreEnds (peers_of one other) (peers_of other one)
     → ends_at plan from.0 to.0 ≡ peers_of one other → ends_at plan to.0 from.0 ≡ peers_of other one → network.pipes from.0 to.0 ≡ [] → network.pipes to.0 from.0 ≡ []
     → (network.edges from.0).peering to.0 ≡ None → (network.edges to.0).peering from.0 ≡ None
-    → KeepsOrder plan (connecting from (mends plan taken_all (connects taken_all to (opened_with one other) (begin_at network from))) to (mends plan taken_all (connects taken_all from (opened_with other one) (begin_at network to))) network)
+    → KeepsOrder plan (connecting from (mends plan taken_all (connects taken_all to (opened_with one other) (begin_at network from))) to
+    (mends plan taken_all (connects taken_all from (opened_with other one) (begin_at network to))) network)
 opens_keep plan network from to one other checked types ordered between ends near far out back none none' =
     let here : ConnectsOn plan network (peers_of one other) (peers_of other one) from to (mends plan taken_all (connects taken_all to (opened_with one other) (begin_at network from))) =
     mended_on plan network from to one other checked types ordered between ends none in
@@ -399,7 +421,8 @@ opens_keep plan network from to one other checked types ordered between ends nea
 
 pub connect_keeps : (plan : Plan) (from to : EdgeId) (network : NetworkState) → IsChecked plan → HasTypes plan → IsOrdered plan network → KeepsOrder plan (connect_event plan from to network)
 connect_keeps plan from to network checked types ordered = can (are_joined plan from.0 to.0) (stands network from.0 to.0) (stands network to.0 from.0) refl refl refl where
-  rows : nat_eq from.0 to.0 ≡ false → (network.edges from.0).peering to.0 ≡ None → (network.edges to.0).peering from.0 ≡ None → (first second : Option EdgePlan) → slice_get plan.edges from.0 ≡ first → slice_get plan.edges to.0 ≡ second
+  rows : nat_eq from.0 to.0 ≡ false → (network.edges from.0).peering to.0 ≡ None → (network.edges to.0).peering from.0 ≡ None → (first second : Option EdgePlan)
+      → slice_get plan.edges from.0 ≡ first → slice_get plan.edges to.0 ≡ second
       → KeepsOrder plan (connecting from (connects_between plan taken_all to first second (begin_at network from)) to (connects_between plan taken_all from second first (begin_at network to)) network)
   rows between none none' (Some one) (Some other) here there =
       opens_keep plan network from to one other checked types ordered between (ends_are plan from.0 to.0 one other checked types here there between) (rw (here, there) refl) (rw (there, here) refl)

@@ -53,7 +53,8 @@ pub record HasSameEnds (peer : ℕ) (old new : EdgeState) : Type 0 where
 
 pub bound_same : (plan : Plan) (a b : ℕ) (old new other : EdgeState) (out back : List Message) → HasSameEnds b old new → AreBound plan a b old other out back → AreBound plan a b new other out back
 bound_same plan a b old new other out back same bound = record {
-  near = λ wire row is joined. rw (same.ends wire.0) (binding_goes_on row.pw_id (given_of old) (given_of new) (old.ends wire.0 b).local (other.ends wire.0 a).remote out back same.label (bound.near wire row is joined));
+  near = λ wire row is joined. rw (same.ends wire.0)
+      (binding_goes_on row.pw_id (given_of old) (given_of new) (old.ends wire.0 b).local (other.ends wire.0 a).remote out back same.label (bound.near wire row is joined));
   far = λ wire row is joined. rw (same.ends wire.0) (bound.far wire row is joined);
 }
 
@@ -82,8 +83,10 @@ pub bound_says : (plan : Plan) (me : EdgeId) (place : EndPlace) (m : Message) (o
     → AreBound plan me.0 place.peer.0 old other out back → AreBound plan me.0 place.peer.0 new other (out ++ m ∷ []) back
 bound_says plan me place m old new other out back checked there says bound = record {
   near = λ wire row is joined. near wire row is joined (nat_eq wire.0 place.wire.0) refl;
-  far = λ wire row is joined. binding_answers row.pw_id (given_of other) (other.ends wire.0 me.0).local (new.ends wire.0 place.peer.0).remote back out m (says.releases row.pw_id (given_of other) (other.ends wire.0 me.0).local)
-      (subst (λ (r : Option Binding). IsBoundBy row.pw_id (given_of other) (other.ends wire.0 me.0).local r back out) (sym (remote wire.0 (nat_eq wire.0 place.wire.0) refl)) (bound.far wire row is joined));
+  far = λ wire row is joined. binding_answers row.pw_id (given_of other) (other.ends wire.0 me.0).local (new.ends wire.0 place.peer.0).remote back out m
+      (says.releases row.pw_id (given_of other) (other.ends wire.0 me.0).local)
+      (subst (λ (r : Option Binding). IsBoundBy row.pw_id (given_of other) (other.ends wire.0 me.0).local r back out) (sym (remote wire.0 (nat_eq wire.0 place.wire.0) refl))
+      (bound.far wire row is joined));
 }
   where
     remote : (wire : ℕ) (same : Bool) → nat_eq wire place.wire.0 ≡ same → (new.ends wire place.peer.0).remote ≡ (old.ends wire place.peer.0).remote

@@ -42,7 +42,8 @@ reply_silent pw_id reply.Init id ends = refl
 reply_silent pw_id reply.KeepAlive id ends = refl
 reply_silent pw_id (reply.Notice status) id ends = refl
 
-pub bound_silent : (plan : Plan) (a b : ℕ) (one other : EdgeState) (out back : List Message) (m : Message) → ((pw_id : ℕ) → is_silent pw_id m ≡ true) → AreBound plan a b one other out back → AreBound plan a b one other (out ++ m ∷ []) back
+pub bound_silent : (plan : Plan) (a b : ℕ) (one other : EdgeState) (out back : List Message) (m : Message) → ((pw_id : ℕ) → is_silent pw_id m ≡ true)
+    → AreBound plan a b one other out back → AreBound plan a b one other (out ++ m ∷ []) back
 bound_silent plan a b one other out back m silent bound = record {
   near = λ wire row is joined. binding_says_other row.pw_id (given_of one) (one.ends wire.0 b).local (other.ends wire.0 a).remote out back m (silent row.pw_id) (bound.near wire row is joined);
   far = λ wire row is joined. binding_answers row.pw_id (given_of other) (other.ends wire.0 a).local (one.ends wire.0 b).remote back out m
@@ -53,7 +54,8 @@ behind_one : (xs : List Message) (m : Message) (ys : List Message) → (xs ++ m 
 behind_one [] m ys = refl
 behind_one (x ∷ xs) m ys = ap (λ (l : List Message). x ∷ l) (behind_one xs m ys)
 
-bound_replies : (plan : Plan) (a b : ℕ) (one other : EdgeState) (out back : List Message) (rs : List Reply) (kept : Peering) → AreBound plan a b one other out back → AreBound plan a b one other (out ++ messages_put rs kept) back
+bound_replies : (plan : Plan) (a b : ℕ) (one other : EdgeState) (out back : List Message) (rs : List Reply) (kept : Peering) → AreBound plan a b one other out back
+    → AreBound plan a b one other (out ++ messages_put rs kept) back
 bound_replies plan a b one other out back [] kept bound = subst (λ (l : List Message). AreBound plan a b one other l back) (sym (none_behind out)) bound
 bound_replies plan a b one other out back (r ∷ rs) kept bound =
     subst (λ (l : List Message). AreBound plan a b one other l back) (behind_one out (message_of r kept.next_id kept.session.peers) (messages_put rs (having_spoken kept)))
@@ -97,11 +99,13 @@ pub no_far : (plan : Plan) (me : EdgeId) (place : ℕ) (far : EdgeState) (out : 
 no_far plan me place far out answers work none = record { bound = λ messages are is near other. clash (sym (ap is_there none) ∙ other) }
 
 -- what the event makes of the edge
-happens_is : (peer : EdgeId) (event : SessionEvent) (kept : Peering) (o : Outcome) (work : Work) → work.edge.peering peer.0 ≡ Some kept → outcome_of kept.session event ≡ o → happens taken_all peer event work ≡ comes_of taken_all peer kept o work
+happens_is : (peer : EdgeId) (event : SessionEvent) (kept : Peering) (o : Outcome) (work : Work) → work.edge.peering peer.0 ≡ Some kept → outcome_of kept.session event ≡ o
+    → happens taken_all peer event work ≡ comes_of taken_all peer kept o work
 happens_is peer event kept o work at is = rw (at, is) refl
 
 pub leaves_event : (plan : Plan) (me peer : EdgeId) (far : EdgeState) (out : List ℕ) (before after answers : List Message) (event : SessionEvent) (kept : Peering) (work : Work) (has : HasSaid plan me peer.0 far out work) → IsFine me work
-    → work.edge.peering peer.0 ≡ Some kept → closes peer.0 work.effects ≡ false → StayInStep (ends_at plan me.0 peer.0) (ends_at plan peer.0 me.0) kept (far.peering me.0) has.messages answers (outcome_of kept.session event)
+    → work.edge.peering peer.0 ≡ Some kept → closes peer.0 work.effects ≡ false
+    → StayInStep (ends_at plan me.0 peer.0) (ends_at plan peer.0 me.0) kept (far.peering me.0) has.messages answers (outcome_of kept.session event)
     → (goes_on (outcome_of kept.session event) ≡ true → (ms : List Message) → AreBound plan me.0 peer.0 work.edge far ms before → AreBound plan me.0 peer.0 work.edge far ms after)
     → LeavesBound plan me peer.0 far out before work → LeavesBound plan me peer.0 far out after (happens_with_ends taken_all peer event work)
 leaves_event plan me peer far out before after answers event kept work has fine at unclosed step follows leaves = by_outcome (outcome_of kept.session event) refl where
@@ -114,22 +118,26 @@ leaves_event plan me peer far out before after answers event kept work has fine 
   new : Work
   new = happens taken_all peer event work
 
-  went : (next : SessionState) (replies : List Reply) (far_end : Peering) → far.peering me.0 ≡ Some far_end → outcome_of kept.session event ≡ Goes next replies → LeavesBound plan me peer.0 far out after (clears_ends peer new)
+  went : (next : SessionState) (replies : List Reply) (far_end : Peering) → far.peering me.0 ≡ Some far_end → outcome_of kept.session event ≡ Goes next replies
+      → LeavesBound plan me peer.0 far out after (clears_ends peer new)
   went next replies far_end there is =
       let now : Peering = with_session next kept in
       let goes : StayInStep own other kept (Some far_end) has.messages answers (Goes next replies) = rw (there, is) at step in
       let shows : Shows peer.0 new (Some (having_put_all replies now)) (said_to peer.0 work.effects ++ octets_put replies now) false =
-      rw (happens_is peer event kept (Goes next replies) work at is) (goes_shows me peer kept next replies (said_to peer.0 work.effects) work (record { keeps = at; says = refl; ended = unclosed }) fine).0 in
+      rw (happens_is peer event kept (Goes next replies) work at is)
+      (goes_shows me peer kept next replies (said_to peer.0 work.effects) work (record { keeps = at; says = refl; ended = unclosed }) fine).0 in
       let keeps : KeepsEnds work.edge new.edge = happens_keeps taken_all peer event work in
       let peers : next.peers ≡ own = sym (put_peers replies now) ∙ goes.here.peers in
       subst (LeavesBound plan me peer.0 far out after) (sym (clears_not peer new (ap is_there shows.keeps)))
-      (leaves_more plan me peer.0 far out (octets_put replies now) before after work new has (messages_put replies now) goes.here.between.one (said_last own has.messages (messages_put replies now) goes.said)
+      (leaves_more plan me peer.0 far out (octets_put replies now) before after work new has (messages_put replies now) goes.here.between.one
+      (said_last own has.messages (messages_put replies now) goes.said)
       (put_octets_are replies now ∙ ap (λ (p : Peers). octets_of_all p.me (messages_put replies now)) peers) shows.says (λ near. ap is_there at)
       (λ near bound. bound_same plan me.0 peer.0 work.edge new.edge far (has.messages ++ messages_put replies now) after
       (record { label = given_on work.edge new.edge keeps.next_label keeps.kept; ends = λ wire. ap (λ (f : ℕ → ℕ → EndState). f wire peer.0) keeps.ends })
       (bound_replies plan me.0 peer.0 work.edge far has.messages after replies now (follows (ap goes_on is) has.messages bound))) leaves)
 
-  by_far : (next : SessionState) (replies : List Reply) → outcome_of kept.session event ≡ Goes next replies → (far_end : Option Peering) → far.peering me.0 ≡ far_end → LeavesBound plan me peer.0 far out after (clears_ends peer new)
+  by_far : (next : SessionState) (replies : List Reply) → outcome_of kept.session event ≡ Goes next replies → (far_end : Option Peering) → far.peering me.0 ≡ far_end
+      → LeavesBound plan me peer.0 far out after (clears_ends peer new)
   by_far next replies is None none = no_far plan me peer.0 far out after (clears_ends peer new) none
   by_far next replies is (Some far_end) there = went next replies far_end there is
 

@@ -60,10 +60,12 @@ losing_is plan me peer network up = by_end (stands network me.0 peer.0) up where
   by_end true e = refl
   by_end false e = true_clash (sym e)
 
-pub losing_keeps : (plan : Plan) (me peer : EdgeId) (network : NetworkState) → IsChecked plan → HasTypes plan → IsOrdered plan network → stands network me.0 peer.0 ≡ true → KeepsOrder plan (losing plan me peer network)
+pub losing_keeps : (plan : Plan) (me peer : EdgeId) (network : NetworkState) → IsChecked plan → HasTypes plan → IsOrdered plan network → stands network me.0 peer.0 ≡ true
+    → KeepsOrder plan (losing plan me peer network)
 losing_keeps plan me peer network checked types ordered up =
     work_keeps plan network me 0 0 (losing_work plan network me peer) ordered
-    (subst (WorksOn plan network me) (sym (losing_is plan me peer network up)) (lost_kept plan me (WorksOn plan network me) (works_kept plan network me checked types) peer (begin_at network me) (works_begin plan network me ordered)))
+    (subst (WorksOn plan network me) (sym (losing_is plan me peer network up))
+    (lost_kept plan me (WorksOn plan network me) (works_kept plan network me checked types) peer (begin_at network me) (works_begin plan network me ordered)))
 
 pub lose_keeps : (plan : Plan) (me peer : EdgeId) (network : NetworkState) → IsChecked plan → HasTypes plan → IsOrdered plan network → KeepsOrder plan (lose_event plan me peer network)
 lose_keeps plan me peer network checked types ordered = by_stand (stands network me.0 peer.0) refl where
@@ -79,7 +81,8 @@ ticks_keep plan place (suc count) network checked types ordered =
     let me : EdgeId = record { 0 = place } in
     let one : KeepsOrder plan (tick_at plan me network) =
     work_keeps plan network me 0 0 (tick_input plan taken_all (begin_at network me)) ordered
-    (tick_kept plan me (WorksOn plan network me) (works_kept plan network me checked types) (begin_at network me) (works_counted plan network me (begin_at network me) (works_begin plan network me ordered))) in
+    (tick_kept plan me (WorksOn plan network me) (works_kept plan network me checked types) (begin_at network me)
+    (works_counted plan network me (begin_at network me) (works_begin plan network me ordered))) in
     let more : KeepsOrder plan (ticks_from plan (place + 1) count (tick_at plan me network).state) = ticks_keep plan (place + 1) count (tick_at plan me network).state checked types one.ordered in
     record { ordered = more.ordered; good = good-append (tick_at plan me network).entries (ticks_from plan (place + 1) count (tick_at plan me network).state).entries one.good more.good }
 
@@ -96,7 +99,8 @@ aged_good (p ∷ ps) = by (lives_on p) (aged_good ps) where
 
 pub tick_keeps : (plan : Plan) (network : NetworkState) → IsChecked plan → HasTypes plan → IsOrdered plan network → KeepsOrder plan (tick_event plan network)
 tick_keeps plan network checked types ordered =
-    let rest : KeepsOrder plan (ticks_from plan 0 (length plan.edges) (with_older network)) = ticks_keep plan 0 (length plan.edges) (with_older network) checked types (older_ordered plan network ordered) in
+    let rest : KeepsOrder plan (ticks_from plan 0 (length plan.edges) (with_older network)) =
+    ticks_keep plan 0 (length plan.edges) (with_older network) checked types (older_ordered plan network ordered) in
     record { ordered = rest.ordered; good = good-append (aged_entries network.under_way) (ticks_from plan 0 (length plan.edges) (with_older network)).entries (aged_good network.under_way) rest.good }
 
 -- ---- an edge restarts
@@ -173,8 +177,10 @@ restart_apart plan me network ordered = record { alone = λ a away. ordered.alon
 
 pub restart_keeps : (plan : Plan) (me : EdgeId) (network : NetworkState) → IsOrdered plan network → KeepsOrder plan (restart_event me network)
 restart_keeps plan me network ordered = record {
-  ordered = works_settle plan (without_octets_to me network) me 0 0 (restart_input (begin_at network me)) (restart_others plan me network ordered) (restart_apart plan me network ordered) (restart_works plan me network ordered);
-  good = all_good me 0 0 (restart_input (begin_at network me)).effects (with_edge me (restart_input (begin_at network me)).edge (without_octets_to me network)) (restart_works plan me network ordered).fine.well;
+  ordered = works_settle plan (without_octets_to me network) me 0 0 (restart_input (begin_at network me)) (restart_others plan me network ordered)
+      (restart_apart plan me network ordered) (restart_works plan me network ordered);
+  good = all_good me 0 0 (restart_input (begin_at network me)).effects (with_edge me (restart_input (begin_at network me)).edge (without_octets_to me network))
+      (restart_works plan me network ordered).fine.well;
 }
 
 -- ---- octets are delivered
@@ -184,7 +190,8 @@ unfolding with_pipe
 pipe_edges from to octets network = refl
 
 -- the edge begins to hear: what it holds and what comes are the first octets of its peer's messages
-pub hears_begin : (plan : Plan) (from to : EdgeId) (rest : List ℕ) (network : NetworkState) (kept : Peering) → IsOrdered plan network → nat_eq from.0 to.0 ≡ false → (network.edges to.0).peering from.0 ≡ Some kept
+pub hears_begin : (plan : Plan) (from to : EdgeId) (rest : List ℕ) (network : NetworkState) (kept : Peering) → IsOrdered plan network → nat_eq from.0 to.0 ≡ false
+    → (network.edges to.0).peering from.0 ≡ Some kept
     → (pair : ArePaired (ends_at plan to.0 from.0) (ends_at plan from.0 to.0) (Some kept) ((network.edges from.0).peering to.0) (flight network to.0 from.0) (kept.held ++ network.pipes from.0 to.0))
     → HearsOn plan (with_pipe from to rest network) to from pair.answers (begin_at network to)
 hears_begin plan from to rest network kept ordered apart at pair =
@@ -203,7 +210,8 @@ hears_begin plan from to rest network kept ordered apart at pair =
           rw (pipe_edges from to rest network, pipe_from from to rest network to.0 place (apart_back from.0 to.0 apart), pipe_from from to rest network place to.0 here) (begun.left place away);
     }
 
-pub deliver_works : (plan : Plan) (from to : EdgeId) (count : ℕ) (network : NetworkState) (kept : Peering) → IsChecked plan → HasTypes plan → IsOrdered plan network → nat_eq from.0 to.0 ≡ false → (network.edges to.0).peering from.0 ≡ Some kept
+pub deliver_works : (plan : Plan) (from to : EdgeId) (count : ℕ) (network : NetworkState) (kept : Peering) → IsChecked plan → HasTypes plan → IsOrdered plan network
+    → nat_eq from.0 to.0 ≡ false → (network.edges to.0).peering from.0 ≡ Some kept
     → WorksOn plan (with_pipe from to (drop count (network.pipes from.0 to.0)) network) to (octets_input plan taken_all from (take count (network.pipes from.0 to.0)) (Some kept) (begin_at network to))
 deliver_works plan from to count network kept checked types ordered apart at =
     mends_keep plan to (WorksOn plan later to) (works_kept plan later to checked types).rows (hears_few plan taken_all from (suc (length octets)) octets begun)
@@ -238,7 +246,8 @@ deliver_apart : (plan : Plan) (from to : EdgeId) (octets : List ℕ) (network : 
 unfolding with_pipe
 deliver_apart plan from to octets network ordered = record { alone = λ a away. ordered.alone a; placed = λ a away. ordered.placed a; sound = λ a away. ordered.sound a }
 
-delivering_keeps : (plan : Plan) (from to : EdgeId) (count : ℕ) (network : NetworkState) (near : Option Peering) → IsChecked plan → HasTypes plan → IsOrdered plan network → nat_eq from.0 to.0 ≡ false → (network.edges to.0).peering from.0 ≡ near → is_there near ≡ true
+delivering_keeps : (plan : Plan) (from to : EdgeId) (count : ℕ) (network : NetworkState) (near : Option Peering) → IsChecked plan → HasTypes plan → IsOrdered plan network
+    → nat_eq from.0 to.0 ≡ false → (network.edges to.0).peering from.0 ≡ near → is_there near ≡ true
     → KeepsOrder plan (delivering plan from to count network)
 delivering_keeps plan from to count network None checked types ordered apart at up = true_clash (sym up)
 delivering_keeps plan from to count network (Some kept) checked types ordered apart at up =
@@ -246,7 +255,8 @@ delivering_keeps plan from to count network (Some kept) checked types ordered ap
     let work : Work = hearing_work plan network from to (take count (network.pipes from.0 to.0)) in
     let works : WorksOn plan later to work = rw at (deliver_works plan from to count network kept checked types ordered apart at) in
     record {
-      ordered = works_settle plan later to 0 0 work (deliver_others plan from to (drop count (network.pipes from.0 to.0)) network ordered) (deliver_apart plan from to (drop count (network.pipes from.0 to.0)) network ordered) works;
+      ordered = works_settle plan later to 0 0 work (deliver_others plan from to (drop count (network.pipes from.0 to.0)) network ordered)
+          (deliver_apart plan from to (drop count (network.pipes from.0 to.0)) network ordered) works;
       good = all_good to 0 0 work.effects (with_edge to work.edge later) works.fine.well;
     }
 
@@ -256,17 +266,20 @@ stands_apart plan network from to ordered up = elim (cases_Bool (nat_eq from to)
   | inr apart ↦ apart
 ]
 
-pub deliver_keeps : (plan : Plan) (from to : EdgeId) (count : ℕ) (network : NetworkState) → IsChecked plan → HasTypes plan → IsOrdered plan network → KeepsOrder plan (deliver_event plan from to count network)
+pub deliver_keeps : (plan : Plan) (from to : EdgeId) (count : ℕ) (network : NetworkState) → IsChecked plan → HasTypes plan → IsOrdered plan network
+    → KeepsOrder plan (deliver_event plan from to count network)
 deliver_keeps plan from to count network checked types ordered = by_stand (stands network to.0 from.0) refl where
   some : stands network to.0 from.0 ≡ true → (drained : Bool) → KeepsOrder plan (cond drained (losing plan to from network) (delivering plan from to count network))
   some is true = losing_keeps plan to from network checked types ordered is
   some is false = delivering_keeps plan from to count network ((network.edges to.0).peering from.0) checked types ordered (stands_apart plan network from.0 to.0 ordered is) refl is
 
-  which : stands network to.0 from.0 ≡ true → (any : Bool) → KeepsOrder plan (cond any (cond (is_drained_pipe network from.0 to.0) (losing plan to from network) (delivering plan from to count network)) (idle network))
+  which : stands network to.0 from.0 ≡ true → (any : Bool)
+      → KeepsOrder plan (cond any (cond (is_drained_pipe network from.0 to.0) (losing plan to from network) (delivering plan from to count network)) (idle network))
   which is true = some is (is_drained_pipe network from.0 to.0)
   which is false = idle_keeps plan network ordered
 
   by_stand : (up : Bool) → stands network to.0 from.0 ≡ up
-      → KeepsOrder plan (cond (up && (not (is_drained_pipe network from.0 to.0) || not (stands network from.0 to.0))) (cond (is_drained_pipe network from.0 to.0) (losing plan to from network) (delivering plan from to count network)) (idle network))
+      → KeepsOrder plan (cond (up && (not (is_drained_pipe network from.0 to.0) || not (stands network from.0 to.0)))
+      (cond (is_drained_pipe network from.0 to.0) (losing plan to from network) (delivering plan from to count network)) (idle network))
   by_stand true is = which is _
   by_stand false is = idle_keeps plan network ordered

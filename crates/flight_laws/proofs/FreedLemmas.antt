@@ -43,7 +43,8 @@ left_is (Some own) (Some other) label is = absurd (something label (sym is))
 
 -- ---- one number is kept
 
-pub may_keep : (label : ℕ) (peer : EdgeId) (kept : List Kept) (other p : ℕ) (age : Option ℕ) → (label ≡ other → peer.0 ≡ p) → MayBeKept p age (kept_at other kept) → MayBeKept p age (kept_at other (keeps_one (Some label) peer kept))
+pub may_keep : (label : ℕ) (peer : EdgeId) (kept : List Kept) (other p : ℕ) (age : Option ℕ) → (label ≡ other → peer.0 ≡ p) → MayBeKept p age (kept_at other kept)
+    → MayBeKept p age (kept_at other (keeps_one (Some label) peer kept))
 may_keep label peer kept other p age same may = by (kept_at label kept) refl where
   by : (r : Option KeptState) → kept_at label kept ≡ r → MayBeKept p age (kept_at other (unless_kept r label peer kept))
   by (Some state) is = may
@@ -91,7 +92,8 @@ lost_may beside ends (place ∷ places) kept other p age owner may =
     one : (own : Option ℕ) → own_label (ends place.wire.0 place.peer.0).local ≡ own → MayBeKept p age (kept_at other (keeps_one own place.peer kept))
     one None is = may
     one (Some label) is =
-        may_keep label place.peer kept other p age (λ same. owner place.wire.0 place.peer.0 (subst (λ (l : ℕ). part_owns (ends place.wire.0 place.peer.0).local l ≡ true) same (owns_own (ends place.wire.0 place.peer.0).local label is))) may
+        may_keep label place.peer kept other p age
+        (λ same. owner place.wire.0 place.peer.0 (subst (λ (l : ℕ). part_owns (ends place.wire.0 place.peer.0).local l ≡ true) same (owns_own (ends place.wire.0 place.peer.0).local label is))) may
 
     by : (b : Bool) → MayBeKept p age (kept_at other (cond b (keeps_one (own_label (ends place.wire.0 place.peer.0).local) place.peer kept) kept))
     by true = one (own_label (ends place.wire.0 place.peer.0).local) refl
@@ -123,16 +125,22 @@ lost_from beside ends (place ∷ places) kept other there =
   where
     owned : (label : ℕ) → own_label (ends place.wire.0 place.peer.0).local ≡ Some label → (place.peer.0 == beside.0) ≡ true → label ≡ other → IsOwnedBeside beside ends other
     owned label is here same =
-        record { wire = place.wire.0; owned = subst (λ (k : ℕ). part_owns (ends place.wire.0 k).local other ≡ true) (eqb-true place.peer.0 beside.0 here) (subst (λ (l : ℕ). part_owns (ends place.wire.0 place.peer.0).local l ≡ true) same (owns_own (ends place.wire.0 place.peer.0).local label is)) }
+        record {
+          wire = place.wire.0;
+          owned = subst (λ (k : ℕ). part_owns (ends place.wire.0 k).local other ≡ true) (eqb-true place.peer.0 beside.0 here)
+              (subst (λ (l : ℕ). part_owns (ends place.wire.0 place.peer.0).local l ≡ true) same (owns_own (ends place.wire.0 place.peer.0).local label is));
+        }
 
-    one : (own : Option ℕ) → own_label (ends place.wire.0 place.peer.0).local ≡ own → (place.peer.0 == beside.0) ≡ true → kept_at other (keeps_one own place.peer kept) ≢ None → (kept_at other kept ≢ None) ⊎ IsOwnedBeside beside ends other
+    one : (own : Option ℕ) → own_label (ends place.wire.0 place.peer.0).local ≡ own → (place.peer.0 == beside.0) ≡ true → kept_at other (keeps_one own place.peer kept) ≢ None
+        → (kept_at other kept ≢ None) ⊎ IsOwnedBeside beside ends other
     one None is here there = inl there
     one (Some label) is here there = to (kept_from label place.peer kept other there) where
       to : (kept_at other kept ≢ None) ⊎ (label ≡ other) → (kept_at other kept ≢ None) ⊎ IsOwnedBeside beside ends other
       to (inl before) = inl before
       to (inr same) = inr (owned label is here same)
 
-    by : (b : Bool) → (place.peer.0 == beside.0) ≡ b → (kept_at other (cond b (keeps_one (own_label (ends place.wire.0 place.peer.0).local) place.peer kept) kept) ≢ None) ⊎ IsOwnedBeside beside ends other → (kept_at other kept ≢ None) ⊎ IsOwnedBeside beside ends other
+    by : (b : Bool) → (place.peer.0 == beside.0) ≡ b → (kept_at other (cond b (keeps_one (own_label (ends place.wire.0 place.peer.0).local) place.peer kept) kept) ≢ None)
+        ⊎ IsOwnedBeside beside ends other → (kept_at other kept ≢ None) ⊎ IsOwnedBeside beside ends other
     by true here (inl there) = one (own_label (ends place.wire.0 place.peer.0).local) refl here there
     by true here (inr freed) = inr freed
     by false apart before = before
@@ -146,11 +154,13 @@ IsOwnEnd ends o = part_owns (ends o.key.wire.0 o.peer.0).local o.label ≡ true
 pub owners_own : (ends : ℕ → ℕ → EndState) (places : List EndPlace) → AllByRecursion (IsOwnEnd ends) (owners_of ends places)
 owners_own ends [] = tt
 owners_own ends (place ∷ places) = by (own_label (ends place.wire.0 place.peer.0).local) refl (owners_own ends places) where
-  by : (own : Option ℕ) → own_label (ends place.wire.0 place.peer.0).local ≡ own → AllByRecursion (IsOwnEnd ends) (owners_of ends places) → AllByRecursion (IsOwnEnd ends) (with_owner_at place own (owners_of ends places))
+  by : (own : Option ℕ) → own_label (ends place.wire.0 place.peer.0).local ≡ own → AllByRecursion (IsOwnEnd ends) (owners_of ends places)
+      → AllByRecursion (IsOwnEnd ends) (with_owner_at place own (owners_of ends places))
   by None is all = all
   by (Some label) is all = all_put owned_label (IsOwnEnd ends) (owner_at place label) (owners_of ends places) (owns_own (ends place.wire.0 place.peer.0).local label is) all
 
-pub owned_may : (ends : ℕ → ℕ → EndState) (owners : List Owner) (kept : List Kept) (other p : ℕ) (age : Option ℕ) → AllByRecursion (IsOwnEnd ends) owners → ((w k : ℕ) → part_owns (ends w k).local other ≡ true → k ≡ p)
+pub owned_may : (ends : ℕ → ℕ → EndState) (owners : List Owner) (kept : List Kept) (other p : ℕ) (age : Option ℕ) → AllByRecursion (IsOwnEnd ends) owners
+    → ((w k : ℕ) → part_owns (ends w k).local other ≡ true → k ≡ p)
     → MayBeKept p age (kept_at other kept) → MayBeKept p age (kept_at other (keeps_owned owners kept))
 owned_may ends [] kept other p age all owner may = may
 owned_may ends (o ∷ os) kept other p age all owner may =
@@ -167,7 +177,8 @@ pub record IsOwnedAt (ends : ℕ → ℕ → EndState) (label : ℕ) : Type 0 wh
   pub peer : ℕ
   pub owned : part_owns (ends wire peer).local label ≡ true
 
-pub owned_from : (ends : ℕ → ℕ → EndState) (owners : List Owner) (kept : List Kept) (other : ℕ) → AllByRecursion (IsOwnEnd ends) owners → kept_at other (keeps_owned owners kept) ≢ None → (kept_at other kept ≢ None) ⊎ IsOwnedAt ends other
+pub owned_from : (ends : ℕ → ℕ → EndState) (owners : List Owner) (kept : List Kept) (other : ℕ) → AllByRecursion (IsOwnEnd ends) owners → kept_at other (keeps_owned owners kept) ≢ None
+    → (kept_at other kept ≢ None) ⊎ IsOwnedAt ends other
 owned_from ends [] kept other all there = inl there
 owned_from ends (o ∷ os) kept other all there = to (owned_from ends os (keeps_one (Some o.label) o.peer kept) other all.1 there) where
   one : (kept_at other kept ≢ None) ⊎ (o.label ≡ other) → (kept_at other kept ≢ None) ⊎ IsOwnedAt ends other

@@ -35,11 +35,13 @@ either_of false b c one other is = other is
 abbrev pub FreesNone : List Kept → List Kept → Type 0
 FreesNone old new = (label : ℕ) → list_any (is_free_one label) new ≡ true → list_any (is_free_one label) old ≡ true
 
-pub stays_given : (old new : EdgeState) → ((label : ℕ) → nat_lt label old.next_label ≡ true → nat_lt label new.next_label ≡ true) → FreesNone old.kept new.kept → StaysGiven (given_of old) (given_of new)
+pub stays_given : (old new : EdgeState) → ((label : ℕ) → nat_lt label old.next_label ≡ true → nat_lt label new.next_label ≡ true) → FreesNone old.kept new.kept
+    → StaysGiven (given_of old) (given_of new)
 stays_given old new below frees label given =
     and_from (nat_lt label new.next_label) (not (list_any (is_free_one label) new.kept))
     (below label (first_holds (nat_lt label old.next_label) (not (list_any (is_free_one label) old.kept)) given))
-    (none (list_any (is_free_one label) old.kept) (list_any (is_free_one label) new.kept) (frees label) (second_holds (nat_lt label old.next_label) (not (list_any (is_free_one label) old.kept)) given))
+    (none (list_any (is_free_one label) old.kept) (list_any (is_free_one label) new.kept) (frees label)
+    (second_holds (nat_lt label old.next_label) (not (list_any (is_free_one label) old.kept)) given))
   where
     none : (a b : Bool) → (b ≡ true → a ≡ true) → not a ≡ true → not b ≡ true
     none true b from is = clash is
@@ -59,7 +61,8 @@ put_frees label other peer (k ∷ ks) free = by (nat_lt k.label other) (λ rest.
       → list_any (is_free_one label) (cond here (k ∷ put_by label_of (waiting other peer) ks) (waiting other peer ∷ k ∷ ks)) ≡ true → list_any (is_free_one label) (k ∷ ks) ≡ true
   by true rest free = either_of (is_free_one label k) (list_any (is_free_one label) (put_by label_of (waiting other peer) ks)) (list_any (is_free_one label) (k ∷ ks))
       (λ is. or_left (is_free_one label k) (list_any (is_free_one label) ks) is) (λ is. or_right (is_free_one label k) (list_any (is_free_one label) ks) (rest is)) free
-  by false rest free = either_of (nat_eq other label && false) (list_any (is_free_one label) (k ∷ ks)) (list_any (is_free_one label) (k ∷ ks)) (λ is. clash (second_holds (nat_eq other label) false is)) (λ is. is) free
+  by false rest free = either_of (nat_eq other label && false) (list_any (is_free_one label) (k ∷ ks)) (list_any (is_free_one label) (k ∷ ks))
+      (λ is. clash (second_holds (nat_eq other label) false is)) (λ is. is) free
 
 one_frees : (own : Option ℕ) (peer : EdgeId) (kept : List Kept) → FreesNone kept (keeps_one own peer kept)
 one_frees None peer kept label free = free
@@ -91,7 +94,8 @@ cleared_given peer work = by (has_end work.edge peer) where
 pub released_given : (label : Option ℕ) (place : EndPlace) (edge : EdgeState) → StaysGiven (given_of edge) (given_of (releasing label place edge))
 unfolding with_end with_kept
 released_given label place edge =
-    stays_given edge (releasing label place edge) (λ l below. below) (one_frees (left_label (own_label (end_at edge place).local) (own_label (released label (end_at edge place)).local)) place.peer edge.kept)
+    stays_given edge (releasing label place edge) (λ l below. below)
+    (one_frees (left_label (own_label (end_at edge place).local) (own_label (released label (end_at edge place)).local)) place.peer edge.kept)
 
 pub heard_given : (label : Option ℕ) (found : Option EndPlace) (edge : EdgeState) → StaysGiven (given_of edge) (given_of (with_released label found edge))
 heard_given label None edge = λ other given. given
@@ -130,7 +134,8 @@ met_given peer edge = stays_given edge (meeting peer edge) (λ label below. belo
 without_frees : (other : ℕ) (kept : List Kept) → FreesNone kept (without other kept)
 without_frees other [] label free = free
 without_frees other (k ∷ ks) label free = by (not (nat_eq k.label other)) (λ rest. without_frees other ks label rest) free where
-  by : (b : Bool) → (list_any (is_free_one label) (without other ks) ≡ true → list_any (is_free_one label) ks ≡ true) → list_any (is_free_one label) (cond b (k ∷ without other ks) (without other ks)) ≡ true
+  by : (b : Bool) → (list_any (is_free_one label) (without other ks) ≡ true → list_any (is_free_one label) ks ≡ true)
+      → list_any (is_free_one label) (cond b (k ∷ without other ks) (without other ks)) ≡ true
       → list_any (is_free_one label) (k ∷ ks) ≡ true
   by true rest free = either_of (is_free_one label k) (list_any (is_free_one label) (without other ks)) (list_any (is_free_one label) (k ∷ ks))
       (λ is. or_left (is_free_one label k) (list_any (is_free_one label) ks) is) (λ is. or_right (is_free_one label k) (list_any (is_free_one label) ks) (rest is)) free
@@ -150,7 +155,8 @@ least_frees label [] found = nothing found where
 least_frees label (k ∷ ks) found = by (is_free k) refl found (λ rest. least_frees label ks rest) where
   by : (free : Bool) → is_free k ≡ free → option_map label_of (cond free (Some k) (find is_free ks)) ≡ Some label → (least_free ks ≡ Some label → list_any (is_free_one label) ks ≡ true)
       → (nat_eq k.label label && is_free k) || list_any (is_free_one label) ks ≡ true
-  by true is found rest = or_left (nat_eq k.label label && is_free k) (list_any (is_free_one label) ks) (and_from (nat_eq k.label label) (is_free k) (eq-eqb k.label label (same_number_held k.label label found)) is)
+  by true is found rest = or_left (nat_eq k.label label && is_free k) (list_any (is_free_one label) ks)
+      (and_from (nat_eq k.label label) (is_free k) (eq-eqb k.label label (same_number_held k.label label found)) is)
   by false is found rest = or_right (nat_eq k.label label && is_free k) (list_any (is_free_one label) ks) (rest found)
 
 pub not_given : (edge : EdgeState) (label : ℕ) → label_to_give edge ≡ Some label → given_of edge label ≡ false
@@ -164,14 +170,16 @@ not_given edge label give = by (edge.next_label == numbers_end) give where
   by true give = and_not_held (nat_lt label edge.next_label) (list_any (is_free_one label) edge.kept) (least_frees label edge.kept give)
   by false give = next_not edge.next_label label (not (list_any (is_free_one label) edge.kept)) (same_number_held edge.next_label label give)
 
-advertised_rest : (place : EndPlace) (label : ℕ) (content : Told) (edge : EdgeState) → ((advertising place label content edge).next_label ≡ next_after edge.next_label) × ((advertising place label content edge).kept ≡ without label edge.kept)
+advertised_rest : (place : EndPlace) (label : ℕ) (content : Told) (edge : EdgeState) → ((advertising place label content edge).next_label ≡ next_after edge.next_label)
+    × ((advertising place label content edge).kept ≡ without label edge.kept)
 unfolding with_end with_next_label with_kept
 advertised_rest place label content edge = (refl, refl)
 
 pub advertised_given : (place : EndPlace) (label : ℕ) (content : Told) (edge : EdgeState) → StaysGiven (given_of edge) (given_of (advertising place label content edge))
 advertised_given place label content edge =
     let rest = advertised_rest place label content edge in
-    stays_given edge (advertising place label content edge) (λ other below. subst (λ (n : ℕ). nat_lt other n ≡ true) (sym rest.0) (further other edge.next_label (edge.next_label == numbers_end) below))
+    stays_given edge (advertising place label content edge)
+    (λ other below. subst (λ (n : ℕ). nat_lt other n ≡ true) (sym rest.0) (further other edge.next_label (edge.next_label == numbers_end) below))
     (λ other free. without_frees label edge.kept other (subst (λ (ks : List Kept). list_any (is_free_one other) ks ≡ true) rest.1 free))
   where
     further : (a b : ℕ) (last : Bool) → nat_lt a b ≡ true → nat_lt a (cond last b (b + 1)) ≡ true
@@ -193,6 +201,7 @@ now_given place label content edge give is =
     after : (a b : ℕ) → a ≡ b → nat_lt b (a + 1) ≡ true
     after a b same = grind (arith, nat_tests)
 
-    by : (last : Bool) → (edge.next_label == numbers_end) ≡ last → cond last (least_free edge.kept) (Some edge.next_label) ≡ Some label → nat_lt label (cond last edge.next_label (edge.next_label + 1)) ≡ true
+    by : (last : Bool) → (edge.next_label == numbers_end) ≡ last → cond last (least_free edge.kept) (Some edge.next_label) ≡ Some label
+        → nat_lt label (cond last edge.next_label (edge.next_label + 1)) ≡ true
     by true last give = low label edge.next_label is.below last
     by false some give = after edge.next_label label (same_number_held edge.next_label label give)

@@ -184,14 +184,16 @@ module _ (plan : Plan) (network : NetworkState) (me peer : EdgeId) (apart : nat_
   unfolding Bound
   event_leaves before after event work step follows hears leaves =
       by_place before after work (happens_with_ends taken_all peer event work) (by_end (work.edge.peering peer.0) refl)
-      (λ place there bound. spared_leaves plan me place (network.edges place) (flight network me.0 place) (others place) work (happens_with_ends taken_all peer event work) (event_spare place peer event work there) bound) leaves
+      (λ place there bound. spared_leaves plan me place (network.edges place) (flight network me.0 place) (others place) work (happens_with_ends taken_all peer event work)
+      (event_spare place peer event work there) bound) leaves
     where
       by_end : (near : Option Peering) → work.edge.peering peer.0 ≡ near → Bound peer.0 before work → Bound peer.0 after (happens_with_ends taken_all peer event work)
       by_end None at bound = leaves_no_event plan me peer (network.edges peer.0) (flight network me.0 peer.0) after event work at
       by_end (Some kept) at bound =
           let talk : AreTalking (ends_at plan me.0 peer.0) (ends_at plan peer.0 me.0) (Some kept) ((network.edges peer.0).peering me.0) hears.meets.messages before = rw at at hears.meets.talk in
           leaves_event plan me peer (network.edges peer.0) (flight network me.0 peer.0) before after after event kept work
-          (record { messages = hears.meets.messages; answers = before; out_is = hears.meets.out_is; talk = rw at talk }) hears.meets.fine at (hears.meets.ended ∙ ap (λ (o : Option Peering). not (is_there o)) at)
+          (record { messages = hears.meets.messages; answers = before; out_is = hears.meets.out_is; talk = rw at talk }) hears.meets.fine at
+          (hears.meets.ended ∙ ap (λ (o : Option Peering). not (is_there o)) at)
           (step kept hears.meets.messages talk) (follows kept at) bound
 
   not_up : (phase : Phase) → is_up_phase phase ≡ false → is_operational phase ≡ false
@@ -204,7 +206,8 @@ module _ (plan : Plan) (network : NetworkState) (me peer : EdgeId) (apart : nat_
   none_held limit true e is sound = clash (sym is)
   none_held limit false e is sound = sound.1
 
-  received_leaves : (m : Message) (messages : List Message) (kept : Peering) (work : Work) → work.edge.peering peer.0 ≡ Some kept → IsSaid (ends_at plan peer.0 me.0) m → (is_up_phase kept.session.phase ≡ false) ⊎ (is_fatal m ≡ true)
+  received_leaves : (m : Message) (messages : List Message) (kept : Peering) (work : Work) → work.edge.peering peer.0 ≡ Some kept → IsSaid (ends_at plan peer.0 me.0) m
+      → (is_up_phase kept.session.phase ≡ false) ⊎ (is_fatal m ≡ true)
       → HearsLeaving (m ∷ messages) work → LeavesFor messages (happens_with_ends taken_all peer (Received m) work)
   received_leaves m messages kept work at said ends hears =
       event_leaves (m ∷ messages) messages (Received m) work (λ k ms t. received_in_step (ends_at plan me.0 peer.0) (ends_at plan peer.0 me.0) k ((network.edges peer.0).peering me.0) ms messages m t)
@@ -216,29 +219,35 @@ module _ (plan : Plan) (network : NetworkState) (me peer : EdgeId) (apart : nat_
           same : Some kept ≡ Some k → kept ≡ k
           same e = cc
 
-      follows : (k : Peering) → work.edge.peering peer.0 ≡ Some k → goes_on (outcome_of k.session (Received m)) ≡ true → (ms : List Message) → AreBound plan me.0 peer.0 work.edge (network.edges peer.0) ms (m ∷ messages)
+      follows : (k : Peering) → work.edge.peering peer.0 ≡ Some k → goes_on (outcome_of k.session (Received m)) ≡ true → (ms : List Message)
+          → AreBound plan me.0 peer.0 work.edge (network.edges peer.0) ms (m ∷ messages)
           → (is_up_phase kept.session.phase ≡ false) ⊎ (is_fatal m ≡ true) → AreBound plan me.0 peer.0 work.edge (network.edges peer.0) ms messages
       follows k there goes ms bound (inr fatal) = clash (sym (ap goes_on (fatal_ends k.session (ends_at plan peer.0 me.0) m said fatal)) ∙ goes)
       follows k there goes ms bound (inl up) =
           let is : is_session m ≡ true = session_goes k.session (ends_at plan peer.0 me.0) m (ap (λ (p : Peering). is_up_phase p.session.phase) (sym (same_kept k there)) ∙ up) said goes in
           bound_hears plan me peer m work.edge work.edge (network.edges peer.0) ms messages (λ pw_id own. session_says_none m pw_id own is)
-          (session_heard_as plan me peer m work.edge is (λ wire. none_held (point_limit plan me.0 wire) (is_up_with (work.edge.peering peer.0)) (work.edge.ends wire peer.0) (ap is_up_with at ∙ not_up kept.session.phase up) (hears.0.sound.ends wire peer.0))) bound
+          (session_heard_as plan me peer m work.edge is
+          (λ wire. none_held (point_limit plan me.0 wire) (is_up_with (work.edge.peering peer.0)) (work.edge.ends wire peer.0) (ap is_up_with at ∙ not_up kept.session.phase up)
+          (hears.0.sound.ends wire peer.0))) bound
 
   acting_leaves : (m : Message) (messages : List Message) (kept : Peering) (work : Work) → work.edge.peering peer.0 ≡ Some kept → IsSaid (ends_at plan peer.0 me.0) m → withdraws_addresses m ≡ false
       → TellsPlan plan peer.0 me.0 m → HearsLeaving (m ∷ messages) work → LeavesFor messages (acts_on plan taken_all peer m work)
   unfolding Bound
   acting_leaves m messages kept work at said plain tells hears =
       by_place (m ∷ messages) messages work (acts_on plan taken_all peer m work)
-      (λ bound. own bound) (λ place there bound. spared_leaves plan me place (network.edges place) (flight network me.0 place) (others place) work (acts_on plan taken_all peer m work) (acts_spare plan peer place there m (ends_at plan peer.0 me.0) work said plain) bound) hears.1
+      (λ bound. own bound) (λ place there bound. spared_leaves plan me place (network.edges place) (flight network me.0 place) (others place) work (acts_on plan taken_all peer m work)
+      (acts_spare plan peer place there m (ends_at plan peer.0 me.0) work said plain) bound) hears.1
     where
       Acts : EdgeId → Type 0
-      Acts k = TellsPlan plan peer.0 k.0 m → HasSaid plan k peer.0 (network.edges peer.0) (flight network me.0 peer.0) work → LeavesBound plan k peer.0 (network.edges peer.0) (flight network me.0 peer.0) (m ∷ messages) work
+      Acts k = TellsPlan plan peer.0 k.0 m → HasSaid plan k peer.0 (network.edges peer.0) (flight network me.0 peer.0) work
+          → LeavesBound plan k peer.0 (network.edges peer.0) (flight network me.0 peer.0) (m ∷ messages) work
           → LeavesBound plan k peer.0 (network.edges peer.0) (flight network me.0 peer.0) messages (acts_on plan taken_all peer m work)
 
       as_placed : Acts work.edge.me
       as_placed planned has leaves = acts_leaves plan peer checked (network.edges peer.0) (flight network me.0 peer.0) messages kept work has at m (ends_at plan peer.0 me.0) said plain planned leaves
 
-      own : LeavesBound plan me peer.0 (network.edges peer.0) (flight network me.0 peer.0) (m ∷ messages) work → LeavesBound plan me peer.0 (network.edges peer.0) (flight network me.0 peer.0) messages (acts_on plan taken_all peer m work)
+      own : LeavesBound plan me peer.0 (network.edges peer.0) (flight network me.0 peer.0) (m ∷ messages) work
+          → LeavesBound plan me peer.0 (network.edges peer.0) (flight network me.0 peer.0) messages (acts_on plan taken_all peer m work)
       own leaves = subst Acts hears.0.meets.fine.place as_placed tells
           (record { messages = hears.0.meets.messages; answers = cond (is_there (work.edge.peering peer.0)) (m ∷ messages) []; out_is = hears.0.meets.out_is; talk = hears.0.meets.talk }) leaves
 
@@ -260,7 +269,8 @@ module _ (plan : Plan) (network : NetworkState) (me peer : EdgeId) (apart : nat_
         sender = λ messages work hears. (
           (
             base.sender messages work hears.0.0,
-            event_leaves messages messages (Heard (platform_of (ends_at plan peer.0 me.0).me)) work (λ kept ms t. heard_in_step (ends_at plan me.0 peer.0) (ends_at plan peer.0 me.0) kept ((network.edges peer.0).peering me.0) ms messages t)
+            event_leaves messages messages (Heard (platform_of (ends_at plan peer.0 me.0).me)) work
+                (λ kept ms t. heard_in_step (ends_at plan me.0 peer.0) (ends_at plan peer.0 me.0) kept ((network.edges peer.0).peering me.0) ms messages t)
                 (λ kept at goes ms bound. bound) hears.0.0 hears.0.1,
           ),
           hears.1,
@@ -268,7 +278,8 @@ module _ (plan : Plan) (network : NetworkState) (me peer : EdgeId) (apart : nat_
         gone = λ m messages work at hears. (
           (
             base.gone m messages work at hears.0.0,
-            by_place (m ∷ messages) messages work work (λ bound. leaves_none plan me peer.0 (network.edges peer.0) (flight network me.0 peer.0) messages work at) (λ place there bound. bound) hears.0.1,
+            by_place (m ∷ messages) messages work work (λ bound. leaves_none plan me peer.0 (network.edges peer.0) (flight network me.0 peer.0) messages work at)
+                (λ place there bound. bound) hears.0.1,
           ),
           hears.1.1,
         );
@@ -278,5 +289,6 @@ module _ (plan : Plan) (network : NetworkState) (me peer : EdgeId) (apart : nat_
         goes_by = λ m messages kept work at up said addresses hears. ((base.goes_by m messages kept work at up said addresses hears.0.0, by_leaves m messages work addresses hears.0.1), hears.1.1);
         mends = λ messages. rows_beside plan me (HearsLeaving messages) (AllMessages (TellsPlan plan peer.0 me.0) messages)
             (rows_leave plan me checked network.edges (flight network me.0) (answers_for messages) types (HearsOn plan network me peer messages)
-            (steady_rows plan me checked types (HearsOn plan network me peer messages) (hears_steady plan network me peer apart messages)) (λ work hears. hears.sound) (λ work hears. said_all messages work hears));
+            (steady_rows plan me checked types (HearsOn plan network me peer messages) (hears_steady plan network me peer apart messages)) (λ work hears. hears.sound)
+            (λ work hears. said_all messages work hears));
       }

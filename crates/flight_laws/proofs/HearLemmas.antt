@@ -57,10 +57,12 @@ event_meets own other me peer far out before answers event work step meets =
 -- the end is gone, and hears nothing any more
 meets_gone : (own other : Peers) (me peer : EdgeId) (far : Option Peering) (out : List ℕ) (before answers : List Message) (work : Work) → work.edge.peering peer.0 ≡ None
     → Meets own other me peer far out before work → Meets own other me peer far out answers work
-meets_gone own other me peer far out before answers work at meets = record { fine = meets.fine; ended = meets.ended; messages = meets.messages; out_is = meets.out_is; talk = rw at (rw at at meets.talk) }
+meets_gone own other me peer far out before answers work at meets =
+    record { fine = meets.fine; ended = meets.ended; messages = meets.messages; out_is = meets.out_is; talk = rw at (rw at at meets.talk) }
 
 -- a session that is up, and goes on
-meets_up : (own other : Peers) (me peer : EdgeId) (kept : Peering) (far : Option Peering) (out : List ℕ) (m : Message) (answers : List Message) (work : Work) → work.edge.peering peer.0 ≡ Some kept → kept.session.phase ≡ phase.Operational
+meets_up : (own other : Peers) (me peer : EdgeId) (kept : Peering) (far : Option Peering) (out : List ℕ) (m : Message) (answers : List Message) (work : Work) → work.edge.peering peer.0
+    ≡ Some kept → kept.session.phase ≡ phase.Operational
     → Meets own other me peer far out (m ∷ answers) work → Meets own other me peer far out answers work
 meets_up own other me peer kept far out m answers work at up meets = record {
   fine = meets.fine;
@@ -137,7 +139,8 @@ module _ (plan : Plan) (network : NetworkState) (me peer : EdgeId) (apart : nat_
     meets = event_meets own other me peer far out before answers event work step hears.meets;
     sound = happens_sound taken_all peer event work hears.sound;
     alone = (event_spares me.0 peer event work apart).kept ∙ hears.alone;
-    left = λ place away here. left_spared (ends_at plan me.0 place) (ends_at plan place me.0) place ((network.edges place).peering me.0) (flight network me.0 place) (network.pipes place me.0) work (happens_with_ends taken_all peer event work)
+    left = λ place away here. left_spared (ends_at plan me.0 place) (ends_at plan place me.0) place ((network.edges place).peering me.0) (flight network me.0 place)
+        (network.pipes place me.0) work (happens_with_ends taken_all peer event work)
         (event_spares place peer event work here) (hears.left place away here);
   }
 
@@ -183,7 +186,8 @@ module _ (plan : Plan) (network : NetworkState) (me peer : EdgeId) (apart : nat_
         },
       )
 
-  held_sound : (kept : Peering) (rest : List ℕ) (work : Work) → work.edge.peering peer.0 ≡ Some kept → TellsSoundly (point_limit plan me.0) work.edge → TellsSoundly (point_limit plan me.0) (holds peer rest (Some kept) work).edge
+  held_sound : (kept : Peering) (rest : List ℕ) (work : Work) → work.edge.peering peer.0 ≡ Some kept → TellsSoundly (point_limit plan me.0) work.edge
+      → TellsSoundly (point_limit plan me.0) (holds peer rest (Some kept) work).edge
   unfolding changes with_peering
   held_sound kept rest work at sound = record {
     least = sound.least;
@@ -219,7 +223,8 @@ module _ (plan : Plan) (network : NetworkState) (me peer : EdgeId) (apart : nat_
       sound = held_sound kept rest work at hears.sound;
       alone = (with_peering_spares me.0 peer (Some (record kept { held = rest })) work apart).kept ∙ hears.alone;
       left = λ place away. for_place (LeftFor plan network me (holds peer rest (Some kept) work)) place (held_left kept rest answers work at e hears).1
-          (λ here. left_spared (ends_at plan me.0 place) (ends_at plan place me.0) place ((network.edges place).peering me.0) (flight network me.0 place) (network.pipes place me.0) work (holds peer rest (Some kept) work)
+          (λ here. left_spared (ends_at plan me.0 place) (ends_at plan place me.0) place ((network.edges place).peering me.0) (flight network me.0 place)
+          (network.pipes place me.0) work (holds peer rest (Some kept) work)
           (with_peering_spares place peer (Some (record kept { held = rest })) work here) (hears.left place away here));
     }
 

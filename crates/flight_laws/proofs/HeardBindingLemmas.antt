@@ -36,26 +36,31 @@ use Rattle.flight_laws.proofs.PlaceLemmas.{IsNamed, named_is, not_named, wire_by
 
 pub record HearsAs (plan : Plan) (me peer : EdgeId) (m : Message) (old new : EdgeState) : Type 0 where
   pub label : StaysGiven (given_of old) (given_of new)
-  pub local : (wire : WireId) (row : WirePlan) → wire_row plan wire ≡ Some row → joins me.0 peer.0 row.path ≡ true → (new.ends wire.0 peer.0).local ≡ answered_part row.pw_id m (old.ends wire.0 peer.0).local
+  pub local : (wire : WireId) (row : WirePlan) → wire_row plan wire ≡ Some row → joins me.0 peer.0 row.path ≡ true → (new.ends wire.0 peer.0).local
+      ≡ answered_part row.pw_id m (old.ends wire.0 peer.0).local
   -- the message names its wire
   pub remote : (wire : WireId) (row : WirePlan) (next : ℕ → Bool) (near : LocalPart) → wire_row plan wire ≡ Some row → joins me.0 peer.0 row.path ≡ true → withdraws_old row.pw_id next near m ≡ true
       → (new.ends wire.0 peer.0).remote ≡ heard_of row.pw_id m (old.ends wire.0 peer.0).remote
 
 near_heard : (plan : Plan) (me peer : EdgeId) (m : Message) (old new other : EdgeState) (out back : List Message) → HearsAs plan me peer m old new → AreBound plan me.0 peer.0 old other out (m ∷ back)
-    → (wire : WireId) (row : WirePlan) → wire_row plan wire ≡ Some row → joins me.0 peer.0 row.path ≡ true → IsBoundBy row.pw_id (given_of new) (new.ends wire.0 peer.0).local (other.ends wire.0 me.0).remote out back
+    → (wire : WireId) (row : WirePlan) → wire_row plan wire ≡ Some row → joins me.0 peer.0 row.path ≡ true
+    → IsBoundBy row.pw_id (given_of new) (new.ends wire.0 peer.0).local (other.ends wire.0 me.0).remote out back
 near_heard plan me peer m old new other out back hears bound wire row is joined =
-    rw (hears.local wire row is joined) (binding_goes_on row.pw_id (given_of old) (given_of new) (answered_part row.pw_id m (old.ends wire.0 peer.0).local) (other.ends wire.0 me.0).remote out back hears.label
+    rw (hears.local wire row is joined) (binding_goes_on row.pw_id (given_of old) (given_of new) (answered_part row.pw_id m (old.ends wire.0 peer.0).local)
+    (other.ends wire.0 me.0).remote out back hears.label
     (binding_hears row.pw_id (given_of old) (old.ends wire.0 peer.0).local (other.ends wire.0 me.0).remote m out back (bound.near wire row is joined)))
 
 -- a message that is no withdrawal
-pub bound_hears : (plan : Plan) (me peer : EdgeId) (m : Message) (old new other : EdgeState) (out back : List Message) → ((pw_id label : ℕ) → is_withdrawal_of pw_id label m ≡ false) → HearsAs plan me peer m old new
+pub bound_hears : (plan : Plan) (me peer : EdgeId) (m : Message) (old new other : EdgeState) (out back : List Message) → ((pw_id label : ℕ) → is_withdrawal_of pw_id label m ≡ false)
+    → HearsAs plan me peer m old new
     → AreBound plan me.0 peer.0 old other out (m ∷ back) → AreBound plan me.0 peer.0 new other out back
 bound_hears plan me peer m old new other out back none hears bound = record {
   near = near_heard plan me peer m old new other out back hears bound;
   far = λ wire row is joined.
       let own : IsBoundBy row.pw_id (given_of other) (other.ends wire.0 me.0).local (old.ends wire.0 peer.0).remote (m ∷ back) out = bound.far wire row is joined in
       rw (hears.remote wire row (given_of other) (other.ends wire.0 me.0).local is joined
-      (first_holds (withdraws_old row.pw_id (given_of other) (other.ends wire.0 me.0).local m) (all_messages (withdraws_old row.pw_id (given_of other) (other.ends wire.0 me.0).local) back) own.withdrawn))
+      (first_holds (withdraws_old row.pw_id (given_of other) (other.ends wire.0 me.0).local m)
+      (all_messages (withdraws_old row.pw_id (given_of other) (other.ends wire.0 me.0).local) back) own.withdrawn))
       (binding_heard row.pw_id (given_of other) (other.ends wire.0 me.0).local (old.ends wire.0 peer.0).remote m back out (λ label at. none row.pw_id label) own);
 }
 
@@ -69,20 +74,23 @@ bound_hears_withdrawal plan me peer id id2 fec label old new other out back hear
   far = λ wire row is joined.
       let own : IsBoundBy row.pw_id (given_of other) (other.ends wire.0 me.0).local (old.ends wire.0 peer.0).remote (LabelWithdraw id fec label ∷ back) out = bound.far wire row is joined in
       rw (hears.remote wire row (given_of other) (other.ends wire.0 me.0).local is joined
-      (first_holds (withdraws_old row.pw_id (given_of other) (other.ends wire.0 me.0).local (LabelWithdraw id fec label)) (all_messages (withdraws_old row.pw_id (given_of other) (other.ends wire.0 me.0).local) back) own.withdrawn))
+      (first_holds (withdraws_old row.pw_id (given_of other) (other.ends wire.0 me.0).local (LabelWithdraw id fec label))
+      (all_messages (withdraws_old row.pw_id (given_of other) (other.ends wire.0 me.0).local) back) own.withdrawn))
       (binding_hears_withdrawal row.pw_id (given_of other) (other.ends wire.0 me.0).local (old.ends wire.0 peer.0).remote id id2 fec (bare fec) label back out refl own);
 }
 
 -- a mapping of a wire that is not known, whose label is released
 pub bound_hears_unknown : (plan : Plan) (me peer : EdgeId) (id id2 : ℕ) (fec : PwFec) (label : ℕ) (status : Option PwStatus) (points : List Point) (edge other : EdgeState) (out back : List Message)
     → HearsAs plan me peer (LabelMapping id fec label status points) edge edge
-    → ((wire : WireId) (row : WirePlan) (next : ℕ → Bool) (near : LocalPart) → wire_row plan wire ≡ Some row → joins me.0 peer.0 row.path ≡ true → is_some fec.pw_id ≡ true → names_old row.pw_id next near fec.pw_id (Some label) ≡ true)
+    → ((wire : WireId) (row : WirePlan) (next : ℕ → Bool) (near : LocalPart) → wire_row plan wire ≡ Some row → joins me.0 peer.0 row.path ≡ true → is_some fec.pw_id ≡ true
+    → names_old row.pw_id next near fec.pw_id (Some label) ≡ true)
     → AreBound plan me.0 peer.0 edge other out (LabelMapping id fec label status points ∷ back) → AreBound plan me.0 peer.0 edge other (out ++ release fec (Some label) id2 ∷ []) back
 bound_hears_unknown plan me peer id id2 fec label status points edge other out back hears unknown bound =
     let m : Message = LabelMapping id fec label status points in
     let heard : AreBound plan me.0 peer.0 edge other out back = bound_hears plan me peer m edge edge other out back (λ pw_id own. refl) hears bound in
     record {
-      near = λ wire row is joined. binding_says_release row.pw_id (given_of edge) (edge.ends wire.0 peer.0).local (other.ends wire.0 me.0).remote out back id2 (bare fec) (Some label) (heard.near wire row is joined);
+      near = λ wire row is joined. binding_says_release row.pw_id (given_of edge) (edge.ends wire.0 peer.0).local (other.ends wire.0 me.0).remote out back id2 (bare fec) (Some label)
+          (heard.near wire row is joined);
       far = λ wire row is joined. binding_answers row.pw_id (given_of other) (other.ends wire.0 me.0).local (edge.ends wire.0 peer.0).remote back out (release fec (Some label) id2)
           (unknown wire row (given_of other) (other.ends wire.0 me.0).local is joined
           (first_holds (is_some fec.pw_id) (all_messages (withdraws_old row.pw_id (given_of other) (other.ends wire.0 me.0).local) back) (bound.far wire row is joined).withdrawn))
@@ -92,7 +100,8 @@ bound_hears_unknown plan me peer id id2 fec label status points edge other out b
 -- ---- an end that a FEC names
 
 -- of the wires beside the peer, that with the PW ID is changed
-pub end_changed : (plan : Plan) (peer : EdgeId) (pw_id : ℕ) (change : EndState → EndState) (place : EndPlace) (edge : EdgeState) (wire : WireId) (row : WirePlan) → IsChecked plan → wire_row plan wire ≡ Some row
+pub end_changed : (plan : Plan) (peer : EdgeId) (pw_id : ℕ) (change : EndState → EndState) (place : EndPlace) (edge : EdgeState) (wire : WireId) (row : WirePlan) → IsChecked plan
+    → wire_row plan wire ≡ Some row
     → joins edge.me.0 peer.0 row.path ≡ true → end_named plan edge.me peer pw_id ≡ Some place
     → (with_end place (change (end_at edge place)) edge).ends wire.0 peer.0 ≡ cond (pw_id == row.pw_id) (change (edge.ends wire.0 peer.0)) (edge.ends wire.0 peer.0)
 end_changed plan peer pw_id change place edge wire row checked is joined named =
@@ -144,7 +153,8 @@ mapping_known plan peer id fec label status points place edge checked named = by
   }
 
 -- of one that is not known
-pub mapping_unknown : (plan : Plan) (peer : EdgeId) (id : ℕ) (fec : PwFec) (label : ℕ) (status : Option PwStatus) (points : List Point) (edge : EdgeState) → IsChecked plan → end_of_fec plan edge peer fec ≡ None
+pub mapping_unknown : (plan : Plan) (peer : EdgeId) (id : ℕ) (fec : PwFec) (label : ℕ) (status : Option PwStatus) (points : List Point) (edge : EdgeState) → IsChecked plan
+    → end_of_fec plan edge peer fec ≡ None
     → HearsAs plan edge.me peer (LabelMapping id fec label status points) edge edge
 mapping_unknown plan peer id fec label status points edge checked none = record {
   label = λ label given. given;
@@ -152,7 +162,8 @@ mapping_unknown plan peer id fec label status points edge checked none = record 
   remote = λ wire row next near at joined alone. by_name wire row at joined fec.pw_id refl none;
 }
   where
-    by_name : (wire : WireId) (row : WirePlan) → wire_row plan wire ≡ Some row → joins edge.me.0 peer.0 row.path ≡ true → (name : Option ℕ) → fec.pw_id ≡ name → option_and_then (end_named plan edge.me peer) name ≡ None
+    by_name : (wire : WireId) (row : WirePlan) → wire_row plan wire ≡ Some row → joins edge.me.0 peer.0 row.path ≡ true → (name : Option ℕ) → fec.pw_id ≡ name
+        → option_and_then (end_named plan edge.me peer) name ≡ None
         → (edge.ends wire.0 peer.0).remote ≡ where_named row.pw_id fec name (Some (binding_in fec label status points)) (edge.ends wire.0 peer.0).remote (edge.ends wire.0 peer.0).remote
     by_name wire row at joined None is none = either (is_in_group fec.group (edge.ends wire.0 peer.0).remote)
       where
@@ -163,17 +174,20 @@ mapping_unknown plan peer id fec label status points edge checked none = record 
 
 -- and then its label is none of a wire between the two
 pub unknown_released : (plan : Plan) (peer : EdgeId) (fec : PwFec) (label : ℕ) (edge : EdgeState) → IsChecked plan → end_of_fec plan edge peer fec ≡ None
-    → (wire : WireId) (row : WirePlan) (next : ℕ → Bool) (near : LocalPart) → wire_row plan wire ≡ Some row → joins edge.me.0 peer.0 row.path ≡ true → is_some fec.pw_id ≡ true → names_old row.pw_id next near fec.pw_id (Some label) ≡ true
+    → (wire : WireId) (row : WirePlan) (next : ℕ → Bool) (near : LocalPart) → wire_row plan wire ≡ Some row → joins edge.me.0 peer.0 row.path ≡ true → is_some fec.pw_id ≡ true
+    → names_old row.pw_id next near fec.pw_id (Some label) ≡ true
 unknown_released plan peer fec label edge checked none wire row next near at joined some = by_name fec.pw_id none some where
   by_name : (name : Option ℕ) → option_and_then (end_named plan edge.me peer) name ≡ None → is_some name ≡ true → names_old row.pw_id next near name (Some label) ≡ true
   by_name None none some = clash some
   by_name (Some n) none some = rw (not_named plan edge.me peer n wire row checked at joined none) refl
 
 -- what changes the end that a FEC names alone
-changed_ends : (plan : Plan) (peer : EdgeId) (n : ℕ) (change : EndState → EndState) (edge : EdgeState) (wire : WireId) (row : WirePlan) → IsChecked plan → wire_row plan wire ≡ Some row → joins edge.me.0 peer.0 row.path ≡ true
+changed_ends : (plan : Plan) (peer : EdgeId) (n : ℕ) (change : EndState → EndState) (edge : EdgeState) (wire : WireId) (row : WirePlan) → IsChecked plan → wire_row plan wire ≡ Some row
+    → joins edge.me.0 peer.0 row.path ≡ true
     → (with_end_changed change (end_named plan edge.me peer n) edge).ends wire.0 peer.0 ≡ cond (n == row.pw_id) (change (edge.ends wire.0 peer.0)) (edge.ends wire.0 peer.0)
 changed_ends plan peer n change edge wire row checked at joined = by_end (end_named plan edge.me peer n) refl where
-  by_end : (found : Option EndPlace) → end_named plan edge.me peer n ≡ found → (with_end_changed change found edge).ends wire.0 peer.0 ≡ cond (n == row.pw_id) (change (edge.ends wire.0 peer.0)) (edge.ends wire.0 peer.0)
+  by_end : (found : Option EndPlace) → end_named plan edge.me peer n ≡ found → (with_end_changed change found edge).ends wire.0 peer.0
+      ≡ cond (n == row.pw_id) (change (edge.ends wire.0 peer.0)) (edge.ends wire.0 peer.0)
   by_end None is = rw (not_named plan edge.me peer n wire row checked at joined is) refl
   by_end (Some place) is = end_changed plan peer n change place edge wire row checked at joined is
 
@@ -201,7 +215,8 @@ withdraw_heard plan peer id fec label edge checked = by_name fec.pw_id refl wher
   by_name : (name : Option ℕ) → fec.pw_id ≡ name → HearsAs plan edge.me peer (LabelWithdraw id fec label) edge (with_named plan peer fec (unbound label) (group_unbound fec.group) name edge)
   by_name None is = record {
     label = beside_label peer (group_unbound fec.group) edge;
-    local = λ wire row at joined. ap (λ (e : EndState). e.local) (beside_ends peer (group_unbound fec.group) edge wire.0) ∙ group_local (is_in_group fec.group (edge.ends wire.0 peer.0).remote) (edge.ends wire.0 peer.0);
+    local = λ wire row at joined. ap (λ (e : EndState). e.local) (beside_ends peer (group_unbound fec.group) edge wire.0)
+        ∙ group_local (is_in_group fec.group (edge.ends wire.0 peer.0).remote) (edge.ends wire.0 peer.0);
     remote = λ wire row next near at joined alone. clash (rw is at alone);
   }
   by_name (Some n) is = record {
@@ -209,7 +224,8 @@ withdraw_heard plan peer id fec label edge checked = by_name fec.pw_id refl wher
     local = λ wire row at joined. ap (λ (e : EndState). e.local) (changed_ends plan peer n (unbound label) edge wire row checked at joined)
         ∙ local_of (n == row.pw_id) (unbound label (edge.ends wire.0 peer.0)) (edge.ends wire.0 peer.0) (edge.ends wire.0 peer.0).local refl refl;
     remote = λ wire row next near at joined alone. rw is (ap (λ (e : EndState). e.remote) (changed_ends plan peer n (unbound label) edge wire row checked at joined)
-        ∙ remote_of (n == row.pw_id) (unbound label (edge.ends wire.0 peer.0)) (edge.ends wire.0 peer.0) (unless_named label (edge.ends wire.0 peer.0).remote) (edge.ends wire.0 peer.0).remote refl refl);
+        ∙ remote_of (n == row.pw_id) (unbound label (edge.ends wire.0 peer.0)) (edge.ends wire.0 peer.0) (unless_named label (edge.ends wire.0 peer.0).remote)
+        (edge.ends wire.0 peer.0).remote refl refl);
   }
 
 -- Label Release
@@ -228,8 +244,10 @@ release_heard plan peer id fec label edge checked = by_name fec.pw_id refl where
   by_name None is = record { label = λ label given. given; local = λ wire row at joined. rw is refl; remote = λ wire row next near at joined alone. refl }
   by_name (Some n) is = record {
     label = heard_given label (end_named plan edge.me peer n) edge;
-    local = λ wire row at joined. rw is (ap (λ (f : ℕ → ℕ → EndState). (f wire.0 peer.0).local) (released_ends label (end_named plan edge.me peer n) edge) ∙ ap (λ (e : EndState). e.local) (changed_ends plan peer n (released label) edge wire row checked at joined) ∙ part_of (n == row.pw_id) (edge.ends wire.0 peer.0));
-    remote = λ wire row next near at joined alone. ap (λ (f : ℕ → ℕ → EndState). (f wire.0 peer.0).remote) (released_ends label (end_named plan edge.me peer n) edge) ∙ ap (λ (e : EndState). e.remote) (changed_ends plan peer n (released label) edge wire row checked at joined) ∙ same_remote (n == row.pw_id) (edge.ends wire.0 peer.0);
+    local = λ wire row at joined. rw is (ap (λ (f : ℕ → ℕ → EndState). (f wire.0 peer.0).local) (released_ends label (end_named plan edge.me peer n) edge)
+        ∙ ap (λ (e : EndState). e.local) (changed_ends plan peer n (released label) edge wire row checked at joined) ∙ part_of (n == row.pw_id) (edge.ends wire.0 peer.0));
+    remote = λ wire row next near at joined alone. ap (λ (f : ℕ → ℕ → EndState). (f wire.0 peer.0).remote) (released_ends label (end_named plan edge.me peer n) edge)
+        ∙ ap (λ (e : EndState). e.remote) (changed_ends plan peer n (released label) edge wire row checked at joined) ∙ same_remote (n == row.pw_id) (edge.ends wire.0 peer.0);
   }
 
 -- a status, of a pseudowire
@@ -240,10 +258,12 @@ status_heard_as plan peer id code status fec edge checked right = by_name fec.pw
   group_local true e = refl
   group_local false e = refl
 
-  by_name : (name : Option ℕ) → fec.pw_id ≡ name → HearsAs plan edge.me peer (Notification id code (Some status) (Some fec)) edge (with_named plan peer fec (stated status) (group_stated fec.group status) name edge)
+  by_name : (name : Option ℕ) → fec.pw_id ≡ name → HearsAs plan edge.me peer (Notification id code (Some status) (Some fec)) edge
+      (with_named plan peer fec (stated status) (group_stated fec.group status) name edge)
   by_name None is = record {
     label = beside_label peer (group_stated fec.group status) edge;
-    local = λ wire row at joined. ap (λ (e : EndState). e.local) (beside_ends peer (group_stated fec.group status) edge wire.0) ∙ group_local (is_in_group fec.group (edge.ends wire.0 peer.0).remote) (edge.ends wire.0 peer.0);
+    local = λ wire row at joined. ap (λ (e : EndState). e.local) (beside_ends peer (group_stated fec.group status) edge wire.0)
+        ∙ group_local (is_in_group fec.group (edge.ends wire.0 peer.0).remote) (edge.ends wire.0 peer.0);
     remote = λ wire row next near at joined alone. clash (rw is at alone);
   }
   by_name (Some n) is = record {
@@ -251,7 +271,8 @@ status_heard_as plan peer id code status fec edge checked right = by_name fec.pw
     local = λ wire row at joined. ap (λ (e : EndState). e.local) (changed_ends plan peer n (stated status) edge wire row checked at joined)
         ∙ local_of (n == row.pw_id) (stated status (edge.ends wire.0 peer.0)) (edge.ends wire.0 peer.0) (edge.ends wire.0 peer.0).local refl refl;
     remote = λ wire row next near at joined alone. rw (right, is) (ap (λ (e : EndState). e.remote) (changed_ends plan peer n (stated status) edge wire row checked at joined)
-        ∙ remote_of (n == row.pw_id) (stated status (edge.ends wire.0 peer.0)) (edge.ends wire.0 peer.0) (status_part status (edge.ends wire.0 peer.0).remote) (edge.ends wire.0 peer.0).remote refl refl);
+        ∙ remote_of (n == row.pw_id) (stated status (edge.ends wire.0 peer.0)) (edge.ends wire.0 peer.0) (status_part status (edge.ends wire.0 peer.0).remote)
+        (edge.ends wire.0 peer.0).remote refl refl);
   }
 
 -- a notification of another code

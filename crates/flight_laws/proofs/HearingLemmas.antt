@@ -89,13 +89,16 @@ pub record KeptByHearing (plan : Plan) (me peer : EdgeId) (other : Peers) (J : L
   -- nothing is heard any more where the end is gone
   pub gone : (m : Message) (messages : List Message) (work : Work) → work.edge.peering peer.0 ≡ None → J (m ∷ messages) work → J messages work
   -- a session that is not up has it, or one that ends by it
-  pub event : (m : Message) (messages : List Message) (kept : Peering) (work : Work) → work.edge.peering peer.0 ≡ Some kept → IsSaid other m → (is_up_phase kept.session.phase ≡ false) ⊎ (is_fatal m ≡ true) → J (m ∷ messages) work
+  pub event : (m : Message) (messages : List Message) (kept : Peering) (work : Work) → work.edge.peering peer.0 ≡ Some kept → IsSaid other m → (is_up_phase kept.session.phase ≡ false)
+      ⊎ (is_fatal m ≡ true) → J (m ∷ messages) work
       → J messages (happens_with_ends taken_all peer (Received m) work)
   -- a session that is up, and stays so
-  pub acts : (m : Message) (messages : List Message) (kept : Peering) (work : Work) → work.edge.peering peer.0 ≡ Some kept → kept.session.phase ≡ phase.Operational → IsSaid other m → is_fatal m ≡ false → withdraws_addresses m ≡ false
+  pub acts : (m : Message) (messages : List Message) (kept : Peering) (work : Work) → work.edge.peering peer.0 ≡ Some kept → kept.session.phase ≡ phase.Operational → IsSaid other m
+      → is_fatal m ≡ false → withdraws_addresses m ≡ false
       → J (m ∷ messages) work → J messages (acts_on plan taken_all peer m work)
   -- a MAC withdraw alone makes nothing of what is kept
-  pub goes_by : (m : Message) (messages : List Message) (kept : Peering) (work : Work) → work.edge.peering peer.0 ≡ Some kept → kept.session.phase ≡ phase.Operational → IsSaid other m → withdraws_addresses m ≡ true
+  pub goes_by : (m : Message) (messages : List Message) (kept : Peering) (work : Work) → work.edge.peering peer.0 ≡ Some kept → kept.session.phase ≡ phase.Operational → IsSaid other m
+      → withdraws_addresses m ≡ true
       → J (m ∷ messages) work → J messages work
   pub mends : (messages : List Message) → KeptByRows plan me (J messages)
 
@@ -113,15 +116,18 @@ pub fatal_gone : (other : Peers) (peer : EdgeId) (m : Message) (kept : Peering) 
 fatal_gone other peer m kept work at said fatal = rw (at, fatal_ends kept.session other m said fatal) (cleared_none peer (ends peer reason.PeerFatal work) (ended_gone peer reason.PeerFatal work))
 
 -- a session that is up goes on as it is
-pub stays_same : (other : Peers) (peer : EdgeId) (m : Message) (kept : Peering) (work : Work) → work.edge.peering peer.0 ≡ Some kept → kept.session.phase ≡ phase.Operational → IsSaid other m → is_fatal m ≡ false
+pub stays_same : (other : Peers) (peer : EdgeId) (m : Message) (kept : Peering) (work : Work) → work.edge.peering peer.0 ≡ Some kept → kept.session.phase ≡ phase.Operational
+    → IsSaid other m → is_fatal m ≡ false
     → happens_with_ends taken_all peer (Received m) work ≡ work
 stays_same other peer m kept work at up said plain = rw (at, stays_up kept.session other m up said plain, at) refl
 
 -- it acts on what it hears
-pub up_heard : (plan : Plan) (other : Peers) (peer : EdgeId) (m : Message) (kept : Peering) (work : Work) → work.edge.peering peer.0 ≡ Some kept → kept.session.phase ≡ phase.Operational → IsSaid other m → is_fatal m ≡ false
+pub up_heard : (plan : Plan) (other : Peers) (peer : EdgeId) (m : Message) (kept : Peering) (work : Work) → work.edge.peering peer.0 ≡ Some kept → kept.session.phase
+    ≡ phase.Operational → IsSaid other m → is_fatal m ≡ false
     → hears_one plan taken_all peer m work ≡ acts_on plan taken_all peer m work
 up_heard plan other peer m kept work at up said plain =
-    ap (acts plan taken_all peer m (was_up (work.edge.peering peer.0))) (stays_same other peer m kept work at up said plain) ∙ act (was_up (work.edge.peering peer.0)) (rw (at, up) refl) (ap is_there at)
+    ap (acts plan taken_all peer m (was_up (work.edge.peering peer.0))) (stays_same other peer m kept work at up said plain)
+    ∙ act (was_up (work.edge.peering peer.0)) (rw (at, up) refl) (ap is_there at)
   where
     either : (there : Bool) → there ≡ true → cond there (acts_on plan taken_all peer m work) work ≡ acts_on plan taken_all peer m work
     either true e = refl
@@ -149,12 +155,14 @@ acts_kept : (plan : Plan) (me peer : EdgeId) (other : Peers) (J : List Message �
     → (m : Message) (messages : List Message) (kept : Peering) (work : Work) → work.edge.peering peer.0 ≡ Some kept → kept.session.phase ≡ phase.Operational → IsSaid other m → is_fatal m ≡ false
     → J (m ∷ messages) work → J messages (acts_on plan taken_all peer m work)
 acts_kept plan me peer other J keeps (AddressWithdraw id None (Some fec) (Some macs)) messages kept work at up said plain j =
-    withdraw_keeps plan me (J messages) (keeps.mends messages) peer fec macs (heard_are id fec macs said.0) work (keeps.goes_by (AddressWithdraw id None (Some fec) (Some macs)) messages kept work at up said refl j)
+    withdraw_keeps plan me (J messages) (keeps.mends messages) peer fec macs (heard_are id fec macs said.0) work
+    (keeps.goes_by (AddressWithdraw id None (Some fec) (Some macs)) messages kept work at up said refl j)
 acts_kept plan me peer other J keeps (AddressWithdraw id addresses fec macs) messages kept work at up said plain j = absurd said.1
 acts_kept plan me peer other J keeps m messages kept work at up said plain j = keeps.acts m messages kept work at up said plain refl j
 
 pub one_heard : (plan : Plan) (me peer : EdgeId) (other : Peers) (J : List Message → Work → Type 0) → KeptByHearing plan me peer other J
-    → (m : Message) (messages : List Message) (kept : Peering) (work : Work) → work.edge.peering peer.0 ≡ Some kept → IsSaid other m → J (m ∷ messages) work → J messages (hears_one plan taken_all peer m work)
+    → (m : Message) (messages : List Message) (kept : Peering) (work : Work) → work.edge.peering peer.0 ≡ Some kept → IsSaid other m → J (m ∷ messages) work
+    → J messages (hears_one plan taken_all peer m work)
 one_heard plan me peer other J keeps m messages kept work at said j = elim (cases_Bool (is_fatal m)) [
   | inl fatal ↦ subst (J messages) (sym (fatal_heard plan other peer m kept work at said fatal)) (keeps.event m messages kept work at said (inr fatal) j)
   | inr plain ↦ by_phase plain kept.session.phase refl
@@ -167,7 +175,8 @@ one_heard plan me peer other J keeps m messages kept work at said j = elim (case
     by_phase plain phase.Initialized is = not_up (ap is_up_phase is)
     by_phase plain phase.OpenSent is = not_up (ap is_up_phase is)
     by_phase plain phase.OpenRec is = not_up (ap is_up_phase is)
-    by_phase plain phase.Operational is = subst (J messages) (sym (up_heard plan other peer m kept work at is said plain)) (acts_kept plan me peer other J keeps m messages kept work at is said plain j)
+    by_phase plain phase.Operational is = subst (J messages) (sym (up_heard plan other peer m kept work at is said plain))
+        (acts_kept plan me peer other J keeps m messages kept work at is said plain j)
 
 pub message_heard : (plan : Plan) (me peer : EdgeId) (other : Peers) (J : List Message → Work → Type 0) → KeptByHearing plan me peer other J → KeptByMessages plan peer other J
 message_heard plan me peer other J keeps = record {
@@ -176,7 +185,8 @@ message_heard plan me peer other J keeps = record {
   message = λ m messages work said others j. by_end m messages work said j (work.edge.peering peer.0) refl;
 }
   where
-    by_end : (m : Message) (messages : List Message) (work : Work) → IsSaid other m → J (m ∷ messages) work → (near : Option Peering) → work.edge.peering peer.0 ≡ near → J messages (hears_message plan taken_all peer m work)
+    by_end : (m : Message) (messages : List Message) (work : Work) → IsSaid other m → J (m ∷ messages) work → (near : Option Peering) → work.edge.peering peer.0 ≡ near
+        → J messages (hears_message plan taken_all peer m work)
     by_end m messages work said j None at = where_gone (has_end work.edge peer) (ap is_there at) where
       where_gone : (b : Bool) → b ≡ false → J messages (cond b (mends plan taken_all (hears_one plan taken_all peer m work)) work)
       where_gone true e = clash (sym e)

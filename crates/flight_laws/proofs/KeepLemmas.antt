@@ -65,9 +65,11 @@ reply_keeps told peer r (Some kept) work = put_keeps peer (octets_of kept r) (ne
 replies_keep : (told : Answers) (peer : EdgeId) (rs : List Reply) (work : Work) → KeepsEnds work.edge (put_replies told peer rs work).work.edge
 replies_keep told peer [] work = keeps_same work.edge
 replies_keep told peer (r ∷ rs) work =
-    keeps_then work.edge (put_reply told peer r work).work.edge _ (reply_keeps told peer r (work.edge.peering peer.0) work) (on (λ next. replies_keep told peer rs next) (put_reply told peer r work).failed (put_reply told peer r work).work)
+    keeps_then work.edge (put_reply told peer r work).work.edge _ (reply_keeps told peer r (work.edge.peering peer.0) work)
+    (on (λ next. replies_keep told peer rs next) (put_reply told peer r work).failed (put_reply told peer r work).work)
   where
-    on : ((next : Work) → KeepsEnds next.edge (put_replies told peer rs next).work.edge) → (failed : Bool) (next : Work) → KeepsEnds next.edge (puts_on (put_replies told peer rs) failed next).work.edge
+    on : ((next : Work) → KeepsEnds next.edge (put_replies told peer rs next).work.edge) → (failed : Bool) (next : Work)
+        → KeepsEnds next.edge (puts_on (put_replies told peer rs) failed next).work.edge
     on others true next = keeps_same next.edge
     on others false next = others next
 
@@ -112,21 +114,25 @@ spoken_phase : (p : Phase) (near : Option Peering) → IsInPhase p near → IsIn
 spoken_phase p None is = tt
 spoken_phase p (Some kept) is = is
 
-put_phase : (p : Phase) (peer : EdgeId) (bytes : List ℕ) (taken : Bool) (work : Work) → IsInPhase p (work.edge.peering peer.0) → IsInPhase p ((put_octets peer bytes taken work).work.edge.peering peer.0)
+put_phase : (p : Phase) (peer : EdgeId) (bytes : List ℕ) (taken : Bool) (work : Work) → IsInPhase p (work.edge.peering peer.0)
+    → IsInPhase p ((put_octets peer bytes taken work).work.edge.peering peer.0)
 unfolding gives changes with_spoken with_peering puts
 put_phase p peer bytes true work is = rw (same_number peer.0) (spoken_phase p (work.edge.peering peer.0) is)
 put_phase p peer bytes false work is = is
 
-reply_phase : (told : Answers) (p : Phase) (peer : EdgeId) (r : Reply) (near : Option Peering) (work : Work) → IsInPhase p (work.edge.peering peer.0) → IsInPhase p ((put_reply_to told peer r near work).work.edge.peering peer.0)
+reply_phase : (told : Answers) (p : Phase) (peer : EdgeId) (r : Reply) (near : Option Peering) (work : Work) → IsInPhase p (work.edge.peering peer.0)
+    → IsInPhase p ((put_reply_to told peer r near work).work.edge.peering peer.0)
 reply_phase told p peer r None work is = is
 reply_phase told p peer r (Some kept) work is = put_phase p peer (octets_of kept r) (next_answer told work) work is
 
-replies_phase : (told : Answers) (p : Phase) (peer : EdgeId) (rs : List Reply) (work : Work) → IsInPhase p (work.edge.peering peer.0) → IsInPhase p ((put_replies told peer rs work).work.edge.peering peer.0)
+replies_phase : (told : Answers) (p : Phase) (peer : EdgeId) (rs : List Reply) (work : Work) → IsInPhase p (work.edge.peering peer.0)
+    → IsInPhase p ((put_replies told peer rs work).work.edge.peering peer.0)
 replies_phase told p peer [] work is = is
 replies_phase told p peer (r ∷ rs) work is =
     on (λ next at. replies_phase told p peer rs next at) (put_reply told peer r work).failed (put_reply told peer r work).work (reply_phase told p peer r (work.edge.peering peer.0) work is)
   where
-    on : ((next : Work) → IsInPhase p (next.edge.peering peer.0) → IsInPhase p ((put_replies told peer rs next).work.edge.peering peer.0)) → (failed : Bool) (next : Work) → IsInPhase p (next.edge.peering peer.0)
+    on : ((next : Work) → IsInPhase p (next.edge.peering peer.0) → IsInPhase p ((put_replies told peer rs next).work.edge.peering peer.0)) → (failed : Bool) (next : Work)
+        → IsInPhase p (next.edge.peering peer.0)
         → IsInPhase p ((puts_on (put_replies told peer rs) failed next).work.edge.peering peer.0)
     on others true next at = at
     on others false next at = others next at
@@ -135,7 +141,8 @@ ended_phase : (p : Phase) (peer : EdgeId) (why : Reason) (work : Work) → IsInP
 unfolding gives changes with_peering
 ended_phase p peer why work = rw (same_number peer.0) tt
 
-told_phase : (p : Phase) (peer : EdgeId) (same : Bool) (new : Phase) (work : Work) → IsInPhase p (work.edge.peering peer.0) → IsInPhase p ((cond same work (gives (effect.Session peer (phase_name new)) work)).edge.peering peer.0)
+told_phase : (p : Phase) (peer : EdgeId) (same : Bool) (new : Phase) (work : Work) → IsInPhase p (work.edge.peering peer.0)
+    → IsInPhase p ((cond same work (gives (effect.Session peer (phase_name new)) work)).edge.peering peer.0)
 unfolding gives
 told_phase p peer true new work is = is
 told_phase p peer false new work is = is
@@ -155,7 +162,8 @@ phase_after p Stay = p
 phase_after p (Goes next replies) = next.phase
 phase_after p (Ends why replies) = p
 
-comes_phase : (told : Answers) (peer : EdgeId) (kept : Peering) (o : Outcome) (work : Work) → work.edge.peering peer.0 ≡ Some kept → IsInPhase (phase_after kept.session.phase o) ((comes_of told peer kept o work).edge.peering peer.0)
+comes_phase : (told : Answers) (peer : EdgeId) (kept : Peering) (o : Outcome) (work : Work) → work.edge.peering peer.0 ≡ Some kept
+    → IsInPhase (phase_after kept.session.phase o) ((comes_of told peer kept o work).edge.peering peer.0)
 comes_phase told peer kept Stay work at = rw at refl
 comes_phase told peer kept (Goes next replies) work at =
     let moved : Work = changes (with_peering peer (Some (with_session next kept))) work in
@@ -180,7 +188,8 @@ heard_up s sender up = by_sender (is_platform s.peers.peer sender) where
 
 ticked_up : (s : SessionState) → s.phase ≡ phase.Operational → phase_after phase.Operational (ticked s) ≡ phase.Operational
 ticked_up s up = by_time (is_expired s) where
-  by_time : (b : Bool) → phase_after phase.Operational (cond b (Ends reason.Expired (about_none keep_alive_timer_expired ∷ [])) (Goes s (cond (is_keep_alive_due s) (reply.KeepAlive ∷ []) []))) ≡ phase.Operational
+  by_time : (b : Bool) → phase_after phase.Operational
+      (cond b (Ends reason.Expired (about_none keep_alive_timer_expired ∷ [])) (Goes s (cond (is_keep_alive_due s) (reply.KeepAlive ∷ []) []))) ≡ phase.Operational
   by_time true = refl
   by_time false = up
 

@@ -28,27 +28,31 @@ use Rattle.ldp_grammar.specs.Written.{written}
 
 -- nothing of it is another one
 pub leaves_same : (plan : Plan) (me : EdgeId) (place : ℕ) (far : EdgeState) (out : List ℕ) (answers : List Message) (old new : Work) → said_to place new.effects ≡ said_to place old.effects
-    → (is_there (new.edge.peering place) ≡ true → is_there (old.edge.peering place) ≡ true) → HasSameEnds place old.edge new.edge → LeavesBound plan me place far out answers old → LeavesBound plan me place far out answers new
+    → (is_there (new.edge.peering place) ≡ true → is_there (old.edge.peering place) ≡ true) → HasSameEnds place old.edge new.edge → LeavesBound plan me place far out answers old
+    → LeavesBound plan me place far out answers new
 leaves_same plan me place far out answers old new said there same leaves = record {
   bound = λ messages are is near other. bound_same plan me.0 place old.edge new.edge far messages answers same (leaves.bound messages are (rw said at is) (there near) other);
 }
 
 -- the ends beside the place are as they were, and another end took a label, or none
 pub leaves_goes : (plan : Plan) (me : EdgeId) (place : ℕ) (far : EdgeState) (out : List ℕ) (answers : List Message) (old new : Work) → said_to place new.effects ≡ said_to place old.effects
-    → (is_there (new.edge.peering place) ≡ true → is_there (old.edge.peering place) ≡ true) → StaysGiven (given_of old.edge) (given_of new.edge) → ((wire : ℕ) → new.edge.ends wire place ≡ old.edge.ends wire place)
+    → (is_there (new.edge.peering place) ≡ true → is_there (old.edge.peering place) ≡ true) → StaysGiven (given_of old.edge) (given_of new.edge)
+    → ((wire : ℕ) → new.edge.ends wire place ≡ old.edge.ends wire place)
     → LeavesBound plan me place far out answers old → LeavesBound plan me place far out answers new
 leaves_goes plan me place far out answers old new said there goes same leaves = record {
   bound = λ messages are is near other. bound_elsewhere plan me.0 place old.edge new.edge far messages answers goes same (leaves.bound messages are (rw said at is) (there near) other);
 }
 
 -- no end stands
-pub leaves_none : (plan : Plan) (me : EdgeId) (place : ℕ) (far : EdgeState) (out : List ℕ) (answers : List Message) (work : Work) → work.edge.peering place ≡ None → LeavesBound plan me place far out answers work
+pub leaves_none : (plan : Plan) (me : EdgeId) (place : ℕ) (far : EdgeState) (out : List ℕ) (answers : List Message) (work : Work) → work.edge.peering place ≡ None
+    → LeavesBound plan me place far out answers work
 leaves_none plan me place far out answers work none = record { bound = λ messages are is near other. clash (sym (ap is_there none) ∙ near) }
 
 -- ---- more is said
 
 -- what is on its way, once more was said, where the other end stands
-more_said : (own : Peers) (far : Option Peering) (out said more : List ℕ) (messages new : List Message) → is_there far ≡ true → and_more far out said ≡ octets_of_all own.me messages → more ≡ octets_of_all own.me new
+more_said : (own : Peers) (far : Option Peering) (out said more : List ℕ) (messages new : List Message) → is_there far ≡ true → and_more far out said ≡ octets_of_all own.me messages
+    → more ≡ octets_of_all own.me new
     → and_more far out (said ++ more) ≡ octets_of_all own.me (messages ++ new)
 more_said own None out said more messages new there is more_is = clash there
 more_said own (Some end) out said more messages new there is more_is =
@@ -71,7 +75,8 @@ leaves_more plan me place far out more before after old new has messages fit sai
 
 -- one message is said to the place
 pub leaves_spoken : (plan : Plan) (me peer : EdgeId) (far : EdgeState) (out : List ℕ) (before after : List Message) (kept : Peering) (message : ℕ → Message) (old changed new : Work) (has : HasSaid plan me peer.0 far out old)
-    → old.edge.peering peer.0 ≡ Some kept → IsSaid (ends_at plan me.0 peer.0) (message kept.next_id) → said_to peer.0 changed.effects ≡ said_to peer.0 old.effects → HasSpoken peer kept message changed new
+    → old.edge.peering peer.0 ≡ Some kept → IsSaid (ends_at plan me.0 peer.0) (message kept.next_id) → said_to peer.0 changed.effects ≡ said_to peer.0 old.effects
+    → HasSpoken peer kept message changed new
     → (AreBound plan me.0 peer.0 old.edge far has.messages before → AreBound plan me.0 peer.0 changed.edge far (has.messages ++ message kept.next_id ∷ []) after)
     → LeavesBound plan me peer.0 far out before old → LeavesBound plan me peer.0 far out after new
 leaves_spoken plan me peer far out before after kept message old changed new has at said same spoken follows leaves =

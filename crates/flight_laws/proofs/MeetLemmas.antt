@@ -27,7 +27,8 @@ use Rattle.flight_laws.proofs.WorkLemmas.{HasPut, all_put, ends_shows, session_s
 
 -- what the work shows is in step
 pub meets_shown : (own other : Peers) (me peer : EdgeId) (far near : Option Peering) (out said : List ℕ) (messages answers : List Message) (work : Work)
-    → Shows peer.0 work near said (not (is_there near)) → IsFine me work → and_more far out said ≡ octets_of_all own.me messages → AreTalking own other near far messages (cond (is_there near) answers [])
+    → Shows peer.0 work near said (not (is_there near)) → IsFine me work → and_more far out said ≡ octets_of_all own.me messages
+    → AreTalking own other near far messages (cond (is_there near) answers [])
     → Meets own other me peer far out answers work
 meets_shown own other me peer far near out said messages answers work shows fine is talk = record {
   fine = fine;
@@ -38,7 +39,8 @@ meets_shown own other me peer far near out said messages answers work shows fine
 }
 
 -- more is said
-pub more_octets : (router : Addr) (far : Option Peering) (out said more : List ℕ) (messages new : List Message) → and_more far out said ≡ octets_of_all router messages → more ≡ octets_of_all router new
+pub more_octets : (router : Addr) (far : Option Peering) (out said more : List ℕ) (messages new : List Message) → and_more far out said ≡ octets_of_all router messages → more
+    ≡ octets_of_all router new
     → and_more far out (said ++ more) ≡ octets_of_all router (and_more far messages new)
 more_octets router None out said more messages new is more_is = is
 more_octets router (Some y) out said more messages new is more_is =
@@ -82,7 +84,8 @@ comes_meets own other me peer kept far out said messages answers work (Goes next
     let now : Peering = with_session next kept in
     let moved = moved_shows me peer kept now said false work shows fine in
     let put : Spoken = put_replies taken_all peer replies (changes (with_peering peer (Some now)) work) in
-    let all : HasPut me peer (Some (having_put_all replies now)) (said ++ octets_put replies now) false put = all_put me peer replies now (changes (with_peering peer (Some now)) work) said false moved.0 moved.1 in
+    let all : HasPut me peer (Some (having_put_all replies now)) (said ++ octets_put replies now) false put =
+    all_put me peer replies now (changes (with_peering peer (Some now)) work) said false moved.0 moved.1 in
     let told = told_shows me peer (is_same_phase kept.session.phase next.phase) next.phase (Some (having_put_all replies now)) (said ++ octets_put replies now) false put.work all.shows all.fine in
     let same : next.peers ≡ own = sym (put_peers replies now) ∙ step.here.peers in
     rw all.taken
@@ -127,5 +130,6 @@ goes_shows me peer kept next replies said work shows fine =
     let now : Peering = with_session next kept in
     let begun = moved_shows me peer kept now said false work shows fine in
     let put : Spoken = put_replies taken_all peer replies (changes (with_peering peer (Some now)) work) in
-    let all : HasPut me peer (Some (having_put_all replies now)) (said ++ octets_put replies now) false put = all_put me peer replies now (changes (with_peering peer (Some now)) work) said false begun.0 begun.1 in
+    let all : HasPut me peer (Some (having_put_all replies now)) (said ++ octets_put replies now) false put =
+    all_put me peer replies now (changes (with_peering peer (Some now)) work) said false begun.0 begun.1 in
     rw all.taken (told_shows me peer (is_same_phase kept.session.phase next.phase) next.phase (Some (having_put_all replies now)) (said ++ octets_put replies now) false put.work all.shows all.fine)

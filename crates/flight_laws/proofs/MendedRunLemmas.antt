@@ -81,10 +81,12 @@ silent_wish plan edge place (Some row) none = by (edge.wire_on place.wire.0) (wi
   by true wished = ap (λ (b : Bool). cond b wished None) low
   by false wished = refl
 
-silent_mended : (plan : Plan) (k : ℕ) (edge : EdgeState) → edge.me ≡ record { 0 = k } → ((wire peer : ℕ) → edge.ends wire peer ≡ fresh) → ((peer : ℕ) → edge.peering peer ≡ None) → IsMendedAt plan k edge
+silent_mended : (plan : Plan) (k : ℕ) (edge : EdgeState) → edge.me ≡ record { 0 = k } → ((wire peer : ℕ) → edge.ends wire peer ≡ fresh) → ((peer : ℕ) → edge.peering peer ≡ None)
+    → IsMendedAt plan k edge
 silent_mended plan k edge me ends none = record {
   me = me;
-  ends = all_of (λ place. is_mended plan edge place ≡ true) (λ place. rw (ends place.wire.0 place.peer.0, silent_wish plan edge place (wire_row plan place.wire) (none place.peer.0)) refl) (end_places plan (record { 0 = k }));
+  ends = all_of (λ place. is_mended plan edge place ≡ true)
+      (λ place. rw (ends place.wire.0 place.peer.0, silent_wish plan edge place (wire_row plan place.wire) (none place.peer.0)) refl) (end_places plan (record { 0 = k }));
   statuses = all_of (λ place. is_told plan edge place ≡ true) (λ place. rw (ends place.wire.0 place.peer.0) refl) (end_places plan (record { 0 = k }));
 }
 
@@ -102,7 +104,8 @@ turned_wire_me wire false work = refl
 
 module _ (plan : Plan) (checked : IsChecked plan) where
   mends_mend : (k : ℕ) (work : Work) → work.edge.me ≡ record { 0 = k } → IsMendedAt plan k (mends plan taken_all work).edge
-  mends_mend k work me = mended_at plan k (mends plan taken_all work).edge ((mends_signals plan taken_all work).edge.me ∙ me) (mends_mended plan taken_all work (λ i. refl) (has_one_end plan work.edge.me checked))
+  mends_mend k work me = mended_at plan k (mends plan taken_all work).edge ((mends_signals plan taken_all work).edge.me ∙ me)
+      (mends_mended plan taken_all work (λ i. refl) (has_one_end plan work.edge.me checked))
 
   module _ (k : ℕ) (work : Work) (mended : IsMendedAt plan k work.edge) where
     idles_mend : IsMendedAt plan k (idles work).edge
@@ -129,7 +132,8 @@ module _ (plan : Plan) (checked : IsChecked plan) where
     octets_mend peer octets (Some kept) = mends_mend k (hears_on plan taken_all peer octets (Some kept) work) ((hears_on_signals plan taken_all peer octets (Some kept) work).edge.me ∙ mended.me)
 
     lost_mend : (peer : EdgeId) → IsMendedAt plan k (lost_input plan taken_all peer work).edge
-    lost_mend peer = applies_mend (has_end work.edge peer) (happens_with_ends taken_all peer (Closed reason.Closed) work) (happens_with_ends_works taken_all any peer (Closed reason.Closed) work refl).edge.me
+    lost_mend peer = applies_mend (has_end work.edge peer) (happens_with_ends taken_all peer (Closed reason.Closed) work)
+        (happens_with_ends_works taken_all any peer (Closed reason.Closed) work refl).edge.me
 
     restart_mend : IsMendedAt plan k (restart_input work).edge
     unfolding changes without_ends with_learned without_peerings with_kept
@@ -145,7 +149,8 @@ module _ (plan : Plan) (checked : IsChecked plan) where
 
     circuit_mend : (circuit : CircuitId) (on : Bool) (row : Option CircuitPlan) → IsMendedAt plan k (circuit_input plan taken_all circuit on row work).edge
     circuit_mend circuit on None = idles_mend
-    circuit_mend circuit on (Some row) = applies_mend (is_own work.edge row && not (is_same on (Rattle.edge_model.specs.State.is_on work.edge circuit))) (changes (turned plan circuit row on) work) (turned_me plan circuit on row work)
+    circuit_mend circuit on (Some row) = applies_mend (is_own work.edge row && not (is_same on (Rattle.edge_model.specs.State.is_on work.edge circuit)))
+        (changes (turned plan circuit row on) work) (turned_me plan circuit on row work)
 
     frame_mend : (circuit : CircuitId) (octets : List ℕ) (row : Option CircuitPlan) → IsMendedAt plan k (frame_input plan taken_all circuit octets row work).edge
     frame_mend circuit octets row = learns_mend (frame_input plan taken_all circuit octets row work).edge (frame_bridges plan taken_all circuit octets row work).edge
@@ -182,10 +187,12 @@ module _ (plan : Plan) (checked : IsChecked plan) where
   all_hold : (me : EdgeId) (origin hops : ℕ) (es : List Effect) (network : NetworkState) → HoldsOfEach (IsMendedAt plan) network → HoldsOfEach (IsMendedAt plan) (absorb_all me origin hops es network)
   all_hold me origin hops es network holds k = subst (λ (edges : ℕ → EdgeState). IsMendedAt plan k (edges k)) (sym (all_keep me origin hops es network).edges) (holds k)
 
-  absorb_holds : (me : EdgeId) (origin hops : ℕ) (work : Work) (network : NetworkState) → HoldsOfEach (IsMendedAt plan) network → IsMendedAt plan me.0 work.edge → HoldsOfEach (IsMendedAt plan) (absorb me origin hops work network).state
+  absorb_holds : (me : EdgeId) (origin hops : ℕ) (work : Work) (network : NetworkState) → HoldsOfEach (IsMendedAt plan) network → IsMendedAt plan me.0 work.edge
+      → HoldsOfEach (IsMendedAt plan) (absorb me origin hops work network).state
   absorb_holds me origin hops work network holds here = all_hold me origin hops work.effects (with_edge me work.edge network) (edge_holds me work.edge network holds here)
 
-  answer_holds : (me : EdgeId) (origin hops : ℕ) (work : Work) (network : NetworkState) → HoldsOfEach (IsMendedAt plan) network → IsMendedAt plan me.0 work.edge → HoldsOfEach (IsMendedAt plan) (answer me origin hops work network).state
+  answer_holds : (me : EdgeId) (origin hops : ℕ) (work : Work) (network : NetworkState) → HoldsOfEach (IsMendedAt plan) network → IsMendedAt plan me.0 work.edge
+      → HoldsOfEach (IsMendedAt plan) (answer me origin hops work network).state
   answer_holds me origin hops work network holds here = by work.idle where
     by : (idles : Bool) → HoldsOfEach (IsMendedAt plan) (cond idles (idle network) (absorb me origin hops work network)).state
     by true = holds
@@ -193,7 +200,8 @@ module _ (plan : Plan) (checked : IsChecked plan) where
 
   -- ---- connections
 
-  connecting_holds : (from to : EdgeId) (network : NetworkState) → HoldsOfEach (IsMendedAt plan) network → HoldsOfEach (IsMendedAt plan) (connecting from (connected_work plan network from to) to (connected_work plan network to from) network).state
+  connecting_holds : (from to : EdgeId) (network : NetworkState) → HoldsOfEach (IsMendedAt plan) network
+      → HoldsOfEach (IsMendedAt plan) (connecting from (connected_work plan network from to) to (connected_work plan network to from) network).state
   connecting_holds from to network holds =
       let first : Work = connected_work plan network from to in
       let second : Work = connected_work plan network to from in
@@ -261,7 +269,8 @@ module _ (plan : Plan) (checked : IsChecked plan) where
   unfolding with_frame
   entered_holds network holds = holds
 
-  frame_keeps : (circuit : CircuitId) (octets : List ℕ) (row : Option CircuitPlan) (network : NetworkState) → HoldsOfEach (IsMendedAt plan) network → HoldsOfEach (IsMendedAt plan) (frame_event plan circuit octets row network).state
+  frame_keeps : (circuit : CircuitId) (octets : List ℕ) (row : Option CircuitPlan) (network : NetworkState) → HoldsOfEach (IsMendedAt plan) network
+      → HoldsOfEach (IsMendedAt plan) (frame_event plan circuit octets row network).state
   frame_keeps circuit octets None network holds = holds
   frame_keeps circuit octets (Some row) network holds = by (frame_work plan network circuit octets row).idle where
     by : (idles : Bool) → HoldsOfEach (IsMendedAt plan) (cond idles (idle network) (entering network circuit octets row (frame_work plan network circuit octets row))).state
@@ -271,7 +280,8 @@ module _ (plan : Plan) (checked : IsChecked plan) where
         absorb_holds row.edge (next_origin network) 0 work (with_frame network) (entered_holds network holds)
         (frame_mend row.edge.0 (begin_at network row.edge) (holds row.edge.0) circuit octets (Some row))
 
-  circuit_keeps : (circuit : CircuitId) (on : Bool) (row : Option CircuitPlan) (network : NetworkState) → HoldsOfEach (IsMendedAt plan) network → HoldsOfEach (IsMendedAt plan) (circuit_event plan circuit on row network).state
+  circuit_keeps : (circuit : CircuitId) (on : Bool) (row : Option CircuitPlan) (network : NetworkState) → HoldsOfEach (IsMendedAt plan) network
+      → HoldsOfEach (IsMendedAt plan) (circuit_event plan circuit on row network).state
   circuit_keeps circuit on None network holds = holds
   circuit_keeps circuit on (Some row) network holds =
       let work : Work = circuit_input plan taken_all circuit on (Some row) (begin_at network row.edge) in
@@ -282,12 +292,14 @@ module _ (plan : Plan) (checked : IsChecked plan) where
       let work : Work = wire_input plan taken_all wire on (begin_at network me) in
       answer_holds me 0 0 work network holds (wire_mend me.0 (begin_at network me) (holds me.0) wire on)
 
-  status_keeps : (me : EdgeId) (wire : WireId) (bits : ℕ) (network : NetworkState) → HoldsOfEach (IsMendedAt plan) network → HoldsOfEach (IsMendedAt plan) (status_event plan me wire bits network).state
+  status_keeps : (me : EdgeId) (wire : WireId) (bits : ℕ) (network : NetworkState) → HoldsOfEach (IsMendedAt plan) network
+      → HoldsOfEach (IsMendedAt plan) (status_event plan me wire bits network).state
   status_keeps me wire bits network holds =
       let work : Work = status_input plan taken_all wire bits (begin_at network me) in
       answer_holds me 0 0 work network holds (status_mend me.0 (begin_at network me) (holds me.0) wire bits)
 
-  priority_keeps : (me : EdgeId) (wire : WireId) (priority : ℕ) (network : NetworkState) → HoldsOfEach (IsMendedAt plan) network → HoldsOfEach (IsMendedAt plan) (priority_event plan me wire priority network).state
+  priority_keeps : (me : EdgeId) (wire : WireId) (priority : ℕ) (network : NetworkState) → HoldsOfEach (IsMendedAt plan) network
+      → HoldsOfEach (IsMendedAt plan) (priority_event plan me wire priority network).state
   priority_keeps me wire priority network holds =
       let work : Work = priority_input plan taken_all wire priority (begin_at network me) in
       answer_holds me 0 0 work network holds (priority_mend me.0 (begin_at network me) (holds me.0) wire priority)

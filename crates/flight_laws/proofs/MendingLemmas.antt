@@ -37,13 +37,16 @@ pub record KeptByRows (plan : Plan) (me : EdgeId) (I : Work → Type 0) : Type 0
   pub advertises : (place : EndPlace) (label : ℕ) (content : Told) (work : Work) → IsEndOf plan me place → (end_at work.edge place).local ≡ Idle false → wish plan work.edge place ≡ Some content
       → label_to_give work.edge ≡ Some label → I work → I (says taken_all place.peer (mapping place.pw_id label content) (changes (advertising place label content) work)).work
   -- an end withdraws its label where what it has told does not stand
-  pub withdraws : (place : EndPlace) (label : ℕ) (content : Told) (work : Work) → IsEndOf plan me place → (end_at work.edge place).local ≡ Advertised label content → stands place content (wish plan work.edge place) ≡ false
+  pub withdraws : (place : EndPlace) (label : ℕ) (content : Told) (work : Work) → IsEndOf plan me place → (end_at work.edge place).local ≡ Advertised label content
+      → stands place content (wish plan work.edge place) ≡ false
       → I work → I (withdraws taken_all place label content work).work
   -- an end that has told a status tells another one
-  pub tells : (place : EndPlace) (label : ℕ) (content : Told) (last : PwStatus) (work : Work) → IsEndOf plan me place → (end_at work.edge place).local ≡ Advertised label content → content.status ≡ Some last
+  pub tells : (place : EndPlace) (label : ℕ) (content : Told) (last : PwStatus) (work : Work) → IsEndOf plan me place → (end_at work.edge place).local ≡ Advertised label content
+      → content.status ≡ Some last
       → last.0 == (status_to_tell plan work.edge place).0 ≡ false → I work → I (tells_new_status taken_all place content (status_to_tell plan work.edge place) work).work
   -- an end that advertises tells that addresses are to be forgotten
-  pub clears : (place : EndPlace) (label : ℕ) (content : Told) (addresses : List Mac) (work : Work) → IsEndOf plan me place → (end_at work.edge place).local ≡ Advertised label content → IsPiece addresses
+  pub clears : (place : EndPlace) (label : ℕ) (content : Told) (addresses : List Mac) (work : Work) → IsEndOf plan me place → (end_at work.edge place).local ≡ Advertised label content
+      → IsPiece addresses
       → I work → I (says taken_all place.peer (mac_withdrawal place.pw_id addresses content) work).work
   -- a wire that began to forward, or stopped, is told
   pub tells_down : (place : EndPlace) (down : Option Down) (work : Work) → IsEndOf plan me place → I work → I (gives (Wire place.wire down) (changes (with_told_down place.wire down) work))
@@ -145,7 +148,8 @@ module _ (plan : Plan) (me : EdgeId) (I : Work → Type 0) (kept : KeptByRows pl
 
   once_keeps : (work : Work) → I work → I (mends_once plan taken_all work).work
   once_keeps work i =
-      let all : AllByRecursion (IsEndOf plan me) (end_places plan work.edge.me) = subst (λ (k : EdgeId). AllByRecursion (IsEndOf plan me) (end_places plan k)) (sym (kept.placed work i)) (places_are plan me) in
+      let all : AllByRecursion (IsEndOf plan me) (end_places plan work.edge.me) =
+      subst (λ (k : EdgeId). AllByRecursion (IsEndOf plan me) (end_places plan k)) (sym (kept.placed work i)) (places_are plan me) in
       downs_keep (end_places plan work.edge.me) all _
       (forgets_keep (end_places plan work.edge.me) _
       (each_keeps (mends_choice plan taken_all work.edge.chosen) (choice_keeps work.edge.chosen) (end_places plan work.edge.me) all _

@@ -117,7 +117,8 @@ pub release_of_mapping : (plan : Plan) (far : EdgeState) (me : ℕ) (heard : ℕ
     → NamesOwn plan far me (LabelMapping heard fec label status points) → NamesFar plan far me (release fec (Some label) id)
 release_of_mapping plan far me heard fec label status points id may = may
 
-pub release_of_withdrawal : (plan : Plan) (far : EdgeState) (me : ℕ) (heard : ℕ) (fec : PwFec) (label : Option ℕ) (id : ℕ) → NamesOwn plan far me (LabelWithdraw heard fec label) → NamesFar plan far me (release fec label id)
+pub release_of_withdrawal : (plan : Plan) (far : EdgeState) (me : ℕ) (heard : ℕ) (fec : PwFec) (label : Option ℕ) (id : ℕ) → NamesOwn plan far me (LabelWithdraw heard fec label)
+    → NamesFar plan far me (release fec label id)
 release_of_withdrawal plan far me heard fec None id may = tt
 release_of_withdrawal plan far me heard fec (Some label) id may = may
 

@@ -111,7 +111,8 @@ names_freed old new next less rising may from = record {
   owned = λ own wire peer label owned. named wire peer label None (own wire peer label (less wire peer label owned));
   kept = λ own has. record {
     rising = rising has.rising;
-    below = λ label there. ⊎_elim (λ (before : kept_at label old.kept ≢ None). below label (has.below label before)) (λ (freed : IsFreed old new label). below label (own freed.wire freed.peer label freed.owned).below) (from label there);
+    below = λ label there. ⊎_elim (λ (before : kept_at label old.kept ≢ None). below label (has.below label before))
+        (λ (freed : IsFreed old new label). below label (own freed.wire freed.peer label freed.owned).below) (from label there);
     unowned = λ label there w k. ⊎_elim
         (λ (before : kept_at label old.kept ≢ None). split {P = part_owns (new.ends w k).local label ≡ false} (part_owns (new.ends w k).local label)
         (λ now. clash_at (part_owns (old.ends w k).local label) (less w k label now) (has.unowned label before w k))
@@ -127,7 +128,8 @@ names_freed old new next less rising may from = record {
   least = λ least has. record {
     next = subst (λ (n : ℕ). least ≤ n) (sym next) has.next;
     owned = λ wire peer label owned. has.owned wire peer label (less wire peer label owned);
-    kept = λ label there. ⊎_elim (λ (before : kept_at label old.kept ≢ None). has.kept label before) (λ (freed : IsFreed old new label). has.owned freed.wire freed.peer label freed.owned) (from label there);
+    kept = λ label there. ⊎_elim (λ (before : kept_at label old.kept ≢ None). has.kept label before)
+        (λ (freed : IsFreed old new label). has.owned freed.wire freed.peer label freed.owned) (from label there);
   };
 }
   where
@@ -171,7 +173,8 @@ pub names_beside : (peer : EdgeId) (change : EndState → EndState) (edge : Edge
 unfolding with_ends_beside
 names_beside peer change edge less =
     names_less edge (with_ends_beside peer change edge) refl refl
-    (λ wire k label. beside_fact (λ w k e. part_owns e.local label ≡ true → part_owns (edge.ends w k).local label ≡ true) peer change edge wire k (λ same owned. less (edge.ends wire k) label owned) (λ owned. owned))
+    (λ wire k label. beside_fact (λ w k e. part_owns e.local label ≡ true → part_owns (edge.ends w k).local label ≡ true) peer change edge wire k
+    (λ same owned. less (edge.ends wire k) label owned) (λ owned. owned))
 
 owns_renewed : (local : LocalPart) (label : ℕ) → part_owns (renew_part local) label ≡ part_owns local label
 owns_renewed (Idle declined) label = refl
@@ -182,7 +185,8 @@ pub names_renewed : (wire : WireId) (edge : EdgeState) → KeepsNames edge (with
 unfolding with_renewed
 names_renewed wire edge =
     names_less edge (with_renewed wire edge) refl refl
-    (λ w k label. renewed_fact (λ w k e. part_owns e.local label ≡ true → part_owns (edge.ends w k).local label ≡ true) wire edge w k (λ owned. sym (owns_renewed (edge.ends w k).local label) ∙ owned) (λ owned. owned))
+    (λ w k label. renewed_fact (λ w k e. part_owns e.local label ≡ true → part_owns (edge.ends w k).local label ≡ true) wire edge w k
+    (λ owned. sym (owns_renewed (edge.ends w k).local label) ∙ owned) (λ owned. owned))
 
 -- ---- numbers that are owned no longer
 
@@ -243,16 +247,19 @@ names_releasing given place edge = by (left_label (own_label (end_at edge place)
   end = released given (end_at edge place)
 
   fewer : (wire peer label : ℕ) → part_owns ((with_end place (released given (end_at edge place)) edge).ends wire peer).local label ≡ true → part_owns (edge.ends wire peer).local label ≡ true
-  fewer wire peer label = end_fact (λ w k e. part_owns e.local label ≡ true → part_owns (edge.ends w k).local label ≡ true) place (released given (end_at edge place)) edge wire peer (λ owned. owns_released given (end_at edge place) label owned) (λ owned. owned)
+  fewer wire peer label = end_fact (λ w k e. part_owns e.local label ≡ true → part_owns (edge.ends w k).local label ≡ true) place (released given (end_at edge place)) edge wire peer
+      (λ owned. owns_released given (end_at edge place) label owned) (λ owned. owned)
 
-  here : (label : ℕ) → own_label (released given (end_at edge place)).local ≡ None → part_owns ((with_end place (released given (end_at edge place)) edge).ends place.wire.0 place.peer.0).local label ≡ false
+  here : (label : ℕ) → own_label (released given (end_at edge place)).local ≡ None
+      → part_owns ((with_end place (released given (end_at edge place)) edge).ends place.wire.0 place.peer.0).local label ≡ false
   here label none = rw (is_same place.wire.0, is_same place.peer.0) (owns_none (released given (end_at edge place)).local label none)
 
   by : (r : Option ℕ) → left_label (own_label (end_at edge place).local) (own_label (released given (end_at edge place)).local) ≡ r
       → KeepsNames edge (with_kept (keeps_one r place.peer edge.kept) (with_end place (released given (end_at edge place)) edge))
   by None is = names_less edge (with_kept edge.kept (with_end place (released given (end_at edge place)) edge)) refl refl fewer
   by (Some own) is =
-      let both : (own_label (end_at edge place).local ≡ Some own) × (own_label (released given (end_at edge place)).local ≡ None) = left_is (own_label (end_at edge place).local) (own_label (released given (end_at edge place)).local) own is in
+      let both : (own_label (end_at edge place).local ≡ Some own) × (own_label (released given (end_at edge place)).local ≡ None) =
+      left_is (own_label (end_at edge place).local) (own_label (released given (end_at edge place)).local) own is in
       let mine : part_owns (end_at edge place).local own ≡ true = owns_own (end_at edge place).local own both.0 in
       names_freed edge (with_kept (keeps_one (Some own) place.peer edge.kept) (with_end place (released given (end_at edge place)) edge)) refl fewer
       (rising_keep own place.peer edge.kept)
@@ -341,7 +348,8 @@ owner_of : (place : EndPlace) (given : ℕ) (content : Told) (edge : EdgeState) 
     → part_owns ((advertising place given content edge).ends wire peer).local label ≡ true → IsNewOwner place given wire peer label ⊎ (part_owns (edge.ends wire peer).local label ≡ true)
 unfolding with_next_label with_kept
 owner_of place given content edge declined wire peer label idle =
-    end_fact (λ w k e. part_owns e.local label ≡ true → IsNewOwner place given w k label ⊎ (part_owns (edge.ends w k).local label ≡ true)) place (advertised given content (end_at edge place)) edge wire peer
+    end_fact (λ w k e. part_owns e.local label ≡ true → IsNewOwner place given w k label ⊎ (part_owns (edge.ends w k).local label ≡ true)) place
+    (advertised given content (end_at edge place)) edge wire peer
     (λ owned. inl (record { wire_is = refl; peer_is = refl; label_is = sym (eqb-true given label (rw idle at owned)) }))
     (λ owned. inr owned)
 
@@ -357,7 +365,8 @@ kept_gone : (place : EndPlace) (label : ℕ) (content : Told) (edge : EdgeState)
 kept_gone place label content edge = ap (kept_at label) (advertised_kept place label content edge) ∙ (kept_without label label edge.kept ∙ rw (is_same label) refl)
 
 -- the new label may be named with the end
-pub names_new : (place : EndPlace) (label : ℕ) (content : Told) (edge : EdgeState) (declined : Bool) → (end_at edge place).local ≡ Idle declined → OwnsItsLabels edge → HasKept edge → IsToGive edge label
+pub names_new : (place : EndPlace) (label : ℕ) (content : Told) (edge : EdgeState) (declined : Bool) → (end_at edge place).local ≡ Idle declined → OwnsItsLabels edge → HasKept edge
+    → IsToGive edge label
     → MayName (advertising place label content edge) place.wire.0 place.peer.0 label
 names_new place label content edge declined idle own has give = record {
   below = subst (λ (n : ℕ). label < n) (sym (advertised_next place label content edge)) (given_below edge label has give);
@@ -368,7 +377,8 @@ names_new place label content edge declined idle own has give = record {
   kept = subst (MayBeKept place.peer.0 None) (sym (kept_gone place label content edge)) tt;
 }
 
-pub names_advertising : (place : EndPlace) (given : ℕ) (content : Told) (edge : EdgeState) (declined : Bool) → (end_at edge place).local ≡ Idle declined → OwnsItsLabels edge → HasKept edge → IsToGive edge given
+pub names_advertising : (place : EndPlace) (given : ℕ) (content : Told) (edge : EdgeState) (declined : Bool) → (end_at edge place).local ≡ Idle declined → OwnsItsLabels edge
+    → HasKept edge → IsToGive edge given
     → KeepsNames edge (advertising place given content edge)
 names_advertising place given content edge declined idle own has give = record {
   names = named;
@@ -383,7 +393,8 @@ names_advertising place given content edge declined idle own has give = record {
     below = λ label there. subst (λ (n : ℕ). label < n) (sym (advertised_next place given content edge)) (below_after label edge.next_label (has.below label (before label there)));
     unowned = λ label there w k. split {P = part_owns ((advertising place given content edge).ends w k).local label ≡ false} (part_owns ((advertising place given content edge).ends w k).local label)
         (λ now. ⊎_elim
-        (λ (new : IsNewOwner place given w k label). absurd (there (subst (λ (l : ℕ). kept_at l (advertising place given content edge).kept ≡ None) (sym new.label_is) (kept_gone place given content edge))))
+        (λ (new : IsNewOwner place given w k label). absurd
+        (there (subst (λ (l : ℕ). kept_at l (advertising place given content edge).kept ≡ None) (sym new.label_is) (kept_gone place given content edge))))
         (λ (old : part_owns (edge.ends w k).local label ≡ true). clash_at (part_owns (edge.ends w k).local label) old (has.unowned label (before label there) w k))
         (owner_of place given content edge declined w k label idle now))
         (λ not_now. not_now);
@@ -515,7 +526,8 @@ meeting_rekept beside edge = record {
   from = λ label there. still_none (met_state beside) (kept_at label edge.kept) (subst (λ (r : Option KeptState). r ≢ None) (kept_map (met_state beside) edge.kept label) there);
 }
 
-pub meeting_named : (beside : EdgeId) (edge : EdgeState) (wire peer label : ℕ) (age : Option ℕ) → (peer == beside.0) ≡ false → MayBeNamed edge wire peer age label → MayBeNamed (meeting beside edge) wire peer age label
+pub meeting_named : (beside : EdgeId) (edge : EdgeState) (wire peer label : ℕ) (age : Option ℕ) → (peer == beside.0) ≡ false → MayBeNamed edge wire peer age label
+    → MayBeNamed (meeting beside edge) wire peer age label
 unfolding with_kept
 meeting_named beside edge wire peer label age apart named =
     rekept_named edge (meeting beside edge) wire peer label age age (meeting_rekept beside edge)

@@ -77,11 +77,14 @@ unfolding IsShortSub
 pair_sub kind None small octets = tt
 pair_sub kind (Some pair) small octets = ((small, omega arith, octet_front pair.0 (pair.1 ∷ []) octets.0 (octet_front pair.1 [] octets.1 no_octets)), tt)
 
-parameters_octets : (params : IfParams) → length params.description ≤ 80 → AreOctets params.description → IfSome params.vccv (λ pair. (pair.0 < 256) × (pair.1 < 256)) → AreOctets (written_parameters params)
+parameters_octets : (params : IfParams) → length params.description ≤ 80 → AreOctets params.description → IfSome params.vccv (λ pair. (pair.0 < 256) × (pair.1 < 256))
+    → AreOctets (written_parameters params)
 parameters_octets params few octets types = sub_octets (parameter_sub_tlvs params)
-    (subs-append ((told 0x01 (option_map (λ (n : ℕ). two n) params.mtu) ++ told 0x03 (description_value params.description)) ++ told 0x06 (option_map (λ (n : ℕ). two n) params.vlan)) (told 0x0C (option_map pair_octets params.vccv))
+    (subs-append ((told 0x01 (option_map (λ (n : ℕ). two n) params.mtu) ++ told 0x03 (description_value params.description)) ++ told 0x06 (option_map (λ (n : ℕ). two n) params.vlan))
+    (told 0x0C (option_map pair_octets params.vccv))
     (subs-append (told 0x01 (option_map (λ (n : ℕ). two n) params.mtu) ++ told 0x03 (description_value params.description)) (told 0x06 (option_map (λ (n : ℕ). two n) params.vlan))
-    (subs-append (told 0x01 (option_map (λ (n : ℕ). two n) params.mtu)) (told 0x03 (description_value params.description)) (number_sub 0x01 params.mtu (omega arith)) (text_sub 0x03 params.description (omega arith) few octets))
+    (subs-append (told 0x01 (option_map (λ (n : ℕ). two n) params.mtu)) (told 0x03 (description_value params.description)) (number_sub 0x01 params.mtu (omega arith))
+    (text_sub 0x03 params.description (omega arith) few octets))
     (number_sub 0x06 params.vlan (omega arith)))
     (pair_sub 0x0C params.vccv (omega arith) types))
 
@@ -277,7 +280,8 @@ kind_of : (n : ℕ) → nat_le n 0x7FFF ≡ true → n ≤ 0x7FFF
 kind_of n few = grind (arith, nat_tests)
 
 -- what it tells is a content of one, with the points that it may have
-pub heard_sound : (limit id : ℕ) (fec : PwFec) (label : ℕ) (status : Option PwStatus) (points : List Point) → IsSound (LabelMapping id fec label status points) → length points ≤ limit → IsSoundTold limit (told_with fec status points)
+pub heard_sound : (limit id : ℕ) (fec : PwFec) (label : ℕ) (status : Option PwStatus) (points : List Point) → IsSound (LabelMapping id fec label status points) → length points ≤ limit
+    → IsSoundTold limit (told_with fec status points)
 heard_sound limit id fec label status points sound few =
     let some : is_some fec.pw_id ≡ true = first_holds (is_some fec.pw_id) (writable_fec fec) sound.1 in
     let can : writable_fec fec ≡ true = second_holds (is_some fec.pw_id) (writable_fec fec) sound.1 in
@@ -317,7 +321,8 @@ mapping_sound pw_id label content small is sound = record {
     short : length (information (Some pw_id) (params_of content)) < 256
     short = omega (arith, parameters_short (params_of content) sound.description)
 
-pub mapping_is : (pw_id label : ℕ) (offer : Offer) (status : Option PwStatus) → pw_id < 2 ^ 32 → IsLabel label → IsState status → IsFieldOffer offer → IsOffer offer → IsOfWires (mapping pw_id label (content_of offer status))
+pub mapping_is : (pw_id label : ℕ) (offer : Offer) (status : Option PwStatus) → pw_id < 2 ^ 32 → IsLabel label → IsState status → IsFieldOffer offer → IsOffer offer
+    → IsOfWires (mapping pw_id label (content_of offer status))
 mapping_is pw_id label offer status small is state field fit = mapping_sound pw_id label (content_of offer status) small is (offer_sound 3 offer status state field fit)
 
 -- ---- the point of an edge

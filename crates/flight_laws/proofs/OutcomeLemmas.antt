@@ -88,7 +88,8 @@ none_fits data_is low = (low, omega arith, omega arith)
 
 -- ---- outcomes
 
-judged_fits : (own : Peers) (given : Option Refusal) (s : SessionState) (m : Message) (params : SessionParams) (replies : List Reply) → AreFit own → IsFitSession own s → Fits m → writable m ≡ true → AllByRecursion IsFitReply replies
+judged_fits : (own : Peers) (given : Option Refusal) (s : SessionState) (m : Message) (params : SessionParams) (replies : List Reply) → AreFit own → IsFitSession own s → Fits m
+    → writable m ≡ true → AllByRecursion IsFitReply replies
     → FitOutcome own (judged given s m params replies)
 judged_fits own None s m params replies fit session fits can all =
     let ends : s.peers.max_pdu ≡ own.max_pdu = ap (λ (p : Peers). p.max_pdu) session.peers in (
@@ -116,7 +117,8 @@ notified_fits own (Some why) s m fits can = farewell_fits s.phase why m fits can
 refused : (m : Message) → Fits m → writable m ≡ true → AllByRecursion IsFitReply (about m shutdown ∷ [])
 refused m fits can = (about_fits m shutdown (omega arith) fits can, tt)
 
-received_fits : (own : Peers) (s : SessionState) (p : Phase) (active : Bool) (m : Message) → AreFit own → IsFitSession own s → Fits m → writable m ≡ true → FitOutcome own (table p (Received m) active s)
+received_fits : (own : Peers) (s : SessionState) (p : Phase) (active : Bool) (m : Message) → AreFit own → IsFitSession own s → Fits m → writable m ≡ true
+    → FitOutcome own (table p (Received m) active s)
 received_fits own s phase.Initialized active (Notification id code status fec) fit session fits can = notified_fits own (reason_in code) s (Notification id code status fec) fits can
 received_fits own s phase.OpenSent active (Notification id code status fec) fit session fits can = notified_fits own (reason_in code) s (Notification id code status fec) fits can
 received_fits own s phase.OpenRec active (Notification id code status fec) fit session fits can = notified_fits own (reason_in code) s (Notification id code status fec) fits can
@@ -135,14 +137,16 @@ received_fits own s phase.OpenRec active m fit session fits can = refused m fits
 fault_low : (f : DecodeFault) → data_of f < 2 ^ 30
 fault_low f = grind arith
 
-heard_fits : (own : Peers) (s : SessionState) (right : Bool) → IsFitSession own s → FitOutcome own (cond right (Goes (record s { wait = 0 }) []) (Ends reason.BadIdentifier (about_none Rattle.session_core.specs.StatusCodes.bad_ldp_identifier ∷ [])))
+heard_fits : (own : Peers) (s : SessionState) (right : Bool) → IsFitSession own s
+    → FitOutcome own (cond right (Goes (record s { wait = 0 }) []) (Ends reason.BadIdentifier (about_none Rattle.session_core.specs.StatusCodes.bad_ldp_identifier ∷ [])))
 heard_fits own s true session = (record { peers = session.peers; least = session.least; most = session.most }, tt)
 heard_fits own s false session = (none_fits Rattle.session_core.specs.StatusCodes.bad_ldp_identifier (omega arith), tt)
 
 ticked_fits : (own : Peers) (s : SessionState) → IsFitSession own s → FitOutcome own (ticked s)
 ticked_fits own s session = by_wait (is_expired s) (is_keep_alive_due s)
   where
-    by_wait : (over quiet : Bool) → FitOutcome own (cond over (Ends reason.Expired (about_none Rattle.session_core.specs.StatusCodes.keep_alive_timer_expired ∷ [])) (Goes s (cond quiet (reply.KeepAlive ∷ []) [])))
+    by_wait : (over quiet : Bool) → FitOutcome own
+        (cond over (Ends reason.Expired (about_none Rattle.session_core.specs.StatusCodes.keep_alive_timer_expired ∷ [])) (Goes s (cond quiet (reply.KeepAlive ∷ []) [])))
     by_wait true quiet = (none_fits Rattle.session_core.specs.StatusCodes.keep_alive_timer_expired (omega arith), tt)
     by_wait false true = (session, (tt, tt))
     by_wait false false = (session, tt)

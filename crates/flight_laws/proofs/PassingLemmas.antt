@@ -35,7 +35,8 @@ use Rattle.flight_laws.proofs.PieceLemmas.{AreSixOctetsEach, IsPiece, pieces_are
 use Rattle.flight_laws.proofs.PlaceLemmas.{IsEndOf, find_holds, places_are}
 
 -- what the bridge has learned is no matter of neighbours and of the ends of pseudowires
-pub forgetting_rest : (service : ServiceId) (addresses : List Mac) (from : ℕ) (edge : EdgeState) → KeepsEnds edge (withdrawing_at service addresses from edge) × ((withdrawing_at service addresses from edge).peering ≡ edge.peering)
+pub forgetting_rest : (service : ServiceId) (addresses : List Mac) (from : ℕ) (edge : EdgeState) → KeepsEnds edge (withdrawing_at service addresses from edge)
+    × ((withdrawing_at service addresses from edge).peering ≡ edge.peering)
 unfolding with_addresses
 forgetting_rest service addresses from edge = (record { me = refl; wire_on = refl; bits = refl; ends = refl; told_down = refl; next_label = refl; kept = refl }, refl)
 
@@ -83,7 +84,8 @@ module _ (plan : Plan) (me : EdgeId) (I : Work → Type 0) (kept : KeptByRows pl
     service_keeps service None work i = i
     service_keeps service (Some from) work i =
         let rest = forgetting_rest service addresses from work.edge in
-        passes_keep service from (roles.role_of plan service work.edge.me) (changes (withdrawing_at service addresses from) work) (kept.others (withdrawing_at service addresses from) work rest.0 rest.1 i)
+        passes_keep service from (roles.role_of plan service work.edge.me) (changes (withdrawing_at service addresses from) work)
+        (kept.others (withdrawing_at service addresses from) work rest.0 rest.1 i)
 
     row_keeps : (place : EndPlace) (row : Option WirePlan) (work : Work) → I work → I (clears_wire plan taken_all addresses place row work)
     row_keeps place None work i = i
@@ -99,9 +101,11 @@ module _ (plan : Plan) (me : EdgeId) (I : Work → Type 0) (kept : KeptByRows pl
     end_keeps : (found : Option EndPlace) (work : Work) → I work → I (clears_by plan taken_all addresses found work)
     end_keeps None work i = i
     end_keeps (Some place) work i = by_side place.terminal where
-      by_side : (terminal : Bool) → I (cond terminal (clears_wire plan taken_all addresses place (wire_row plan place.wire) work) (tells_by taken_all addresses (end_beyond plan work.edge.me place) work))
+      by_side : (terminal : Bool) → I (cond terminal (clears_wire plan taken_all addresses place (wire_row plan place.wire) work)
+          (tells_by taken_all addresses (end_beyond plan work.edge.me place) work))
       by_side true = row_keeps place (wire_row plan place.wire) work i
       by_side false = beyond_keeps place work i
 
-  pub withdraw_keeps : (peer : EdgeId) (fec : PwFec) (addresses : List Mac) → AreSixOctetsEach addresses → (work : Work) → I work → I (hears_mac_withdraw plan taken_all peer (Some fec) (Some addresses) work)
+  pub withdraw_keeps : (peer : EdgeId) (fec : PwFec) (addresses : List Mac) → AreSixOctetsEach addresses → (work : Work) → I work
+      → I (hears_mac_withdraw plan taken_all peer (Some fec) (Some addresses) work)
   withdraw_keeps peer fec addresses are work i = end_keeps addresses are (end_of_fec plan work.edge peer fec) work i

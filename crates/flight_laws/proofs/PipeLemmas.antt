@@ -68,7 +68,8 @@ one_from me origin hops place (effect.Sent peer wire came octets) network apart 
 one_from me origin hops place (effect.Closed peer) network apart = pipe_to peer me [] network me.0 place apart ∙ silent_from (stands network place me.0) (network.pipes me.0 place)
 one_from me origin hops place e network apart = silent_from (stands network place me.0) (network.pipes me.0 place)
 
-said_keeps : (me peer : EdgeId) (octets : List ℕ) (network : NetworkState) (a b : ℕ) (up : Bool) → nat_eq a me.0 ≡ false → (cond up (with_pipe me peer octets network) network).pipes a b ≡ network.pipes a b
+said_keeps : (me peer : EdgeId) (octets : List ℕ) (network : NetworkState) (a b : ℕ) (up : Bool) → nat_eq a me.0 ≡ false
+    → (cond up (with_pipe me peer octets network) network).pipes a b ≡ network.pipes a b
 said_keeps me peer octets network a b true apart = pipe_from me peer octets network a b apart
 said_keeps me peer octets network a b false apart = refl
 
@@ -83,7 +84,8 @@ one_to me origin hops place (effect.Closed peer) network apart = elim (cases_Boo
 one_to me origin hops place (effect.Sent peer wire came octets) network apart = refl
 one_to me origin hops place e network apart = refl
 
-one_apart : (me : EdgeId) (origin hops a b : ℕ) (e : Effect) (network : NetworkState) → nat_eq a me.0 ≡ false → nat_eq b me.0 ≡ false → (absorb_one me origin hops e network).pipes a b ≡ network.pipes a b
+one_apart : (me : EdgeId) (origin hops a b : ℕ) (e : Effect) (network : NetworkState) → nat_eq a me.0 ≡ false → nat_eq b me.0 ≡ false → (absorb_one me origin hops e network).pipes a b
+    ≡ network.pipes a b
 unfolding with_packet
 one_apart me origin hops a b (effect.Said peer octets) network apart other = said_keeps me peer _ network a b (stands network peer.0 me.0) apart
 one_apart me origin hops a b (effect.Closed peer) network apart other = pipe_to peer me [] network a b other

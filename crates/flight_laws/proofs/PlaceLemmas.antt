@@ -49,7 +49,8 @@ along_are P wire row me segment (first ∷ next ∷ rest) each = all-append P (p
     (here (me.0 == first.0) (me.0 == next.0)
     (λ same. each segment 0 next (joined_first me.0 first.0 next.0 (joins me.0 next.0 (next ∷ rest)) same))
     (λ same. each segment 1 first (joined_next me.0 first.0 next.0 (joins me.0 first.0 (next ∷ rest)) same)))
-    (along_are P wire row me (segment + 1) (next ∷ rest) (λ number side peer joined. each number side peer (or_later ((me.0 == first.0 && peer.0 == next.0) || (peer.0 == first.0 && me.0 == next.0)) joined)))
+    (along_are P wire row me (segment + 1) (next ∷ rest)
+    (λ number side peer joined. each number side peer (or_later ((me.0 == first.0 && peer.0 == next.0) || (peer.0 == first.0 && me.0 == next.0)) joined)))
   where
     here : (p q : Bool) → (p ≡ true → P (end_place_at wire row me segment 0 next)) → (q ≡ true → P (end_place_at wire row me segment 1 first))
         → AllByRecursion P (if p then end_place_at wire row me segment 0 next ∷ [] else if q then end_place_at wire row me segment 1 first ∷ [] else [])
@@ -117,9 +118,11 @@ named_along wire row me peer segment (first ∷ next ∷ rest) apart joined =
     (λ same. beside_next me.0 first.0 next.0 peer.0 row.pw_id apart here same)
     (λ differ. is_next me.0 first.0 next.0 peer.0 here differ)
     (λ differ. beside_first me.0 first.0 next.0 peer.0 row.pw_id here differ)))
-    (λ later. any_later (is_named peer row.pw_id) (places_at wire row me segment first next) (places_along wire row me (segment + 1) (next ∷ rest)) (named_along wire row me peer (segment + 1) (next ∷ rest) apart later))
+    (λ later. any_later (is_named peer row.pw_id) (places_at wire row me segment first next) (places_along wire row me (segment + 1) (next ∷ rest))
+    (named_along wire row me peer (segment + 1) (next ∷ rest) apart later))
   where
-    chosen : (p q : Bool) → (p ≡ true → (next.0 == peer.0 && row.pw_id == row.pw_id) || false ≡ true) → (p ≡ false → q ≡ true) → (p ≡ false → (first.0 == peer.0 && row.pw_id == row.pw_id) || false ≡ true)
+    chosen : (p q : Bool) → (p ≡ true → (next.0 == peer.0 && row.pw_id == row.pw_id) || false ≡ true) → (p ≡ false → q ≡ true)
+        → (p ≡ false → (first.0 == peer.0 && row.pw_id == row.pw_id) || false ≡ true)
         → list_any (is_named peer row.pw_id) (if p then end_place_at wire row me segment 0 next ∷ [] else if q then end_place_at wire row me segment 1 first ∷ [] else []) ≡ true
     chosen true q one is other = one refl
     chosen false true one is other = other refl
@@ -143,7 +146,8 @@ named_from me peer start k row [] apart is joined = absurd (cc)
 named_from me peer start zero row (first ∷ rows) apart is joined =
     let same : first ≡ row = cc in
     any_first (is_named peer row.pw_id) (places_along (record { 0 = start }) first me 0 first.path) (places_from me (start + 1) rows)
-    (subst (λ (r : WirePlan). list_any (is_named peer row.pw_id) (places_along (record { 0 = start }) r me 0 r.path) ≡ true) (sym same) (named_along (record { 0 = start }) row me peer 0 row.path apart joined))
+    (subst (λ (r : WirePlan). list_any (is_named peer row.pw_id) (places_along (record { 0 = start }) r me 0 r.path) ≡ true) (sym same)
+    (named_along (record { 0 = start }) row me peer 0 row.path apart joined))
 named_from me peer start (suc k) row (first ∷ rows) apart is joined =
     any_later (is_named peer row.pw_id) (places_along (record { 0 = start }) first me 0 first.path) (places_from me (start + 1) rows) (named_from me peer (start + 1) k row rows apart is joined)
 
@@ -165,9 +169,11 @@ shares path (first ∷ next ∷ rest) a b one two =
     (λ later. or_later (joins first.0 next.0 path) (shares path (next ∷ rest) a b one later))
   where
     at_ends : (m n f g : ℕ) → m == f && n == g ≡ true → joins m n path ≡ true → joins f g path ≡ true
-    at_ends m n f g same is = subst (λ (k : ℕ). joins f k path ≡ true) (eqb-true n g (second_holds (m == f) (n == g) same)) (subst (λ (k : ℕ). joins k n path ≡ true) (eqb-true m f (first_holds (m == f) (n == g) same)) is)
+    at_ends m n f g same is = subst (λ (k : ℕ). joins f k path ≡ true) (eqb-true n g (second_holds (m == f) (n == g) same))
+        (subst (λ (k : ℕ). joins k n path ≡ true) (eqb-true m f (first_holds (m == f) (n == g) same)) is)
 
-before_differs : (plan : Plan) (i j a b : ℕ) (one other : WirePlan) → IsChecked plan → slice_get plan.wires i ≡ Some one → slice_get plan.wires j ≡ Some other → joins a b one.path ≡ true → joins a b other.path ≡ true
+before_differs : (plan : Plan) (i j a b : ℕ) (one other : WirePlan) → IsChecked plan → slice_get plan.wires i ≡ Some one → slice_get plan.wires j ≡ Some other → joins a b one.path
+    ≡ true → joins a b other.path ≡ true
     → i < j → (one.pw_id == other.pw_id) ≡ false
 before_differs plan i j a b one other checked first second there too before =
     let none : repeats_pw_id one other ≡ false =
@@ -179,7 +185,8 @@ before_differs plan i j a b one other checked first second there too before =
     parts true none is = clash (sym none ∙ is)
 
 -- two wires with one PW ID that both join two edges are the same one
-pub pw_id_once : (plan : Plan) (i j a b : ℕ) (one other : WirePlan) → IsChecked plan → slice_get plan.wires i ≡ Some one → slice_get plan.wires j ≡ Some other → joins a b one.path ≡ true → joins a b other.path ≡ true
+pub pw_id_once : (plan : Plan) (i j a b : ℕ) (one other : WirePlan) → IsChecked plan → slice_get plan.wires i ≡ Some one → slice_get plan.wires j ≡ Some other → joins a b one.path
+    ≡ true → joins a b other.path ≡ true
     → (one.pw_id == other.pw_id) ≡ true → i ≡ j
 pw_id_once plan i j a b one other checked first second there too same = elim (cases_lt i j) [
   | inl before ↦ clash (sym (before_differs plan i j a b one other checked first second there too before) ∙ same)
@@ -239,14 +246,16 @@ end_of plan me peer wire row checked is joined =
     }
 
 -- the same seen from the neighbour
-pub end_of_back : (plan : Plan) (me peer : EdgeId) (wire : WireId) (row : WirePlan) → IsChecked plan → wire_row plan wire ≡ Some row → joins me.0 peer.0 row.path ≡ true → NamedEnd plan peer me wire row
+pub end_of_back : (plan : Plan) (me peer : EdgeId) (wire : WireId) (row : WirePlan) → IsChecked plan → wire_row plan wire ≡ Some row → joins me.0 peer.0 row.path ≡ true
+    → NamedEnd plan peer me wire row
 end_of_back plan me peer wire row checked is joined = end_of plan peer me wire row checked is (sym (joins_turned row.path me.0 peer.0) ∙ joined)
 
 pub same_row : (one other : WirePlan) → Some one ≡ Some other → one ≡ other
 same_row one other is = cc
 
 -- an end of another wire has another PW ID, and one of the wire has this one
-pub wire_by_pw_id : (plan : Plan) (me peer : EdgeId) (pw_id : ℕ) (place : EndPlace) (wire : WireId) (row : WirePlan) → IsChecked plan → wire_row plan wire ≡ Some row → joins me.0 peer.0 row.path ≡ true
+pub wire_by_pw_id : (plan : Plan) (me peer : EdgeId) (pw_id : ℕ) (place : EndPlace) (wire : WireId) (row : WirePlan) → IsChecked plan → wire_row plan wire ≡ Some row
+    → joins me.0 peer.0 row.path ≡ true
     → end_named plan me peer pw_id ≡ Some place → (pw_id == row.pw_id) ≡ (place.wire.0 == wire.0)
 wire_by_pw_id plan me peer pw_id place wire row checked is joined named = elim (cases_Bool (pw_id == row.pw_id)) [
   | inl same ↦ same ∙ sym (eq-eqb place.wire.0 wire.0 (ap (λ (w : WireId). w.0) (wire_named plan me peer pw_id place wire row checked is joined named same)))
@@ -281,7 +290,8 @@ member_by_pw_id plan me place wire row checked is joined there = elim (cases_Boo
   | inl same ↦ same ∙ sym (eq-eqb place.wire.0 wire.0 (pw_id_once plan place.wire.0 wire.0 me.0 place.peer.0 there.row row checked there.is is there.joined joined
       (eq-eqb there.row.pw_id row.pw_id (sym there.pw_id ∙ eqb-true place.pw_id row.pw_id same))))
   | inr differs ↦ elim (cases_Bool (place.wire.0 == wire.0)) [
-    | inl here ↦ clash (sym differs ∙ eq-eqb place.pw_id row.pw_id (there.pw_id ∙ ap (λ (r : WirePlan). r.pw_id) (same_row there.row row (sym there.is ∙ (ap (λ (k : ℕ). slice_get plan.wires k) (eqb-true place.wire.0 wire.0 here) ∙ is)))))
+    | inl here ↦ clash (sym differs ∙ eq-eqb place.pw_id row.pw_id
+        (there.pw_id ∙ ap (λ (r : WirePlan). r.pw_id) (same_row there.row row (sym there.is ∙ (ap (λ (k : ℕ). slice_get plan.wires k) (eqb-true place.wire.0 wire.0 here) ∙ is)))))
     | inr other ↦ differs ∙ sym other
   ]
 ]
@@ -323,21 +333,25 @@ along_apart wire row me segment [] once = tt
 along_apart wire row me segment (last ∷ []) once = tt
 along_apart wire row me segment (first ∷ next ∷ rest) once =
     let parts = or_parts (list_any (λ (edge : EdgeId). edge.0 == first.0) (next ∷ rest)) (has_repeat (next ∷ rest)) once in
-    apart_joined (places_at wire row me segment first next) (places_along wire row me (segment + 1) (next ∷ rest)) (one_only (me.0 == first.0) (me.0 == next.0)) (along_apart wire row me (segment + 1) (next ∷ rest) parts.1)
+    apart_joined (places_at wire row me segment first next) (places_along wire row me (segment + 1) (next ∷ rest)) (one_only (me.0 == first.0) (me.0 == next.0))
+    (along_apart wire row me (segment + 1) (next ∷ rest) parts.1)
     (cross (me.0 == first.0) (me.0 == next.0)
     (λ same. along_are (λ (other : EndPlace). is_same_place (end_place_at wire row me segment 0 next) other ≡ false) wire row me (segment + 1) (next ∷ rest)
     (λ number side peer joined. clash (sym (not_there (next ∷ rest) first.0 me.0 parts.0 (joined_there (next ∷ rest) me.0 peer.0 joined)) ∙ equal_back me.0 first.0 same)))
     (along_are (λ (other : EndPlace). is_same_place (end_place_at wire row me segment 1 first) other ≡ false) wire row me (segment + 1) (next ∷ rest)
-    (λ number side peer joined. and_false (wire.0 == wire.0) (not_there (next ∷ rest) first.0 peer.0 parts.0 (joined_there (next ∷ rest) peer.0 me.0 (sym (joins_turned (next ∷ rest) me.0 peer.0) ∙ joined))))))
+    (λ number side peer joined. and_false (wire.0 == wire.0)
+    (not_there (next ∷ rest) first.0 peer.0 parts.0 (joined_there (next ∷ rest) peer.0 me.0 (sym (joins_turned (next ∷ rest) me.0 peer.0) ∙ joined))))))
   where
     one_only : (p q : Bool) → AreApart (if p then end_place_at wire row me segment 0 next ∷ [] else if q then end_place_at wire row me segment 1 first ∷ [] else [])
     one_only true q = (tt, tt)
     one_only false true = (tt, tt)
     one_only false false = tt
 
-    cross : (p q : Bool) → (p ≡ true → AllByRecursion (λ (other : EndPlace). is_same_place (end_place_at wire row me segment 0 next) other ≡ false) (places_along wire row me (segment + 1) (next ∷ rest)))
+    cross : (p q : Bool) → (p ≡ true → AllByRecursion (λ (other : EndPlace). is_same_place (end_place_at wire row me segment 0 next) other ≡ false)
+        (places_along wire row me (segment + 1) (next ∷ rest)))
         → AllByRecursion (λ (other : EndPlace). is_same_place (end_place_at wire row me segment 1 first) other ≡ false) (places_along wire row me (segment + 1) (next ∷ rest))
-        → AllByRecursion (λ (x : EndPlace). AllByRecursion (λ other. is_same_place x other ≡ false) (places_along wire row me (segment + 1) (next ∷ rest))) (if p then end_place_at wire row me segment 0 next ∷ [] else if q then end_place_at wire row me segment 1 first ∷ [] else [])
+        → AllByRecursion (λ (x : EndPlace). AllByRecursion (λ other. is_same_place x other ≡ false) (places_along wire row me (segment + 1) (next ∷ rest)))
+        (if p then end_place_at wire row me segment 0 next ∷ [] else if q then end_place_at wire row me segment 1 first ∷ [] else [])
     cross true q one other = (one refl, tt)
     cross false true one other = (other, tt)
     cross false false one other = tt
@@ -368,7 +382,8 @@ all_both : (P Q : EndPlace → Type 0) (xs : List EndPlace) → AllByRecursion P
 all_both P Q [] one other = tt
 all_both P Q (x ∷ xs) one other = ((one.0, other.0), all_both P Q xs one.1 other.1)
 
-named_alone : (plan : Plan) (me : EdgeId) (first other : EndPlace) → IsChecked plan → IsEndOf plan me first → IsEndOf plan me other → is_same_place first other ≡ false → is_named other.peer other.pw_id first ≡ false
+named_alone : (plan : Plan) (me : EdgeId) (first other : EndPlace) → IsChecked plan → IsEndOf plan me first → IsEndOf plan me other → is_same_place first other ≡ false
+    → is_named other.peer other.pw_id first ≡ false
 named_alone plan me first other checked here there apart = elim (cases_Bool (is_named other.peer other.pw_id first)) [
   | inl named ↦ both_of (first.peer.0 == other.peer.0) (first.pw_id == other.pw_id) named
       (λ beside numbered. clash (sym apart ∙ and_from (first.wire.0 == other.wire.0) (first.peer.0 == other.peer.0)
@@ -378,7 +393,8 @@ named_alone plan me first other checked here there apart = elim (cases_Bool (is_
   | inr apart_named ↦ apart_named
 ]
 
-named_among : (plan : Plan) (me : EdgeId) (xs : List EndPlace) → IsChecked plan → AllByRecursion (IsEndOf plan me) xs → AreApart xs → AllByRecursion (λ (x : EndPlace). find (is_named x.peer x.pw_id) xs ≡ Some x) xs
+named_among : (plan : Plan) (me : EdgeId) (xs : List EndPlace) → IsChecked plan → AllByRecursion (IsEndOf plan me) xs → AreApart xs
+    → AllByRecursion (λ (x : EndPlace). find (is_named x.peer x.pw_id) xs ≡ Some x) xs
 named_among plan me [] checked are apart = tt
 named_among plan me (x ∷ xs) checked are apart = (
   rw (eq-eqb x.peer.0 x.peer.0 refl, eq-eqb x.pw_id x.pw_id refl) refl,

@@ -22,12 +22,14 @@ use Rattle.flight_laws.specs.Ends.{HasTypes}
 use Rattle.flight_laws.specs.Pair.{AreEnds, AreFit}
 
 -- the addresses of two rows differ
-before_apart : (plan : Plan) (a b : ℕ) (one other : EdgePlan) → IsChecked plan → slice_get plan.edges a ≡ Some one → slice_get plan.edges b ≡ Some other → a < b → bytes_eq one.address.0 other.address.0 ≡ false
+before_apart : (plan : Plan) (a b : ℕ) (one other : EdgePlan) → IsChecked plan → slice_get plan.edges a ≡ Some one → slice_get plan.edges b ≡ Some other → a < b
+    → bytes_eq one.address.0 other.address.0 ≡ false
 before_apart plan a b one other checked first second before =
     rw (← get_or_from_slice_get plan.edges a one one first, ← get_or_from_slice_get plan.edges b other one second)
     (checked.addresses a b one before (slice_get_within plan.edges b other second))
 
-pub addresses_apart : (plan : Plan) (a b : ℕ) (one other : EdgePlan) → IsChecked plan → slice_get plan.edges a ≡ Some one → slice_get plan.edges b ≡ Some other → nat_eq a b ≡ false → bytes_eq one.address.0 other.address.0 ≡ false
+pub addresses_apart : (plan : Plan) (a b : ℕ) (one other : EdgePlan) → IsChecked plan → slice_get plan.edges a ≡ Some one → slice_get plan.edges b ≡ Some other → nat_eq a b ≡ false
+    → bytes_eq one.address.0 other.address.0 ≡ false
 addresses_apart plan a b one other checked first second apart = elim (one_before a b apart) [
   | inl before ↦ before_apart plan a b one other checked first second before
   | inr behind ↦ octets_apart_back other.address.0 one.address.0 (before_apart plan b a other one checked second first behind)
@@ -81,11 +83,13 @@ joined_turned plan a b = any_same (λ (row : WirePlan). joins a b row.path) (λ 
 -- ---- paths
 
 -- an edge that a path joins to another one is in the plan
-pub both_in : (plan : Plan) (path : List EdgeId) (a b : ℕ) → list_all (is_edge_of plan) path ≡ true → joins a b path ≡ true → (nat_lt a (length plan.edges) ≡ true) × (nat_lt b (length plan.edges) ≡ true)
+pub both_in : (plan : Plan) (path : List EdgeId) (a b : ℕ) → list_all (is_edge_of plan) path ≡ true → joins a b path ≡ true → (nat_lt a (length plan.edges) ≡ true)
+    × (nat_lt b (length plan.edges) ≡ true)
 both_in plan [] a b all joined = clash joined
 both_in plan (last ∷ []) a b all joined = clash joined
 both_in plan (first ∷ next ∷ rest) a b all joined = elim (cases_Bool ((nat_eq a first.0 && nat_eq b next.0) || (nat_eq b first.0 && nat_eq a next.0))) [
-  | inl here ↦ among first.0 next.0 (first_holds (is_edge_of plan first) (list_all (is_edge_of plan) (next ∷ rest)) all) (first_holds (is_edge_of plan next) (list_all (is_edge_of plan) rest) (second_holds (is_edge_of plan first) (list_all (is_edge_of plan) (next ∷ rest)) all)) here
+  | inl here ↦ among first.0 next.0 (first_holds (is_edge_of plan first) (list_all (is_edge_of plan) (next ∷ rest)) all)
+      (first_holds (is_edge_of plan next) (list_all (is_edge_of plan) rest) (second_holds (is_edge_of plan first) (list_all (is_edge_of plan) (next ∷ rest)) all)) here
   | inr later ↦ both_in plan (next ∷ rest) a b (second_holds (is_edge_of plan first) (list_all (is_edge_of plan) (next ∷ rest)) all) (rw later at joined)
 ]
   where

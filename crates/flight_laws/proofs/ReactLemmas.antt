@@ -58,10 +58,17 @@ put_octets_are (r ∷ rs) kept = ap (λ (l : List ℕ). octets_of kept r ++ l) (
 -- ---- an end goes
 
 pub goes_in_step : (own other : Peers) (kept : Peering) (far : Option Peering) (out back : List Message) → AreTalking own other (Some kept) far out back → AreTalking own other None far out []
-goes_in_step own other kept far out back t = record { said = t.said; answered = tt; here = tt; there = t.there; steps = goes (is_active own) kept.session.phase (option_map phase_of far) out back t.steps }
+goes_in_step own other kept far out back t = record {
+  said = t.said;
+  answered = tt;
+  here = tt;
+  there = t.there;
+  steps = goes (is_active own) kept.session.phase (option_map phase_of far) out back t.steps;
+}
 
 -- an event that ends the session with nothing more said
-silent_end : (own other : Peers) (kept : Peering) (far : Option Peering) (out back : List Message) → AreTalking own other (Some kept) far out back → AreTalking own other None far (and_more far out []) []
+silent_end : (own other : Peers) (kept : Peering) (far : Option Peering) (out back : List Message) → AreTalking own other (Some kept) far out back
+    → AreTalking own other None far (and_more far out []) []
 silent_end own other kept far out back t = rw (no_more far out) (goes_in_step own other kept far out back t)
 
 -- ---- a session that goes on in its state
@@ -192,7 +199,8 @@ received_in_step own other kept far out back m t = elim (cases_Bool (is_fatal m)
 
 -- ---- a message about pseudowires is said
 
-pub says_in_step : (own other : Peers) (kept : Peering) (far : Option Peering) (out back : List Message) (m : Message) → kept.session.phase ≡ phase.Operational → IsSaid own m → not (is_initialization m) ≡ true
+pub says_in_step : (own other : Peers) (kept : Peering) (far : Option Peering) (out back : List Message) (m : Message) → kept.session.phase ≡ phase.Operational → IsSaid own m
+    → not (is_initialization m) ≡ true
     → AreTalking own other (Some kept) far out back → AreTalking own other (Some (having_spoken kept)) far (and_more far out (m ∷ [])) back
 says_in_step own other kept far out back m at said plain t = record {
   said = more_said own far out (m ∷ []) t.said (said, tt);

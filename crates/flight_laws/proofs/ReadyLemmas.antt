@@ -31,7 +31,8 @@ are_octets ends (m ∷ ms) all = octets_append (written m (platform_of ends.me))
 front_ready : (ends : Peers) (m : Message) (ms : List Message) → IsReadyBetween ends m → AllMessages (IsReadyBetween ends) ms
     → front_of 4096 (octets_of_all ends.me (m ∷ ms)) ≡ Got (record { id = platform_of ends.me; messages = m ∷ [] }) (octets_of_all ends.me ms)
 front_ready ends m ms here all =
-    front_is_read.written_first 4096 m (platform_of ends.me) (octets_of_all ends.me ms) (octets_append (written m (platform_of ends.me)) (octets_of_all ends.me ms) here.is.octets (are_octets ends ms all))
+    front_is_read.written_first 4096 m (platform_of ends.me) (octets_of_all ends.me ms)
+    (octets_append (written m (platform_of ends.me)) (octets_of_all ends.me ms) here.is.octets (are_octets ends ms all))
     (omega arith) here.is.can here.is.fits (record { router = here.fit.me.four; space = omega arith }) (omega (arith, here.is.short))
 
 first_same : (p q : Pdu) (m n : Message) (x y : List ℕ) → p.messages ≡ m ∷ [] → q.messages ≡ n ∷ [] → Got p x ≡ Got q y → m ≡ n
@@ -57,5 +58,7 @@ same_messages ends (m ∷ ms) (n ∷ ns) all too e =
     let fronts : Got (record { id = platform_of ends.me; messages = m ∷ [] }) (octets_of_all ends.me ms) ≡ Got (record { id = platform_of ends.me; messages = n ∷ [] }) (octets_of_all ends.me ns) =
     sym (front_ready ends m ms all.0 all.1) ∙ (ap (λ (l : List ℕ). front_of 4096 l) e ∙ front_ready ends n ns too.0 too.1) in
     joined_same m n ms ns
-    (first_same (record { id = platform_of ends.me; messages = m ∷ [] }) (record { id = platform_of ends.me; messages = n ∷ [] }) m n (octets_of_all ends.me ms) (octets_of_all ends.me ns) refl refl fronts)
-    (same_messages ends ms ns all.1 too.1 (rest_same (record { id = platform_of ends.me; messages = m ∷ [] }) (record { id = platform_of ends.me; messages = n ∷ [] }) (octets_of_all ends.me ms) (octets_of_all ends.me ns) fronts))
+    (first_same (record { id = platform_of ends.me; messages = m ∷ [] }) (record { id = platform_of ends.me; messages = n ∷ [] }) m n (octets_of_all ends.me ms)
+    (octets_of_all ends.me ns) refl refl fronts)
+    (same_messages ends ms ns all.1 too.1 (rest_same (record { id = platform_of ends.me; messages = m ∷ [] }) (record { id = platform_of ends.me; messages = n ∷ [] })
+    (octets_of_all ends.me ms) (octets_of_all ends.me ns) fronts))

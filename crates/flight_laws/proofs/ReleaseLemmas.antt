@@ -56,7 +56,8 @@ runs_await_releases plan events run a b both =
       back = now.pair.answers;
       goes = record { octets = now.pair.out_is; said = now.pair.talk.said };
       comes = record { octets = now.pair.back_is; said = now.pair.talk.answered };
-      awaits = λ wire row is joined. awaits_release row.pw_id (given_of (network.edges a)) ((network.edges a).ends wire.0 b).local now.pair.messages now.pair.answers (now.bound.near wire row is joined).waits;
+      awaits = λ wire row is joined. awaits_release row.pw_id (given_of (network.edges a)) ((network.edges a).ends wire.0 b).local now.pair.messages now.pair.answers
+          (now.bound.near wire row is joined).waits;
     }
 
 -- ---- a label that is released
@@ -68,7 +69,8 @@ advertised_owned (Advertised own told) label is = is
 advertised_owned (Withdrawing own) label is = clash is
 
 -- a label that is named with the wire itself is old
-old_label : (pw_id : ℕ) (next : ℕ → Bool) (near : LocalPart) (named : Option ℕ) (label : ℕ) → named ≡ Some pw_id → names_old pw_id next near named (Some label) ≡ true → has_advertised near label ≡ false
+old_label : (pw_id : ℕ) (next : ℕ → Bool) (near : LocalPart) (named : Option ℕ) (label : ℕ) → named ≡ Some pw_id → names_old pw_id next near named (Some label) ≡ true
+    → has_advertised near label ≡ false
 old_label pw_id next near named label is old =
     let own : not (nat_eq pw_id pw_id) || is_old next near label ≡ true = rw is at old in
     not-true (has_advertised near label) (second_holds (next label) (not (has_advertised near label)) (rw (same_number pw_id) at own))
@@ -89,12 +91,14 @@ module _ (plan : Plan) (checked : IsChecked plan) (a b : ℕ) (one other : EdgeS
     named : fec.pw_id ≡ Some told.row.pw_id
     named = ap (λ (f : PwFec). f.pw_id) told.bare
 
-    by_place : (found : Option EndPlace) → end_named plan one.me (record { 0 = b }) told.row.pw_id ≡ found → MayNameAt one b found label → (wire peer : ℕ) → has_advertised (one.ends wire peer).local label ≡ false
+    by_place : (found : Option EndPlace) → end_named plan one.me (record { 0 = b }) told.row.pw_id ≡ found → MayNameAt one b found label → (wire peer : ℕ)
+        → has_advertised (one.ends wire peer).local label ≡ false
     by_place None is may wire peer = absurd may
     by_place (Some place) is may wire peer = elim (cases_Bool (has_advertised (one.ends wire peer).local label)) [
       | inl so ↦
           (let at = may.owner wire peer (advertised_owned (one.ends wire peer).local label so) in
-          let same : place.wire ≡ told.wire = wire_named plan (record { 0 = a }) (record { 0 = b }) told.row.pw_id place told.wire told.row checked told.is told.joined (sym (ap (λ (m : EdgeId). end_named plan m (record { 0 = b }) told.row.pw_id) placed) ∙ is) (same_number told.row.pw_id) in
+          let same : place.wire ≡ told.wire = wire_named plan (record { 0 = a }) (record { 0 = b }) told.row.pw_id place told.wire told.row checked told.is told.joined
+          (sym (ap (λ (m : EdgeId). end_named plan m (record { 0 = b }) told.row.pw_id) placed) ∙ is) (same_number told.row.pw_id) in
           let there : has_advertised (one.ends told.wire.0 b).local label ≡ true =
           subst (λ (k : ℕ). has_advertised (one.ends told.wire.0 k).local label ≡ true) at.1
           (subst (λ (w : ℕ). has_advertised (one.ends w peer).local label ≡ true) (at.0 ∙ ap (λ (w : WireId). w.0) same) so) in
@@ -107,7 +111,8 @@ module _ (plan : Plan) (checked : IsChecked plan) (a b : ℕ) (one other : EdgeS
         by_place (end_named plan one.me (record { 0 = b }) told.row.pw_id) refl
         (subst (λ (n : Option ℕ). MayNameAt one b (option_and_then (end_named plan one.me (record { 0 = b })) n) label) named may)
 
-  by_label : (id : ℕ) (fec : PwFec) (label : Option ℕ) → IsRuled plan b a other one (LabelRelease id fec label) → OfOldLabels (LabelRelease id fec label) → NamesUnadvertised one (LabelRelease id fec label)
+  by_label : (id : ℕ) (fec : PwFec) (label : Option ℕ) → IsRuled plan b a other one (LabelRelease id fec label) → OfOldLabels (LabelRelease id fec label)
+      → NamesUnadvertised one (LabelRelease id fec label)
   by_label id fec None ruled old =
       let told : NamesTold plan a b fec = tells_plan plan b a (LabelRelease id fec None) ruled.tells in
       some_label told.row.pw_id (given_of one) (one.ends told.wire.0 b).local fec.pw_id (ap (λ (f : PwFec). f.pw_id) told.bare) (old told.wire told.row told.is told.joined)
@@ -124,8 +129,10 @@ module _ (plan : Plan) (checked : IsChecked plan) (a b : ℕ) (one other : EdgeS
       → AllMessages (NamesUnadvertised one) messages
   all_named [] ruled old = tt
   all_named (m ∷ messages) ruled old = (
-    one_named m ruled.0 (λ wire row is joined. first_holds (releases_old row.pw_id (given_of one) (one.ends wire.0 b).local m) (all_messages (releases_old row.pw_id (given_of one) (one.ends wire.0 b).local) messages) (old wire row is joined)),
-    all_named messages ruled.1 (λ wire row is joined. second_holds (releases_old row.pw_id (given_of one) (one.ends wire.0 b).local m) (all_messages (releases_old row.pw_id (given_of one) (one.ends wire.0 b).local) messages) (old wire row is joined)),
+    one_named m ruled.0 (λ wire row is joined. first_holds (releases_old row.pw_id (given_of one) (one.ends wire.0 b).local m)
+        (all_messages (releases_old row.pw_id (given_of one) (one.ends wire.0 b).local) messages) (old wire row is joined)),
+    all_named messages ruled.1 (λ wire row is joined. second_holds (releases_old row.pw_id (given_of one) (one.ends wire.0 b).local m)
+        (all_messages (releases_old row.pw_id (given_of one) (one.ends wire.0 b).local) messages) (old wire row is joined)),
   )
 
 pub runs_release_unadvertised : RunsReleaseUnadvertised

@@ -62,7 +62,8 @@ advertising_says place label content id edge at give is_label = record {
   remote = ap (λ (e : EndState). e.remote) own;
   own = λ far out back is.
       subst (λ (l : LocalPart). IsBoundBy place.pw_id (given_of (advertising place label content edge)) l far (out ++ m ∷ []) back) (sym local)
-      (binding_advertises place.pw_id (given_of edge) (given_of (advertising place label content edge)) label false content id far out back (advertised_given place label content edge) (not_given edge label give)
+      (binding_advertises place.pw_id (given_of edge) (given_of (advertising place label content edge)) label false content id far out back (advertised_given place label content edge)
+      (not_given edge label give)
       (now_given place label content edge give is_label) (subst (λ (l : LocalPart). IsBoundBy place.pw_id (given_of edge) l far out back) at is));
   silent = λ pw_id apart. other_number place.pw_id pw_id apart;
   releases = λ pw_id next near. refl;
@@ -85,7 +86,8 @@ advertising_says place label content id edge at give is_label = record {
 
 -- it has changed an end without a label
 changing_says : (place : EndPlace) (m : Message) (end : EndState) (edge : EdgeState) → end.remote ≡ (end_at edge place).remote
-    → ((far : Option Binding) (out back : List Message) → IsBoundBy place.pw_id (given_of edge) (end_at edge place).local far out back → IsBoundBy place.pw_id (given_of edge) end.local far (out ++ m ∷ []) back)
+    → ((far : Option Binding) (out back : List Message) → IsBoundBy place.pw_id (given_of edge) (end_at edge place).local far out back
+    → IsBoundBy place.pw_id (given_of edge) end.local far (out ++ m ∷ []) back)
     → ((pw_id : ℕ) → place.pw_id == pw_id ≡ false → is_silent pw_id m ≡ true) → ((pw_id : ℕ) (next : ℕ → Bool) (near : LocalPart) → releases_old pw_id next near m ≡ true)
     → SaysOf place m edge (with_end place end edge)
 changing_says place m end edge remote own silent releases = record {
@@ -146,9 +148,11 @@ pub changed_said : (change : EdgeState → EdgeState) (work : Work) (place : ℕ
 unfolding changes
 changed_said change work place = refl
 
-advertising_else : (place : EndPlace) (label : ℕ) (content : Told) (edge : EdgeState) (wire peer : ℕ) → nat_eq peer place.peer.0 ≡ false → (advertising place label content edge).ends wire peer ≡ edge.ends wire peer
+advertising_else : (place : EndPlace) (label : ℕ) (content : Told) (edge : EdgeState) (wire peer : ℕ) → nat_eq peer place.peer.0 ≡ false
+    → (advertising place label content edge).ends wire peer ≡ edge.ends wire peer
 advertising_else place label content edge wire peer apart =
-    ap (λ (f : ℕ → ℕ → EndState). f wire peer) (giving_ends label (with_end place (advertised label content (end_at edge place)) edge)) ∙ end_beside_other place (advertised label content (end_at edge place)) edge wire peer apart
+    ap (λ (f : ℕ → ℕ → EndState). f wire peer) (giving_ends label (with_end place (advertised label content (end_at edge place)) edge))
+    ∙ end_beside_other place (advertised label content (end_at edge place)) edge wire peer apart
 
 pub end_peering : (place : EndPlace) (end : EndState) (edge : EdgeState) → (with_end place end edge).peering ≡ edge.peering
 unfolding with_end with_kept
@@ -162,14 +166,18 @@ module _ (plan : Plan) (me : EdgeId) (checked : IsChecked plan) (fars : ℕ → 
   abbrev pub SaysAll : Work → Type 0
   SaysAll work = (place : ℕ) → nat_eq place me.0 ≡ false → HasSaid plan me place (fars place) (outs place) work
 
-  pub row_leaves : (place : EndPlace) (message : ℕ → Message) (change : EdgeState → EdgeState) (work : Work) → IsEndOf plan me place → is_up_with (work.edge.peering place.peer.0) ≡ true → (change work.edge).peering ≡ work.edge.peering
-      → ((id : ℕ) → SaysOf place (message id) work.edge (change work.edge)) → ((wire peer : ℕ) → nat_eq peer place.peer.0 ≡ false → (change work.edge).ends wire peer ≡ work.edge.ends wire peer) → IsOfWires message
+  pub row_leaves : (place : EndPlace) (message : ℕ → Message) (change : EdgeState → EdgeState) (work : Work) → IsEndOf plan me place → is_up_with (work.edge.peering place.peer.0)
+      ≡ true → (change work.edge).peering ≡ work.edge.peering
+      → ((id : ℕ) → SaysOf place (message id) work.edge (change work.edge))
+      → ((wire peer : ℕ) → nat_eq peer place.peer.0 ≡ false → (change work.edge).ends wire peer ≡ work.edge.ends wire peer) → IsOfWires message
       → SaysAll work → LeavesAll work → LeavesAll (says taken_all place.peer message (changes change work)).work
   row_leaves place message change work there up same about elsewhere of_wires has leaves c away = elim (cases_Bool (nat_eq c place.peer.0)) [
-    | inl here ↦ subst (λ (k : ℕ). LeavesBound plan me k (fars k) (outs k) (answers k) new) (sym (eqb-true c place.peer.0 here)) (beside (subst (λ (k : ℕ). nat_eq k me.0 ≡ false) (eqb-true c place.peer.0 here) away))
+    | inl here ↦ subst (λ (k : ℕ). LeavesBound plan me k (fars k) (outs k) (answers k) new) (sym (eqb-true c place.peer.0 here))
+        (beside (subst (λ (k : ℕ). nat_eq k me.0 ≡ false) (eqb-true c place.peer.0 here) away))
     | inr gone ↦ leaves_goes plan me c (fars c) (outs c) (answers c) work new (spoken.said_else c gone ∙ changed_said change work c)
         (λ near. sym (ap is_there (spoken.elsewhere c gone ∙ ap (λ (e : EdgeState). e.peering c) (changed_edge change work) ∙ ap (λ (f : ℕ → Option Peering). f c) same)) ∙ near)
-        (λ label given. given_on (changes change work).edge new.edge spoken.label spoken.labels label (subst (λ (e : EdgeState). given_of e label ≡ true) (sym (changed_edge change work)) ((about 0).goes label given)))
+        (λ label given. given_on (changes change work).edge new.edge spoken.label spoken.labels label
+        (subst (λ (e : EdgeState). given_of e label ≡ true) (sym (changed_edge change work)) ((about 0).goes label given)))
         (λ wire. ap (λ (f : ℕ → ℕ → EndState). f wire c) spoken.ends ∙ (ap (λ (e : EdgeState). e.ends wire c) (changed_edge change work) ∙ elsewhere wire c gone)) (leaves c away)
   ]
     where
@@ -183,7 +191,8 @@ module _ (plan : Plan) (me : EdgeId) (checked : IsChecked plan) (fars : ℕ → 
       new = (says taken_all place.peer message (changes change work)).work
 
       spoken : HasSpoken place.peer kept message (changes change work) new
-      spoken = says_spoken place.peer kept message (changes change work) (ap (λ (e : EdgeState). e.peering place.peer.0) (changed_edge change work) ∙ (ap (λ (f : ℕ → Option Peering). f place.peer.0) same ∙ at))
+      spoken = says_spoken place.peer kept message (changes change work)
+          (ap (λ (e : EdgeState). e.peering place.peer.0) (changed_edge change work) ∙ (ap (λ (f : ℕ → Option Peering). f place.peer.0) same ∙ at))
 
       beside : nat_eq place.peer.0 me.0 ≡ false → LeavesBound plan me place.peer.0 (fars place.peer.0) (outs place.peer.0) (answers place.peer.0) new
       beside apart =
@@ -191,7 +200,8 @@ module _ (plan : Plan) (me : EdgeId) (checked : IsChecked plan) (fars : ℕ → 
           let standing : IsStanding (ends_at plan me.0 place.peer.0) (ends_at plan place.peer.0 me.0) kept = rw at at said.talk.here in
           leaves_spoken plan me place.peer (fars place.peer.0) (outs place.peer.0) (answers place.peer.0) (answers place.peer.0) kept message work (changes change work) new said at
           (of_wires.said (ends_at plan me.0 place.peer.0) kept.next_id standing.numbered) (changed_said change work place.peer.0) spoken
-          (λ bound. subst (λ (e : EdgeState). AreBound plan me.0 place.peer.0 e (fars place.peer.0) (said.messages ++ message kept.next_id ∷ []) (answers place.peer.0)) (sym (changed_edge change work))
+          (λ bound. subst (λ (e : EdgeState). AreBound plan me.0 place.peer.0 e (fars place.peer.0) (said.messages ++ message kept.next_id ∷ []) (answers place.peer.0))
+          (sym (changed_edge change work))
           (bound_says plan me place (message kept.next_id) work.edge (change work.edge) (fars place.peer.0) said.messages (answers place.peer.0) checked there (about kept.next_id) bound))
           (leaves place.peer.0 apart)
 
@@ -213,32 +223,39 @@ module _ (plan : Plan) (me : EdgeId) (checked : IsChecked plan) (fars : ℕ → 
               (said work all.0) all.1,
         )
 
-    all_withdraw : (place : EndPlace) (label : ℕ) (content : Told) (work : Work) → IsEndOf plan me place → (end_at work.edge place).local ≡ Advertised label content → stands place content (wish plan work.edge place) ≡ false
+    all_withdraw : (place : EndPlace) (label : ℕ) (content : Told) (work : Work) → IsEndOf plan me place → (end_at work.edge place).local ≡ Advertised label content
+        → stands place content (wish plan work.edge place) ≡ false
         → KeepsAll work → KeepsAll (says taken_all place.peer (withdrawal place.pw_id label content) (changes (withdrawing place) work)).work
     all_withdraw place label content work is at wished all =
-        let can = advertised_up (point_limit plan me.0 place.wire.0) (is_up_with (work.edge.peering place.peer.0)) (end_at work.edge place) label content ((sound work all.0).ends place.wire.0 place.peer.0) at in (
+        let can = advertised_up (point_limit plan me.0 place.wire.0) (is_up_with (work.edge.peering place.peer.0)) (end_at work.edge place) label content
+        ((sound work all.0).ends place.wire.0 place.peer.0) at in (
           rows.withdraws place label content work is at wished all.0,
           row_leaves place (withdrawal place.pw_id label content) (withdrawing place) work is can.0 (end_peering place (withdrawn (end_at work.edge place)) work.edge)
               (λ id. withdrawing_says place label content content id work.edge at) (end_beside_other place (withdrawn (end_at work.edge place)) work.edge)
               (withdrawal_is place.pw_id label content (end_small plan me place checked is) can.1) (said work all.0) all.1,
         )
 
-    all_tell : (place : EndPlace) (label : ℕ) (content : Told) (last : PwStatus) (work : Work) → IsEndOf plan me place → (end_at work.edge place).local ≡ Advertised label content → content.status ≡ Some last
+    all_tell : (place : EndPlace) (label : ℕ) (content : Told) (last : PwStatus) (work : Work) → IsEndOf plan me place → (end_at work.edge place).local ≡ Advertised label content
+        → content.status ≡ Some last
         → last.0 == (status_to_tell plan work.edge place).0 ≡ false → KeepsAll work
-        → KeepsAll (says taken_all place.peer (status_notification place.pw_id (status_to_tell plan work.edge place) content) (changes (telling_status place (status_to_tell plan work.edge place)) work)).work
+        → KeepsAll (says taken_all place.peer (status_notification place.pw_id (status_to_tell plan work.edge place) content)
+        (changes (telling_status place (status_to_tell plan work.edge place)) work)).work
     all_tell place label content last work is at told other all =
         let status : PwStatus = status_to_tell plan work.edge place in
-        let can = advertised_up (point_limit plan me.0 place.wire.0) (is_up_with (work.edge.peering place.peer.0)) (end_at work.edge place) label content ((sound work all.0).ends place.wire.0 place.peer.0) at in (
+        let can = advertised_up (point_limit plan me.0 place.wire.0) (is_up_with (work.edge.peering place.peer.0)) (end_at work.edge place) label content
+        ((sound work all.0).ends place.wire.0 place.peer.0) at in (
           rows.tells place label content last work is at told other all.0,
           row_leaves place (status_notification place.pw_id status content) (telling_status place status) work is can.0 (end_peering place (telling status (end_at work.edge place)) work.edge)
               (λ id. telling_says place label content content status id work.edge at) (end_beside_other place (telling status (end_at work.edge place)) work.edge)
               (status_is place.pw_id label status content (end_small plan me place checked is) (status_small plan work.edge place (sound work all.0)) can.1) (said work all.0) all.1,
         )
 
-    all_clear : (place : EndPlace) (label : ℕ) (content : Told) (addresses : List Mac) (work : Work) → IsEndOf plan me place → (end_at work.edge place).local ≡ Advertised label content → IsPiece addresses
+    all_clear : (place : EndPlace) (label : ℕ) (content : Told) (addresses : List Mac) (work : Work) → IsEndOf plan me place → (end_at work.edge place).local ≡ Advertised label content
+        → IsPiece addresses
         → KeepsAll work → KeepsAll (says taken_all place.peer (mac_withdrawal place.pw_id addresses content) work).work
     all_clear place label content addresses work is at piece all =
-        let can = advertised_up (point_limit plan me.0 place.wire.0) (is_up_with (work.edge.peering place.peer.0)) (end_at work.edge place) label content ((sound work all.0).ends place.wire.0 place.peer.0) at in (
+        let can = advertised_up (point_limit plan me.0 place.wire.0) (is_up_with (work.edge.peering place.peer.0)) (end_at work.edge place) label content
+        ((sound work all.0).ends place.wire.0 place.peer.0) at in (
           rows.clears place label content addresses work is at piece all.0,
           subst (λ (w : Work). LeavesAll (says taken_all place.peer (mac_withdrawal place.pw_id addresses content) w).work) (unchanged_is work)
               (row_leaves place (mac_withdrawal place.pw_id addresses content) (λ edge. edge) work is can.0 refl (λ id. clearing_says place addresses content id work.edge) (λ wire peer away. refl)
@@ -248,9 +265,11 @@ module _ (plan : Plan) (me : EdgeId) (checked : IsChecked plan) (fars : ℕ → 
     down_leaves : (place : EndPlace) (down : Option Down) (work : Work) → LeavesAll work → LeavesAll (gives (Wire place.wire down) (changes (with_told_down place.wire down) work))
     unfolding gives changes with_told_down
     down_leaves place down work leaves c away =
-        leaves_same plan me c (fars c) (outs c) (answers c) work _ (said-append c work.effects (Wire place.wire down ∷ []) ∙ same_end (said_to c work.effects)) (λ near. near) (record { label = λ label given. given; ends = λ wire. refl }) (leaves c away)
+        leaves_same plan me c (fars c) (outs c) (answers c) work _ (said-append c work.effects (Wire place.wire down ∷ []) ∙ same_end (said_to c work.effects)) (λ near. near)
+        (record { label = λ label given. given; ends = λ wire. refl }) (leaves c away)
 
-    others_leave : (change : EdgeState → EdgeState) (work : Work) → KeepsEnds work.edge (change work.edge) → (change work.edge).peering ≡ work.edge.peering → LeavesAll work → LeavesAll (changes change work)
+    others_leave : (change : EdgeState → EdgeState) (work : Work) → KeepsEnds work.edge (change work.edge) → (change work.edge).peering ≡ work.edge.peering → LeavesAll work
+        → LeavesAll (changes change work)
     unfolding changes
     others_leave change work keeps peering leaves c away =
         leaves_same plan me c (fars c) (outs c) (answers c) work _ refl (λ near. sym (ap (λ (f : ℕ → Option Peering). is_there (f c)) peering) ∙ near)

@@ -65,7 +65,8 @@ passive_says Operational out back m k h = grind (arith, plain-append back m)
 
 -- ---- the active end hears
 
-pub active_opens : (p : Phase) (out back : List Message) (m k : Message) → is_keep_alive k ≡ true → is_row OpenSent p out (m ∷ back) ≡ true → is_initialization m && is_row OpenRec p (out ++ k ∷ []) back ≡ true
+pub active_opens : (p : Phase) (out back : List Message) (m k : Message) → is_keep_alive k ≡ true → is_row OpenSent p out (m ∷ back) ≡ true
+    → is_initialization m && is_row OpenRec p (out ++ k ∷ []) back ≡ true
 active_opens Initialized out back m k is h = grind arith
 active_opens OpenSent out back m k is h = clash h
 active_opens OpenRec [] back m k is h = grind arith

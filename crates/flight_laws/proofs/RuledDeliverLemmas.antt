@@ -71,18 +71,23 @@ module _ (plan : Plan) (checked : IsChecked plan) (types : HasTypes plan) where
   unfolding with_pipe
   piped from to octets network after stays = record { ruled = stays.ruled; keeps = stays.keeps }
 
-  delivering_ruled : (from to : EdgeId) (count : ℕ) (network : NetworkState) (kept : Peering) → IsPaired plan to.0 from.0 (network.edges to.0) (network.edges from.0) (flight network to.0 from.0) (flight network from.0 to.0)
+  delivering_ruled : (from to : EdgeId) (count : ℕ) (network : NetworkState) (kept : Peering)
+      → IsPaired plan to.0 from.0 (network.edges to.0) (network.edges from.0) (flight network to.0 from.0) (flight network from.0 to.0)
       → IsRuledNetwork plan network → nat_eq from.0 to.0 ≡ false → (network.edges to.0).peering from.0 ≡ Some kept → StaysRuled plan network (delivering plan from to count network).state
   unfolding with_pipe
   delivering_ruled from to count network kept pair ruled apart at =
-      piped from to (drop count pipe) network _ (ruled_settle plan (with_pipe from to (drop count pipe) network) to 0 0 (network.edges to.0) (held_now from.0 heard.rest (held_at network to.0)) (hearing_work plan network from to (take count pipe))
+      piped from to (drop count pipe) network _ (ruled_settle plan (with_pipe from to (drop count pipe) network) to 0 0 (network.edges to.0)
+      (held_now from.0 heard.rest (held_at network to.0)) (hearing_work plan network from to (take count pipe))
       (λ a b differ away gone. (
-        subst (RulesTo plan a b (network.edges a) (network.edges b)) (ap (λ (l : List ℕ). held_by ((network.edges b).peering a) ++ l) (sym (pipe_to from to (drop count pipe) network a b gone))) (ruled.two a b differ).0,
-        subst (RulesTo plan b a (network.edges b) (network.edges a)) (ap (λ (l : List ℕ). held_by ((network.edges a).peering b) ++ l) (sym (pipe_to from to (drop count pipe) network b a away))) (ruled.two a b differ).1,
+        subst (RulesTo plan a b (network.edges a) (network.edges b))
+            (ap (λ (l : List ℕ). held_by ((network.edges b).peering a) ++ l) (sym (pipe_to from to (drop count pipe) network a b gone))) (ruled.two a b differ).0,
+        subst (RulesTo plan b a (network.edges b) (network.edges a))
+            (ap (λ (l : List ℕ). held_by ((network.edges a).peering b) ++ l) (sym (pipe_to from to (drop count pipe) network b a away))) (ruled.two a b differ).1,
       ))
       (λ a away. ruled.edges a) (ruled.edges to.0).place
       (subst (WorksRuled plan network.edges to.0 (network.edges to.0) (held_now from.0 heard.rest (held_at network to.0))) (sym work_is) heard.works)
-      (λ place away. subst (RulesTo plan to.0 place (network.edges to.0) (network.edges place)) (ap (λ (l : List ℕ). held_by ((network.edges place).peering to.0) ++ l) (sym (pipe_from from to (drop count pipe) network to.0 place (apart_back from.0 to.0 apart))))
+      (λ place away. subst (RulesTo plan to.0 place (network.edges to.0) (network.edges place))
+      (ap (λ (l : List ℕ). held_by ((network.edges place).peering to.0) ++ l) (sym (pipe_from from to (drop count pipe) network to.0 place (apart_back from.0 to.0 apart))))
       (ruled.two to.0 place (apart_back place to.0 away)).0)
       (λ place away. split {P = Back place} (nat_eq place from.0)
       (λ is. subst (λ (k : ℕ). Back k) (sym (eqb-true place from.0 is)) from_peer)
@@ -102,22 +107,27 @@ module _ (plan : Plan) (checked : IsChecked plan) (types : HasTypes plan) where
       said : AreSaid (ends_at plan from.0 to.0) back.messages
       said = ruled_said plan from.0 to.0 (network.edges from.0) (network.edges to.0) back.messages pair.answers back.ruled pair.talk.answered (sym back.octets ∙ pair.back_is)
 
-      heard : HasHeardRuled plan network.edges to.0 from.0 (network.edges to.0) (held_at network to.0) (drop count pipe) (mends plan taken_all (hears plan taken_all from (kept.held ++ take count pipe) (begin_at network to)))
-      heard = octets_ruled plan checked types network.edges to from (network.edges to.0) (held_at network to.0) kept.held (kept.held ++ take count pipe) (drop count pipe) back.messages (begin_at network to) apart
-          (ruled.edges from.0).place (ap (λ (o : Option Peering). holds_of o) at) (fit_of (ends_at plan to.0 from.0) (ends_at plan from.0 to.0) kept ((network.edges to.0).peering from.0) at pair.talk.here) said whole back.ruled (ruled_begin plan network to ruled)
+      heard : HasHeardRuled plan network.edges to.0 from.0 (network.edges to.0) (held_at network to.0) (drop count pipe)
+          (mends plan taken_all (hears plan taken_all from (kept.held ++ take count pipe) (begin_at network to)))
+      heard = octets_ruled plan checked types network.edges to from (network.edges to.0) (held_at network to.0) kept.held (kept.held ++ take count pipe) (drop count pipe) back.messages
+          (begin_at network to) apart
+          (ruled.edges from.0).place (ap (λ (o : Option Peering). holds_of o) at)
+          (fit_of (ends_at plan to.0 from.0) (ends_at plan from.0 to.0) kept ((network.edges to.0).peering from.0) at pair.talk.here) said whole back.ruled (ruled_begin plan network to ruled)
 
       work_is : hearing_work plan network from to (take count pipe) ≡ mends plan taken_all (hears plan taken_all from (kept.held ++ take count pipe) (begin_at network to))
       work_is = ap (λ (o : Option Peering). octets_input plan taken_all from (take count pipe) o (begin_at network to)) at
 
       Back : ℕ → Type 0
-      Back place = RulesTo plan place to.0 (network.edges place) (network.edges to.0) (octets_held (held_now from.0 heard.rest (held_at network to.0) place) ++ (with_pipe from to (drop count pipe) network).pipes place to.0)
+      Back place = RulesTo plan place to.0 (network.edges place) (network.edges to.0)
+          (octets_held (held_now from.0 heard.rest (held_at network to.0) place) ++ (with_pipe from to (drop count pipe) network).pipes place to.0)
 
       from_peer : Back from.0
       from_peer = rw (same_number from.0, same_number to.0) (record { messages = heard.later; octets = heard.behind; ruled = heard.ruled; bound = back.bound })
 
       from_other : (place : ℕ) → nat_eq place to.0 ≡ false → nat_eq place from.0 ≡ false → Back place
       from_other place away other = rw other
-          (subst (λ (l : List ℕ). RulesTo plan place to.0 (network.edges place) (network.edges to.0) (l ++ network.pipes place to.0)) (held_again ((network.edges to.0).peering place)) (ruled.two to.0 place (apart_back place to.0 away)).1)
+          (subst (λ (l : List ℕ). RulesTo plan place to.0 (network.edges place) (network.edges to.0) (l ++ network.pipes place to.0)) (held_again ((network.edges to.0).peering place))
+          (ruled.two to.0 place (apart_back place to.0 away)).1)
 
   no_own_end : (a : ℕ) (network : NetworkState) (kept : Peering) → (network.edges a).peering a ≡ None → (network.edges a).peering a ≡ Some kept → ⊥
   no_own_end a network kept none is = clash2 (sym none ∙ is)
@@ -125,12 +135,14 @@ module _ (plan : Plan) (checked : IsChecked plan) (types : HasTypes plan) where
       clash2 : {x : Peering} → None ≡ Some x → ⊥
       clash2 e = cc
 
-  pub deliver_event_ruled : (from to : EdgeId) (count : ℕ) (network : NetworkState) → IsOrdered plan network → IsRuledNetwork plan network → StaysRuled plan network (deliver_event plan from to count network).state
+  pub deliver_event_ruled : (from to : EdgeId) (count : ℕ) (network : NetworkState) → IsOrdered plan network → IsRuledNetwork plan network
+      → StaysRuled plan network (deliver_event plan from to count network).state
   deliver_event_ruled from to count network ordered ruled = by_end ((network.edges to.0).peering from.0) refl where
     other : Bool
     other = not (is_drained_pipe network from.0 to.0) || not (stands network from.0 to.0)
 
-    by_drained : (kept : Peering) → (network.edges to.0).peering from.0 ≡ Some kept → (b : Bool) → StaysRuled plan network (cond b (losing plan to from network) (delivering plan from to count network)).state
+    by_drained : (kept : Peering) → (network.edges to.0).peering from.0 ≡ Some kept → (b : Bool)
+        → StaysRuled plan network (cond b (losing plan to from network) (delivering plan from to count network)).state
     by_drained kept at true = losing_ruled plan checked types to from network ruled
     by_drained kept at false = split {P = StaysRuled plan network (delivering plan from to count network).state} (nat_eq from.0 to.0)
         (λ is. absurd (no_own_end to.0 network kept (ordered.alone to.0) (ap (λ (k : ℕ). (network.edges to.0).peering k) (sym (eqb-true from.0 to.0 is)) ∙ at)))
@@ -208,7 +220,8 @@ module _ (plan : Plan) (network : NetworkState) (from to : EdgeId) (apart : nat_
 
   met_mentions : (k p : ℕ) → (nat_eq k from.0 ≡ true → nat_eq p to.0 ≡ false) → (nat_eq k to.0 ≡ true → nat_eq p from.0 ≡ false) → KeepsMentions p (network.edges k) (met k)
   met_mentions k p away gone = by (nat_eq k from.0) refl (nat_eq k to.0) refl where
-    by : (x : Bool) → nat_eq k from.0 ≡ x → (y : Bool) → nat_eq k to.0 ≡ y → KeepsMentions p (network.edges k) (cond x (meeting to (network.edges k)) (cond y (meeting from (network.edges k)) (network.edges k)))
+    by : (x : Bool) → nat_eq k from.0 ≡ x → (y : Bool) → nat_eq k to.0 ≡ y
+        → KeepsMentions p (network.edges k) (cond x (meeting to (network.edges k)) (cond y (meeting from (network.edges k)) (network.edges k)))
     by true is y too = λ wire label may. meeting_named to (network.edges k) wire p label None (away is) may
     by false is true too = λ wire label may. meeting_named from (network.edges k) wire p label None (gone too) may
     by false is false too = λ wire label may. may
@@ -220,7 +233,8 @@ module _ (plan : Plan) (network : NetworkState) (from to : EdgeId) (apart : nat_
   met_ends k = met_fact (λ e. e.ends ≡ (network.edges k).ends) k refl (λ beside. (meeting_is beside (network.edges k)).1)
 
   -- between edges that did not meet each other
-  rules_else : (x y : ℕ) → nat_eq x y ≡ false → (nat_eq x from.0 ≡ true → nat_eq y to.0 ≡ false) → (nat_eq x to.0 ≡ true → nat_eq y from.0 ≡ false) → RulesTo plan x y (met x) (met y) (flight network x y)
+  rules_else : (x y : ℕ) → nat_eq x y ≡ false → (nat_eq x from.0 ≡ true → nat_eq y to.0 ≡ false) → (nat_eq x to.0 ≡ true → nat_eq y from.0 ≡ false)
+      → RulesTo plan x y (met x) (met y) (flight network x y)
   rules_else x y differ away gone =
       rules_mentioned plan x y (network.edges x) (met x) (network.edges y) (met y) (flight network x y) (met_me x) (met_me y) (met_ends y)
       (met_mentions x y away gone)
@@ -282,7 +296,8 @@ module _ (plan : Plan) (network : NetworkState) (from to : EdgeId) (apart : nat_
   met_to = rw (apart_back from.0 to.0 apart, same_number to.0) refl
 
 -- an edge begins, where it has met
-met_begin : (plan : Plan) (network : NetworkState) (met : ℕ → EdgeState) (a b : ℕ) (me : EdgeId) (work : Work) → HasMet plan network met a b → work.edge ≡ met me.0 → work.effects ≡ [] → WorksRuled plan met me.0 (met me.0) (held_at network me.0) work
+met_begin : (plan : Plan) (network : NetworkState) (met : ℕ → EdgeState) (a b : ℕ) (me : EdgeId) (work : Work) → HasMet plan network met a b → work.edge ≡ met me.0 → work.effects ≡ []
+    → WorksRuled plan met me.0 (met me.0) (held_at network me.0) work
 met_begin plan network met a b me work is same none = record {
   edge = subst (IsRuledEdge plan me.0) (sym same) (is.edges me.0);
   keeps = subst (λ (e : EdgeState). KeepsNames (met me.0) e) (sym same) (names_same (met me.0));
@@ -311,12 +326,14 @@ pub no_octets_by : (near : Option Peering) → is_there near ≡ false → held_
 no_octets_by None none = refl
 no_octets_by (Some kept) none = clash (sym none)
 
-carries_on : (plan : Plan) (network : NetworkState) (met : ℕ → EdgeState) (a b me : ℕ) (held : ℕ → Option (List ℕ)) (work : Work) → HasMet plan network met a b → WorksRuled plan met me (met me) held work → Carries (network.edges me) work.edge
+carries_on : (plan : Plan) (network : NetworkState) (met : ℕ → EdgeState) (a b me : ℕ) (held : ℕ → Option (List ℕ)) (work : Work) → HasMet plan network met a b
+    → WorksRuled plan met me (met me) held work → Carries (network.edges me) work.edge
 carries_on plan network met a b me held work is works wire peer age label may = works.keeps.names wire peer label (Some age) (is.carries me wire peer age label may)
 
 module _ (plan : Plan) (checked : IsChecked plan) (types : HasTypes plan) where
   -- nothing comes of it
-  idle_connected : (a b : ℕ) (me peer : EdgeId) (network : NetworkState) → stands network me.0 peer.0 ≡ false → IsRuledNetwork plan network → HasConnected plan network network.edges me peer (idles (begin_at network me))
+  idle_connected : (a b : ℕ) (me peer : EdgeId) (network : NetworkState) → stands network me.0 peer.0 ≡ false → IsRuledNetwork plan network
+      → HasConnected plan network network.edges me peer (idles (begin_at network me))
   idle_connected a b me peer network none ruled =
       let works : WorksRuled plan network.edges me.0 (network.edges me.0) (held_at network me.0) (idles (begin_at network me)) =
       idle_ruled plan checked types network.edges me (network.edges me.0) (held_at network me.0) (begin_at network me) (ruled_begin plan network me ruled) in
@@ -328,13 +345,16 @@ module _ (plan : Plan) (checked : IsChecked plan) (types : HasTypes plan) where
         carries = carries_on plan network network.edges a b me.0 (held_at network me.0) (idles (begin_at network me)) (met_none plan network a b ruled) works;
       }
 
-  began_is : (me peer : EdgeId) (network : NetworkState) → ((changes (meeting peer) (begin_at network me)).edge ≡ meeting peer (network.edges me.0)) × ((changes (meeting peer) (begin_at network me)).effects ≡ [])
+  began_is : (me peer : EdgeId) (network : NetworkState) → ((changes (meeting peer) (begin_at network me)).edge ≡ meeting peer (network.edges me.0))
+      × ((changes (meeting peer) (begin_at network me)).effects ≡ [])
   unfolding changes
   began_is me peer network = (refl, refl)
 
   -- its end stands
-  up_connected : (met : ℕ → EdgeState) (a b : ℕ) (me peer : EdgeId) (network : NetworkState) (own other : EdgePlan) → HasMet plan network met a b → met me.0 ≡ meeting peer (network.edges me.0) → nat_eq me.0 peer.0 ≡ false
-      → slice_get plan.edges me.0 ≡ Some own → slice_get plan.edges peer.0 ≡ Some other → HasConnected plan network met me peer (mends plan taken_all (connects taken_all peer (opened_with own other) (begin_at network me)))
+  up_connected : (met : ℕ → EdgeState) (a b : ℕ) (me peer : EdgeId) (network : NetworkState) (own other : EdgePlan) → HasMet plan network met a b → met me.0
+      ≡ meeting peer (network.edges me.0) → nat_eq me.0 peer.0 ≡ false
+      → slice_get plan.edges me.0 ≡ Some own → slice_get plan.edges peer.0 ≡ Some other
+      → HasConnected plan network met me peer (mends plan taken_all (connects taken_all peer (opened_with own other) (begin_at network me)))
   up_connected met a b me peer network own other is at apart row too =
       let began = began_is me peer network in
       let result : Work = mends plan taken_all (connects taken_all peer (opened_with own other) (begin_at network me)) in
@@ -360,12 +380,15 @@ module _ (plan : Plan) (checked : IsChecked plan) (types : HasTypes plan) where
       }
 
 -- what is between two edges of which both have worked
-between_rules : (plan : Plan) (a b : ℕ) (network : NetworkState) (one other : Work) (near far : EdgeState) → RulesTo plan a b near far (network.pipes a b) → one.edge.me ≡ near.me → other.edge.me ≡ far.me
-    → Rattle.flight_laws.proofs.NameLemmas.KeepsNames near one.edge → Rattle.flight_laws.proofs.NameLemmas.KeepsNames far other.edge → (said : Option (List ℕ)) → IsRuledFor plan a b far said one → (wire_bound : (wire : ℕ) → BindsGiven near wire b (other.edge.ends wire a).remote)
+between_rules : (plan : Plan) (a b : ℕ) (network : NetworkState) (one other : Work) (near far : EdgeState) → RulesTo plan a b near far (network.pipes a b) → one.edge.me ≡ near.me
+    → other.edge.me ≡ far.me
+    → Rattle.flight_laws.proofs.NameLemmas.KeepsNames near one.edge → Rattle.flight_laws.proofs.NameLemmas.KeepsNames far other.edge → (said : Option (List ℕ))
+    → IsRuledFor plan a b far said one → (wire_bound : (wire : ℕ) → BindsGiven near wire b (other.edge.ends wire a).remote)
     → RulesTo plan a b one.edge other.edge (network.pipes a b ++ said_to b one.effects)
 between_rules plan a b network one other near far pipe same too keeps kept held left bound = record {
   messages = pipe.messages ++ left.messages;
-  octets = ap (λ (l : List ℕ). l ++ said_to b one.effects) pipe.octets ∙ (ap (λ (l : List ℕ). octets_of_all (ends_at plan a b).me pipe.messages ++ l) left.octets ∙ sym (all_joined (ends_at plan a b).me pipe.messages left.messages));
+  octets = ap (λ (l : List ℕ). l ++ said_to b one.effects) pipe.octets
+      ∙ (ap (λ (l : List ℕ). octets_of_all (ends_at plan a b).me pipe.messages ++ l) left.octets ∙ sym (all_joined (ends_at plan a b).me pipe.messages left.messages));
   ruled = all_more (IsRuled plan a b one.edge other.edge) pipe.messages left.messages
       (all_kept (IsRuled plan a b near far) (IsRuled plan a b one.edge other.edge) pipe.messages
       (λ m ruled. Rattle.flight_laws.proofs.RuledLemmas.ruled_kept plan a b near one.edge other.edge m same keeps (ruled_far plan a b near far other.edge m too kept ruled)) pipe.ruled)
@@ -374,8 +397,10 @@ between_rules plan a b network one other near far pipe same too keeps kept held 
 }
 
 -- the same, where nothing more was taken
-between_still : (plan : Plan) (a b : ℕ) (network : NetworkState) (one other : Work) (near far : EdgeState) → RulesTo plan a b near far (network.pipes a b) → one.edge.me ≡ near.me → other.edge.me ≡ far.me
-    → Rattle.flight_laws.proofs.NameLemmas.KeepsNames near one.edge → Rattle.flight_laws.proofs.NameLemmas.KeepsNames far other.edge → (wire_bound : (wire : ℕ) → BindsGiven near wire b (other.edge.ends wire a).remote)
+between_still : (plan : Plan) (a b : ℕ) (network : NetworkState) (one other : Work) (near far : EdgeState) → RulesTo plan a b near far (network.pipes a b) → one.edge.me ≡ near.me
+    → other.edge.me ≡ far.me
+    → Rattle.flight_laws.proofs.NameLemmas.KeepsNames near one.edge → Rattle.flight_laws.proofs.NameLemmas.KeepsNames far other.edge
+    → (wire_bound : (wire : ℕ) → BindsGiven near wire b (other.edge.ends wire a).remote)
     → RulesTo plan a b one.edge other.edge (network.pipes a b)
 between_still plan a b network one other near far pipe same too keeps kept bound = record {
   messages = pipe.messages;
@@ -386,7 +411,8 @@ between_still plan a b network one other near far pipe same too keeps kept bound
 }
 
 -- nothing is on its way
-between_none : (plan : Plan) (a b : ℕ) (one other : Work) (near : EdgeState) → Rattle.flight_laws.proofs.NameLemmas.KeepsNames near one.edge → (wire_bound : (wire : ℕ) → BindsGiven near wire b (other.edge.ends wire a).remote) → RulesTo plan a b one.edge other.edge []
+between_none : (plan : Plan) (a b : ℕ) (one other : Work) (near : EdgeState) → Rattle.flight_laws.proofs.NameLemmas.KeepsNames near one.edge
+    → (wire_bound : (wire : ℕ) → BindsGiven near wire b (other.edge.ends wire a).remote) → RulesTo plan a b one.edge other.edge []
 between_none plan a b one other near keeps bound = record {
   messages = [];
   octets = refl;
@@ -410,7 +436,8 @@ module _ (plan : Plan) (a b : EdgeId) (network : NetworkState) (met : ℕ → Ed
 
   -- where the other end still stands
   stands_between : (there : Bool) → RulesTo plan a.0 b.0 one.edge other.edge (cond there (network.pipes a.0 b.0 ++ said_to b.0 one.effects) (network.pipes a.0 b.0))
-  stands_between true = between_rules plan a.0 b.0 network one other (met a.0) (met b.0) base one_me other_me up.works.keeps too.works.keeps (up.held b.0) (up.works.left b.0 (apart_back a.0 b.0 apart)) bound_is
+  stands_between true = between_rules plan a.0 b.0 network one other (met a.0) (met b.0) base one_me other_me up.works.keeps too.works.keeps (up.held b.0)
+      (up.works.left b.0 (apart_back a.0 b.0 apart)) bound_is
   stands_between false = between_still plan a.0 b.0 network one other (met a.0) (met b.0) base one_me other_me up.works.keeps too.works.keeps bound_is
 
   none_between : RulesTo plan a.0 b.0 one.edge other.edge []
@@ -433,11 +460,13 @@ module _ (plan : Plan) (a b : EdgeId) (network : NetworkState) (met : ℕ → Ed
       more = cond (is_there (other.edge.peering a.0)) (network.pipes a.0 b.0 ++ said_to b.0 one.effects) (network.pipes a.0 b.0)
 
   pub behind_ruled : RulesTo plan a.0 b.0 one.edge other.edge
-      (held_by (other.edge.peering a.0) ++ cond (is_there (other.edge.peering a.0)) (cond (closes a.0 other.effects) [] (network.pipes a.0 b.0) ++ said_to b.0 one.effects) (cond (closes a.0 other.effects) [] (network.pipes a.0 b.0)))
+      (held_by (other.edge.peering a.0) ++ cond (is_there (other.edge.peering a.0)) (cond (closes a.0 other.effects) [] (network.pipes a.0 b.0) ++ said_to b.0 one.effects)
+      (cond (closes a.0 other.effects) [] (network.pipes a.0 b.0)))
   behind_ruled = ⊎_elim
       (λ (stays : (holds_of (other.edge.peering a.0) ≡ too.held a.0) × (closes a.0 other.effects ≡ false)).
       subst (RulesTo plan a.0 b.0 one.edge other.edge)
-      (sym (ap (λ (c : Bool). held_by (other.edge.peering a.0) ++ more c (is_there (other.edge.peering a.0))) stays.1 ∙ ap (λ (l : List ℕ). l ++ more false (is_there (other.edge.peering a.0))) (held_is (other.edge.peering a.0) (too.held a.0) stays.0 ∙ too.none)))
+      (sym (ap (λ (c : Bool). held_by (other.edge.peering a.0) ++ more c (is_there (other.edge.peering a.0))) stays.1
+      ∙ ap (λ (l : List ℕ). l ++ more false (is_there (other.edge.peering a.0))) (held_is (other.edge.peering a.0) (too.held a.0) stays.0 ∙ too.none)))
       (stands_between (is_there (other.edge.peering a.0))))
       (λ (gone : (other.edge.peering a.0 ≡ None) × (closes a.0 other.effects ≡ true)).
       subst (RulesTo plan a.0 b.0 one.edge other.edge)
@@ -450,7 +479,8 @@ module _ (plan : Plan) (a b : EdgeId) (network : NetworkState) (met : ℕ → Ed
 
 module _ (plan : Plan) (checked : IsChecked plan) (types : HasTypes plan) where
   -- for every other edge
-  others_ruled : (met : ℕ → EdgeState) (me peer : EdgeId) (network : NetworkState) (work : Work) → HasMet plan network met me.0 peer.0 → HasConnected plan network met me peer work → LeavesOthers (FromBoth (OutRules plan)) network me peer work
+  others_ruled : (met : ℕ → EdgeState) (me peer : EdgeId) (network : NetworkState) (work : Work) → HasMet plan network met me.0 peer.0 → HasConnected plan network met me peer work
+      → LeavesOthers (FromBoth (OutRules plan)) network me peer work
   others_ruled met me peer network work is up place away gone =
       subst (λ (e : EdgeState). LeavesTo (FromBoth (OutRules plan)) me place e (flight network me.0 place) (network.pipes place me.0) work) (is.else place away gone)
       (leaves_ruled plan me place (met me.0) (met place) (flight network me.0 place) (network.pipes place me.0) (up.held place) work (is.rules me.0 place (apart_back place me.0 away))
@@ -458,7 +488,8 @@ module _ (plan : Plan) (checked : IsChecked plan) (types : HasTypes plan) where
       (subst (λ (l : List ℕ). RulesTo plan place me.0 (met place) (met me.0) (l ++ network.pipes place me.0)) (held_again ((network.edges me.0).peering place)) (is.rules place me.0 away)))
       (up.works.edge.place ∙ sym (is.edges me.0).place) up.works.keeps (up.works.left place away))
 
-  connecting_ruled : (from to : EdgeId) (network : NetworkState) (met : ℕ → EdgeState) (first second : Work) → HasMet plan network met from.0 to.0 → nat_eq from.0 to.0 ≡ false → stands network from.0 to.0 ≡ false → stands network to.0 from.0 ≡ false → IsRuledNetwork plan network
+  connecting_ruled : (from to : EdgeId) (network : NetworkState) (met : ℕ → EdgeState) (first second : Work) → HasMet plan network met from.0 to.0 → nat_eq from.0 to.0 ≡ false
+      → stands network from.0 to.0 ≡ false → stands network to.0 from.0 ≡ false → IsRuledNetwork plan network
       → HasConnected plan network met from to first → HasConnected plan network met to from second → StaysRuled plan network (connecting from first to second network).state
   unfolding out_between back_between
   connecting_ruled from to network met first second is_met apart none_here none_there ruled up too = record {
@@ -513,9 +544,11 @@ module _ (plan : Plan) (checked : IsChecked plan) (types : HasTypes plan) where
   none_there_is (Some kept) none = clash (sym none)
 
   -- both rows are there, or nothing comes of it at either end
-  rows_ruled : (from to : EdgeId) (network : NetworkState) (one two : Option EdgePlan) → slice_get plan.edges from.0 ≡ one → slice_get plan.edges to.0 ≡ two → nat_eq from.0 to.0 ≡ false → stands network from.0 to.0 ≡ false → stands network to.0 from.0 ≡ false
+  rows_ruled : (from to : EdgeId) (network : NetworkState) (one two : Option EdgePlan) → slice_get plan.edges from.0 ≡ one → slice_get plan.edges to.0 ≡ two → nat_eq from.0 to.0
+      ≡ false → stands network from.0 to.0 ≡ false → stands network to.0 from.0 ≡ false
       → IsOrdered plan network → IsRuledNetwork plan network
-      → StaysRuled plan network (connecting from (connects_between plan taken_all to one two (begin_at network from)) to (connects_between plan taken_all from two one (begin_at network to)) network).state
+      → StaysRuled plan network (connecting from (connects_between plan taken_all to one two (begin_at network from)) to
+      (connects_between plan taken_all from two one (begin_at network to)) network).state
   rows_ruled from to network (Some own) (Some other) is too apart none_here none_there ordered ruled =
       let here : (network.edges from.0).peering to.0 ≡ None = none_there_is ((network.edges from.0).peering to.0) none_here in
       let there : (network.edges to.0).peering from.0 ≡ None = none_there_is ((network.edges to.0).peering from.0) none_there in
@@ -535,7 +568,8 @@ module _ (plan : Plan) (checked : IsChecked plan) (types : HasTypes plan) where
     by_joined true is false one false other =
         let apart : nat_eq from.0 to.0 ≡ false = joined_apart plan from.0 to.0 checked is in
         subst (λ (w : Work). StaysRuled plan network (connecting from w to (connected_work plan network to from) network).state) (sym (connected_is plan network from to ordered is one))
-        (subst (λ (w : Work). StaysRuled plan network (connecting from (connects_between plan taken_all to (slice_get plan.edges from.0) (slice_get plan.edges to.0) (begin_at network from)) to w network).state)
+        (subst (λ (w : Work). StaysRuled plan network
+        (connecting from (connects_between plan taken_all to (slice_get plan.edges from.0) (slice_get plan.edges to.0) (begin_at network from)) to w network).state)
         (sym (connected_is plan network to from ordered (sym (joined_turned plan from.0 to.0) ∙ is) other))
         (rows_ruled from to network (slice_get plan.edges from.0) (slice_get plan.edges to.0) refl refl apart one other ordered ruled))
     by_joined true is true one y other = stays_ruled plan network ruled

@@ -178,7 +178,8 @@ module _ (plan : Plan) (checked : IsChecked plan) (types : HasTypes plan) where
             (λ is wire peer age label young may.
             let at : k ≡ place = eqb-true k place is in
             rest.before k (omega (arith, at)) wire peer (age + 1) label
-            (subst (λ (n : ℕ). MayCarry (next.edges n) wire peer (age + 1) label) (sym at) (one.own wire peer age label young (subst (λ (n : ℕ). MayCarry (network.edges n) wire peer age label) at may))))
+            (subst (λ (n : ℕ). MayCarry (next.edges n) wire peer (age + 1) label) (sym at)
+            (one.own wire peer age label young (subst (λ (n : ℕ). MayCarry (network.edges n) wire peer age label) at may))))
             (λ away wire peer age label young may. rest.after k (behind k place over away) wire peer age label young
             (subst (λ (e : EdgeState). MayCarry e wire peer age label) (sym (one.other k away)) may));
       }
@@ -205,7 +206,8 @@ module _ (plan : Plan) (checked : IsChecked plan) (types : HasTypes plan) where
 
   -- ---- circuits, wires and failure bits
 
-  pub circuit_event_ruled : (circuit : CircuitId) (on : Bool) (row : Option CircuitPlan) (network : NetworkState) → IsRuledNetwork plan network → StaysRuled plan network (circuit_event plan circuit on row network).state
+  pub circuit_event_ruled : (circuit : CircuitId) (on : Bool) (row : Option CircuitPlan) (network : NetworkState) → IsRuledNetwork plan network
+      → StaysRuled plan network (circuit_event plan circuit on row network).state
   circuit_event_ruled circuit on None network ruled = stays_ruled plan network ruled
   circuit_event_ruled circuit on (Some row) network ruled = by_test (is_own begun.edge row && not (is_same on (is_on begun.edge circuit))) where
     begun : Work
@@ -217,7 +219,8 @@ module _ (plan : Plan) (checked : IsChecked plan) (types : HasTypes plan) where
     by_test : (b : Bool) → StaysRuled plan network (answer row.edge 0 0 (cond b (mends plan taken_all (changes (turned plan circuit row on) begun)) (idles begun)) network).state
     by_test true = ruled_answer plan network row.edge 0 0 (mends plan taken_all (changes (turned plan circuit row on) begun)) ruled
         (circuit_ruled plan checked types network.edges row.edge (network.edges row.edge.0) (held_at network row.edge.0) circuit row on begun works)
-    by_test false = ruled_answer plan network row.edge 0 0 (idles begun) ruled (idle_ruled plan checked types network.edges row.edge (network.edges row.edge.0) (held_at network row.edge.0) begun works)
+    by_test false = ruled_answer plan network row.edge 0 0 (idles begun) ruled
+        (idle_ruled plan checked types network.edges row.edge (network.edges row.edge.0) (held_at network row.edge.0) begun works)
 
   pub wire_event_ruled : (me : EdgeId) (wire : WireId) (on : Bool) (network : NetworkState) → IsRuledNetwork plan network → StaysRuled plan network (wire_event plan me wire on network).state
   wire_event_ruled me wire on network ruled = by_test (passes plan begun.edge.me wire && not (is_same on (begun.edge.wire_on wire.0))) where
@@ -228,10 +231,12 @@ module _ (plan : Plan) (checked : IsChecked plan) (types : HasTypes plan) where
     works = ruled_begin plan network me ruled
 
     by_test : (b : Bool) → StaysRuled plan network (answer me 0 0 (cond b (mends plan taken_all (changes (turned_wire wire on) begun)) (idles begun)) network).state
-    by_test true = ruled_answer plan network me 0 0 (mends plan taken_all (changes (turned_wire wire on) begun)) ruled (wire_ruled plan checked types network.edges me (network.edges me.0) (held_at network me.0) wire on begun works)
+    by_test true = ruled_answer plan network me 0 0 (mends plan taken_all (changes (turned_wire wire on) begun)) ruled
+        (wire_ruled plan checked types network.edges me (network.edges me.0) (held_at network me.0) wire on begun works)
     by_test false = ruled_answer plan network me 0 0 (idles begun) ruled (idle_ruled plan checked types network.edges me (network.edges me.0) (held_at network me.0) begun works)
 
-  pub status_event_ruled : (me : EdgeId) (wire : WireId) (bits : ℕ) (network : NetworkState) → bits ≤ 31 → IsRuledNetwork plan network → StaysRuled plan network (status_event plan me wire bits network).state
+  pub status_event_ruled : (me : EdgeId) (wire : WireId) (bits : ℕ) (network : NetworkState) → bits ≤ 31 → IsRuledNetwork plan network
+      → StaysRuled plan network (status_event plan me wire bits network).state
   status_event_ruled me wire bits network low ruled = by_test (ends_here plan begun.edge.me wire && not (nat_eq bits (begun.edge.bits wire.0))) where
     begun : Work
     begun = begin_at network me
@@ -240,10 +245,12 @@ module _ (plan : Plan) (checked : IsChecked plan) (types : HasTypes plan) where
     works = ruled_begin plan network me ruled
 
     by_test : (b : Bool) → StaysRuled plan network (answer me 0 0 (cond b (mends plan taken_all (changes (with_bits wire bits) begun)) (idles begun)) network).state
-    by_test true = ruled_answer plan network me 0 0 (mends plan taken_all (changes (with_bits wire bits) begun)) ruled (status_ruled plan checked types network.edges me (network.edges me.0) (held_at network me.0) wire bits begun low works)
+    by_test true = ruled_answer plan network me 0 0 (mends plan taken_all (changes (with_bits wire bits) begun)) ruled
+        (status_ruled plan checked types network.edges me (network.edges me.0) (held_at network me.0) wire bits begun low works)
     by_test false = ruled_answer plan network me 0 0 (idles begun) ruled (idle_ruled plan checked types network.edges me (network.edges me.0) (held_at network me.0) begun works)
 
-  pub priority_event_ruled : (me : EdgeId) (wire : WireId) (priority : ℕ) (network : NetworkState) → IsRuledNetwork plan network → StaysRuled plan network (priority_event plan me wire priority network).state
+  pub priority_event_ruled : (me : EdgeId) (wire : WireId) (priority : ℕ) (network : NetworkState) → IsRuledNetwork plan network
+      → StaysRuled plan network (priority_event plan me wire priority network).state
   priority_event_ruled me wire priority network ruled = by_test (is_own_spoke begun.edge.me (wire_row plan wire) && not (nat_eq priority (begun.edge.priority wire.0))) where
     begun : Work
     begun = begin_at network me
@@ -252,7 +259,8 @@ module _ (plan : Plan) (checked : IsChecked plan) (types : HasTypes plan) where
     works = ruled_begin plan network me ruled
 
     by_test : (b : Bool) → StaysRuled plan network (answer me 0 0 (cond b (mends plan taken_all (changes (with_priority wire priority) begun)) (idles begun)) network).state
-    by_test true = ruled_answer plan network me 0 0 (mends plan taken_all (changes (with_priority wire priority) begun)) ruled (priority_ruled plan checked types network.edges me (network.edges me.0) (held_at network me.0) wire priority begun works)
+    by_test true = ruled_answer plan network me 0 0 (mends plan taken_all (changes (with_priority wire priority) begun)) ruled
+        (priority_ruled plan checked types network.edges me (network.edges me.0) (held_at network me.0) wire priority begun works)
     by_test false = ruled_answer plan network me 0 0 (idles begun) ruled (idle_ruled plan checked types network.edges me (network.edges me.0) (held_at network me.0) begun works)
 
   pub ping_event_ruled : (me : EdgeId) (wire : WireId) (network : NetworkState) → IsRuledNetwork plan network → StaysRuled plan network (ping_event plan me wire network).state
@@ -274,11 +282,14 @@ module _ (plan : Plan) (checked : IsChecked plan) (types : HasTypes plan) where
   unfolding with_frame
   framed network after stays = record { ruled = stays.ruled; keeps = stays.keeps }
 
-  entering_ruled : (network : NetworkState) (circuit : CircuitId) (octets : List ℕ) (row : CircuitPlan) (work : Work) → IsRuledNetwork plan network → At network row.edge work → StaysRuled plan network (entering network circuit octets row work).state
+  entering_ruled : (network : NetworkState) (circuit : CircuitId) (octets : List ℕ) (row : CircuitPlan) (work : Work) → IsRuledNetwork plan network → At network row.edge work
+      → StaysRuled plan network (entering network circuit octets row work).state
   unfolding with_frame
-  entering_ruled network circuit octets row work ruled works = framed network _ (ruled_work plan (with_frame network) row.edge (next_origin network) 0 work (frame_ruled network ruled) (frame_work_ruled network row.edge work works))
+  entering_ruled network circuit octets row work ruled works =
+      framed network _ (ruled_work plan (with_frame network) row.edge (next_origin network) 0 work (frame_ruled network ruled) (frame_work_ruled network row.edge work works))
 
-  pub frame_event_ruled : (circuit : CircuitId) (octets : List ℕ) (row : Option CircuitPlan) (network : NetworkState) → IsRuledNetwork plan network → StaysRuled plan network (frame_event plan circuit octets row network).state
+  pub frame_event_ruled : (circuit : CircuitId) (octets : List ℕ) (row : Option CircuitPlan) (network : NetworkState) → IsRuledNetwork plan network
+      → StaysRuled plan network (frame_event plan circuit octets row network).state
   frame_event_ruled circuit octets None network ruled = stays_ruled plan network ruled
   frame_event_ruled circuit octets (Some row) network ruled = by_test (is_own begun.edge row && is_on begun.edge circuit) where
     begun : Work
@@ -295,7 +306,8 @@ module _ (plan : Plan) (checked : IsChecked plan) (types : HasTypes plan) where
     either false work w = entering_ruled network circuit octets row work ruled w
 
     by_test : (b : Bool) → StaysRuled plan network (cond (cond b full (idles begun)).idle (idle network) (entering network circuit octets row (cond b full (idles begun)))).state
-    by_test true = either full.idle full (received_ruled plan checked types network.edges row.edge (network.edges row.edge.0) (held_at network row.edge.0) taken_all (arrival.Circuit circuit) row.service (port_at plan begun.edge circuit row) (inner_at plan circuit octets) begun works)
+    by_test true = either full.idle full (received_ruled plan checked types network.edges row.edge (network.edges row.edge.0) (held_at network row.edge.0) taken_all
+        (arrival.Circuit circuit) row.service (port_at plan begun.edge circuit row) (inner_at plan circuit octets) begun works)
     by_test false = either (idles begun).idle (idles begun) (idle_ruled plan checked types network.edges row.edge (network.edges row.edge.0) (held_at network row.edge.0) begun works)
 
   -- ---- packets
@@ -319,7 +331,8 @@ module _ (plan : Plan) (checked : IsChecked plan) (types : HasTypes plan) where
       stays_then plan network (without_packet packet.number network) (arrive_event plan (Some packet) network).state gone
       (ruled_work plan (without_packet packet.number network) packet.to packet.origin packet.hops (packet_work plan network packet) gone.ruled
       (arrived_work_ruled packet.number network packet.to (packet_work plan network packet)
-      (packet_ruled plan checked types network.edges packet.to (network.edges packet.to.0) (held_at network packet.to.0) taken_all packet.bytes (begin_at network packet.to) (ruled_begin plan network packet.to ruled))))
+      (packet_ruled plan checked types network.edges packet.to (network.edges packet.to.0) (held_at network packet.to.0) taken_all packet.bytes (begin_at network packet.to)
+      (ruled_begin plan network packet.to ruled))))
 
   pub discard_event_ruled : (packet : Option Packet) (network : NetworkState) → IsRuledNetwork plan network → StaysRuled plan network (discard_event packet network).state
   discard_event_ruled None network ruled = stays_ruled plan network ruled
@@ -331,7 +344,8 @@ module _ (plan : Plan) (checked : IsChecked plan) (types : HasTypes plan) where
 
   -- ---- an edge restarts
 
-  restart_work_ruled : (me : EdgeId) (network : NetworkState) → IsRuledNetwork plan network → WorksRuled plan network.edges me.0 (network.edges me.0) (λ place. None) (restart_input (begin_at network me))
+  restart_work_ruled : (me : EdgeId) (network : NetworkState) → IsRuledNetwork plan network
+      → WorksRuled plan network.edges me.0 (network.edges me.0) (λ place. None) (restart_input (begin_at network me))
   unfolding changes with_learned without_peerings without_ends with_kept
   restart_work_ruled me network ruled =
       let begun : At network me (begin_at network me) = ruled_begin plan network me ruled in
@@ -360,7 +374,8 @@ module _ (plan : Plan) (checked : IsChecked plan) (types : HasTypes plan) where
       emptied me network _ (ruled_settle plan (without_octets_to me network) me 0 0 (network.edges me.0) (λ place. None) (restart_input (begin_at network me)) (restart_others me network ruled)
       (λ a away. subst (λ (f : ℕ → EdgeState). IsRuledEdge plan a (f a)) (sym (same_edges me network)) (ruled.edges a))
       (ruled.edges me.0).place
-      (subst (λ (f : ℕ → EdgeState). WorksRuled plan f me.0 (network.edges me.0) (λ place. None) (restart_input (begin_at network me))) (sym (same_edges me network)) (restart_work_ruled me network ruled))
+      (subst (λ (f : ℕ → EdgeState). WorksRuled plan f me.0 (network.edges me.0) (λ place. None) (restart_input (begin_at network me))) (sym (same_edges me network))
+      (restart_work_ruled me network ruled))
       (λ place away. subst (λ (f : ℕ → EdgeState). RulesTo plan me.0 place (network.edges me.0) (f place) (flight (without_octets_to me network) me.0 place)) (sym (same_edges me network))
       (subst (RulesTo plan me.0 place (network.edges me.0) (network.edges place)) (sym (restart_out me place network away)) (ruled.two me.0 place (apart_back place me.0 away)).0))
       (λ place away. subst (λ (f : ℕ → EdgeState). RulesTo plan place me.0 (f place) (network.edges me.0) ([] ++ (without_octets_to me network).pipes place me.0)) (sym (same_edges me network))

@@ -56,7 +56,8 @@ pub record IsHearing (plan : Plan) (others : ℕ → EdgeState) (me peer : ℕ) 
   pub to_hear : AllMessages (IsRuled plan peer me (others peer) first) messages
 
 -- rows keep it where they keep the work
-pub rows_hearing : (plan : Plan) (others : ℕ → EdgeState) (me : EdgeId) (peer : ℕ) (first : EdgeState) (held : ℕ → Option (List ℕ)) (messages : List Message) → KeptByRows plan me (WorksRuled plan others me.0 first held)
+pub rows_hearing : (plan : Plan) (others : ℕ → EdgeState) (me : EdgeId) (peer : ℕ) (first : EdgeState) (held : ℕ → Option (List ℕ)) (messages : List Message)
+    → KeptByRows plan me (WorksRuled plan others me.0 first held)
     → KeptByRows plan me (IsHearing plan others me.0 peer first held messages)
 rows_hearing plan others me peer first held messages rows = record {
   placed = λ work hears. rows.placed work hears.works;
@@ -70,7 +71,8 @@ rows_hearing plan others me peer first held messages rows = record {
 
 -- ---- the end that a FEC names
 
-fec_end : (plan : Plan) (edge : EdgeState) (me peer : EdgeId) (fec : PwFec) (pw_id : ℕ) (place : EndPlace) → edge.me ≡ me → fec.pw_id ≡ Some pw_id → end_named plan me peer pw_id ≡ Some place → end_of_fec plan edge peer fec ≡ Some place
+fec_end : (plan : Plan) (edge : EdgeState) (me peer : EdgeId) (fec : PwFec) (pw_id : ℕ) (place : EndPlace) → edge.me ≡ me → fec.pw_id ≡ Some pw_id → end_named plan me peer pw_id
+    ≡ Some place → end_of_fec plan edge peer fec ≡ Some place
 fec_end plan edge me peer fec pw_id place at is named =
     ap (λ (o : Option ℕ). option_and_then (end_named plan edge.me peer) o) is ∙ (ap (λ (k : EdgeId). end_named plan k peer pw_id) at ∙ named)
 
@@ -99,8 +101,10 @@ module _ (plan : Plan) (checked : IsChecked plan) (types : HasTypes plan) (other
   }
 
   -- an end that owns no more is another one, and tells and holds what is planned
-  end_changes : (place : EndPlace) (end : EndState) (work : Work) → ((label : ℕ) → Rattle.flight_laws.specs.Rules.part_owns end.local label ≡ true → Rattle.flight_laws.specs.Rules.part_owns (end_at work.edge place).local label ≡ true)
-      → TellsAt plan me.0 place.wire.0 place.peer.0 end → (nat_eq place.peer.0 me.0 ≡ false → BindsGiven (others place.peer.0) place.wire.0 me.0 end.remote) → At work → ChangesEnds plan others me.0 work.edge (with_end place end work.edge)
+  end_changes : (place : EndPlace) (end : EndState) (work : Work)
+      → ((label : ℕ) → Rattle.flight_laws.specs.Rules.part_owns end.local label ≡ true → Rattle.flight_laws.specs.Rules.part_owns (end_at work.edge place).local label ≡ true)
+      → TellsAt plan me.0 place.wire.0 place.peer.0 end → (nat_eq place.peer.0 me.0 ≡ false → BindsGiven (others place.peer.0) place.wire.0 me.0 end.remote) → At work
+      → ChangesEnds plan others me.0 work.edge (with_end place end work.edge)
   unfolding with_end with_kept
   end_changes place end work less tells given works = record {
     place = refl;
@@ -122,19 +126,22 @@ module _ (plan : Plan) (checked : IsChecked plan) (types : HasTypes plan) (other
   released_changes label (Some place) work works =
       let end : ChangesEnds plan others me.0 work.edge (with_end place (released label (end_at work.edge place)) work.edge) =
       end_changes place (released label (end_at work.edge place)) work (owns_released label (end_at work.edge place))
-      (local_tells plan me.0 place.wire.0 place.peer.0 (end_at work.edge place) (released label (end_at work.edge place)).local (λ row is joined near. near_released plan row me.0 place.peer.0 label (end_at work.edge place).local near) (works.edge.tells place.wire.0 place.peer.0))
+      (local_tells plan me.0 place.wire.0 place.peer.0 (end_at work.edge place) (released label (end_at work.edge place)).local
+      (λ row is joined near. near_released plan row me.0 place.peer.0 label (end_at work.edge place).local near) (works.edge.tells place.wire.0 place.peer.0))
       (λ gone. (works.left place.peer.0 gone).bound place.wire.0) works in
       record { place = end.place; peering = end.peering; keeps = names_releasing label place work.edge; most = end.most; bits = end.bits; tells = end.tells; bound = end.bound }
 
   release_heard : (fec : PwFec) (label : Option ℕ) (work : Work) → At work → At (hears_release plan peer fec label work)
-  release_heard fec label work works = changes_keep plan others me.0 first held (λ edge. with_released label (end_of_fec plan edge peer fec) edge) work (released_changes label (end_of_fec plan work.edge peer fec) work works) works
+  release_heard fec label work works = changes_keep plan others me.0 first held (λ edge. with_released label (end_of_fec plan edge peer fec) edge) work
+      (released_changes label (end_of_fec plan work.edge peer fec) work works) works
 
   -- ---- withdrawals
 
   unbound_changes : (label : Option ℕ) (place : Option EndPlace) (work : Work) → At work → ChangesEnds plan others me.0 work.edge (with_end_changed (unbound label) place work.edge)
   unbound_changes label None work works = same_changes work works
   unbound_changes label (Some place) work works = end_changes place (unbound label (end_at work.edge place)) work (λ l owned. owned)
-      (remote_tells plan me.0 place.wire.0 place.peer.0 (end_at work.edge place) (unless_named label (end_at work.edge place).remote) (λ row is joined far. far_unless plan row place.peer.0 me.0 label (end_at work.edge place).remote far)
+      (remote_tells plan me.0 place.wire.0 place.peer.0 (end_at work.edge place) (unless_named label (end_at work.edge place).remote)
+      (λ row is joined far. far_unless plan row place.peer.0 me.0 label (end_at work.edge place).remote far)
       (fits_unless label (end_at work.edge place).remote (works.edge.tells place.wire.0 place.peer.0).held) (works.edge.tells place.wire.0 place.peer.0))
       (λ gone. binds_unless (others place.peer.0) place.wire.0 me.0 label (end_at work.edge place).remote ((works.left place.peer.0 gone).bound place.wire.0)) works
 
@@ -142,12 +149,15 @@ module _ (plan : Plan) (checked : IsChecked plan) (types : HasTypes plan) (other
   bare_named : (row : WirePlan) (fec : PwFec) (told : Rattle.pw_signalling.specs.declared.told.Told.Told) → fec ≡ bare_fec_of row.pw_id told → fec.pw_id ≡ Some row.pw_id
   bare_named row fec told is = ap (λ (f : PwFec). f.pw_id) is
 
-  unbinds : (fec : PwFec) (label : Option ℕ) (pw_id : ℕ) (work : Work) → fec.pw_id ≡ Some pw_id → At work → At (changes (with_named plan peer fec (unbound label) (group_unbound fec.group) fec.pw_id) work)
+  unbinds : (fec : PwFec) (label : Option ℕ) (pw_id : ℕ) (work : Work) → fec.pw_id ≡ Some pw_id → At work
+      → At (changes (with_named plan peer fec (unbound label) (group_unbound fec.group) fec.pw_id) work)
   unbinds fec label pw_id work is works =
       subst (λ (o : Option ℕ). At (changes (with_named plan peer fec (unbound label) (group_unbound fec.group) o) work)) (sym is)
-      (changes_keep plan others me.0 first held (with_named plan peer fec (unbound label) (group_unbound fec.group) (Some pw_id)) work (unbound_changes label (end_named plan work.edge.me peer pw_id) work works) works)
+      (changes_keep plan others me.0 first held (with_named plan peer fec (unbound label) (group_unbound fec.group) (Some pw_id)) work
+      (unbound_changes label (end_named plan work.edge.me peer pw_id) work works) works)
 
-  withdrawal_heard : (id : ℕ) (fec : PwFec) (label : Option ℕ) (work : Work) → Ruled (LabelWithdraw id fec label) → At work → At (releases_label taken_all peer fec label (changes (with_named plan peer fec (unbound label) (group_unbound fec.group) fec.pw_id) work))
+  withdrawal_heard : (id : ℕ) (fec : PwFec) (label : Option ℕ) (work : Work) → Ruled (LabelWithdraw id fec label) → At work
+      → At (releases_label taken_all peer fec label (changes (with_named plan peer fec (unbound label) (group_unbound fec.group) fec.pw_id) work))
   withdrawal_heard id fec label work ruled works =
       let names : NamesTold plan peer.0 me.0 fec = ruled.tells in
       let fits = ruled.ready.fits in
@@ -186,7 +196,8 @@ module _ (plan : Plan) (checked : IsChecked plan) (types : HasTypes plan) (other
       let given : MayName (others near.place.peer.0) near.place.wire.0 me.0 label =
       subst (λ (k : EdgeId). MayName (others k.0) near.place.wire.0 me.0 label) (sym near.peer_is)
       (subst (λ (w : WireId). MayName (others peer.0) w.0 me.0 label) (far.wire_is ∙ sym near.wire_is) may) in
-      subst (λ (o : Option EndPlace). At (maps_to plan taken_all peer fec (binding_in fec label status points) o work)) (sym (fec_end plan work.edge me peer fec tells.row.pw_id near.place works.edge.place tells.named near.named))
+      subst (λ (o : Option EndPlace). At (maps_to plan taken_all peer fec (binding_in fec label status points) o work))
+      (sym (fec_end plan work.edge me peer fec tells.row.pw_id near.place works.edge.place tells.named near.named))
       (subst (λ (b : Bool). At (cond b (changes (with_end_changed (bound binding) (Some near.place)) work)
       (releases_label taken_all peer fec (Some label) (changes (with_end_changed (unbound None) (Some near.place)) work)))) (sym taken)
       (changes_keep plan others me.0 first held (with_end_changed (bound binding) (Some near.place)) work
@@ -199,11 +210,13 @@ module _ (plan : Plan) (checked : IsChecked plan) (types : HasTypes plan) (other
 
   -- ---- statuses
 
-  states : (fec : PwFec) (status : PwStatus) (work : Work) → status.0 < 2 ^ 32 → NamesStatus plan peer.0 me.0 fec → At work → At (changes (with_named plan peer fec (stated status) (group_stated fec.group status) fec.pw_id) work)
+  states : (fec : PwFec) (status : PwStatus) (work : Work) → status.0 < 2 ^ 32 → NamesStatus plan peer.0 me.0 fec → At work
+      → At (changes (with_named plan peer fec (stated status) (group_stated fec.group status) fec.pw_id) work)
   states fec status work small names works =
       let near : NamedEnd plan me peer names.wire names.row = end_of plan me peer names.wire names.row checked names.is (turned names.row names.joined) in
       let named : end_named plan work.edge.me peer names.row.pw_id ≡ Some near.place = ap (λ (k : EdgeId). end_named plan k peer names.row.pw_id) works.edge.place ∙ near.named in
-      subst (λ (o : Option ℕ). At (changes (with_named plan peer fec (stated status) (group_stated fec.group status) o) work)) (sym (bare_named names.row fec (told_of (expected plan names.row peer.0 me.0) None) names.bare))
+      subst (λ (o : Option ℕ). At (changes (with_named plan peer fec (stated status) (group_stated fec.group status) o) work))
+      (sym (bare_named names.row fec (told_of (expected plan names.row peer.0 me.0) None) names.bare))
       (changes_keep plan others me.0 first held (with_named plan peer fec (stated status) (group_stated fec.group status) (Some names.row.pw_id)) work
       (subst (λ (o : Option EndPlace). ChangesEnds plan others me.0 work.edge (with_end_changed (stated status) o work.edge)) (sym named)
       (end_changes near.place (stated status (end_at work.edge near.place)) work (λ l owned. owned)
@@ -214,7 +227,8 @@ module _ (plan : Plan) (checked : IsChecked plan) (types : HasTypes plan) (other
       (fits_status status (end_at work.edge near.place).remote small (works.edge.tells near.place.wire.0 near.place.peer.0).held) (works.edge.tells near.place.wire.0 near.place.peer.0))
       (λ gone. binds_status (others near.place.peer.0) near.place.wire.0 me.0 status (end_at work.edge near.place).remote ((works.left near.place.peer.0 gone).bound near.place.wire.0)) works)) works)
 
-  status_heard : (id : ℕ) (code : StatusCode) (status : Option PwStatus) (fec : Option PwFec) (work : Work) → Ruled (Notification id code status fec) → At work → At (hears_status plan peer code status fec work)
+  status_heard : (id : ℕ) (code : StatusCode) (status : Option PwStatus) (fec : Option PwFec) (work : Work) → Ruled (Notification id code status fec) → At work
+      → At (hears_status plan peer code status fec work)
   status_heard id code None None work ruled works = works
   status_heard id code None (Some fec) work ruled works = works
   status_heard id code (Some status) None work ruled works = works
@@ -243,8 +257,15 @@ module _ (plan : Plan) (checked : IsChecked plan) (types : HasTypes plan) (other
     window = λ messages kept work at hears. ((window kept work at hears.works).session.least, (window kept work at hears.works).session.most);
     sender = λ messages work hears. record { works = event_ruled plan others me.0 first held peer (Heard (platform_of (ends_at plan peer.0 me.0).me)) work tt hears.works; to_hear = hears.to_hear };
     gone = λ m messages work at hears. record { works = hears.works; to_hear = hears.to_hear.1 };
-    event = λ m messages kept work at said ends hears. record { works = event_ruled plan others me.0 first held peer (Received m) work (hears.to_hear.0.ready.fits, hears.to_hear.0.ready.can) hears.works; to_hear = hears.to_hear.1 };
-    acts = λ m messages kept work at up said plain pseudowires hears. record { works = acts_ruled (ends_at plan peer.0 me.0) m work said pseudowires hears.to_hear.0 hears.works; to_hear = hears.to_hear.1 };
+    event = λ m messages kept work at said ends hears. record {
+      works = event_ruled plan others me.0 first held peer (Received m) work
+          (hears.to_hear.0.ready.fits, hears.to_hear.0.ready.can) hears.works;
+      to_hear = hears.to_hear.1;
+    };
+    acts = λ m messages kept work at up said plain pseudowires hears. record {
+      works = acts_ruled (ends_at plan peer.0 me.0) m work said pseudowires hears.to_hear.0 hears.works;
+      to_hear = hears.to_hear.1;
+    };
     goes_by = λ m messages kept work at up said addresses hears. record { works = hears.works; to_hear = hears.to_hear.1 };
     mends = λ messages. rows_hearing plan others me peer.0 first held messages (rows_ruled plan checked types others me first held);
   }

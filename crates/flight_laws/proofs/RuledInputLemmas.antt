@@ -80,7 +80,8 @@ bridged_quiet old new bridged = record {
 }
 
 module _ (plan : Plan) (checked : IsChecked plan) (types : HasTypes plan) (others : ℕ → EdgeState) (me : EdgeId) (first : EdgeState) (held : ℕ → Option (List ℕ)) where
-  leaves_keep : (change : EdgeState → EdgeState) (work : Work) → LeavesEnds work.edge (change work.edge) → WorksRuled plan others me.0 first held work → WorksRuled plan others me.0 first held (changes change work)
+  leaves_keep : (change : EdgeState → EdgeState) (work : Work) → LeavesEnds work.edge (change work.edge) → WorksRuled plan others me.0 first held work
+      → WorksRuled plan others me.0 first held (changes change work)
   leaves_keep change work leaves works = quiet_keeps plan others me.0 first held work (changes change work) (change_quiet change work leaves) works
 
   pub idle_ruled : (work : Work) → WorksRuled plan others me.0 first held work → WorksRuled plan others me.0 first held (idles work)
@@ -91,16 +92,20 @@ module _ (plan : Plan) (checked : IsChecked plan) (types : HasTypes plan) (other
 
   -- ---- an end is lost, and ticks pass
 
-  pub lost_ruled : (peer : EdgeId) (work : Work) → WorksRuled plan others me.0 first held work → WorksRuled plan others me.0 first held (mends plan taken_all (happens_with_ends taken_all peer (table.Closed reason.Closed) work))
-  lost_ruled peer work works = mends_ruled (happens_with_ends taken_all peer (table.Closed reason.Closed) work) (event_ruled plan others me.0 first held peer (table.Closed reason.Closed) work tt works)
+  pub lost_ruled : (peer : EdgeId) (work : Work) → WorksRuled plan others me.0 first held work
+      → WorksRuled plan others me.0 first held (mends plan taken_all (happens_with_ends taken_all peer (table.Closed reason.Closed) work))
+  lost_ruled peer work works = mends_ruled (happens_with_ends taken_all peer (table.Closed reason.Closed) work)
+      (event_ruled plan others me.0 first held peer (table.Closed reason.Closed) work tt works)
 
   sessions_ruled : (place count : ℕ) (work : Work) → WorksRuled plan others me.0 first held work → WorksRuled plan others me.0 first held (ticks_sessions taken_all place count work)
   sessions_ruled place zero work works = works
   sessions_ruled place (suc count) work works =
-      sessions_ruled (place + 1) count (happens_with_ends taken_all (record { 0 = place }) table.Ticked work) (event_ruled plan others me.0 first held (record { 0 = place }) table.Ticked work tt works)
+      sessions_ruled (place + 1) count (happens_with_ends taken_all (record { 0 = place }) table.Ticked work)
+      (event_ruled plan others me.0 first held (record { 0 = place }) table.Ticked work tt works)
 
   -- its labels rest, and it has counted the tick
-  pub tick_ruled : (work : Work) → WorksRuled plan others me.0 first held (changes counted work) → WorksRuled plan others me.0 first held (mends plan taken_all (changes (forgetting plan) (ticks_sessions taken_all 0 (length plan.edges) (changes counted work))))
+  pub tick_ruled : (work : Work) → WorksRuled plan others me.0 first held (changes counted work)
+      → WorksRuled plan others me.0 first held (mends plan taken_all (changes (forgetting plan) (ticks_sessions taken_all 0 (length plan.edges) (changes counted work))))
   tick_ruled work works =
       let begun : Work = changes counted work in
       let ticked : Work = ticks_sessions taken_all 0 (length plan.edges) begun in
@@ -109,7 +114,8 @@ module _ (plan : Plan) (checked : IsChecked plan) (types : HasTypes plan) (other
 
   -- ---- circuits, wires and failure bits
 
-  pub circuit_ruled : (circuit : CircuitId) (row : CircuitPlan) (on : Bool) (work : Work) → WorksRuled plan others me.0 first held work → WorksRuled plan others me.0 first held (mends plan taken_all (changes (turned plan circuit row on) work))
+  pub circuit_ruled : (circuit : CircuitId) (row : CircuitPlan) (on : Bool) (work : Work) → WorksRuled plan others me.0 first held work
+      → WorksRuled plan others me.0 first held (mends plan taken_all (changes (turned plan circuit row on) work))
   circuit_ruled circuit row on work works = mends_ruled (changes (turned plan circuit row on) work) (leaves_keep (turned plan circuit row on) work (turned_leaves plan circuit row on work.edge) works)
 
   -- the ends of a wire are declined no longer
@@ -122,7 +128,8 @@ module _ (plan : Plan) (checked : IsChecked plan) (types : HasTypes plan) (other
     most = works.edge.most;
     bits = works.edge.bits;
     tells = λ w k. renewed_fact (λ w k e. TellsAt plan me.0 w k e) wire work.edge w k
-        (local_tells plan me.0 w k (work.edge.ends w k) (renew_part (work.edge.ends w k).local) (λ row is joined near. near_renewed plan row me.0 k (work.edge.ends w k).local near) (works.edge.tells w k))
+        (local_tells plan me.0 w k (work.edge.ends w k) (renew_part (work.edge.ends w k).local) (λ row is joined near. near_renewed plan row me.0 k (work.edge.ends w k).local near)
+        (works.edge.tells w k))
         (works.edge.tells w k);
     bound = λ place w away. renewed_fact (λ w k e. BindsGiven (others place) w me.0 e.remote) wire work.edge w place ((works.left place away).bound w) ((works.left place away).bound w);
   }
@@ -131,7 +138,8 @@ module _ (plan : Plan) (checked : IsChecked plan) (types : HasTypes plan) (other
   unfolding changes
   two_changes one next work = refl
 
-  pub wire_ruled : (wire : WireId) (on : Bool) (work : Work) → WorksRuled plan others me.0 first held work → WorksRuled plan others me.0 first held (mends plan taken_all (changes (turned_wire wire on) work))
+  pub wire_ruled : (wire : WireId) (on : Bool) (work : Work) → WorksRuled plan others me.0 first held work
+      → WorksRuled plan others me.0 first held (mends plan taken_all (changes (turned_wire wire on) work))
   wire_ruled wire true work works =
       let put : Work = changes (with_wire wire true) work in
       let put_works : WorksRuled plan others me.0 first held put = leaves_keep (with_wire wire true) work (wire_leaves wire true work.edge) works in
@@ -155,10 +163,13 @@ module _ (plan : Plan) (checked : IsChecked plan) (types : HasTypes plan) (other
       either true old is = low
       either false old is = is
 
-  pub status_ruled : (wire : WireId) (bits : ℕ) (work : Work) → bits ≤ 31 → WorksRuled plan others me.0 first held work → WorksRuled plan others me.0 first held (mends plan taken_all (changes (with_bits wire bits) work))
-  status_ruled wire bits work low works = mends_ruled (changes (with_bits wire bits) work) (changes_keep plan others me.0 first held (with_bits wire bits) work (bits_changes wire bits work low works) works)
+  pub status_ruled : (wire : WireId) (bits : ℕ) (work : Work) → bits ≤ 31 → WorksRuled plan others me.0 first held work
+      → WorksRuled plan others me.0 first held (mends plan taken_all (changes (with_bits wire bits) work))
+  status_ruled wire bits work low works = mends_ruled (changes (with_bits wire bits) work)
+      (changes_keep plan others me.0 first held (with_bits wire bits) work (bits_changes wire bits work low works) works)
 
-  pub priority_ruled : (wire : WireId) (priority : ℕ) (work : Work) → WorksRuled plan others me.0 first held work → WorksRuled plan others me.0 first held (mends plan taken_all (changes (with_priority wire priority) work))
+  pub priority_ruled : (wire : WireId) (priority : ℕ) (work : Work) → WorksRuled plan others me.0 first held work
+      → WorksRuled plan others me.0 first held (mends plan taken_all (changes (with_priority wire priority) work))
   priority_ruled wire priority work works = mends_ruled (changes (with_priority wire priority) work) (leaves_keep (with_priority wire priority) work (priority_leaves wire priority work.edge) works)
 
   -- ---- frames and packets

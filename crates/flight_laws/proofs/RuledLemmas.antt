@@ -108,7 +108,8 @@ pub record Steps (plan : Plan) (others : ℕ → EdgeState) (me : ℕ) (held : �
   pub sessions : (peer : ℕ) → FitsIf (ends_at plan me peer) (new.edge.peering peer)
   pub each : (place : ℕ) → nat_eq place me ≡ false → StepsFor plan me place (others place) (held place) old new
 
-pub steps_keep : (plan : Plan) (others : ℕ → EdgeState) (me : ℕ) (first : EdgeState) (was held : ℕ → Option (List ℕ)) (old new : Work) → Steps plan others me held old new → WorksRuled plan others me first was old → WorksRuled plan others me first held new
+pub steps_keep : (plan : Plan) (others : ℕ → EdgeState) (me : ℕ) (first : EdgeState) (was held : ℕ → Option (List ℕ)) (old new : Work) → Steps plan others me held old new
+    → WorksRuled plan others me first was old → WorksRuled plan others me first held new
 steps_keep plan others me first was held old new steps works = record {
   edge = record {
     place = steps.place ∙ works.edge.place;
@@ -126,7 +127,8 @@ steps_keep plan others me first was held old new steps works = record {
       let step = steps.each place away in
       record {
         messages = before.messages ++ step.messages;
-        octets = step.octets ∙ (ap (λ (l : List ℕ). l ++ octets_of_all (ends_at plan me place).me step.messages) before.octets ∙ sym (all_joined (ends_at plan me place).me before.messages step.messages));
+        octets = step.octets ∙ (ap (λ (l : List ℕ). l ++ octets_of_all (ends_at plan me place).me step.messages) before.octets
+            ∙ sym (all_joined (ends_at plan me place).me before.messages step.messages));
         ruled = all_more (IsRuled plan me place new.edge (others place)) before.messages step.messages
             (all_kept (IsRuled plan me place old.edge (others place)) (IsRuled plan me place new.edge (others place)) before.messages
             (λ m ruled. ruled_kept plan me place old.edge new.edge (others place) m steps.place steps.keeps ruled) before.ruled) step.ruled;
@@ -161,10 +163,12 @@ pub record IsQuietStep (old new : Work) : Type 0 where
   pub said : (place : ℕ) → said_to place new.effects ≡ said_to place old.effects
   pub closed : (place : ℕ) → closes place new.effects ≡ closes place old.effects
 
-pub inward_moved : (place : ℕ) (held : Option (List ℕ)) (old new : Work) → new.edge.peering place ≡ old.edge.peering place → closes place new.effects ≡ closes place old.effects → IsInward place held old → IsInward place held new
+pub inward_moved : (place : ℕ) (held : Option (List ℕ)) (old new : Work) → new.edge.peering place ≡ old.edge.peering place → closes place new.effects ≡ closes place old.effects
+    → IsInward place held old → IsInward place held new
 inward_moved place held old new kept closed inward = rw (kept, closed) inward
 
-pub quiet_keeps : (plan : Plan) (others : ℕ → EdgeState) (me : ℕ) (first : EdgeState) (held : ℕ → Option (List ℕ)) (old new : Work) → IsQuietStep old new → WorksRuled plan others me first held old → WorksRuled plan others me first held new
+pub quiet_keeps : (plan : Plan) (others : ℕ → EdgeState) (me : ℕ) (first : EdgeState) (held : ℕ → Option (List ℕ)) (old new : Work) → IsQuietStep old new
+    → WorksRuled plan others me first held old → WorksRuled plan others me first held new
 quiet_keeps plan others me first held old new quiet works = steps_keep plan others me first held held old new (record {
   place = quiet.same.me;
   keeps = same_names old.edge new.edge quiet.same;
@@ -195,7 +199,8 @@ pub record ChangesEnds (plan : Plan) (others : ℕ → EdgeState) (me : ℕ) (ol
   pub tells : TellsOwn plan me new
   pub bound : (place wire : ℕ) → nat_eq place me ≡ false → BindsGiven (others place) wire me (new.ends wire place).remote
 
-pub changes_keep : (plan : Plan) (others : ℕ → EdgeState) (me : ℕ) (first : EdgeState) (held : ℕ → Option (List ℕ)) (change : EdgeState → EdgeState) (work : Work) → ChangesEnds plan others me work.edge (change work.edge)
+pub changes_keep : (plan : Plan) (others : ℕ → EdgeState) (me : ℕ) (first : EdgeState) (held : ℕ → Option (List ℕ)) (change : EdgeState → EdgeState) (work : Work)
+    → ChangesEnds plan others me work.edge (change work.edge)
     → WorksRuled plan others me first held work → WorksRuled plan others me first held (changes change work)
 unfolding changes
 changes_keep plan others me first held change work new works = steps_keep plan others me first held held work (changes change work) (record {
@@ -217,7 +222,8 @@ changes_keep plan others me first held change work new works = steps_keep plan o
 -- ---- what is kept for a peer changes
 
 -- the end that is kept for a peer is another one, which holds the same
-pub still_stands : (plan : Plan) (others : ℕ → EdgeState) (me : ℕ) (first : EdgeState) (held : ℕ → Option (List ℕ)) (peer : EdgeId) (kept now : Peering) (work : Work) → work.edge.peering peer.0 ≡ Some kept → now.held ≡ kept.held
+pub still_stands : (plan : Plan) (others : ℕ → EdgeState) (me : ℕ) (first : EdgeState) (held : ℕ → Option (List ℕ)) (peer : EdgeId) (kept now : Peering) (work : Work)
+    → work.edge.peering peer.0 ≡ Some kept → now.held ≡ kept.held
     → IsFitEnd (ends_at plan me peer.0) now → WorksRuled plan others me first held work → WorksRuled plan others me first held (changes (with_peering peer (Some now)) work)
 unfolding changes with_peering
 still_stands plan others me first held peer kept now work at same fit works = steps_keep plan others me first held held work (changes (with_peering peer (Some now)) work) (record {
@@ -238,7 +244,8 @@ still_stands plan others me first held peer kept now work at same fit works = st
         bound = λ wire. before.bound wire;
         inward = split {P = IsInward place (held place) (changes (with_peering peer (Some now)) work)} (nat_eq place peer.0)
             (λ is. ⊎_elim
-            (λ (stays : (holds_of (work.edge.peering place) ≡ held place) × (closes place work.effects ≡ false)). inl (rw is (ap (λ (l : List ℕ). Some l) same ∙ (sym (holds place is) ∙ stays.0), stays.1)))
+            (λ (stays : (holds_of (work.edge.peering place) ≡ held place) × (closes place work.effects ≡ false)). inl
+            (rw is (ap (λ (l : List ℕ). Some l) same ∙ (sym (holds place is) ∙ stays.0), stays.1)))
             (λ (gone : (work.edge.peering place ≡ None) × (closes place work.effects ≡ true)). absurd (no_end (sym (at_place place is) ∙ gone.0)))
             before.inward)
             (λ apart. ⊎_elim
@@ -301,5 +308,6 @@ says_octets plan others me first held peer m work ruled works = steps_keep plan 
       octets = said-append peer.0 work.effects (effect.Said peer bytes ∷ []) ∙ rw (same_number peer.0) refl;
       ruled = (ruled away, tt);
       bound = λ wire. (works.left peer.0 away).bound wire;
-      inward = inward_moved peer.0 (held peer.0) work said refl (closes-append peer.0 work.effects (effect.Said peer bytes ∷ []) ∙ or_false (closes peer.0 work.effects)) (works.left peer.0 away).inward;
+      inward = inward_moved peer.0 (held peer.0) work said refl (closes-append peer.0 work.effects (effect.Said peer bytes ∷ []) ∙ or_false (closes peer.0 work.effects))
+          (works.left peer.0 away).inward;
     }

@@ -95,9 +95,11 @@ pub pw_id_fits : (plan : Plan) (wire : WireId) (row : WirePlan) → IsChecked pl
 pw_id_fits plan wire row checked is = below_32_bits row.pw_id (wire_fits plan wire row checked is).pw_id.1
 
 -- what the plan has an edge tell can be told
-pub told_can : (plan : Plan) (wire : WireId) (row : WirePlan) (from to label : ℕ) (told : Told) → HasTypes plan → wire_row plan wire ≡ Some row → TellsExpected plan row from to told → IsLabel label → CanBeTold label told
+pub told_can : (plan : Plan) (wire : WireId) (row : WirePlan) (from to label : ℕ) (told : Told) → HasTypes plan → wire_row plan wire ≡ Some row → TellsExpected plan row from to told
+    → IsLabel label → CanBeTold label told
 told_can plan wire row from to label told types is tells label_is =
-    let field : IsFieldOffer (expected plan row from to).offer = one_of (follows row.path from to) row.near row.far IsFieldOffer (offer_fits plan wire row types is).near (offer_fits plan wire row types is).far in
+    let field : IsFieldOffer (expected plan row from to).offer =
+    one_of (follows row.path from to) row.near row.far IsFieldOffer (offer_fits plan wire row types is).near (offer_fits plan wire row types is).far in
     let can : CanBeTold label (content_of (expected plan row from to).offer told.status) = content_can label (expected plan row from to).offer told.status label_is field in
     record {
       is_label = label_is;
@@ -106,17 +108,21 @@ told_can plan wire row from to label told types is tells label_is =
     }
 
 -- the points that are expected fit
-points_fit : (plan : Plan) (row : WirePlan) → HasTypes plan → row.pw_id < 2 ^ 32 → (way : List EdgeId) → AllByRecursion IsPointInRange (map point_of (points_on plan row way)) × HaveOctets (point_tlvs (map point_of (points_on plan row way)))
+points_fit : (plan : Plan) (row : WirePlan) → HasTypes plan → row.pw_id < 2 ^ 32 → (way : List EdgeId) → AllByRecursion IsPointInRange (map point_of (points_on plan row way))
+    × HaveOctets (point_tlvs (map point_of (points_on plan row way)))
 points_fit plan row types small [] = (tt, tt)
 points_fit plan row types small (last ∷ []) = (tt, tt)
 points_fit plan row types small (before ∷ point ∷ rest) =
     let later = points_fit plan row types small (point ∷ rest) in
     let near = edge_address_is plan point types in
-    let far = edge_address_is plan before types in
-    ((own_in_range row.pw_id (edge_address plan point) (edge_address plan before) small near far, later.0), (own_octets row.pw_id (edge_address plan point) (edge_address plan before) near far, later.1))
+    let far = edge_address_is plan before types in (
+      (own_in_range row.pw_id (edge_address plan point) (edge_address plan before) small near far, later.0),
+      (own_octets row.pw_id (edge_address plan point) (edge_address plan before) near far, later.1),
+    )
 
 -- what the plan has an edge tell is a content of a Label Mapping
-pub told_sound : (plan : Plan) (wire : WireId) (row : WirePlan) (from to : ℕ) (told : Told) → IsChecked plan → HasTypes plan → wire_row plan wire ≡ Some row → joins from to row.path ≡ true → TellsExpected plan row from to told → IsState told.status
+pub told_sound : (plan : Plan) (wire : WireId) (row : WirePlan) (from to : ℕ) (told : Told) → IsChecked plan → HasTypes plan → wire_row plan wire ≡ Some row → joins from to row.path
+    ≡ true → TellsExpected plan row from to told → IsState told.status
     → IsSoundTold 3 told
 told_sound plan wire row from to told checked types is joined tells state =
     let fit : IsWireOf plan row = wire_fits plan wire row checked is in
@@ -170,7 +176,8 @@ module _ (plan : Plan) (checked : IsChecked plan) (types : HasTypes plan) (other
   abbrev WishTells : EndPlace → WirePlan → Told → Type 0
   WishTells place row content = TellsExpected plan row me.0 place.peer.0 content × IsState content.status
 
-  offer_wished : (place : EndPlace) (edge : EdgeState) (content : Told) → edge.me ≡ me → edge.bits place.wire.0 ≤ 31 → TellsOwn plan me.0 edge → (end_is : IsEndOf plan me place) → place.terminal ≡ true
+  offer_wished : (place : EndPlace) (edge : EdgeState) (content : Told) → edge.me ≡ me → edge.bits place.wire.0 ≤ 31 → TellsOwn plan me.0 edge → (end_is : IsEndOf plan me place)
+      → place.terminal ≡ true
       → terminal_wish plan edge place (offer_of end_is.row edge.me.0) ≡ Some content → WishTells place end_is.row content
   offer_wished place edge content at low tells end_is terminal wished =
       by_method (tells_status (method_by (offer_of end_is.row edge.me.0).status (status_held (end_at edge place).remote)) || edge.bits place.wire.0 == 0) wished
@@ -203,7 +210,8 @@ module _ (plan : Plan) (checked : IsChecked plan) (types : HasTypes plan) (other
       number : {m n : ℕ} → Some m ≡ Some n → m ≡ n
       number e = cc
 
-  passed_wished : (place : EndPlace) (edge : EdgeState) (content : Told) → edge.me ≡ me → TellsOwn plan me.0 edge → (end_is : IsEndOf plan me place) → passed_wish plan edge place end_is.row ≡ Some content → WishTells place end_is.row content
+  passed_wished : (place : EndPlace) (edge : EdgeState) (content : Told) → edge.me ≡ me → TellsOwn plan me.0 edge → (end_is : IsEndOf plan me place)
+      → passed_wish plan edge place end_is.row ≡ Some content → WishTells place end_is.row content
   passed_wished place edge content at tells end_is wished =
       by_mate (mate_on end_is.row.path me.0 place.peer.0) refl
       (ap (λ (k : EdgeId). passed_from plan end_is.row k (held_of edge place.wire) (mate_on end_is.row.path k.0 place.peer.0)) (sym at) ∙ wished)
@@ -218,7 +226,8 @@ module _ (plan : Plan) (checked : IsChecked plan) (types : HasTypes plan) (other
           let far : FarTells plan end_is.row from.0 me.0 (edge.ends place.wire.0 from.0).remote =
           (tells place.wire.0 from.0).far end_is.row end_is.is (sym (joins_turned end_is.row.path me.0 from.0) ∙ mate_joined end_is.row.path me.0 place.peer.0 from mated) in
           subst (λ (c : Told). TellsExpected plan end_is.row me.0 place.peer.0 c × IsState c.status) (same e) (
-            wanted_tells plan end_is.row me from place.peer binding.told (wire_fits plan place.wire end_is.row checked end_is.is).once (passed_back place end_is from mated) (subst (FarTells plan end_is.row from.0 me.0) there far),
+            wanted_tells plan end_is.row me from place.peer binding.told (wire_fits plan place.wire end_is.row checked end_is.is).once (passed_back place end_is from mated)
+                (subst (FarTells plan end_is.row from.0 me.0) there far),
             (subst HeldFits there (tells place.wire.0 from.0).held).1,
           )
 
@@ -227,7 +236,8 @@ module _ (plan : Plan) (checked : IsChecked plan) (types : HasTypes plan) (other
       by_mate None mated e = absurd (cc)
       by_mate (Some from) mated e = by_held from mated (edge.ends place.wire.0 from.0).remote refl e
 
-  wish_tells : (place : EndPlace) (edge : EdgeState) (content : Told) → edge.me ≡ me → edge.bits place.wire.0 ≤ 31 → TellsOwn plan me.0 edge → (end_is : IsEndOf plan me place) → wish plan edge place ≡ Some content
+  wish_tells : (place : EndPlace) (edge : EdgeState) (content : Told) → edge.me ≡ me → edge.bits place.wire.0 ≤ 31 → TellsOwn plan me.0 edge → (end_is : IsEndOf plan me place)
+      → wish plan edge place ≡ Some content
       → WishTells place end_is.row content
   wish_tells place edge content at low tells end_is wished =
       by_gate (edge.wire_on place.wire.0 && is_up_with (edge.peering place.peer.0)) (ap (wish_of plan edge place) (sym end_is.is) ∙ wished)
@@ -242,7 +252,8 @@ module _ (plan : Plan) (checked : IsChecked plan) (types : HasTypes plan) (other
       by_gate false e = absurd (cc)
 
   -- the edge with the advertisement
-  advertising_changes : (place : EndPlace) (label : ℕ) (content : Told) (work : Work) → (end_is : IsEndOf plan me place) → (end_at work.edge place).local ≡ Idle false → label_to_give work.edge ≡ Some label
+  advertising_changes : (place : EndPlace) (label : ℕ) (content : Told) (work : Work) → (end_is : IsEndOf plan me place) → (end_at work.edge place).local ≡ Idle false
+      → label_to_give work.edge ≡ Some label
       → TellsExpected plan end_is.row me.0 place.peer.0 content → At work → ChangesEnds plan others me.0 work.edge (advertising place label content work.edge)
   unfolding with_end with_next_label with_kept
   advertising_changes place label content work end_is idle given tells works = record {
@@ -258,11 +269,13 @@ module _ (plan : Plan) (checked : IsChecked plan) (types : HasTypes plan) (other
         (works.edge.tells place.wire.0 place.peer.0))
         (works.edge.tells wire peer);
     bound = λ place2 wire away. end_fact (λ w k e. k ≡ place2 → BindsGiven (others place2) w me.0 e.remote) place (advertised label content (end_at work.edge place)) work.edge wire place2
-        (λ same. subst (λ (k : ℕ). BindsGiven (others k) place.wire.0 me.0 (end_at work.edge place).remote) same ((works.left place.peer.0 (subst (λ (k : ℕ). nat_eq k me.0 ≡ false) (sym same) away)).bound place.wire.0))
+        (λ same. subst (λ (k : ℕ). BindsGiven (others k) place.wire.0 me.0 (end_at work.edge place).remote) same
+        ((works.left place.peer.0 (subst (λ (k : ℕ). nat_eq k me.0 ≡ false) (sym same) away)).bound place.wire.0))
         (λ same. (works.left place2 away).bound wire) refl;
   }
 
-  advertises_ruled : (place : EndPlace) (label : ℕ) (content : Told) (work : Work) → IsEndOf plan me place → (end_at work.edge place).local ≡ Idle false → wish plan work.edge place ≡ Some content → label_to_give work.edge ≡ Some label
+  advertises_ruled : (place : EndPlace) (label : ℕ) (content : Told) (work : Work) → IsEndOf plan me place → (end_at work.edge place).local ≡ Idle false → wish plan work.edge place
+      ≡ Some content → label_to_give work.edge ≡ Some label
       → At work → At (says taken_all place.peer (mapping place.pw_id label content) (changes (advertising place label content) work)).work
   advertises_ruled place label content work end_is idle wished given works =
       let told : WishTells place end_is.row content = wish_tells place work.edge content works.edge.place (works.edge.bits place.wire.0) works.edge.tells end_is wished in
@@ -274,7 +287,8 @@ module _ (plan : Plan) (checked : IsChecked plan) (types : HasTypes plan) (other
       let after_is : after.edge ≡ next = changed_edge (advertising place label content) work in
       let named : NamedEnd plan me place.peer place.wire end_is.row = end_of plan me place.peer place.wire end_is.row checked end_is.is end_is.joined in
       let label_is : IsLabel label =
-      given_label label (next_after work.edge.next_label) (given_least 16 work.edge label works.edge.least give) (given_below work.edge label works.edge.rests give) (after_within work.edge.next_label works.edge.most) in
+      given_label label (next_after work.edge.next_label) (given_least 16 work.edge label works.edge.least give) (given_below work.edge label works.edge.rests give)
+      (after_within work.edge.next_label works.edge.most) in
       let row_small : place.pw_id < 2 ^ 32 = subst (λ (n : ℕ). n < 2 ^ 32) (sym end_is.pw_id) (pw_id_fits plan place.wire end_is.row checked end_is.is) in
       let sayable : IsOfWires (mapping place.pw_id label content) =
       mapping_sound place.pw_id label content row_small label_is (told_sound plan place.wire end_is.row me.0 place.peer.0 content checked types end_is.is end_is.joined tells told.1) in
@@ -290,7 +304,8 @@ module _ (plan : Plan) (checked : IsChecked plan) (types : HasTypes plan) (other
       (changes_keep plan others me.0 first held (advertising place label content) work new works)
 
   -- what an end has told
-  near_is : (place : EndPlace) (label : ℕ) (content : Told) (work : Work) → (end_is : IsEndOf plan me place) → (end_at work.edge place).local ≡ Advertised label content → At work → TellsExpected plan end_is.row me.0 place.peer.0 content
+  near_is : (place : EndPlace) (label : ℕ) (content : Told) (work : Work) → (end_is : IsEndOf plan me place) → (end_at work.edge place).local ≡ Advertised label content → At work
+      → TellsExpected plan end_is.row me.0 place.peer.0 content
   near_is place label content work end_is at works = subst (NearTells plan end_is.row me.0 place.peer.0) at ((works.edge.tells place.wire.0 place.peer.0).near end_is.row end_is.is end_is.joined)
 
   -- its label is its own, and one
@@ -306,7 +321,8 @@ module _ (plan : Plan) (checked : IsChecked plan) (types : HasTypes plan) (other
       }
 
   -- one end is another, which owns no more, tells what is planned, and holds the same
-  end_changes : (place : EndPlace) (end : EndState) (edge : EdgeState) → Rattle.flight_laws.proofs.NameLemmas.KeepsNames edge (with_end place end edge) → end.remote ≡ (end_at edge place).remote → TellsAt plan me.0 place.wire.0 place.peer.0 end
+  end_changes : (place : EndPlace) (end : EndState) (edge : EdgeState) → Rattle.flight_laws.proofs.NameLemmas.KeepsNames edge (with_end place end edge) → end.remote
+      ≡ (end_at edge place).remote → TellsAt plan me.0 place.wire.0 place.peer.0 end
       → (work : Work) → work.edge ≡ edge → At work → ChangesEnds plan others me.0 edge (with_end place end edge)
   unfolding with_end with_kept
   end_changes place end edge keeps remote tells work is works = record {
@@ -315,11 +331,13 @@ module _ (plan : Plan) (checked : IsChecked plan) (types : HasTypes plan) (other
     keeps = keeps;
     most = subst (λ (e : EdgeState). e.next_label ≤ numbers_end) is works.edge.most;
     bits = λ wire. subst (λ (e : EdgeState). e.bits wire ≤ 31) is (works.edge.bits wire);
-    tells = λ wire peer. end_fact (λ w k e. TellsAt plan me.0 w k e) place end edge wire peer tells (subst (λ (e : EdgeState). TellsAt plan me.0 wire peer (e.ends wire peer)) is (works.edge.tells wire peer));
+    tells = λ wire peer. end_fact (λ w k e. TellsAt plan me.0 w k e) place end edge wire peer tells
+        (subst (λ (e : EdgeState). TellsAt plan me.0 wire peer (e.ends wire peer)) is (works.edge.tells wire peer));
     bound = λ place2 wire away. end_fact (λ w k e. k ≡ place2 → BindsGiven (others place2) w me.0 e.remote) place end edge wire place2
         (λ same. subst (BindsGiven (others place2) place.wire.0 me.0) (sym remote)
         (subst (λ (k : ℕ). BindsGiven (others k) place.wire.0 me.0 (end_at edge place).remote) same
-        (subst (λ (e : EdgeState). BindsGiven (others place.peer.0) place.wire.0 me.0 (end_at e place).remote) is ((works.left place.peer.0 (subst (λ (k : ℕ). nat_eq k me.0 ≡ false) (sym same) away)).bound place.wire.0))))
+        (subst (λ (e : EdgeState). BindsGiven (others place.peer.0) place.wire.0 me.0 (end_at e place).remote) is
+        ((works.left place.peer.0 (subst (λ (k : ℕ). nat_eq k me.0 ≡ false) (sym same) away)).bound place.wire.0))))
         (λ same. subst (λ (e : EdgeState). BindsGiven (others place2) wire me.0 (e.ends wire place2).remote) is ((works.left place2 away).bound wire)) refl;
   }
 
@@ -329,7 +347,8 @@ module _ (plan : Plan) (checked : IsChecked plan) (types : HasTypes plan) (other
       let tells : TellsExpected plan end_is.row me.0 place.peer.0 content = near_is place label content work end_is at works in
       let new : ChangesEnds plan others me.0 work.edge (withdrawing place work.edge) =
       end_changes place (withdrawn (end_at work.edge place)) work.edge (names_withdrawing place work.edge) refl
-      (local_tells plan me.0 place.wire.0 place.peer.0 (end_at work.edge place) (withdrawn (end_at work.edge place)).local (λ row is joined near. near_withdrawn plan row me.0 place.peer.0 (end_at work.edge place).local near) (works.edge.tells place.wire.0 place.peer.0))
+      (local_tells plan me.0 place.wire.0 place.peer.0 (end_at work.edge place) (withdrawn (end_at work.edge place)).local
+      (λ row is joined near. near_withdrawn plan row me.0 place.peer.0 (end_at work.edge place).local near) (works.edge.tells place.wire.0 place.peer.0))
       work refl works in
       let after : Work = changes (withdrawing place) work in
       let named : NamedEnd plan me place.peer place.wire end_is.row = end_of plan me place.peer place.wire end_is.row checked end_is.is end_is.joined in
@@ -337,10 +356,12 @@ module _ (plan : Plan) (checked : IsChecked plan) (types : HasTypes plan) (other
       let sayable : IsOfWires (withdrawal place.pw_id label content) =
       withdrawal_is place.pw_id label content row_small (told_can plan place.wire end_is.row me.0 place.peer.0 label content types end_is.is tells (label_is place label content work at works)) in
       says_ruled plan others me.0 first held place.peer (withdrawal place.pw_id label content) after
-      (λ id low fit away. subst (λ (e : EdgeState). IsRuled plan me.0 place.peer.0 e (others place.peer.0) (withdrawal place.pw_id label content id)) (sym (changed_edge (withdrawing place) work)) (record {
+      (λ id low fit away. subst (λ (e : EdgeState). IsRuled plan me.0 place.peer.0 e (others place.peer.0) (withdrawal place.pw_id label content id))
+      (sym (changed_edge (withdrawing place) work)) (record {
         fit = fit;
         ready = ready (ends_at plan me.0 place.peer.0) (withdrawal place.pw_id label content id) fit (sayable.said (ends_at plan me.0 place.peer.0) id low);
-        own = withdrawal_names plan (withdrawing place work.edge) place.peer.0 named.place place.pw_id label content id (name_is place (withdrawing place work.edge) (new.place ∙ works.edge.place) end_is named)
+        own = withdrawal_names plan (withdrawing place work.edge) place.peer.0 named.place place.pw_id label content id
+            (name_is place (withdrawing place work.edge) (new.place ∙ works.edge.place) end_is named)
             (named_end place (withdrawing place work.edge) label (new.place ∙ works.edge.place) end_is
             (new.keeps.names place.wire.0 place.peer.0 label None (works.edge.owned place.wire.0 place.peer.0 label (owned_is place label content work at))) named);
         far = withdrawal_far plan (others place.peer.0) me.0 place.pw_id label content id;
@@ -348,7 +369,8 @@ module _ (plan : Plan) (checked : IsChecked plan) (types : HasTypes plan) (other
       }))
       (changes_keep plan others me.0 first held (withdrawing place) work new works)
 
-  tells_ruled : (place : EndPlace) (label : ℕ) (content : Told) (last status : PwStatus) (work : Work) → IsEndOf plan me place → (end_at work.edge place).local ≡ Advertised label content → content.status ≡ Some last → status.0 < 2 ^ 32 → At work
+  tells_ruled : (place : EndPlace) (label : ℕ) (content : Told) (last status : PwStatus) (work : Work) → IsEndOf plan me place → (end_at work.edge place).local
+      ≡ Advertised label content → content.status ≡ Some last → status.0 < 2 ^ 32 → At work
       → At (says taken_all place.peer (status_notification place.pw_id status content) (changes (telling_status place status) work)).work
   tells_ruled place label content last status work end_is at told small works =
       let tells : TellsExpected plan end_is.row me.0 place.peer.0 content = near_is place label content work end_is at works in
@@ -356,13 +378,15 @@ module _ (plan : Plan) (checked : IsChecked plan) (types : HasTypes plan) (other
       let new : ChangesEnds plan others me.0 work.edge (telling_status place status work.edge) =
       end_changes place (telling status (end_at work.edge place)) work.edge (names_telling place status work.edge) refl
       (local_tells plan me.0 place.wire.0 place.peer.0 (end_at work.edge place) (telling status (end_at work.edge place)).local
-      (λ row is joined near. near_told plan row me.0 place.peer.0 status (end_at work.edge place).local (subst (λ (r : WirePlan). (expected plan r me.0 place.peer.0).offer.status ≡ true) (sym (row_is plan place.wire end_is.row row end_is.is is)) carries) near)
+      (λ row is joined near. near_told plan row me.0 place.peer.0 status (end_at work.edge place).local
+      (subst (λ (r : WirePlan). (expected plan r me.0 place.peer.0).offer.status ≡ true) (sym (row_is plan place.wire end_is.row row end_is.is is)) carries) near)
       (works.edge.tells place.wire.0 place.peer.0))
       work refl works in
       let after : Work = changes (telling_status place status) work in
       let row_small : place.pw_id < 2 ^ 32 = subst (λ (n : ℕ). n < 2 ^ 32) (sym end_is.pw_id) (pw_id_fits plan place.wire end_is.row checked end_is.is) in
       let sayable : IsOfWires (status_notification place.pw_id status content) =
-      status_is place.pw_id label status content row_small small (told_can plan place.wire end_is.row me.0 place.peer.0 label content types end_is.is tells (label_is place label content work at works)) in
+      status_is place.pw_id label status content row_small small
+      (told_can plan place.wire end_is.row me.0 place.peer.0 label content types end_is.is tells (label_is place label content work at works)) in
       says_ruled plan others me.0 first held place.peer (status_notification place.pw_id status content) after
       (λ id low fit away. record {
         fit = fit;
@@ -373,13 +397,15 @@ module _ (plan : Plan) (checked : IsChecked plan) (types : HasTypes plan) (other
       })
       (changes_keep plan others me.0 first held (telling_status place status) work new works)
 
-  clears_ruled : (place : EndPlace) (label : ℕ) (content : Told) (addresses : List Mac) (work : Work) → IsEndOf plan me place → (end_at work.edge place).local ≡ Advertised label content → IsPiece addresses → At work
+  clears_ruled : (place : EndPlace) (label : ℕ) (content : Told) (addresses : List Mac) (work : Work) → IsEndOf plan me place → (end_at work.edge place).local
+      ≡ Advertised label content → IsPiece addresses → At work
       → At (says taken_all place.peer (mac_withdrawal place.pw_id addresses content) work).work
   clears_ruled place label content addresses work end_is at piece works =
       let tells : TellsExpected plan end_is.row me.0 place.peer.0 content = near_is place label content work end_is at works in
       let row_small : place.pw_id < 2 ^ 32 = subst (λ (n : ℕ). n < 2 ^ 32) (sym end_is.pw_id) (pw_id_fits plan place.wire end_is.row checked end_is.is) in
       let sayable : IsOfWires (mac_withdrawal place.pw_id addresses content) =
-      clearance_is place.pw_id label addresses content row_small piece (told_can plan place.wire end_is.row me.0 place.peer.0 label content types end_is.is tells (label_is place label content work at works)) in
+      clearance_is place.pw_id label addresses content row_small piece
+      (told_can plan place.wire end_is.row me.0 place.peer.0 label content types end_is.is tells (label_is place label content work at works)) in
       says_ruled plan others me.0 first held place.peer (mac_withdrawal place.pw_id addresses content) work
       (λ id low fit away. record {
         fit = fit;
@@ -416,7 +442,8 @@ module _ (plan : Plan) (checked : IsChecked plan) (types : HasTypes plan) (other
     placed = λ work works. works.edge.place;
     advertises = λ place label content work end_is idle wished given works. advertises_ruled place label content work end_is idle wished given works;
     withdraws = λ place label content work end_is at wished works. withdraws_ruled place label content work end_is at works;
-    tells = λ place label content last work end_is at told other works. tells_ruled place label content last (status_to_tell plan work.edge place) work end_is at told (status_small plan work.edge me.0 place (works.edge.bits place.wire.0) works.edge.tells) works;
+    tells = λ place label content last work end_is at told other works. tells_ruled place label content last (status_to_tell plan work.edge place) work end_is at told
+        (status_small plan work.edge me.0 place (works.edge.bits place.wire.0) works.edge.tells) works;
     clears = clears_ruled;
     tells_down = λ place down work end_is works. downs_ruled place.wire down work works;
     others = λ change work keeps peering works. quiet_keeps plan others me.0 first held work (changes change work) (change_quiet change work keeps peering) works;

@@ -70,23 +70,32 @@ rules_from plan a b old new other out same keeps rules = record {
 }
 
 -- the sender is another one, of which the same messages and bindings may name what they did, and the receiver is
-pub rules_mentioned : (plan : Plan) (a b : ℕ) (one new other far : EdgeState) (out : List ℕ) → new.me ≡ one.me → far.me ≡ other.me → far.ends ≡ other.ends → KeepsMentions b one new → KeepsMentions a other far
+pub rules_mentioned : (plan : Plan) (a b : ℕ) (one new other far : EdgeState) (out : List ℕ) → new.me ≡ one.me → far.me ≡ other.me → far.ends ≡ other.ends → KeepsMentions b one new
+    → KeepsMentions a other far
     → RulesTo plan a b one other out → RulesTo plan a b new far out
 rules_mentioned plan a b one new other far out same too ends keeps kept rules = record {
   messages = rules.messages;
   octets = rules.octets;
   ruled = all_kept (IsRuled plan a b one other) (IsRuled plan a b new far) rules.messages
-      (λ m ruled. record { fit = ruled.fit; ready = ruled.ready; own = own_mentioned plan one new b m same keeps ruled.own; far = far_mentioned plan other far a m too kept ruled.far; tells = ruled.tells }) rules.ruled;
+      (λ m ruled. record {
+        fit = ruled.fit;
+        ready = ruled.ready;
+        own = own_mentioned plan one new b m same keeps ruled.own;
+        far = far_mentioned plan other far a m too kept ruled.far;
+        tells = ruled.tells;
+      }) rules.ruled;
   bound = λ wire. binds_mentioned one new wire b (far.ends wire a).remote keeps (subst (λ (f : ℕ → ℕ → EndState). BindsGiven one wire b (f wire a).remote) (sym ends) (rules.bound wire));
 }
 
 -- more is said to an end that stands
-more_from : (plan : Plan) (a b : ℕ) (one other : EdgeState) (far : Option Peering) (out said : List ℕ) (messages : List Message) → RulesTo plan a b one other out → said ≡ octets_of_all (ends_at plan a b).me messages
+more_from : (plan : Plan) (a b : ℕ) (one other : EdgeState) (far : Option Peering) (out said : List ℕ) (messages : List Message) → RulesTo plan a b one other out → said
+    ≡ octets_of_all (ends_at plan a b).me messages
     → AllMessages (IsRuled plan a b one other) messages → RulesTo plan a b one other (and_more far out said)
 more_from plan a b one other None out said messages rules is ruled = rules
 more_from plan a b one other (Some kept) out said messages rules is ruled = record {
   messages = rules.messages ++ messages;
-  octets = ap (λ (l : List ℕ). l ++ said) rules.octets ∙ (ap (λ (l : List ℕ). octets_of_all (ends_at plan a b).me rules.messages ++ l) is ∙ sym (all_joined (ends_at plan a b).me rules.messages messages));
+  octets = ap (λ (l : List ℕ). l ++ said) rules.octets
+      ∙ (ap (λ (l : List ℕ). octets_of_all (ends_at plan a b).me rules.messages ++ l) is ∙ sym (all_joined (ends_at plan a b).me rules.messages messages));
   ruled = all_more (IsRuled plan a b one other) rules.messages messages rules.ruled ruled;
   bound = rules.bound;
 }
@@ -111,7 +120,8 @@ rules_back plan place me other first held more work back same keeps left = ⊎_e
     (λ (stays : (holds_of (work.edge.peering place) ≡ held) × (closes place work.effects ≡ false)). record {
       messages = back.messages;
       octets = ap (λ (b : Bool). held_by (work.edge.peering place) ++ cond b [] more) stays.1 ∙ (ap (λ (l : List ℕ). l ++ more) (held_is (work.edge.peering place) held stays.0) ∙ back.octets);
-      ruled = all_kept (IsRuled plan place me other first) (IsRuled plan place me other work.edge) back.messages (λ m ruled. ruled_far plan place me other first work.edge m same keeps ruled) back.ruled;
+      ruled = all_kept (IsRuled plan place me other first) (IsRuled plan place me other work.edge) back.messages
+          (λ m ruled. ruled_far plan place me other first work.edge m same keeps ruled) back.ruled;
       bound = left.bound;
     })
     (λ (gone : (work.edge.peering place ≡ None) × (closes place work.effects ≡ true)). record {
@@ -122,10 +132,12 @@ rules_back plan place me other first held more work back same keeps left = ⊎_e
     })
     left.inward
 
-pub leaves_ruled : (plan : Plan) (me : EdgeId) (place : ℕ) (first other : EdgeState) (out more : List ℕ) (held : Option (List ℕ)) (work : Work) → RulesTo plan me.0 place first other out → RulesTo plan place me.0 other first (octets_held held ++ more)
+pub leaves_ruled : (plan : Plan) (me : EdgeId) (place : ℕ) (first other : EdgeState) (out more : List ℕ) (held : Option (List ℕ)) (work : Work)
+    → RulesTo plan me.0 place first other out → RulesTo plan place me.0 other first (octets_held held ++ more)
     → work.edge.me ≡ first.me → KeepsNames first work.edge → IsRuledFor plan me.0 place other held work → LeavesTo (FromBoth (OutRules plan)) me place other out more work
 leaves_ruled plan me place first other out more held work go back same keeps left = (
-  more_from plan me.0 place work.edge other (other.peering me.0) out (said_to place work.effects) left.messages (rules_from plan me.0 place first work.edge other out same keeps go) left.octets left.ruled,
+  more_from plan me.0 place work.edge other (other.peering me.0) out (said_to place work.effects) left.messages
+      (rules_from plan me.0 place first work.edge other out same keeps go) left.octets left.ruled,
   rules_back plan place me.0 other first held more work back same keeps left,
 )
 
@@ -147,7 +159,8 @@ ruled_in plan network me origin hops first held work others ruled at works out b
         (λ is. subst (λ (k : ℕ). IsRuledEdge plan k (after.edges k)) (sym (eqb-true a me.0 is)) (subst (IsRuledEdge plan me.0) (sym own_edge) works.edge))
         (λ away. subst (IsRuledEdge plan a) (sym (other_edge a away)) (ruled a away));
     two = settle (FromBoth (OutRules plan)) network me origin hops work (both_turn (OutRules plan)) others
-        (λ place away. leaves_ruled plan me place first (network.edges place) (flight network me.0 place) (network.pipes place me.0) (held place) work (out place away) (back place away) (works.edge.place ∙ sym at) works.keeps (works.left place away));
+        (λ place away. leaves_ruled plan me place first (network.edges place) (flight network me.0 place) (network.pipes place me.0) (held place) work (out place away)
+        (back place away) (works.edge.place ∙ sym at) works.keeps (works.left place away));
   };
   own = own_edge;
   other = other_edge;
@@ -165,7 +178,8 @@ ruled_in plan network me origin hops first held work others ruled at works out b
     other_edge : (a : ℕ) → nat_eq a me.0 ≡ false → after.edges a ≡ network.edges a
     other_edge a away = ap (λ (f : ℕ → EdgeState). f a) edges ∙ edge_else me work.edge network a away
 
-pub ruled_settle : (plan : Plan) (network : NetworkState) (me : EdgeId) (origin hops : ℕ) (first : EdgeState) (held : ℕ → Option (List ℕ)) (work : Work) → HoldsBut (FromBoth (OutRules plan)) me.0 network
+pub ruled_settle : (plan : Plan) (network : NetworkState) (me : EdgeId) (origin hops : ℕ) (first : EdgeState) (held : ℕ → Option (List ℕ)) (work : Work)
+    → HoldsBut (FromBoth (OutRules plan)) me.0 network
     → ((a : ℕ) → nat_eq a me.0 ≡ false → IsRuledEdge plan a (network.edges a)) → first.me ≡ record { 0 = me.0 } → WorksRuled plan network.edges me.0 first held work
     → ((place : ℕ) → nat_eq place me.0 ≡ false → RulesTo plan me.0 place first (network.edges place) (flight network me.0 place))
     → ((place : ℕ) → nat_eq place me.0 ≡ false → RulesTo plan place me.0 (network.edges place) first (octets_held (held place) ++ network.pipes place me.0))
@@ -187,7 +201,8 @@ ruled_settle plan network me origin hops first held work others ruled at works o
 abbrev pub held_at : NetworkState → ℕ → ℕ → Option (List ℕ)
 held_at network me place = holds_of ((network.edges me).peering place)
 
-pub ruled_begin : (plan : Plan) (network : NetworkState) (me : EdgeId) → IsRuledNetwork plan network → WorksRuled plan network.edges me.0 (network.edges me.0) (held_at network me.0) (begin_at network me)
+pub ruled_begin : (plan : Plan) (network : NetworkState) (me : EdgeId) → IsRuledNetwork plan network
+    → WorksRuled plan network.edges me.0 (network.edges me.0) (held_at network me.0) (begin_at network me)
 ruled_begin plan network me ruled = record {
   edge = ruled.edges me.0;
   keeps = names_same (network.edges me.0);
@@ -204,15 +219,18 @@ pub held_again : (near : Option Peering) → held_by near ≡ octets_held (holds
 held_again None = refl
 held_again (Some kept) = refl
 
-pub ruled_work : (plan : Plan) (network : NetworkState) (me : EdgeId) (origin hops : ℕ) (work : Work) → IsRuledNetwork plan network → WorksRuled plan network.edges me.0 (network.edges me.0) (held_at network me.0) work
+pub ruled_work : (plan : Plan) (network : NetworkState) (me : EdgeId) (origin hops : ℕ) (work : Work) → IsRuledNetwork plan network
+    → WorksRuled plan network.edges me.0 (network.edges me.0) (held_at network me.0) work
     → StaysRuled plan network (absorb me origin hops work network).state
 ruled_work plan network me origin hops work ruled works =
     ruled_settle plan network me origin hops (network.edges me.0) (held_at network me.0) work (λ a b apart away gone. ruled.two a b apart) (λ a away. ruled.edges a) (ruled.edges me.0).place works
     (λ place away. (ruled.two me.0 place (apart_back place me.0 away)).0)
-    (λ place away. subst (λ (l : List ℕ). RulesTo plan place me.0 (network.edges place) (network.edges me.0) (l ++ network.pipes place me.0)) (held_again ((network.edges me.0).peering place)) (ruled.two me.0 place (apart_back place me.0 away)).1)
+    (λ place away. subst (λ (l : List ℕ). RulesTo plan place me.0 (network.edges place) (network.edges me.0) (l ++ network.pipes place me.0))
+    (held_again ((network.edges me.0).peering place)) (ruled.two me.0 place (apart_back place me.0 away)).1)
     (names_same (network.edges me.0))
 
-pub ruled_answer : (plan : Plan) (network : NetworkState) (me : EdgeId) (origin hops : ℕ) (work : Work) → IsRuledNetwork plan network → WorksRuled plan network.edges me.0 (network.edges me.0) (held_at network me.0) work
+pub ruled_answer : (plan : Plan) (network : NetworkState) (me : EdgeId) (origin hops : ℕ) (work : Work) → IsRuledNetwork plan network
+    → WorksRuled plan network.edges me.0 (network.edges me.0) (held_at network me.0) work
     → StaysRuled plan network (answer me origin hops work network).state
 ruled_answer plan network me origin hops work ruled works = by_idle work.idle where
   by_idle : (b : Bool) → StaysRuled plan network (cond b (idle network) (absorb me origin hops work network)).state

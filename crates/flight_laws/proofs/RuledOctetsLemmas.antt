@@ -50,7 +50,8 @@ module _ (plan : Plan) (others : ℕ → EdgeState) (me : ℕ) (first : EdgeStat
     bits = works.edge.bits;
     tells = λ wire k. works.edge.tells wire k;
     sessions = λ k. split {P = FitsIf (ends_at plan me k) (result.edge.peering k)} (nat_eq k peer.0)
-        (λ is. rw is (subst (λ (n : ℕ). IsFitEnd (ends_at plan me n) (record kept { held = rest })) (sym (eqb-true k peer.0 is)) (still (subst (FitsIf (ends_at plan me peer.0)) at (works.edge.sessions peer.0)))))
+        (λ is. rw is (subst (λ (n : ℕ). IsFitEnd (ends_at plan me n) (record kept { held = rest })) (sym (eqb-true k peer.0 is))
+        (still (subst (FitsIf (ends_at plan me peer.0)) at (works.edge.sessions peer.0)))))
         (λ apart. rw apart (works.edge.sessions k));
     each = λ place away.
         let old = works.left place away in
@@ -74,7 +75,8 @@ module _ (plan : Plan) (others : ℕ → EdgeState) (me : ℕ) (first : EdgeStat
       still : IsFitEnd (ends_at plan me peer.0) kept → IsFitEnd (ends_at plan me peer.0) (record kept { held = rest })
       still fit = record { session = fit.session; fit = fit.fit; numbered = fit.numbered }
 
-  holds_none : (peer : EdgeId) (rest before : List ℕ) (last : Work) → held peer.0 ≡ Some before → last.edge.peering peer.0 ≡ None → WorksRuled plan others me first held last → WorksRuled plan others me first (held_now peer.0 rest held) last
+  holds_none : (peer : EdgeId) (rest before : List ℕ) (last : Work) → held peer.0 ≡ Some before → last.edge.peering peer.0 ≡ None → WorksRuled plan others me first held last
+      → WorksRuled plan others me first (held_now peer.0 rest held) last
   holds_none peer rest before last was at works = record {
     edge = works.edge;
     keeps = works.keeps;
@@ -88,14 +90,16 @@ module _ (plan : Plan) (others : ℕ → EdgeState) (me : ℕ) (first : EdgeStat
           inward = split {P = IsInward place (held_now peer.0 rest held place) last} (nat_eq place peer.0)
               (λ is. ⊎_elim
               (λ (stays : (holds_of (last.edge.peering place) ≡ held place) × (closes place last.effects ≡ false)).
-              some_not_none (sym (ap (λ (o : Option Peering). holds_of o) (ap (λ (k : ℕ). last.edge.peering k) (eqb-true place peer.0 is) ∙ at)) ∙ (stays.0 ∙ (ap held (eqb-true place peer.0 is) ∙ was))))
+              some_not_none (sym (ap (λ (o : Option Peering). holds_of o) (ap (λ (k : ℕ). last.edge.peering k) (eqb-true place peer.0 is) ∙ at))
+              ∙ (stays.0 ∙ (ap held (eqb-true place peer.0 is) ∙ was))))
               (λ (gone : (last.edge.peering place ≡ None) × (closes place last.effects ≡ true)). inr gone)
               old.inward)
               (λ apart. rw apart old.inward);
         };
   }
 
-  pub holds_ruled : (peer : EdgeId) (rest before : List ℕ) (last : Work) → held peer.0 ≡ Some before → WorksRuled plan others me first held last → WorksRuled plan others me first (held_now peer.0 rest held) (holds peer rest (last.edge.peering peer.0) last)
+  pub holds_ruled : (peer : EdgeId) (rest before : List ℕ) (last : Work) → held peer.0 ≡ Some before → WorksRuled plan others me first held last
+      → WorksRuled plan others me first (held_now peer.0 rest held) (holds peer rest (last.edge.peering peer.0) last)
   holds_ruled peer rest before last was works = by_end (last.edge.peering peer.0) refl where
     by_end : (near : Option Peering) → last.edge.peering peer.0 ≡ near → WorksRuled plan others me first (held_now peer.0 rest held) (holds peer rest near last)
     by_end None at = holds_none peer rest before last was at works
@@ -112,7 +116,8 @@ pub record HasHeardRuled (plan : Plan) (others : ℕ → EdgeState) (me peer : �
   pub ruled : AllMessages (IsRuled plan peer me (others peer) first) later
 
 pub octets_ruled : (plan : Plan) (checked : IsChecked plan) (types : HasTypes plan) (others : ℕ → EdgeState) (me peer : EdgeId) (first : EdgeState) (held : ℕ → Option (List ℕ)) (before octets more : List ℕ) (messages : List Message) (work : Work)
-    → nat_eq peer.0 me.0 ≡ false → (others peer.0).me ≡ peer → held peer.0 ≡ Some before → AreFit (ends_at plan peer.0 me.0) → AreSaid (ends_at plan peer.0 me.0) messages → octets ++ more ≡ octets_of_all (ends_at plan peer.0 me.0).me messages
+    → nat_eq peer.0 me.0 ≡ false → (others peer.0).me ≡ peer → held peer.0 ≡ Some before → AreFit (ends_at plan peer.0 me.0) → AreSaid (ends_at plan peer.0 me.0) messages
+    → octets ++ more ≡ octets_of_all (ends_at plan peer.0 me.0).me messages
     → AllMessages (IsRuled plan peer.0 me.0 (others peer.0) first) messages → WorksRuled plan others me.0 first held work
     → HasHeardRuled plan others me.0 peer.0 first held more (mends plan taken_all (hears plan taken_all peer octets work))
 octets_ruled plan checked types others me peer first held before octets more messages work away placed was fit said e ruled works =
@@ -124,7 +129,8 @@ octets_ruled plan checked types others me peer first held before octets more mes
       rest = heard.rest;
       later = heard.later;
       works = mends_ruled plan checked types others me first (held_now peer.0 heard.rest held) (hears plan taken_all peer octets work)
-          (subst (WorksRuled plan others me.0 first (held_now peer.0 heard.rest held)) (sym heard.is) (holds_ruled plan others me.0 first held peer heard.rest before heard.last was heard.keeps.works));
+          (subst (WorksRuled plan others me.0 first (held_now peer.0 heard.rest held)) (sym heard.is)
+          (holds_ruled plan others me.0 first held peer heard.rest before heard.last was heard.keeps.works));
       behind = heard.behind;
       ruled = heard.keeps.to_hear;
     }
@@ -132,7 +138,8 @@ octets_ruled plan checked types others me peer first held before octets more mes
 -- ---- a connection comes up
 
 -- an end that stands where none stood before
-stands_ruled : (plan : Plan) (others : ℕ → EdgeState) (me : ℕ) (first : EdgeState) (held : ℕ → Option (List ℕ)) (peer : EdgeId) (now : Peering) (work : Work) → now.held ≡ [] → closes peer.0 work.effects ≡ false → IsFitEnd (ends_at plan me peer.0) now
+stands_ruled : (plan : Plan) (others : ℕ → EdgeState) (me : ℕ) (first : EdgeState) (held : ℕ → Option (List ℕ)) (peer : EdgeId) (now : Peering) (work : Work) → now.held ≡ []
+    → closes peer.0 work.effects ≡ false → IsFitEnd (ends_at plan me peer.0) now
     → WorksRuled plan others me first held work → WorksRuled plan others me first (held_now peer.0 [] held) (changes (with_peering peer (Some now)) work)
 unfolding changes with_peering
 stands_ruled plan others me first held peer now work none not_closed fit works = steps_keep plan others me first held (held_now peer.0 [] held) work result (record {

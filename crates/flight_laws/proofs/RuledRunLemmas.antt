@@ -32,7 +32,8 @@ is_tick Tick = true
 is_tick event = false
 
 -- each event but a tick keeps the rules, and each label goes on to be carried as before
-pub brings_stays : (plan : Plan) (event : Event) (network : NetworkState) → IsChecked plan → HasTypes plan → IsEventOf plan event → IsOrdered plan network → IsRuledNetwork plan network → is_tick event ≡ false → StaysRuled plan network (brings plan event network).state
+pub brings_stays : (plan : Plan) (event : Event) (network : NetworkState) → IsChecked plan → HasTypes plan → IsEventOf plan event → IsOrdered plan network → IsRuledNetwork plan network
+    → is_tick event ≡ false → StaysRuled plan network (brings plan event network).state
 brings_stays plan (Connect from to) network checked types planned ordered ruled still = connect_event_ruled plan checked types from to network ordered ruled
 brings_stays plan (Deliver from to count) network checked types planned ordered ruled still = deliver_event_ruled plan checked types from to count network ordered ruled
 brings_stays plan (Lose me peer) network checked types planned ordered ruled still = lose_ruled plan checked types me peer network ruled
@@ -48,7 +49,8 @@ brings_stays plan (Discard number) network checked types planned ordered ruled s
 brings_stays plan (Again number) network checked types planned ordered ruled still = again_event_ruled plan checked types (packet_at network number) network ruled
 brings_stays plan (Ping me wire) network checked types planned ordered ruled still = ping_event_ruled plan checked types me wire network ruled
 
-pub brings_ruled : (plan : Plan) (event : Event) (network : NetworkState) → IsChecked plan → HasTypes plan → IsEventOf plan event → IsOrdered plan network → IsRuledNetwork plan network → IsRuledNetwork plan (brings plan event network).state
+pub brings_ruled : (plan : Plan) (event : Event) (network : NetworkState) → IsChecked plan → HasTypes plan → IsEventOf plan event → IsOrdered plan network → IsRuledNetwork plan network
+    → IsRuledNetwork plan (brings plan event network).state
 brings_ruled plan Tick network checked types planned ordered ruled = (tick_event_ruled plan checked types network ruled).ruled
 brings_ruled plan event network checked types planned ordered ruled = (brings_stays plan event network checked types planned ordered ruled refl).ruled
 
@@ -72,18 +74,21 @@ empty_ruled plan checked = record {
   );
 }
 
-pub after_ruled : (plan : Plan) (events : List Event) (network : NetworkState) → IsChecked plan → HasTypes plan → All (IsEventOf plan) events → IsOrdered plan network → IsRuledNetwork plan network → IsRuledNetwork plan (state_after plan network events)
+pub after_ruled : (plan : Plan) (events : List Event) (network : NetworkState) → IsChecked plan → HasTypes plan → All (IsEventOf plan) events → IsOrdered plan network
+    → IsRuledNetwork plan network → IsRuledNetwork plan (state_after plan network events)
 after_ruled plan [] network checked types planned ordered ruled = ruled
 after_ruled plan (e ∷ es) network checked types planned ordered ruled =
     let here : IsEventOf plan e = All-head (IsEventOf plan) e es planned in
-    after_ruled plan es (step plan network e).state checked types (All-tail (IsEventOf plan) e es planned) (step_keeps plan e network checked types here ordered).ordered (brings_ruled plan e network checked types here ordered ruled)
+    after_ruled plan es (step plan network e).state checked types (All-tail (IsEventOf plan) e es planned) (step_keeps plan e network checked types here ordered).ordered
+    (brings_ruled plan e network checked types here ordered ruled)
 
 pub run_ruled : (plan : Plan) (events : List Event) → IsRun plan events → IsRuledNetwork plan (network_after plan events)
 run_ruled plan events run = after_ruled plan events (empty_network plan) run.checked run.types run.planned (empty_ordered plan run.checked) (empty_ruled plan run.checked)
 
 -- ---- the laws
 
-pub messages_said : (plan : Plan) (network : NetworkState) (a b : ℕ) (apart : nat_eq a b ≡ false) → IsOrdered plan network → (ruled : IsRuledNetwork plan network) → AreOnWay plan network a b (ruled.two a b apart).0.messages
+pub messages_said : (plan : Plan) (network : NetworkState) (a b : ℕ) (apart : nat_eq a b ≡ false) → IsOrdered plan network → (ruled : IsRuledNetwork plan network)
+    → AreOnWay plan network a b (ruled.two a b apart).0.messages
 messages_said plan network a b apart ordered ruled = record {
   octets = (ruled.two a b apart).0.octets;
   said = ruled_said plan a b (network.edges a) (network.edges b) (ruled.two a b apart).0.messages (ordered.two a b apart).messages (ruled.two a b apart).0.ruled (ordered.two a b apart).talk.said

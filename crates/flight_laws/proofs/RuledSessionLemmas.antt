@@ -46,7 +46,8 @@ fit_reply own reply.Init id fit is low = ready own (message_of reply.Init id own
 fit_reply own reply.KeepAlive id fit is low = ready own (message_of reply.KeepAlive id own) fit low
 fit_reply own (reply.Notice status) id fit is low = ready_reply own (reply.Notice status) id fit is.0 (low, is.1, is.2, tt, tt)
 
-pub reply_ruled : (plan : Plan) (me place : ℕ) (one other : EdgeState) (r : Reply) (id : ℕ) → AreFit (ends_at plan me place) → IsFitReply r → id < 2 ^ 32 → IsRuled plan me place one other (message_of r id (ends_at plan me place))
+pub reply_ruled : (plan : Plan) (me place : ℕ) (one other : EdgeState) (r : Reply) (id : ℕ) → AreFit (ends_at plan me place) → IsFitReply r → id < 2 ^ 32
+    → IsRuled plan me place one other (message_of r id (ends_at plan me place))
 reply_ruled plan me place one other r id fit is low = record {
   fit = fit;
   ready = fit_reply (ends_at plan me place) r id fit is low;
@@ -140,7 +141,8 @@ module _ (plan : Plan) (others : ℕ → EdgeState) (me : ℕ) (first : EdgeStat
     pub stands : put.work.edge.peering peer.0 ≡ Some kept
     pub taken : put.failed ≡ false
 
-  one_put : (peer : EdgeId) (kept : Peering) (r : Reply) (work : Work) → work.edge.peering peer.0 ≡ Some kept → IsFitReply r → WorksRuled plan others me first held work → IsPut peer kept (put_reply taken_all peer r work)
+  one_put : (peer : EdgeId) (kept : Peering) (r : Reply) (work : Work) → work.edge.peering peer.0 ≡ Some kept → IsFitReply r → WorksRuled plan others me first held work
+      → IsPut peer kept (put_reply taken_all peer r work)
   one_put peer kept r work at is works =
       let fit : IsFitEnd (ends_at plan me peer.0) kept = fits_at peer kept work at works in
       rw at (subst (λ (p : Peers). IsPut peer kept (put_octets peer (written (message_of r kept.next_id p) (platform_of p.me)) true work)) (sym fit.session.peers)
@@ -173,11 +175,16 @@ module _ (plan : Plan) (others : ℕ → EdgeState) (me : ℕ) (first : EdgeStat
           ruled = tt;
           bound = λ wire. before.bound wire;
           inward = split {P = IsInward place (held place) (ends peer why work)} (nat_eq place peer.0)
-              (λ is. inr (rw is refl, closes-append place (work.effects ++ effect.Session peer (name.Ended why) ∷ []) (effect.Closed peer ∷ []) ∙ rw is (or_true (closes place (work.effects ++ effect.Session peer (name.Ended why) ∷ [])))))
+              (λ is. inr (
+                rw is refl,
+                closes-append place (work.effects ++ effect.Session peer (name.Ended why) ∷ []) (effect.Closed peer ∷ [])
+                    ∙ rw is (or_true (closes place (work.effects ++ effect.Session peer (name.Ended why) ∷ []))),
+              ))
               (λ apart.
               let closed : closes place (ends peer why work).effects ≡ closes place work.effects =
               closes-append place (work.effects ++ effect.Session peer (name.Ended why) ∷ []) (effect.Closed peer ∷ [])
-              ∙ (rw apart (or_false (closes place (work.effects ++ effect.Session peer (name.Ended why) ∷ []))) ∙ (closes-append place work.effects (effect.Session peer (name.Ended why) ∷ []) ∙ or_false (closes place work.effects))) in
+              ∙ (rw apart (or_false (closes place (work.effects ++ effect.Session peer (name.Ended why) ∷ [])))
+              ∙ (closes-append place work.effects (effect.Session peer (name.Ended why) ∷ []) ∙ or_false (closes place work.effects))) in
               rw (apart, closed) before.inward);
         };
   }) works
@@ -188,9 +195,11 @@ module _ (plan : Plan) (others : ℕ → EdgeState) (me : ℕ) (first : EdgeStat
   told_ruled peer old new work works = by_change (is_same_phase old new) where
     by_change : (same : Bool) → WorksRuled plan others me first held (cond same work (gives (effect.Session peer (phase_name new)) work))
     by_change true = works
-    by_change false = quiet_keeps plan others me first held work (gives (effect.Session peer (phase_name new)) work) (gives_quiet (effect.Session peer (phase_name new)) work (session_nothing peer (phase_name new))) works
+    by_change false = quiet_keeps plan others me first held work (gives (effect.Session peer (phase_name new)) work)
+        (gives_quiet (effect.Session peer (phase_name new)) work (session_nothing peer (phase_name new))) works
 
-  comes_ruled : (peer : EdgeId) (kept : Peering) (outcome : Outcome) (work : Work) → work.edge.peering peer.0 ≡ Some kept → FitOutcome (ends_at plan me peer.0) outcome → WorksRuled plan others me first held work
+  comes_ruled : (peer : EdgeId) (kept : Peering) (outcome : Outcome) (work : Work) → work.edge.peering peer.0 ≡ Some kept → FitOutcome (ends_at plan me peer.0) outcome
+      → WorksRuled plan others me first held work
       → WorksRuled plan others me first held (comes_of taken_all peer kept outcome work)
   comes_ruled peer kept Stay work at fits works = works
   comes_ruled peer kept (Goes next replies) work at fits works =
@@ -204,7 +213,8 @@ module _ (plan : Plan) (others : ℕ → EdgeState) (me : ℕ) (first : EdgeStat
   comes_ruled peer kept (Ends why replies) work at fits works =
       end_ruled peer why (put_replies taken_all peer replies work).work (replies_put peer replies kept work at fits works).works
 
-  pub happens_ruled : (peer : EdgeId) (event : SessionEvent) (work : Work) → FitEvent event → WorksRuled plan others me first held work → WorksRuled plan others me first held (happens taken_all peer event work)
+  pub happens_ruled : (peer : EdgeId) (event : SessionEvent) (work : Work) → FitEvent event → WorksRuled plan others me first held work
+      → WorksRuled plan others me first held (happens taken_all peer event work)
   happens_ruled peer event work is works = by_end (work.edge.peering peer.0) refl where
     by_end : (near : Option Peering) → work.edge.peering peer.0 ≡ near → WorksRuled plan others me first held (happens_to taken_all peer event near work)
     by_end None at = works
@@ -222,7 +232,8 @@ module _ (plan : Plan) (others : ℕ → EdgeState) (me : ℕ) (first : EdgeStat
     most = works.edge.most;
     bits = works.edge.bits;
     tells = λ wire k. beside_fact (λ w p e. TellsAt plan me w p e) peer lost work.edge wire k (λ same. fresh_tells plan me wire k) (works.edge.tells wire k);
-    bound = λ place wire away. beside_fact (λ w p e. p ≡ place → BindsGiven (others place) w me e.remote) peer lost work.edge wire place (λ same is. tt) (λ is. (works.left place away).bound wire) refl;
+    bound = λ place wire away. beside_fact (λ w p e. p ≡ place → BindsGiven (others place) w me e.remote) peer lost work.edge wire place (λ same is. tt)
+        (λ is. (works.left place away).bound wire) refl;
   }
 
   pub clears_ruled : (peer : EdgeId) (work : Work) → WorksRuled plan others me first held work → WorksRuled plan others me first held (clears_ends peer work)
@@ -231,13 +242,15 @@ module _ (plan : Plan) (others : ℕ → EdgeState) (me : ℕ) (first : EdgeStat
     by_end true = works
     by_end false = changes_keep plan others me first held (losing_ends peer) work (lost_changes peer work works) works
 
-  pub event_ruled : (peer : EdgeId) (event : SessionEvent) (work : Work) → FitEvent event → WorksRuled plan others me first held work → WorksRuled plan others me first held (happens_with_ends taken_all peer event work)
+  pub event_ruled : (peer : EdgeId) (event : SessionEvent) (work : Work) → FitEvent event → WorksRuled plan others me first held work
+      → WorksRuled plan others me first held (happens_with_ends taken_all peer event work)
   event_ruled peer event work is works = clears_ruled peer (happens taken_all peer event work) (happens_ruled peer event work is works)
 
   -- ---- a message is said
 
   pub says_ruled : (peer : EdgeId) (message : ℕ → Message) (work : Work)
-      → ((id : ℕ) → id < 2 ^ 32 → AreFit (ends_at plan me peer.0) → nat_eq peer.0 me ≡ false → IsRuled plan me peer.0 work.edge (others peer.0) (message id)) → WorksRuled plan others me first held work
+      → ((id : ℕ) → id < 2 ^ 32 → AreFit (ends_at plan me peer.0) → nat_eq peer.0 me ≡ false → IsRuled plan me peer.0 work.edge (others peer.0) (message id))
+      → WorksRuled plan others me first held work
       → WorksRuled plan others me first held (says taken_all peer message work).work
   says_ruled peer message work ruled works = by_end (work.edge.peering peer.0) refl where
     by_end : (near : Option Peering) → work.edge.peering peer.0 ≡ near → WorksRuled plan others me first held (says_to taken_all peer message near work).work

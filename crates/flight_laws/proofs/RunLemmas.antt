@@ -58,12 +58,15 @@ step_keeps plan event network checked types planned ordered =
     let kept = brings_keeps plan event network checked types planned ordered in
     record { ordered = kept.ordered; good = (tt, kept.good) }
 
-after_ordered : (plan : Plan) (events : List Event) (network : NetworkState) → IsChecked plan → HasTypes plan → All (IsEventOf plan) events → IsOrdered plan network → IsOrdered plan (state_after plan network events)
+after_ordered : (plan : Plan) (events : List Event) (network : NetworkState) → IsChecked plan → HasTypes plan → All (IsEventOf plan) events → IsOrdered plan network
+    → IsOrdered plan (state_after plan network events)
 after_ordered plan [] network checked types planned ordered = ordered
 after_ordered plan (e ∷ es) network checked types planned ordered =
-    after_ordered plan es (step plan network e).state checked types (All-tail (IsEventOf plan) e es planned) (step_keeps plan e network checked types (All-head (IsEventOf plan) e es planned) ordered).ordered
+    after_ordered plan es (step plan network e).state checked types (All-tail (IsEventOf plan) e es planned)
+    (step_keeps plan e network checked types (All-head (IsEventOf plan) e es planned) ordered).ordered
 
-along_good : (plan : Plan) (events : List Event) (network : NetworkState) → IsChecked plan → HasTypes plan → All (IsEventOf plan) events → IsOrdered plan network → TellGoodEnds (entries_along plan network events)
+along_good : (plan : Plan) (events : List Event) (network : NetworkState) → IsChecked plan → HasTypes plan → All (IsEventOf plan) events → IsOrdered plan network
+    → TellGoodEnds (entries_along plan network events)
 along_good plan [] network checked types planned ordered = tt
 along_good plan (e ∷ es) network checked types planned ordered =
     let kept = step_keeps plan e network checked types (All-head (IsEventOf plan) e es planned) ordered in
@@ -82,7 +85,8 @@ empty_ordered plan checked = record {
   two = λ a b apart. record { messages = []; answers = []; out_is = refl; back_is = refl; talk = record { said = tt; answered = tt; here = tt; there = tt; steps = refl } };
   alone = λ a. refl;
   placed = λ a. refl;
-  sound = λ a. (let fits = first_fits plan (slice_get plan.edges a) a refl checked in record { least = fits.0; most = fits.1; kept = λ label there. absurd (there refl); bits = λ wire. omega arith; ends = λ wire peer. (refl, refl) });
+  sound = λ a. (let fits = first_fits plan (slice_get plan.edges a) a refl checked in
+      record { least = fits.0; most = fits.1; kept = λ label there. absurd (there refl); bits = λ wire. omega arith; ends = λ wire peer. (refl, refl) });
 }
 
 pub run_ordered : (plan : Plan) (events : List Event) → IsRun plan events → IsOrdered plan (network_after plan events)
@@ -96,12 +100,14 @@ both_apart plan network a b ordered up = elim (cases_Bool (nat_eq a b)) [
   | inr apart ↦ apart
 ]
 
-follows : (plan : Plan) (network : NetworkState) (a b : ℕ) (near far : Option Peering) → (network.edges a).peering b ≡ near → (network.edges b).peering a ≡ far → is_there near ≡ true → is_there far ≡ true
+follows : (plan : Plan) (network : NetworkState) (a b : ℕ) (near far : Option Peering) → (network.edges a).peering b ≡ near → (network.edges b).peering a ≡ far → is_there near ≡ true
+    → is_there far ≡ true
     → ArePaired (ends_at plan a b) (ends_at plan b a) near far (flight network a b) (flight network b a) → FollowsTable plan network a b
 follows plan network a b None far is is' up up' pair = clash up
 follows plan network a b (Some x) None is is' up up' pair = clash up'
 follows plan network a b (Some x) (Some y) is is' up up' pair = record {
-  one_active = ends_agree.one_active (ends_at plan a b) (ends_at plan b a) pair.talk.here.between.facing pair.talk.here.between.one.me pair.talk.here.between.one.peer pair.talk.here.between.one.proper;
+  one_active = ends_agree.one_active (ends_at plan a b)
+      (ends_at plan b a) pair.talk.here.between.facing pair.talk.here.between.one.me pair.talk.here.between.one.peer pair.talk.here.between.one.proper;
   in_row = λ active. record {
     active = x;
     passive = y;

@@ -180,7 +180,8 @@ all_octets ends (m ∷ ms) fit said = octets_append (written m (platform_of ends
 
 pub all_joined : (router : Addr) (xs ys : List Message) → octets_of_all router (xs ++ ys) ≡ octets_of_all router xs ++ octets_of_all router ys
 all_joined router [] ys = refl
-all_joined router (x ∷ xs) ys = ap (λ (l : List ℕ). written x (platform_of router) ++ l) (all_joined router xs ys) ∙ sym (append_assoc (written x (platform_of router)) (octets_of_all router xs) (octets_of_all router ys))
+all_joined router (x ∷ xs) ys = ap (λ (l : List ℕ). written x (platform_of router) ++ l) (all_joined router xs ys)
+    ∙ sym (append_assoc (written x (platform_of router)) (octets_of_all router xs) (octets_of_all router ys))
 
 pub said-append : (ends : Peers) (xs ys : List Message) → AreSaid ends xs → AreSaid ends ys → AreSaid ends (xs ++ ys)
 said-append ends [] ys one other = other

@@ -45,7 +45,8 @@ wrote_there peer kept bytes work at =
     ap is_there (wrote_shows peer kept bytes work (said_to peer.0 work.effects) (closes peer.0 work.effects) (record { keeps = at; says = refl; ended = refl })).keeps
 
 -- the message is put, with the Message ID that is next
-pub says_is : (peer : EdgeId) (message : ℕ → Message) (kept : Peering) (work : Work) → work.edge.peering peer.0 ≡ Some kept → (says taken_all peer message work).work ≡ wrote peer (message_octets_of kept message) work
+pub says_is : (peer : EdgeId) (message : ℕ → Message) (kept : Peering) (work : Work) → work.edge.peering peer.0 ≡ Some kept → (says taken_all peer message work).work
+    ≡ wrote peer (message_octets_of kept message) work
 unfolding wrote
 says_is peer message kept work at = rw at (clears_not peer (wrote peer (message_octets_of kept message) work) (wrote_there peer kept (message_octets_of kept message) work at))
 
@@ -76,7 +77,8 @@ says_shows peer message kept work said closed shows =
 pub one_octets : (own : Peers) (message : ℕ → Message) (kept : Peering) → kept.session.peers ≡ own → message_octets_of kept message ≡ octets_of_all own.me (message kept.next_id ∷ [])
 one_octets own message kept peers = ap (λ (p : Peers). written (message kept.next_id) (platform_of p.me)) peers ∙ sym (same_end (written (message kept.next_id) (platform_of own.me)))
 
-pub left_says : (own other : Peers) (peer : EdgeId) (kept : Peering) (far : Option Peering) (out more : List ℕ) (message : ℕ → Message) (work : Work) → work.edge.peering peer.0 ≡ Some kept → kept.session.phase ≡ phase.Operational
+pub left_says : (own other : Peers) (peer : EdgeId) (kept : Peering) (far : Option Peering) (out more : List ℕ) (message : ℕ → Message) (work : Work) → work.edge.peering peer.0
+    ≡ Some kept → kept.session.phase ≡ phase.Operational
     → IsOfWires message → IsLeft own other peer.0 far out more work → IsLeft own other peer.0 far out more (says taken_all peer message work).work
 left_says own other peer kept far out more message work at up is left =
     let said : List ℕ = said_to peer.0 work.effects in
@@ -95,7 +97,8 @@ left_says own other peer kept far out more message work at up is left =
       unclosed = λ k e. shows.ended;
     }
 
-pub meets_says : (own other : Peers) (me peer : EdgeId) (kept : Peering) (far : Option Peering) (out : List ℕ) (answers : List Message) (message : ℕ → Message) (work : Work) → work.edge.peering peer.0 ≡ Some kept
+pub meets_says : (own other : Peers) (me peer : EdgeId) (kept : Peering) (far : Option Peering) (out : List ℕ) (answers : List Message) (message : ℕ → Message) (work : Work)
+    → work.edge.peering peer.0 ≡ Some kept
     → kept.session.phase ≡ phase.Operational → IsOfWires message → Meets own other me peer far out answers work → Meets own other me peer far out answers (says taken_all peer message work).work
 meets_says own other me peer kept far out answers message work at up is meets =
     let said : List ℕ = said_to peer.0 work.effects in

@@ -34,7 +34,8 @@ pub said_behind : (far : Option Peering) (pipe said : List ℕ) → held_by far 
 said_behind None pipe said = refl
 said_behind (Some kept) pipe said = sym (append_assoc kept.held pipe said)
 
-pub settle : (P : Fact) (network : NetworkState) (me : EdgeId) (origin hops : ℕ) (work : Work) → Turns P → HoldsBut P me.0 network → ((place : ℕ) → nat_eq place me.0 ≡ false → LeavesFor P network me work place)
+pub settle : (P : Fact) (network : NetworkState) (me : EdgeId) (origin hops : ℕ) (work : Work) → Turns P → HoldsBut P me.0 network
+    → ((place : ℕ) → nat_eq place me.0 ≡ false → LeavesFor P network me work place)
     → HoldsOfTwo P (absorb me origin hops work network).state
 settle P network me origin hops work turns others own a b apart = elim (cases_Bool (nat_eq a me.0)) [
   | inl first ↦ subst (λ (k : ℕ). HoldsAt P after k b) (sym (eqb-true a me.0 first)) (from_me b (apart_back me.0 b (subst (λ (k : ℕ). nat_eq k b ≡ false) (eqb-true a me.0 first) apart)))

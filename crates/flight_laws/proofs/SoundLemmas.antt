@@ -75,7 +75,8 @@ renewed_sound limit true false e sound = (by_local e.local sound.0, sound.1) whe
 
 -- only the ends change
 pub sound_ends : {limit : ℕ → ℕ} → (old new : EdgeState) → new.next_label ≡ old.next_label → new.kept ≡ old.kept → new.bits ≡ old.bits → new.peering ≡ old.peering
-    → ((wire peer : ℕ) → IsSoundEnd (limit wire) (is_up_with (old.peering peer)) (old.ends wire peer) → IsSoundEnd (limit wire) (is_up_with (old.peering peer)) (new.ends wire peer)) → TellsSoundly limit old → TellsSoundly limit new
+    → ((wire peer : ℕ) → IsSoundEnd (limit wire) (is_up_with (old.peering peer)) (old.ends wire peer) → IsSoundEnd (limit wire) (is_up_with (old.peering peer)) (new.ends wire peer))
+    → TellsSoundly limit old → TellsSoundly limit new
 sound_ends old new label kept bits peering change sound = record {
   least = rw label sound.least;
   most = rw label sound.most;
@@ -85,7 +86,8 @@ sound_ends old new label kept bits peering change sound = record {
 }
 
 -- nothing of it changes
-pub sound_same : {limit : ℕ → ℕ} → (old new : EdgeState) → new.next_label ≡ old.next_label → new.kept ≡ old.kept → new.bits ≡ old.bits → new.peering ≡ old.peering → new.ends ≡ old.ends → TellsSoundly limit old → TellsSoundly limit new
+pub sound_same : {limit : ℕ → ℕ} → (old new : EdgeState) → new.next_label ≡ old.next_label → new.kept ≡ old.kept → new.bits ≡ old.bits → new.peering ≡ old.peering → new.ends ≡ old.ends
+    → TellsSoundly limit old → TellsSoundly limit new
 sound_same old new label kept bits peering ends sound = sound_ends old new label kept bits peering (λ wire peer is. rw ends is) sound
 
 pub sound_with_end : {limit : ℕ → ℕ} → (place : EndPlace) (end : EndState) (edge : EdgeState) → IsSoundEnd (limit place.wire.0) (is_up_with (edge.peering place.peer.0)) end → TellsSoundly limit edge
@@ -99,7 +101,8 @@ sound_with_end {limit} place end edge is sound = sound_ends edge (with_end place
     | inr apart ↦ rw apart before
   ]
 
-  at_wire : (wire peer : ℕ) → IsSoundEnd (limit wire) (is_up_with (edge.peering peer)) (edge.ends wire peer) → IsSoundEnd (limit wire) (is_up_with (edge.peering peer)) ((with_end place end edge).ends wire peer)
+  at_wire : (wire peer : ℕ) → IsSoundEnd (limit wire) (is_up_with (edge.peering peer)) (edge.ends wire peer)
+      → IsSoundEnd (limit wire) (is_up_with (edge.peering peer)) ((with_end place end edge).ends wire peer)
   at_wire wire peer before = elim (cases_Bool (nat_eq wire place.wire.0)) [
     | inl same ↦ (let e : wire ≡ place.wire.0 = eqb-true wire place.wire.0 same in
         rw same (at_peer (limit wire) peer (edge.ends place.wire.0 peer) (subst (λ (w : ℕ). IsSoundEnd (limit w) (is_up_with (edge.peering place.peer.0)) end) (sym e) is)
@@ -108,7 +111,8 @@ sound_with_end {limit} place end edge is sound = sound_ends edge (with_end place
   ]
 
 pub sound_beside : {limit : ℕ → ℕ} → (peer : EdgeId) (change : EndState → EndState) (edge : EdgeState)
-    → ((most : ℕ) (e : EndState) → IsSoundEnd most (is_up_with (edge.peering peer.0)) e → IsSoundEnd most (is_up_with (edge.peering peer.0)) (change e)) → TellsSoundly limit edge → TellsSoundly limit (with_ends_beside peer change edge)
+    → ((most : ℕ) (e : EndState) → IsSoundEnd most (is_up_with (edge.peering peer.0)) e → IsSoundEnd most (is_up_with (edge.peering peer.0)) (change e)) → TellsSoundly limit edge
+    → TellsSoundly limit (with_ends_beside peer change edge)
 unfolding with_ends_beside with_kept
 sound_beside {limit} peer change edge keeps sound = sound_ends edge (with_ends_beside peer change edge) refl refl refl refl (λ wire k before. elim (cases_Bool (nat_eq k peer.0)) [
   | inl same ↦ rw same (subst (λ (p : ℕ). IsSoundEnd (limit wire) (is_up_with (edge.peering p)) (change (edge.ends wire p))) (sym (eqb-true k peer.0 same))
@@ -124,7 +128,13 @@ one_above n least = by (n == numbers_end) where
 
 pub sound_giving : {limit : ℕ → ℕ} → (label : ℕ) (edge : EdgeState) → TellsSoundly limit edge → TellsSoundly limit (giving label edge)
 unfolding with_next_label with_kept
-sound_giving label edge sound = record { least = one_above edge.next_label sound.least; most = after_within edge.next_label sound.most; kept = λ number there. sound.kept number (before number there); bits = sound.bits; ends = sound.ends }
+sound_giving label edge sound = record {
+  least = one_above edge.next_label sound.least;
+  most = after_within edge.next_label sound.most;
+  kept = λ number there. sound.kept number (before number there);
+  bits = sound.bits;
+  ends = sound.ends;
+}
   where
     before : (number : ℕ) → kept_at number (without label edge.kept) ≢ None → kept_at number edge.kept ≢ None
     before number there none = there (kept_without label number edge.kept ∙ by (nat_eq label number)) where
@@ -143,7 +153,8 @@ end_label limit true e label sound owned = owned_label e.local label sound.0 own
 end_label limit false e label sound owned = owned_label e.local label (idle_part e.local sound.0) owned
 
 -- what is kept where the ends beside a peer may be lost is a label
-cleared_labels : (peer : EdgeId) (work : Work) (label : ℕ) → ((wire k : ℕ) → part_owns (work.edge.ends wire k).local label ≡ true → IsLabel label) → (kept_at label work.edge.kept ≢ None → IsLabel label)
+cleared_labels : (peer : EdgeId) (work : Work) (label : ℕ) → ((wire k : ℕ) → part_owns (work.edge.ends wire k).local label ≡ true → IsLabel label)
+    → (kept_at label work.edge.kept ≢ None → IsLabel label)
     → kept_at label (clears_ends peer work).edge.kept ≢ None → IsLabel label
 unfolding changes with_ends_beside with_kept
 cleared_labels peer work label owned kept = by_end (has_end work.edge peer) where
@@ -163,7 +174,8 @@ sound_rekept old new is bits peering sound = record {
 }
 
 -- a label is released, and its number is kept
-pub sound_releasing : {limit : ℕ → ℕ} → (label : Option ℕ) (place : EndPlace) (edge : EdgeState) → TellsSoundly limit edge → TellsSoundly limit (with_end place (released label (end_at edge place)) edge) → TellsSoundly limit (releasing label place edge)
+pub sound_releasing : {limit : ℕ → ℕ} → (label : Option ℕ) (place : EndPlace) (edge : EdgeState) → TellsSoundly limit edge
+    → TellsSoundly limit (with_end place (released label (end_at edge place)) edge) → TellsSoundly limit (releasing label place edge)
 unfolding with_end with_kept
 sound_releasing {limit} label place edge sound with_it = record {
   least = with_it.least;
@@ -173,7 +185,8 @@ sound_releasing {limit} label place edge sound with_it = record {
   ends = with_it.ends;
 }
   where
-    by : (r : Option ℕ) → left_label (own_label (end_at edge place).local) (own_label (released label (end_at edge place)).local) ≡ r → (number : ℕ) → kept_at number (keeps_one r place.peer edge.kept) ≢ None → IsLabel number
+    by : (r : Option ℕ) → left_label (own_label (end_at edge place).local) (own_label (released label (end_at edge place)).local) ≡ r → (number : ℕ)
+        → kept_at number (keeps_one r place.peer edge.kept) ≢ None → IsLabel number
     by None is number there = sound.kept number there
     by (Some own) is number there = ⊎_elim (λ (before : kept_at number edge.kept ≢ None). sound.kept number before)
         (λ (same : own ≡ number). subst (λ (l : ℕ). IsLabel l) same
@@ -195,14 +208,16 @@ pub up_stays : (told : Answers) (peer : EdgeId) (event : SessionEvent) (near : O
 up_stays told peer event None work at up = clash up
 up_stays told peer event (Some kept) work at up =
     let is = up_is kept.session.phase up in
-    subst (λ (p : Phase). IsInPhase p ((happens told peer event work).edge.peering peer.0)) (ap (λ (p : Phase). phase_after p (outcome_of kept.session event)) is ∙ up_after kept.session event is) (happens_phase told peer event kept work at)
+    subst (λ (p : Phase). IsInPhase p ((happens told peer event work).edge.peering peer.0))
+    (ap (λ (p : Phase). phase_after p (outcome_of kept.session event)) is ∙ up_after kept.session event is) (happens_phase told peer event kept work at)
 
 there_up : (near : Option Peering) → is_there near ≡ true → IsInPhase phase.Operational near → is_up_with near ≡ true
 there_up None e is = clash e
 there_up (Some kept) e is = rw is refl
 
 -- the ends beside the peer are as they were, or lost where no session stands any more
-cleared_ends : (peer : EdgeId) (work : Work) (wire k : ℕ) → (clears_ends peer work).edge.ends wire k ≡ cond (has_end work.edge peer) (work.edge.ends wire k) (cond (nat_eq k peer.0) fresh (work.edge.ends wire k))
+cleared_ends : (peer : EdgeId) (work : Work) (wire k : ℕ) → (clears_ends peer work).edge.ends wire k
+    ≡ cond (has_end work.edge peer) (work.edge.ends wire k) (cond (nat_eq k peer.0) fresh (work.edge.ends wire k))
 unfolding changes with_ends_beside with_kept
 cleared_ends peer work wire k = by_end (has_end work.edge peer) where
   by_end : (b : Bool) → (cond b work (changes (losing_ends peer) work)).edge.ends wire k ≡ cond b (work.edge.ends wire k) (cond (nat_eq k peer.0) fresh (work.edge.ends wire k))
@@ -216,17 +231,21 @@ cleared_rest peer work = by_end (has_end work.edge peer) where
   by_end true = (refl, refl)
   by_end false = (refl, refl)
 
-pub happens_sound : {limit : ℕ → ℕ} → (told : Answers) (peer : EdgeId) (event : SessionEvent) (work : Work) → TellsSoundly limit work.edge → TellsSoundly limit (happens_with_ends told peer event work).edge
+pub happens_sound : {limit : ℕ → ℕ} → (told : Answers) (peer : EdgeId) (event : SessionEvent) (work : Work) → TellsSoundly limit work.edge
+    → TellsSoundly limit (happens_with_ends told peer event work).edge
 happens_sound {limit} told peer event work sound = record {
   least = rw ((cleared_rest peer after).0 ∙ kept.next_label) sound.least;
   most = rw ((cleared_rest peer after).0 ∙ kept.next_label) sound.most;
   kept = λ label there. cleared_labels peer after label
-      (λ wire k owned. end_label (limit wire) (is_up_with (work.edge.peering k)) (work.edge.ends wire k) label (sound.ends wire k) (subst (λ (f : ℕ → ℕ → EndState). part_owns (f wire k).local label ≡ true) kept.ends owned))
+      (λ wire k owned. end_label (limit wire) (is_up_with (work.edge.peering k)) (work.edge.ends wire k) label (sound.ends wire k)
+      (subst (λ (f : ℕ → ℕ → EndState). part_owns (f wire k).local label ≡ true) kept.ends owned))
       (λ before. sound.kept label (subst (λ (ks : List Kept). kept_at label ks ≢ None) kept.kept before)) there;
   bits = λ wire. rw ((cleared_rest peer after).1 ∙ kept.bits) (sound.bits wire);
   ends = λ wire k. rw (clears_keep peer after, cleared_ends peer after wire k, kept.ends) (elim (cases_Bool (nat_eq k peer.0)) [
-    | inl same ↦ rw same (subst (λ (p : ℕ). IsSoundEnd (limit wire) (is_up_with (after.edge.peering p)) (cond (has_end after.edge peer) (work.edge.ends wire p) fresh)) (sym (eqb-true k peer.0 same)) (beside wire (has_end after.edge peer) refl))
-    | inr apart ↦ rw (apart, (happens_spares told k peer event work apart).kept) (either (limit wire) (has_end after.edge peer) (work.edge.ends wire k) (is_up_with (work.edge.peering k)) (sound.ends wire k))
+    | inl same ↦ rw same (subst (λ (p : ℕ). IsSoundEnd (limit wire) (is_up_with (after.edge.peering p)) (cond (has_end after.edge peer) (work.edge.ends wire p) fresh))
+        (sym (eqb-true k peer.0 same)) (beside wire (has_end after.edge peer) refl))
+    | inr apart ↦ rw (apart, (happens_spares told k peer event work apart).kept)
+        (either (limit wire) (has_end after.edge peer) (work.edge.ends wire k) (is_up_with (work.edge.peering k)) (sound.ends wire k))
   ]);
 }
   where

@@ -25,7 +25,8 @@ pub record HasSpoken (peer : EdgeId) (kept : Peering) (message : ℕ → Message
   pub said_else : (k : ℕ) → nat_eq k peer.0 ≡ false → said_to k new.effects ≡ said_to k old.effects
   pub closed : (k : ℕ) → closes k new.effects ≡ closes k old.effects
 
-pub says_spoken : (peer : EdgeId) (kept : Peering) (message : ℕ → Message) (work : Work) → work.edge.peering peer.0 ≡ Some kept → HasSpoken peer kept message work (says taken_all peer message work).work
+pub says_spoken : (peer : EdgeId) (kept : Peering) (message : ℕ → Message) (work : Work) → work.edge.peering peer.0 ≡ Some kept
+    → HasSpoken peer kept message work (says taken_all peer message work).work
 unfolding gives changes with_spoken with_peering puts
 says_spoken peer kept message work at = rw (at, same_number peer.0, at) (record {
   here = rw (same_number peer.0) refl;

@@ -39,10 +39,12 @@ grown true age = age + 1
 grown false age = age
 
 -- a label that a packet may carry to an end it may carry after every event: after a tick it is a tick older
-pub brings_may_carry : (plan : Plan) (event : Event) (network : NetworkState) → IsChecked plan → HasTypes plan → IsEventOf plan event → IsOrdered plan network → IsRuledNetwork plan network → (k wire peer age label : ℕ)
+pub brings_may_carry : (plan : Plan) (event : Event) (network : NetworkState) → IsChecked plan → HasTypes plan → IsEventOf plan event → IsOrdered plan network
+    → IsRuledNetwork plan network → (k wire peer age label : ℕ)
     → grown (is_tick event) age < rest_ticks → MayCarry (network.edges k) wire peer age label → MayCarry ((brings plan event network).state.edges k) wire peer (grown (is_tick event) age) label
 brings_may_carry plan Tick network checked types planned ordered ruled k wire peer age label young may = (tick_event_ruled plan checked types network ruled).grows k wire peer age label young may
-brings_may_carry plan event network checked types planned ordered ruled k wire peer age label young may = (brings_stays plan event network checked types planned ordered ruled refl).keeps k wire peer age label may
+brings_may_carry plan event network checked types planned ordered ruled k wire peer age label young may =
+    (brings_stays plan event network checked types planned ordered ruled refl).keeps k wire peer age label may
 
 -- ---- ends
 
@@ -63,7 +65,8 @@ pub record IsPlannedEnd (plan : Plan) (network : NetworkState) (me peer : ℕ) (
   pub holds : (binding : Binding) → ((network.edges me).ends wire.0 peer).remote ≡ Some binding → IsPlannedBinding plan network me peer wire row binding
   pub advertises : (label : ℕ) (told : Told) → ((network.edges me).ends wire.0 peer).local ≡ Advertised label told → IsPlannedAdvertisement plan network me peer wire row label told
 
-pub end_is_planned : (plan : Plan) (network : NetworkState) → IsChecked plan → IsRuledNetwork plan network → (me peer : ℕ) (wire : WireId) (row : WirePlan) → wire_row plan wire ≡ Some row → joins me peer row.path ≡ true
+pub end_is_planned : (plan : Plan) (network : NetworkState) → IsChecked plan → IsRuledNetwork plan network → (me peer : ℕ) (wire : WireId) (row : WirePlan) → wire_row plan wire
+    ≡ Some row → joins me peer row.path ≡ true
     → IsPlannedEnd plan network me peer wire row
 end_is_planned plan network checked ruled me peer wire row is joined = record {
   holds = λ binding at. record {

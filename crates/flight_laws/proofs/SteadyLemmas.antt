@@ -72,7 +72,8 @@ pub record IsSilent (e : Effect) : Type 0 where
 pub record IsSteady (plan : Plan) (me : EdgeId) (I : Work → Type 0) : Type 0 where
   pub placed : (work : Work) → I work → work.edge.me ≡ me
   pub sound : (work : Work) → I work → TellsSoundly (point_limit plan me.0) work.edge
-  pub changes : (change : EdgeState → EdgeState) (work : Work) → (change work.edge).peering ≡ work.edge.peering → (change work.edge).me ≡ work.edge.me → TellsSoundly (point_limit plan me.0) (change work.edge)
+  pub changes : (change : EdgeState → EdgeState) (work : Work) → (change work.edge).peering ≡ work.edge.peering → (change work.edge).me ≡ work.edge.me
+      → TellsSoundly (point_limit plan me.0) (change work.edge)
       → I work → I (changes change work)
   pub gives : (e : Effect) (work : Work) → IsSilent e → I work → I (gives e work)
   pub says : (peer : EdgeId) (message : ℕ → Message) (work : Work) → is_up_with (work.edge.peering peer.0) ≡ true → IsOfWires message → I work → I (says taken_all peer message work).work
@@ -84,7 +85,8 @@ held_sound : (limit : ℕ) (up : Bool) (e : EndState) (binding : Binding) → Is
 held_sound limit true e binding sound is = subst (IsSoundHeld limit) is sound.1
 held_sound limit false e binding sound is = none_some binding (sym sound.1 ∙ is)
 
-pub bound_sound : {limit : ℕ → ℕ} → (edge : EdgeState) (wire peer : ℕ) (binding : Binding) → TellsSoundly limit edge → (edge.ends wire peer).remote ≡ Some binding → IsSoundTold (limit wire) binding.told
+pub bound_sound : {limit : ℕ → ℕ} → (edge : EdgeState) (wire peer : ℕ) (binding : Binding) → TellsSoundly limit edge → (edge.ends wire peer).remote ≡ Some binding
+    → IsSoundTold (limit wire) binding.told
 bound_sound {limit} edge wire peer binding sound is = held_sound (limit wire) (is_up_with (edge.peering peer)) (edge.ends wire peer) binding (sound.ends wire peer) is
 
 -- ---- the status that an end should tell
@@ -164,7 +166,8 @@ module _ (plan : Plan) (me : EdgeId) (checked : IsChecked plan) (types : HasType
 
     by_test : (b : Bool) → cond b (Some (content_of (offer_of is.row edge.me.0) (status_offered plan edge place (offer_of is.row edge.me.0)))) None ≡ Some content → IsSoundTold 3 content
     by_test true e = subst (IsSoundTold 3) (same_Some (content_of (offer_of is.row edge.me.0) (status_offered plan edge place (offer_of is.row edge.me.0))) content e)
-        (offer_sound 3 (offer_of is.row edge.me.0) (status_offered plan edge place (offer_of is.row edge.me.0)) (told_status (offer_of is.row edge.me.0).status) (offer_field plan me place edge.me.0 types is) (offer_fits plan me place edge.me.0 checked is))
+        (offer_sound 3 (offer_of is.row edge.me.0) (status_offered plan edge place (offer_of is.row edge.me.0)) (told_status (offer_of is.row edge.me.0).status)
+        (offer_field plan me place edge.me.0 types is) (offer_fits plan me place edge.me.0 checked is))
     by_test false e = none_some content e
 
   two_taken : place.terminal ≡ false → point_limit plan me.0 place.wire.0 ≡ 2
@@ -179,7 +182,8 @@ module _ (plan : Plan) (me : EdgeId) (checked : IsChecked plan) (types : HasType
     small : is.row.pw_id < 2 ^ 32
     small = subst (λ (n : ℕ). n < 2 ^ 32) is.pw_id (end_small plan me place checked is)
 
-    by_held : (held : Option Binding) → (edge.ends place.wire.0 from.0).remote ≡ held → wanted (own_point is.row.pw_id (edge_address plan edge.me) (edge_address plan from)) held ≡ Some content → IsSoundTold 3 content
+    by_held : (held : Option Binding) → (edge.ends place.wire.0 from.0).remote ≡ held → wanted (own_point is.row.pw_id (edge_address plan edge.me) (edge_address plan from)) held
+        ≡ Some content → IsSoundTold 3 content
     by_held None there e = none_some content e
     by_held (Some binding) there e = subst (IsSoundTold 3) (same_Some (past_point (own_point is.row.pw_id (edge_address plan edge.me) (edge_address plan from)) binding.told) content e)
         (past_sound 2 (own_point is.row.pw_id (edge_address plan edge.me) (edge_address plan from)) binding.told
@@ -226,7 +230,8 @@ least_there label (k ∷ ks) found = by (is_free k) found (λ rest. least_there 
   at true is none = some k.state none
   at false is none = clash is
 
-  by : (free : Bool) → option_map label_of (cond free (Some k) (find is_free ks)) ≡ Some label → (least_free ks ≡ Some label → kept_at label ks ≢ None) → cond (nat_eq k.label label) (Some k.state) (kept_at label ks) ≢ None
+  by : (free : Bool) → option_map label_of (cond free (Some k) (find is_free ks)) ≡ Some label → (least_free ks ≡ Some label → kept_at label ks ≢ None)
+      → cond (nat_eq k.label label) (Some k.state) (kept_at label ks) ≢ None
   by true found rest = at (nat_eq k.label label) (eq-eqb k.label label (same_number_held k.label label found))
   by false found rest = else (nat_eq k.label label) (rest found)
 
@@ -244,15 +249,18 @@ local_sound : (limit : ℕ) (up : Bool) (e : EndState) (local : LocalPart) → u
 local_sound limit true e local is part sound = (part, sound.1)
 local_sound limit false e local is part sound = clash is
 
-advertising_sound : {limit : ℕ → ℕ} → (place : EndPlace) (label : ℕ) (content : Told) (edge : EdgeState) → is_up_with (edge.peering place.peer.0) ≡ true → (end_at edge place).local ≡ Idle false → CanBeTold label content
+advertising_sound : {limit : ℕ → ℕ} → (place : EndPlace) (label : ℕ) (content : Told) (edge : EdgeState) → is_up_with (edge.peering place.peer.0) ≡ true → (end_at edge place).local
+    ≡ Idle false → CanBeTold label content
     → TellsSoundly limit edge → TellsSoundly limit (advertising place label content edge)
 unfolding with_end with_kept
 advertising_sound {limit} place label content edge up at can sound =
     sound_giving label (with_end place (advertised label content (end_at edge place)) edge)
     (sound_with_end place (advertised label content (end_at edge place)) edge
-    (local_sound (limit place.wire.0) (is_up_with (edge.peering place.peer.0)) (end_at edge place) (advertised label content (end_at edge place)).local up (rw at can) (sound.ends place.wire.0 place.peer.0)) sound)
+    (local_sound (limit place.wire.0) (is_up_with (edge.peering place.peer.0)) (end_at edge place) (advertised label content (end_at edge place)).local up (rw at can)
+    (sound.ends place.wire.0 place.peer.0)) sound)
 
-pub advertising_rest : (place : EndPlace) (content : Told) (label : ℕ) (edge : EdgeState) → ((advertising place label content edge).peering ≡ edge.peering) × ((advertising place label content edge).me ≡ edge.me)
+pub advertising_rest : (place : EndPlace) (content : Told) (label : ℕ) (edge : EdgeState) → ((advertising place label content edge).peering ≡ edge.peering)
+    × ((advertising place label content edge).me ≡ edge.me)
 unfolding with_end with_next_label with_kept
 advertising_rest place content label edge = (refl, refl)
 
@@ -260,12 +268,14 @@ pub with_end_rest : (place : EndPlace) (end : EndState) (edge : EdgeState) → (
 unfolding with_end with_kept
 with_end_rest place end edge = (refl, refl)
 
-changed_up : (change : EdgeState → EdgeState) (work : Work) (peer : EdgeId) → (change work.edge).peering ≡ work.edge.peering → is_up_with (work.edge.peering peer.0) ≡ true → is_up_with ((changes change work).edge.peering peer.0) ≡ true
+changed_up : (change : EdgeState → EdgeState) (work : Work) (peer : EdgeId) → (change work.edge).peering ≡ work.edge.peering → is_up_with (work.edge.peering peer.0) ≡ true
+    → is_up_with ((changes change work).edge.peering peer.0) ≡ true
 unfolding changes
 changed_up change work peer same up = rw same up
 
 down_rest : (limit : ℕ → ℕ) (place : EndPlace) (down : Option Down) (edge : EdgeState)
-    → ((with_told_down place.wire down edge).peering ≡ edge.peering) × ((with_told_down place.wire down edge).me ≡ edge.me) × (TellsSoundly limit edge → TellsSoundly limit (with_told_down place.wire down edge))
+    → ((with_told_down place.wire down edge).peering ≡ edge.peering) × ((with_told_down place.wire down edge).me ≡ edge.me)
+    × (TellsSoundly limit edge → TellsSoundly limit (with_told_down place.wire down edge))
 unfolding with_told_down
 down_rest limit place down edge = (refl, refl, λ sound. sound_same edge _ refl refl refl refl refl sound)
 
@@ -284,15 +294,18 @@ module _ (plan : Plan) (me : EdgeId) (checked : IsChecked plan) (types : HasType
       (mapping_sound place.pw_id label content (end_small plan me place checked is) one told.sound)
       (steady.changes (advertising place label content) work rest.0 rest.1 (advertising_sound place label content work.edge told.up at (sound_can 3 label content one told.sound) sound) i)
 
-  steady_withdraws : (place : EndPlace) (label : ℕ) (content : Told) (work : Work) → IsEndOf plan me place → (end_at work.edge place).local ≡ Advertised label content → I work → I (withdraws taken_all place label content work).work
+  steady_withdraws : (place : EndPlace) (label : ℕ) (content : Told) (work : Work) → IsEndOf plan me place → (end_at work.edge place).local ≡ Advertised label content → I work
+      → I (withdraws taken_all place label content work).work
   steady_withdraws place label content work is at i =
       let sound : TellsSoundly (point_limit plan me.0) work.edge = steady.sound work i in
       let can = advertised_up (point_limit plan me.0 place.wire.0) (is_up_with (work.edge.peering place.peer.0)) (end_at work.edge place) label content (sound.ends place.wire.0 place.peer.0) at in
       let rest = with_end_rest place (withdrawn (end_at work.edge place)) work.edge in
-      steady.says place.peer (withdrawal place.pw_id label content) (changes (withdrawing place) work) (changed_up (withdrawing place) work place.peer rest.0 can.0) (withdrawal_is place.pw_id label content (end_small plan me place checked is) can.1)
+      steady.says place.peer (withdrawal place.pw_id label content) (changes (withdrawing place) work) (changed_up (withdrawing place) work place.peer rest.0 can.0)
+      (withdrawal_is place.pw_id label content (end_small plan me place checked is) can.1)
       (steady.changes (withdrawing place) work rest.0 rest.1
       (sound_with_end place (withdrawn (end_at work.edge place)) work.edge
-      (local_sound (point_limit plan me.0 place.wire.0) (is_up_with (work.edge.peering place.peer.0)) (end_at work.edge place) (withdrawn (end_at work.edge place)).local can.0 (rw at can.1.is_label) (sound.ends place.wire.0 place.peer.0)) sound) i)
+      (local_sound (point_limit plan me.0 place.wire.0) (is_up_with (work.edge.peering place.peer.0)) (end_at work.edge place) (withdrawn (end_at work.edge place)).local can.0
+      (rw at can.1.is_label) (sound.ends place.wire.0 place.peer.0)) sound) i)
 
   steady_tells : (place : EndPlace) (label : ℕ) (content : Told) (work : Work) → IsEndOf plan me place → (end_at work.edge place).local ≡ Advertised label content
       → I work → I (tells_new_status taken_all place content (status_to_tell plan work.edge place) work).work
@@ -308,10 +321,12 @@ module _ (plan : Plan) (me : EdgeId) (checked : IsChecked plan) (types : HasType
       (local_sound (point_limit plan me.0 place.wire.0) (is_up_with (work.edge.peering place.peer.0)) (end_at work.edge place) (telling status (end_at work.edge place)).local can.0
       (rw at (record { is_label = can.1.is_label; kind = can.1.kind; group = can.1.group })) (sound.ends place.wire.0 place.peer.0)) sound) i)
 
-  steady_clears : (place : EndPlace) (label : ℕ) (content : Told) (addresses : List Mac) (work : Work) → IsEndOf plan me place → (end_at work.edge place).local ≡ Advertised label content → IsPiece addresses
+  steady_clears : (place : EndPlace) (label : ℕ) (content : Told) (addresses : List Mac) (work : Work) → IsEndOf plan me place → (end_at work.edge place).local
+      ≡ Advertised label content → IsPiece addresses
       → I work → I (says taken_all place.peer (mac_withdrawal place.pw_id addresses content) work).work
   steady_clears place label content addresses work is at piece i =
-      let can = advertised_up (point_limit plan me.0 place.wire.0) (is_up_with (work.edge.peering place.peer.0)) (end_at work.edge place) label content ((steady.sound work i).ends place.wire.0 place.peer.0) at in
+      let can = advertised_up (point_limit plan me.0 place.wire.0) (is_up_with (work.edge.peering place.peer.0)) (end_at work.edge place) label content
+      ((steady.sound work i).ends place.wire.0 place.peer.0) at in
       steady.says place.peer (mac_withdrawal place.pw_id addresses content) work can.0 (clearance_is place.pw_id label addresses content (end_small plan me place checked is) piece can.1) i
 
   steady_tells_down : (place : EndPlace) (down : Option Down) (work : Work) → I work → I (gives (Wire place.wire down) (changes (with_told_down place.wire down) work))

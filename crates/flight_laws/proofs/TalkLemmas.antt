@@ -15,7 +15,8 @@ opens_sent active None out back m k plain is h = grind arith
 opens_sent true (Some q) out back m k plain is h = active_opens q out back m k is h
 opens_sent false (Some q) out back m k plain is h = absurd (no_passive q (m ∷ back) out h)
 
-pub opens_initialized : (far : Option Phase) (out back : List Message) (m i k : Message) → is_fatal m ≡ false → is_initialization i ≡ true → is_keep_alive k ≡ true → is_talk false Initialized far out (m ∷ back) ≡ true
+pub opens_initialized : (far : Option Phase) (out back : List Message) (m i k : Message) → is_fatal m ≡ false → is_initialization i ≡ true → is_keep_alive k ≡ true
+    → is_talk false Initialized far out (m ∷ back) ≡ true
     → is_initialization m && is_talk false OpenRec far (and_more far out (i ∷ k ∷ [])) back ≡ true
 opens_initialized None out back m i k plain is is' h = grind arith
 opens_initialized (Some q) out back m i k plain is is' h = passive_opens q back out m i k is is' h
@@ -37,19 +38,22 @@ goes_on false (Some q) out back m h = passive_hears q back out m h
 
 -- ---- a KeepAlive is said
 
-pub keeps_rec : (active : Bool) (far : Option Phase) (out back : List Message) (k : Message) → is_keep_alive k ≡ true → is_talk active OpenRec far out back ≡ true → is_talk active OpenRec far (and_more far out (k ∷ [])) back ≡ true
+pub keeps_rec : (active : Bool) (far : Option Phase) (out back : List Message) (k : Message) → is_keep_alive k ≡ true → is_talk active OpenRec far out back ≡ true
+    → is_talk active OpenRec far (and_more far out (k ∷ [])) back ≡ true
 keeps_rec active None out back k is h = h
 keeps_rec true (Some q) out back k is h = active_keeps q out back k is h
 keeps_rec false (Some q) out back k is h = passive_keeps q back out k is h
 
-pub keeps_up : (active : Bool) (far : Option Phase) (out back : List Message) (k : Message) → is_keep_alive k ≡ true → is_talk active Operational far out back ≡ true → is_talk active Operational far (and_more far out (k ∷ [])) back ≡ true
+pub keeps_up : (active : Bool) (far : Option Phase) (out back : List Message) (k : Message) → is_keep_alive k ≡ true → is_talk active Operational far out back ≡ true
+    → is_talk active Operational far (and_more far out (k ∷ [])) back ≡ true
 keeps_up active None out back k is h = h
 keeps_up true (Some q) out back k is h = active_says q out back k (keep_is_plain k is) h
 keeps_up false (Some q) out back k is h = passive_says q back out k (keep_is_plain k is) h
 
 -- ---- anything but an Initialization is said in a session that is up
 
-pub says_up : (active : Bool) (far : Option Phase) (out back : List Message) (m : Message) → not (is_initialization m) ≡ true → is_talk active Operational far out back ≡ true → is_talk active Operational far (and_more far out (m ∷ [])) back ≡ true
+pub says_up : (active : Bool) (far : Option Phase) (out back : List Message) (m : Message) → not (is_initialization m) ≡ true → is_talk active Operational far out back ≡ true
+    → is_talk active Operational far (and_more far out (m ∷ [])) back ≡ true
 says_up active None out back m plain h = h
 says_up true (Some q) out back m plain h = active_says q out back m plain h
 says_up false (Some q) out back m plain h = passive_says q back out m plain h

@@ -79,7 +79,8 @@ terminal_last plan row from to once joined last =
     let other : is_first from row.path ≡ false = first_not_last row.path from to once joined last in
     record { offer = rw (none, other) refl; points = rw none (alone plan row (reverse row.path) from (last_first row.path from last)) }
 
-pub tells_own_offer : (plan : Plan) (row : WirePlan) (from to : EdgeId) → has_repeat row.path ≡ false → joins from.0 to.0 row.path ≡ true → is_terminal row from ≡ true → TellsOwnOffer plan row from.0 to.0
+pub tells_own_offer : (plan : Plan) (row : WirePlan) (from to : EdgeId) → has_repeat row.path ≡ false → joins from.0 to.0 row.path ≡ true → is_terminal row from ≡ true
+    → TellsOwnOffer plan row from.0 to.0
 tells_own_offer plan row from to once joined terminal = split {P = TellsOwnOffer plan row from.0 to.0} (is_first from.0 row.path)
     (λ first. terminal_first plan row from.0 to.0 once joined first)
     (λ other. terminal_last plan row from.0 to.0 once joined (rw other at terminal))

@@ -64,7 +64,8 @@ may_not_free label peer from (k ∷ ks) rising may = by (nat_eq k.label label) r
   head (Rests ticks) may = absurd may
   head Free may = absurd may
 
-  by : (here : Bool) → nat_eq k.label label ≡ here → MayBeKept peer None (cond here (Some k.state) (kept_at label ks)) → (MayBeKept peer None (kept_at label ks) → list_any (is_free_one label) (ticked ks) ≡ false) → (here && is_free_state (ticked_state k.state)) || list_any (is_free_one label) (ticked ks) ≡ false
+  by : (here : Bool) → nat_eq k.label label ≡ here → MayBeKept peer None (cond here (Some k.state) (kept_at label ks))
+      → (MayBeKept peer None (kept_at label ks) → list_any (is_free_one label) (ticked ks) ≡ false) → (here && is_free_state (ticked_state k.state)) || list_any (is_free_one label) (ticked ks) ≡ false
   by true is may later = rw (head k.state may) (none_above label (k.label + 1) ks (omega (arith, eqb-true k.label label is)) rising.1)
   by false is may later = later may
 
@@ -81,7 +82,8 @@ named_given edge wire peer label has may =
 
 -- ---- what is said of old labels
 
-old_on : (pw_id : ℕ) (next next2 : ℕ → Bool) (near : LocalPart) (named label : Option ℕ) → ((own : ℕ) → label ≡ Some own → next2 own ≡ true) → names_old pw_id next near named label ≡ true → names_old pw_id next2 near named label ≡ true
+old_on : (pw_id : ℕ) (next next2 : ℕ → Bool) (near : LocalPart) (named label : Option ℕ) → ((own : ℕ) → label ≡ Some own → next2 own ≡ true) → names_old pw_id next near named label
+    ≡ true → names_old pw_id next2 near named label ≡ true
 old_on pw_id next next2 near None label given old = clash old
 old_on pw_id next next2 near (Some other) None given old = clash old
 old_on pw_id next next2 near (Some other) (Some own) given old = either (other == pw_id) old where
@@ -93,7 +95,8 @@ given_at : (edge : EdgeState) (peer label : ℕ) (place : Option EndPlace) → H
 given_at edge peer label None has may = absurd may
 given_at edge peer label (Some place) has may = named_given edge place.wire.0 peer label has may
 
-withdraws_on : (plan : Plan) (edge : EdgeState) (peer pw_id : ℕ) (near : LocalPart) (m : Message) → HasKept edge → NamesOwn plan edge peer m → withdraws_old pw_id (given_of edge) near m ≡ true → withdraws_old pw_id (given_of (counted edge)) near m ≡ true
+withdraws_on : (plan : Plan) (edge : EdgeState) (peer pw_id : ℕ) (near : LocalPart) (m : Message) → HasKept edge → NamesOwn plan edge peer m
+    → withdraws_old pw_id (given_of edge) near m ≡ true → withdraws_old pw_id (given_of (counted edge)) near m ≡ true
 withdraws_on plan edge peer pw_id near (LabelWithdraw id fec None) has may old = old_on pw_id (given_of edge) (given_of (counted edge)) near fec.pw_id None (λ own is. nothing own is) old where
   nothing : {P : Type 0} (own : ℕ) → None ≡ Some own → P
   nothing own e = absurd (cc)
@@ -104,7 +107,8 @@ withdraws_on plan edge peer pw_id near (Notification id code status None) has ma
 withdraws_on plan edge peer pw_id near (Notification id code status (Some fec)) has may old = old
 withdraws_on plan edge peer pw_id near m has may old = old
 
-releases_on : (plan : Plan) (edge : EdgeState) (peer pw_id : ℕ) (near : LocalPart) (m : Message) → HasKept edge → NamesFar plan edge peer m → releases_old pw_id (given_of edge) near m ≡ true → releases_old pw_id (given_of (counted edge)) near m ≡ true
+releases_on : (plan : Plan) (edge : EdgeState) (peer pw_id : ℕ) (near : LocalPart) (m : Message) → HasKept edge → NamesFar plan edge peer m → releases_old pw_id (given_of edge) near m
+    ≡ true → releases_old pw_id (given_of (counted edge)) near m ≡ true
 releases_on plan edge peer pw_id near (LabelRelease id fec None) has may old = old_on pw_id (given_of edge) (given_of (counted edge)) near fec.pw_id None (λ own is. nothing own is) old where
   nothing : {P : Type 0} (own : ℕ) → None ≡ Some own → P
   nothing own e = absurd (cc)
@@ -113,7 +117,8 @@ releases_on plan edge peer pw_id near (LabelRelease id fec (Some label)) has may
     (λ own is. subst (λ (l : ℕ). given_of (counted edge) l ≡ true) (same_number_held label own is) (given_at edge peer label (end_of_fec plan edge (record { 0 = peer }) fec) has may)) old
 releases_on plan edge peer pw_id near m has may old = old
 
-all_on : (test test2 : Message → Bool) (P : Message → Type 0) (ms : List Message) → ((m : Message) → P m → test m ≡ true → test2 m ≡ true) → AllMessages P ms → all_messages test ms ≡ true → all_messages test2 ms ≡ true
+all_on : (test test2 : Message → Bool) (P : Message → Type 0) (ms : List Message) → ((m : Message) → P m → test m ≡ true → test2 m ≡ true) → AllMessages P ms → all_messages test ms
+    ≡ true → all_messages test2 ms ≡ true
 all_on test test2 P [] next are all = refl
 all_on test test2 P (m ∷ ms) next are all =
     and_from (test2 m) (all_messages test2 ms) (next m are.0 (first_holds (test m) (all_messages test ms) all)) (all_on test test2 P ms next are.1 (second_holds (test m) (all_messages test ms) all))
@@ -123,7 +128,8 @@ waits_on : (edge : EdgeState) (wire peer pw_id : ℕ) (near : LocalPart) (out ba
 waits_on edge wire peer pw_id (Idle declined) out back has own waits = refl
 waits_on edge wire peer pw_id (Advertised label told) out back has own waits = named_given edge wire peer label has (own label (same_number label))
 waits_on edge wire peer pw_id (Withdrawing label) out back has own waits =
-    and_from (given_of (counted edge) label) (some_message (is_withdrawal_of pw_id label) out || some_message (is_release_of pw_id label) back) (named_given edge wire peer label has (own label (same_number label)))
+    and_from (given_of (counted edge) label) (some_message (is_withdrawal_of pw_id label) out || some_message (is_release_of pw_id label) back)
+    (named_given edge wire peer label has (own label (same_number label)))
     (second_holds (given_of edge label) (some_message (is_withdrawal_of pw_id label) out || some_message (is_release_of pw_id label) back) waits)
 
 -- ---- the ends between two edges
@@ -132,7 +138,8 @@ counted_ends : (edge : EdgeState) → (counted edge).ends ≡ edge.ends
 unfolding with_ticks with_kept
 counted_ends edge = refl
 
-counted_bound : (plan : Plan) (a b : ℕ) (edge other : EdgeState) (out back : List Message) → HasKept edge → OwnsItsLabels edge → AllMessages (NamesOwn plan edge b) out → AllMessages (NamesFar plan edge b) back
+counted_bound : (plan : Plan) (a b : ℕ) (edge other : EdgeState) (out back : List Message) → HasKept edge → OwnsItsLabels edge → AllMessages (NamesOwn plan edge b) out
+    → AllMessages (NamesFar plan edge b) back
     → AreBound plan a b edge other out back → AreBound plan a b (counted edge) other out back
 unfolding with_ticks with_kept
 counted_bound plan a b edge other out back has own named far bound = record {
@@ -140,7 +147,8 @@ counted_bound plan a b edge other out back has own named far bound = record {
       let before = bound.near wire row is joined in
       record {
         agrees = before.agrees;
-        withdrawn = all_on (withdraws_old row.pw_id (given_of edge) (edge.ends wire.0 b).local) (withdraws_old row.pw_id (given_of (counted edge)) (edge.ends wire.0 b).local) (NamesOwn plan edge b) out
+        withdrawn = all_on (withdraws_old row.pw_id (given_of edge) (edge.ends wire.0 b).local) (withdraws_old row.pw_id (given_of (counted edge)) (edge.ends wire.0 b).local)
+            (NamesOwn plan edge b) out
             (λ m may old. withdraws_on plan edge b row.pw_id (edge.ends wire.0 b).local m has may old) named before.withdrawn;
         released = all_on (releases_old row.pw_id (given_of edge) (edge.ends wire.0 b).local) (releases_old row.pw_id (given_of (counted edge)) (edge.ends wire.0 b).local) (NamesFar plan edge b) back
             (λ m may old. releases_on plan edge b row.pw_id (edge.ends wire.0 b).local m has may old) far before.released;
@@ -159,7 +167,8 @@ counted_said : (network : NetworkState) (me : EdgeId) → ((changes counted (beg
 unfolding changes
 counted_said network me = (refl, refl)
 
-counted_leaves : (plan : Plan) (network : NetworkState) (me : EdgeId) (place : ℕ) → IsOrdered plan network → IsRuledNetwork plan network → Bounds plan network → (start : Starts plan network me) → nat_eq place me.0 ≡ false
+counted_leaves : (plan : Plan) (network : NetworkState) (me : EdgeId) (place : ℕ) → IsOrdered plan network → IsRuledNetwork plan network → Bounds plan network
+    → (start : Starts plan network me) → nat_eq place me.0 ≡ false
     → LeavesBound plan me place (network.edges place) (flight network me.0 place) (start.answers place) (changes counted (begin_at network me))
 unfolding changes with_ticks with_kept
 counted_leaves plan network me place ordered ruled bounds start away = record {
@@ -182,7 +191,8 @@ counted_leaves plan network me place ordered ruled bounds start away = record {
       ((begins_bound plan network me place bounds start away).bound messages said out_is near far);
 }
 
-counted_starts : (plan : Plan) (network : NetworkState) (me : EdgeId) (checked : IsChecked plan) (types : HasTypes plan) → IsOrdered plan network → IsRuledNetwork plan network → Bounds plan network → (start : Starts plan network me)
+counted_starts : (plan : Plan) (network : NetworkState) (me : EdgeId) (checked : IsChecked plan) (types : HasTypes plan) → IsOrdered plan network → IsRuledNetwork plan network
+    → Bounds plan network → (start : Starts plan network me)
     → WorksBound plan network me checked types (λ place. held network me.0 place) start.answers (changes counted (begin_at network me))
 unfolding changes with_ticks with_kept
 counted_starts plan network me checked types ordered ruled bounds start = (
@@ -192,23 +202,27 @@ counted_starts plan network me checked types ordered ruled bounds start = (
 
 -- ---- ticks pass
 
-ticks_bound : (plan : Plan) (place count : ℕ) (network : NetworkState) → IsChecked plan → HasTypes plan → IsOrdered plan network → IsRuledNetwork plan network → Bounds plan network → Bounds plan (ticks_from plan place count network).state
+ticks_bound : (plan : Plan) (place count : ℕ) (network : NetworkState) → IsChecked plan → HasTypes plan → IsOrdered plan network → IsRuledNetwork plan network → Bounds plan network
+    → Bounds plan (ticks_from plan place count network).state
 ticks_bound plan place zero network checked types ordered ruled bounds = bounds
 ticks_bound plan place (suc count) network checked types ordered ruled bounds =
     let me : EdgeId = record { 0 = place } in
     let start : Starts plan network me = starts plan network me ordered in
     ticks_bound plan (place + 1) count (tick_at plan me network).state checked types
     (work_keeps plan network me 0 0 (tick_input plan taken_all (begin_at network me)) ordered
-    (tick_kept plan me (WorksOn plan network me) (works_kept plan network me checked types) (begin_at network me) (works_counted plan network me (begin_at network me) (works_begin plan network me ordered)))).ordered
+    (tick_kept plan me (WorksOn plan network me) (works_kept plan network me checked types) (begin_at network me)
+    (works_counted plan network me (begin_at network me) (works_begin plan network me ordered)))).ordered
     (tick_at_ruled plan checked types me network ruled).ruled
     (work_bounds plan network me 0 0 checked types (tick_input plan taken_all (begin_at network me)) bounds start
-    (tick_kept plan me (WorksBound plan network me checked types (λ k. held network me.0 k) start.answers) (bound_work_kept plan network me checked types (λ k. held network me.0 k) start.answers) (begin_at network me)
+    (tick_kept plan me (WorksBound plan network me checked types (λ k. held network me.0 k) start.answers)
+    (bound_work_kept plan network me checked types (λ k. held network me.0 k) start.answers) (begin_at network me)
     (counted_starts plan network me checked types ordered ruled bounds start)))
 
 older_bounds : (plan : Plan) (network : NetworkState) → Bounds plan network → Bounds plan (with_older network)
 unfolding with_older
 older_bounds plan network bounds a b apart = record { bound = (bounds a b apart).bound }
 
-pub tick_bounds : (plan : Plan) (network : NetworkState) → IsChecked plan → HasTypes plan → IsOrdered plan network → IsRuledNetwork plan network → Bounds plan network → Bounds plan (tick_event plan network).state
+pub tick_bounds : (plan : Plan) (network : NetworkState) → IsChecked plan → HasTypes plan → IsOrdered plan network → IsRuledNetwork plan network → Bounds plan network
+    → Bounds plan (tick_event plan network).state
 tick_bounds plan network checked types ordered ruled bounds =
     ticks_bound plan 0 (length plan.edges) (with_older network) checked types (older_ordered plan network ordered) (older_ruled plan checked types network ruled) (older_bounds plan network bounds)

@@ -91,7 +91,8 @@ status_tells plan row from to status told tells carries = record {
   carries = sym carries;
 }
 
-pub has_status : (plan : Plan) (row : WirePlan) (from to : ℕ) (told : Told) (status : PwStatus) → TellsExpected plan row from to told → told.status ≡ Some status → (expected plan row from to).offer.status ≡ true
+pub has_status : (plan : Plan) (row : WirePlan) (from to : ℕ) (told : Told) (status : PwStatus) → TellsExpected plan row from to told → told.status ≡ Some status
+    → (expected plan row from to).offer.status ≡ true
 has_status plan row from to told status tells is = sym tells.carries ∙ ap (λ (s : Option PwStatus). is_some s) is
 
 -- ---- what is said
@@ -103,30 +104,36 @@ pub mapping_tells : (plan : Plan) (wire : WireId) (row : WirePlan) (from to pw_i
     → TellsExpected plan row from to told → TellsFirm plan from to (mapping pw_id label told id)
 mapping_tells plan wire row from to pw_id label id told is joined same tells = record { wire = wire; row = row; is = is; joined = joined; named = ap (λ (n : ℕ). Some n) same; tells = tells }
 
-bare_named : (plan : Plan) (row : WirePlan) (from to pw_id : ℕ) (told : Told) → pw_id ≡ row.pw_id → TellsExpected plan row from to told → bare_fec_of pw_id told ≡ bare_fec_of row.pw_id (told_of (expected plan row from to) None)
+bare_named : (plan : Plan) (row : WirePlan) (from to pw_id : ℕ) (told : Told) → pw_id ≡ row.pw_id → TellsExpected plan row from to told → bare_fec_of pw_id told
+    ≡ bare_fec_of row.pw_id (told_of (expected plan row from to) None)
 bare_named plan row from to pw_id told same tells = ap (λ (n : ℕ). bare_fec_of n told) same ∙ bare_of (expected plan row from to) row.pw_id told tells.content
 
 pub withdrawal_tells : (plan : Plan) (wire : WireId) (row : WirePlan) (from to pw_id label id : ℕ) (told : Told) → wire_row plan wire ≡ Some row → joins from to row.path ≡ true → pw_id ≡ row.pw_id
     → TellsExpected plan row from to told → TellsFirm plan from to (withdrawal pw_id label told id)
 withdrawal_tells plan wire row from to pw_id label id told is joined same tells = record { wire = wire; row = row; is = is; joined = joined; bare = bare_named plan row from to pw_id told same tells }
 
-pub notification_tells : (plan : Plan) (wire : WireId) (row : WirePlan) (from to pw_id id : ℕ) (status : PwStatus) (told : Told) → wire_row plan wire ≡ Some row → joins from to row.path ≡ true → pw_id ≡ row.pw_id
+pub notification_tells : (plan : Plan) (wire : WireId) (row : WirePlan) (from to pw_id id : ℕ) (status : PwStatus) (told : Told) → wire_row plan wire ≡ Some row
+    → joins from to row.path ≡ true → pw_id ≡ row.pw_id
     → TellsExpected plan row from to told → (expected plan row from to).offer.status ≡ true → TellsFirm plan from to (status_notification pw_id status told id)
 notification_tells plan wire row from to pw_id id status told is joined same tells carries =
     record { wire = wire; row = row; is = is; joined = joined; bare = bare_named plan row from to pw_id told same tells; carries = carries }
 
-pub clearance_tells : (plan : Plan) (wire : WireId) (row : WirePlan) (from to pw_id id : ℕ) (addresses : List Mac) (told : Told) → wire_row plan wire ≡ Some row → joins from to row.path ≡ true → pw_id ≡ row.pw_id
+pub clearance_tells : (plan : Plan) (wire : WireId) (row : WirePlan) (from to pw_id id : ℕ) (addresses : List Mac) (told : Told) → wire_row plan wire ≡ Some row
+    → joins from to row.path ≡ true → pw_id ≡ row.pw_id
     → TellsExpected plan row from to told → TellsFirm plan from to (mac_withdrawal pw_id addresses told id)
-clearance_tells plan wire row from to pw_id id addresses told is joined same tells = record { wire = wire; row = row; is = is; joined = joined; bare = bare_named plan row from to pw_id told same tells }
+clearance_tells plan wire row from to pw_id id addresses told is joined same tells =
+    record { wire = wire; row = row; is = is; joined = joined; bare = bare_named plan row from to pw_id told same tells }
 
 -- a release tells what the message told that it answers
-bare_in : (e : Expected) (fec : PwFec) (status : Option PwStatus) (points : List Point) (pw_id : ℕ) → fec.pw_id ≡ Some pw_id → told_with fec status points ≡ told_of e status → bare fec ≡ bare_fec_of pw_id (told_of e None)
+bare_in : (e : Expected) (fec : PwFec) (status : Option PwStatus) (points : List Point) (pw_id : ℕ) → fec.pw_id ≡ Some pw_id → told_with fec status points ≡ told_of e status → bare fec
+    ≡ bare_fec_of pw_id (told_of e None)
 bare_in e fec status points pw_id named is = bare_again fec status points pw_id named ∙ ap (λ (t : Told). bare_fec_of pw_id t) is
   where
     bare_again : (fec : PwFec) (status : Option PwStatus) (points : List Point) (pw_id : ℕ) → fec.pw_id ≡ Some pw_id → bare fec ≡ bare_fec_of pw_id (told_with fec status points)
     bare_again fec status points pw_id named = rw named refl
 
-pub release_of_mapping_tells : (plan : Plan) (from to id : ℕ) (fec : PwFec) (label : Option ℕ) (status : Option PwStatus) (points : List Point) → TellsOfWire plan from to fec (told_with fec status points)
+pub release_of_mapping_tells : (plan : Plan) (from to id : ℕ) (fec : PwFec) (label : Option ℕ) (status : Option PwStatus) (points : List Point)
+    → TellsOfWire plan from to fec (told_with fec status points)
     → TellsFirm plan to from (release fec label id)
 release_of_mapping_tells plan from to id fec label status points tells = record {
   wire = tells.wire;
@@ -166,14 +173,18 @@ pub fresh_tells : (plan : Plan) (me wire peer : ℕ) → TellsAt plan me wire pe
 fresh_tells plan me wire peer = record { near = λ row is joined. tt; far = λ row is joined. tt; held = tt }
 
 -- another local part
-pub local_tells : (plan : Plan) (me wire peer : ℕ) (end : EndState) (local : LocalPart) → ((row : WirePlan) → wire_row plan (record { 0 = wire }) ≡ Some row → joins me peer row.path ≡ true → NearTells plan row me peer end.local → NearTells plan row me peer local)
+pub local_tells : (plan : Plan) (me wire peer : ℕ) (end : EndState) (local : LocalPart)
+    → ((row : WirePlan) → wire_row plan (record { 0 = wire }) ≡ Some row → joins me peer row.path ≡ true → NearTells plan row me peer end.local → NearTells plan row me peer local)
     → TellsAt plan me wire peer end → TellsAt plan me wire peer (record { local = local; remote = end.remote })
-local_tells plan me wire peer end local keeps tells = record { near = λ row is joined. keeps row is joined (tells.near row is joined); far = λ row is joined. tells.far row is joined; held = tells.held }
+local_tells plan me wire peer end local keeps tells =
+    record { near = λ row is joined. keeps row is joined (tells.near row is joined); far = λ row is joined. tells.far row is joined; held = tells.held }
 
 -- another remote part
-pub remote_tells : (plan : Plan) (me wire peer : ℕ) (end : EndState) (remote : Option Binding) → ((row : WirePlan) → wire_row plan (record { 0 = wire }) ≡ Some row → joins peer me row.path ≡ true → FarTells plan row peer me end.remote → FarTells plan row peer me remote)
+pub remote_tells : (plan : Plan) (me wire peer : ℕ) (end : EndState) (remote : Option Binding)
+    → ((row : WirePlan) → wire_row plan (record { 0 = wire }) ≡ Some row → joins peer me row.path ≡ true → FarTells plan row peer me end.remote → FarTells plan row peer me remote)
     → HeldFits remote → TellsAt plan me wire peer end → TellsAt plan me wire peer (record { local = end.local; remote = remote })
-remote_tells plan me wire peer end remote keeps held tells = record { near = λ row is joined. tells.near row is joined; far = λ row is joined. keeps row is joined (tells.far row is joined); held = held }
+remote_tells plan me wire peer end remote keeps held tells =
+    record { near = λ row is joined. tells.near row is joined; far = λ row is joined. keeps row is joined (tells.far row is joined); held = held }
 
 pub near_withdrawn : (plan : Plan) (row : WirePlan) (from to : ℕ) (local : LocalPart) → NearTells plan row from to local → NearTells plan row from to (withdraw_part local)
 near_withdrawn plan row from to (Idle declined) tells = tt
@@ -190,12 +201,14 @@ near_released plan row from to given (Idle declined) tells = tt
 near_released plan row from to given (Advertised own told) tells = split {P = NearTells plan row from to (release_part given (Advertised own told))} (names given own) (λ b. rw b tt) (λ b. rw b tells)
 near_released plan row from to given (Withdrawing own) tells = split {P = NearTells plan row from to (release_part given (Withdrawing own))} (names given own) (λ b. rw b tt) (λ b. rw b tt)
 
-pub near_advertised : (plan : Plan) (row : WirePlan) (from to label : ℕ) (told : Told) (local : LocalPart) → TellsExpected plan row from to told → NearTells plan row from to local → NearTells plan row from to (advertise_part label told local)
+pub near_advertised : (plan : Plan) (row : WirePlan) (from to label : ℕ) (told : Told) (local : LocalPart) → TellsExpected plan row from to told → NearTells plan row from to local
+    → NearTells plan row from to (advertise_part label told local)
 near_advertised plan row from to label told (Idle declined) new tells = new
 near_advertised plan row from to label told (Advertised own old) new tells = tells
 near_advertised plan row from to label told (Withdrawing own) new tells = tells
 
-pub near_told : (plan : Plan) (row : WirePlan) (from to : ℕ) (status : PwStatus) (local : LocalPart) → (expected plan row from to).offer.status ≡ true → NearTells plan row from to local → NearTells plan row from to (tell_part status local)
+pub near_told : (plan : Plan) (row : WirePlan) (from to : ℕ) (status : PwStatus) (local : LocalPart) → (expected plan row from to).offer.status ≡ true
+    → NearTells plan row from to local → NearTells plan row from to (tell_part status local)
 near_told plan row from to status (Idle declined) carries tells = tt
 near_told plan row from to status (Advertised own told) carries tells = status_tells plan row from to status told tells carries
 near_told plan row from to status (Withdrawing own) carries tells = tt
@@ -212,6 +225,7 @@ pub fits_status : (status : PwStatus) (held : Option Binding) → status.0 < 2 ^
 fits_status status None small holds = tt
 fits_status status (Some binding) small holds = (holds.0, small)
 
-pub far_status : (plan : Plan) (row : WirePlan) (from to : ℕ) (status : PwStatus) (held : Option Binding) → (expected plan row from to).offer.status ≡ true → FarTells plan row from to held → FarTells plan row from to (status_part status held)
+pub far_status : (plan : Plan) (row : WirePlan) (from to : ℕ) (status : PwStatus) (held : Option Binding) → (expected plan row from to).offer.status ≡ true
+    → FarTells plan row from to held → FarTells plan row from to (status_part status held)
 far_status plan row from to status None carries tells = tt
 far_status plan row from to status (Some binding) carries tells = status_tells plan row from to status binding.told tells carries

@@ -26,7 +26,8 @@ front_said ends m ms fit said others =
 no_more : {pdu : Pdu} {rest : List ℕ} → More ≡ Got pdu rest → ⊥
 no_more e = cc
 
-same_message : (router : Addr) (x y : Message) (xs ys : List ℕ) → Got (record { id = platform_of router; messages = x ∷ [] }) xs ≡ Got (record { id = platform_of router; messages = y ∷ [] }) ys → x ≡ y
+same_message : (router : Addr) (x y : Message) (xs ys : List ℕ) → Got (record { id = platform_of router; messages = x ∷ [] }) xs
+    ≡ Got (record { id = platform_of router; messages = y ∷ [] }) ys → x ≡ y
 same_message router x y xs ys e = head (ap (λ (p : Pdu). p.messages) (pdu _ _ e))
   where
     pdu : (p q : Pdu) → Got p xs ≡ Got q ys → p ≡ q

@@ -47,7 +47,16 @@ abbrev pub an_offer : Offer
 an_offer = record { tagged = false; cword = true; mtu = Some 1500; vlan = None; vccv = None; status = true; group = 0; description = [] }
 
 abbrev pub a_wire : List ℕ → Class → ℕ → ℕ → ℕ → ℕ → WirePlan
-a_wire name class from to pw_id priority = record { name = name; service = record { 0 = 0 }; class = class; path = record { 0 = from } ∷ record { 0 = to } ∷ []; pw_id = pw_id; near = an_offer; far = an_offer; priority = priority }
+a_wire name class from to pw_id priority = record {
+  name = name;
+  service = record { 0 = 0 };
+  class = class;
+  path = record { 0 = from } ∷ record { 0 = to } ∷ [];
+  pw_id = pw_id;
+  near = an_offer;
+  far = an_offer;
+  priority = priority;
+}
 
 abbrev pub a_circuit : List ℕ → ℕ → CircuitPlan
 a_circuit name edge = record { name = name; edge = record { 0 = edge }; service = record { 0 = 0 }; tag = None }
@@ -165,7 +174,8 @@ comes_up_stands = (
                     (
                       stand_each (address 1) (maps 200 17 0 ∷ []) refl refl (mapping_is 200 17 0 (omega arith) (omega arith) (omega arith), tt),
                       (
-                        stand_each (address 3) (tells 4 200 0 ∷ clears 5 200 ∷ []) refl refl (status_is 4 200 0 (omega arith) (omega arith) (omega arith), (clearing_is 5 200 (omega arith) (omega arith), tt)),
+                        stand_each (address 3) (tells 4 200 0 ∷ clears 5 200 ∷ []) refl refl
+                            (status_is 4 200 0 (omega arith) (omega arith) (omega arith), (clearing_is 5 200 (omega arith) (omega arith), tt)),
                         (
                           stand_each (address 1) (clears 4 100 ∷ []) refl refl (clearing_is 4 100 (omega arith) (omega arith), tt),
                           (

@@ -80,7 +80,8 @@ none : (xs : List ℕ) → (length xs == 0) ≡ true → xs ≡ []
 none [] e = refl
 none (x ∷ xs) e = absurd (not_zero (length xs) e)
 
-few_each : (plan : Plan) (peer : EdgeId) (router : Addr) (messages : List Message) (n : ℕ) (work : Work) → StandEach router messages → are_wide plan peer (platform_of router) messages work ≡ true → length messages ≤ n
+few_each : (plan : Plan) (peer : EdgeId) (router : Addr) (messages : List Message) (n : ℕ) (work : Work) → StandEach router messages
+    → are_wide plan peer (platform_of router) messages work ≡ true → length messages ≤ n
     → hears_few plan taken_all peer (suc n) (octets_of_all router messages) work ≡ hears_each plan peer (platform_of router) messages work
 unfolding front_of
 few_each plan peer router [] n work stand wide few = nothing (work.edge.peering peer.0) where
@@ -139,8 +140,12 @@ if_not : (test : Bool) (one other : Stepped) → not test ≡ true → (if test 
 if_not false one other e = refl
 if_not true one other e = clash e
 
-delivered_each : (plan : Plan) (count : ℕ) (from to : EdgeId) (router : Addr) (messages : List Message) (network : NetworkState) → StandEach router messages → are_next plan count from to router messages network ≡ true
-    → (step plan network (Deliver from to count)) ≡ record { state = (hands_over plan from to (platform_of router) messages network).state; entries = Did (Deliver from to count) ∷ (hands_over plan from to (platform_of router) messages network).entries }
+delivered_each : (plan : Plan) (count : ℕ) (from to : EdgeId) (router : Addr) (messages : List Message) (network : NetworkState) → StandEach router messages
+    → are_next plan count from to router messages network ≡ true
+    → (step plan network (Deliver from to count)) ≡ record {
+      state = (hands_over plan from to (platform_of router) messages network).state;
+      entries = Did (Deliver from to count) ∷ (hands_over plan from to (platform_of router) messages network).entries;
+    }
 delivered_each plan count from to router messages network stand next =
     let ends = first_holds _ _ next in
     let rest = second_holds _ _ next in
@@ -159,7 +164,8 @@ delivered_each plan count from to router messages network stand next =
       given : take count pipe ≡ octets_of_all router messages → drop count pipe ≡ [] → is_bare ((edge_at network to).peering from.0) ≡ true → length messages ≤ length (octets_of_all router messages)
           → are_wide plan from (platform_of router) messages (begin_at network to) ≡ true → delivering plan from to count network ≡ hands_over plan from to (platform_of router) messages network
       given all none bare few wide =
-          ap (λ (w : Work). absorb to 0 0 w (with_pipe from to (drop count pipe) network)) (octets_each plan from router messages (take count pipe) ((edge_at network to).peering from.0) (begin_at network to) all bare stand wide few)
+          ap (λ (w : Work). absorb to 0 0 w (with_pipe from to (drop count pipe) network))
+          (octets_each plan from router messages (take count pipe) ((edge_at network to).peering from.0) (begin_at network to) all bare stand wide few)
           ∙ ap (λ (l : List ℕ). absorb to 0 0 (mends plan taken_all (hears_each plan from (platform_of router) messages (begin_at network to))) (with_pipe from to l network)) none
 
 -- ---- a run
@@ -221,13 +227,15 @@ step_told plan network (Happens event) stand right = refl
 step_told plan network (Hears from to router messages) stand right = delivered_each plan all_octets from to router messages network stand right
 
 -- the states of a run, and what it tells, by its messages
-pub after_is : (plan : Plan) (network : NetworkState) (moments : List Moment) → StandAll moments → are_right plan network moments ≡ true → state_after plan network (events_of moments) ≡ told_after plan network moments
+pub after_is : (plan : Plan) (network : NetworkState) (moments : List Moment) → StandAll moments → are_right plan network moments ≡ true → state_after plan network (events_of moments)
+    ≡ told_after plan network moments
 after_is plan network [] stand right = refl
 after_is plan network (moment ∷ moments) stand right =
     ap (λ (s : Stepped). state_after plan s.state (events_of moments)) (step_told plan network moment stand.0 (first_holds _ _ right))
     ∙ after_is plan (told_step plan network moment).state moments stand.1 (second_holds _ _ right)
 
-pub along_is : (plan : Plan) (network : NetworkState) (moments : List Moment) → StandAll moments → are_right plan network moments ≡ true → entries_along plan network (events_of moments) ≡ told_along plan network moments
+pub along_is : (plan : Plan) (network : NetworkState) (moments : List Moment) → StandAll moments → are_right plan network moments ≡ true
+    → entries_along plan network (events_of moments) ≡ told_along plan network moments
 along_is plan network [] stand right = refl
 along_is plan network (moment ∷ moments) stand right =
     ap (λ (s : Stepped). s.entries ++ entries_along plan s.state (events_of moments)) (step_told plan network moment stand.0 (first_holds _ _ right))
@@ -280,12 +288,14 @@ unfolding with_frame
 entered_away at octets row work network k apart true = refl
 entered_away at octets row work network k apart false = absorbed_away row.edge (next_origin network) 0 work (with_frame network) k apart
 
-answered_away : (me : EdgeId) (work : Work) (network : NetworkState) (k : ℕ) → (k == me.0) ≡ false → (test : Bool) → (if test then idle network else absorb me 0 0 work network).state.edges k ≡ network.edges k
+answered_away : (me : EdgeId) (work : Work) (network : NetworkState) (k : ℕ) → (k == me.0) ≡ false → (test : Bool)
+    → (if test then idle network else absorb me 0 0 work network).state.edges k ≡ network.edges k
 answered_away me work network k apart true = refl
 answered_away me work network k apart false = absorbed_away me 0 0 work network k apart
 
 module _ (plan : Plan) (size k : ℕ) (beyond : size ≤ k) where
-  frame_away : (at : CircuitId) (octets : List ℕ) (row : Option CircuitPlan) (network : NetworkState) → at_row size row ≡ true → (frame_event plan at octets row network).state.edges k ≡ network.edges k
+  frame_away : (at : CircuitId) (octets : List ℕ) (row : Option CircuitPlan) (network : NetworkState) → at_row size row ≡ true → (frame_event plan at octets row network).state.edges k
+      ≡ network.edges k
   frame_away at octets None network within = refl
   frame_away at octets (Some row) network within =
       entered_away at octets row (frame_work plan network at octets row) network k (other_place size k row.edge.0 beyond within) (frame_work plan network at octets row).idle
@@ -330,7 +340,8 @@ AreReadable (m ∷ ms) = IsReadable m × AreReadable ms
 each_stands : (router : Addr) (ms : List Message) → length router.0 ≡ 4 → AreOctets (octets_of_all router ms) → AreReadable ms → StandEach router ms
 each_stands router [] four octets readable = tt
 each_stands router (m ∷ ms) four octets readable = (
-  front_is_read.written_first 4096 m (platform_of router) (octets_of_all router ms) octets (omega arith) readable.0.can readable.0.fits (record { router = four; space = omega arith }) (leb-true _ _ readable.0.short),
+  front_is_read.written_first 4096 m (platform_of router) (octets_of_all router ms) octets (omega arith) readable.0.can readable.0.fits (record { router = four; space = omega arith })
+      (leb-true _ _ readable.0.short),
   each_stands router ms four (octets_behind (written m (platform_of router)) (octets_of_all router ms) octets) readable.1,
 )
 

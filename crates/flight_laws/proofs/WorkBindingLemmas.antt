@@ -55,7 +55,8 @@ HoldsOctets held (Some kept) = kept.held ≡ held
 abbrev pub HoldsAll : (ℕ → Bool) → (ℕ → List ℕ) → Work → Type 0
 HoldsAll besides held work = (place : ℕ) → besides place ≡ false → HoldsOctets (held place) (work.edge.peering place)
 
-says_holds : (place : ℕ) (held : List ℕ) (peer : EdgeId) (message : ℕ → Message) (work : Work) → HoldsOctets held (work.edge.peering place) → HoldsOctets held ((says taken_all peer message work).work.edge.peering place)
+says_holds : (place : ℕ) (held : List ℕ) (peer : EdgeId) (message : ℕ → Message) (work : Work) → HoldsOctets held (work.edge.peering place)
+    → HoldsOctets held ((says taken_all peer message work).work.edge.peering place)
 says_holds place held peer message work holds = elim (cases_Bool (nat_eq place peer.0)) [
   | inl same ↦ subst (λ (k : ℕ). HoldsOctets held ((says taken_all peer message work).work.edge.peering k)) (sym (eqb-true place peer.0 same))
       (here (work.edge.peering peer.0) refl (subst (λ (k : ℕ). HoldsOctets held (work.edge.peering k)) (eqb-true place peer.0 same) holds))
@@ -79,13 +80,16 @@ held_steady plan me I besides held steady = record {
   says = λ peer message work up is i. (steady.says peer message work up is i.0, λ place here. says_holds place (held place) peer message work (i.1 place here));
 }
 
-comes_holds : (me peer : EdgeId) (kept : Peering) (said : List ℕ) (work : Work) (o : Outcome) → Shows peer.0 work (Some kept) said false → IsFine me work → HoldsOctets kept.held ((comes_of taken_all peer kept o work).edge.peering peer.0)
+comes_holds : (me peer : EdgeId) (kept : Peering) (said : List ℕ) (work : Work) (o : Outcome) → Shows peer.0 work (Some kept) said false → IsFine me work
+    → HoldsOctets kept.held ((comes_of taken_all peer kept o work).edge.peering peer.0)
 comes_holds me peer kept said work Stay shows fine = subst (HoldsOctets kept.held) (sym shows.keeps) refl
-comes_holds me peer kept said work (Goes next replies) shows fine = subst (HoldsOctets kept.held) (sym (goes_shows me peer kept next replies said work shows fine).0.keeps) (put_held replies (with_session next kept))
+comes_holds me peer kept said work (Goes next replies) shows fine =
+    subst (HoldsOctets kept.held) (sym (goes_shows me peer kept next replies said work shows fine).0.keeps) (put_held replies (with_session next kept))
 comes_holds me peer kept said work (Ends why replies) shows fine = subst (HoldsOctets kept.held) (sym (ended_gone peer why (put_replies taken_all peer replies work).work)) tt
 
 -- and so does an event of a session
-pub event_holds : (me peer : EdgeId) (place : ℕ) (held : List ℕ) (event : SessionEvent) (work : Work) → IsFine me work → ((kept : Peering) → work.edge.peering peer.0 ≡ Some kept → closes peer.0 work.effects ≡ false)
+pub event_holds : (me peer : EdgeId) (place : ℕ) (held : List ℕ) (event : SessionEvent) (work : Work) → IsFine me work
+    → ((kept : Peering) → work.edge.peering peer.0 ≡ Some kept → closes peer.0 work.effects ≡ false)
     → HoldsOctets held (work.edge.peering place) → HoldsOctets held ((happens_with_ends taken_all peer event work).edge.peering place)
 event_holds me peer place held event work fine unclosed holds = elim (cases_Bool (nat_eq place peer.0)) [
   | inl same ↦ subst (λ (k : ℕ). HoldsOctets held ((happens_with_ends taken_all peer event work).edge.peering k)) (sym (eqb-true place peer.0 same))
@@ -105,12 +109,14 @@ event_holds me peer place held event work fine unclosed holds = elim (cases_Bool
 
 -- ---- ends that are declined no longer
 
-renewed_bound : (pw_id : ℕ) (next : ℕ → Bool) (near : LocalPart) (far : Option Binding) (out back : List Message) → IsBoundBy pw_id next near far out back → IsBoundBy pw_id next (renew_part near) far out back
+renewed_bound : (pw_id : ℕ) (next : ℕ → Bool) (near : LocalPart) (far : Option Binding) (out back : List Message) → IsBoundBy pw_id next near far out back
+    → IsBoundBy pw_id next (renew_part near) far out back
 renewed_bound pw_id next (Idle declined) far out back is = binding_renews pw_id next declined false far out back is
 renewed_bound pw_id next (Advertised label told) far out back is = is
 renewed_bound pw_id next (Withdrawing label) far out back is = is
 
-turned_end : (wire : WireId) (on : Bool) (edge : EdgeState) (k place : ℕ) → ((turned_wire wire on edge).ends k place ≡ edge.ends k place) ⊎ ((turned_wire wire on edge).ends k place ≡ renewed (edge.ends k place))
+turned_end : (wire : WireId) (on : Bool) (edge : EdgeState) (k place : ℕ) → ((turned_wire wire on edge).ends k place ≡ edge.ends k place)
+    ⊎ ((turned_wire wire on edge).ends k place ≡ renewed (edge.ends k place))
 unfolding with_renewed with_wire
 turned_end wire true edge k place = elim (cases_Bool (nat_eq k wire.0)) [
   | inl same ↦ inr (rw same refl)
@@ -123,24 +129,28 @@ unfolding with_renewed with_wire
 turned_label wire true edge = refl
 turned_label wire false edge = refl
 
-turned_bound : (plan : Plan) (a b : ℕ) (wire : WireId) (on : Bool) (edge other : EdgeState) (out back : List Message) → AreBound plan a b edge other out back → AreBound plan a b (turned_wire wire on edge) other out back
+turned_bound : (plan : Plan) (a b : ℕ) (wire : WireId) (on : Bool) (edge other : EdgeState) (out back : List Message) → AreBound plan a b edge other out back
+    → AreBound plan a b (turned_wire wire on edge) other out back
 turned_bound plan a b wire on edge other out back bound = record {
   near = λ w row is joined. subst (λ (n : ℕ → Bool). IsBoundBy row.pw_id n ((turned_wire wire on edge).ends w.0 b).local (other.ends w.0 a).remote out back) (sym (turned_label wire on edge))
       (either (turned_end wire on edge w.0 b) (λ (e : EndState). IsBoundBy row.pw_id (given_of edge) e.local (other.ends w.0 a).remote out back) (bound.near w row is joined)
       (renewed_bound row.pw_id (given_of edge) (edge.ends w.0 b).local (other.ends w.0 a).remote out back (bound.near w row is joined)));
-  far = λ w row is joined. either (turned_end wire on edge w.0 b) (λ (e : EndState). IsBoundBy row.pw_id (given_of other) (other.ends w.0 a).local e.remote back out) (bound.far w row is joined) (bound.far w row is joined);
+  far = λ w row is joined. either (turned_end wire on edge w.0 b) (λ (e : EndState). IsBoundBy row.pw_id (given_of other) (other.ends w.0 a).local e.remote back out)
+      (bound.far w row is joined) (bound.far w row is joined);
 }
   where
     either : {x y z : EndState} → (x ≡ y) ⊎ (x ≡ z) → (P : EndState → Type 0) → P y → P z → P x
     either (inl is) P one two = subst P (sym is) one
     either (inr is) P one two = subst P (sym is) two
 
-bits_bound : (plan : Plan) (a b : ℕ) (wire : WireId) (bits : ℕ) (edge other : EdgeState) (out back : List Message) → AreBound plan a b edge other out back → AreBound plan a b (with_bits wire bits edge) other out back
+bits_bound : (plan : Plan) (a b : ℕ) (wire : WireId) (bits : ℕ) (edge other : EdgeState) (out back : List Message) → AreBound plan a b edge other out back
+    → AreBound plan a b (with_bits wire bits edge) other out back
 unfolding with_bits
 bits_bound plan a b wire bits edge other out back bound = record { near = bound.near; far = bound.far }
 
 -- a change that says nothing
-changed_leaves : (plan : Plan) (me : EdgeId) (place : ℕ) (far : EdgeState) (out : List ℕ) (answers : List Message) (change : EdgeState → EdgeState) (work : Work) → (change work.edge).peering ≡ work.edge.peering
+changed_leaves : (plan : Plan) (me : EdgeId) (place : ℕ) (far : EdgeState) (out : List ℕ) (answers : List Message) (change : EdgeState → EdgeState) (work : Work)
+    → (change work.edge).peering ≡ work.edge.peering
     → ((ms : List Message) → AreBound plan me.0 place work.edge far ms answers → AreBound plan me.0 place (change work.edge) far ms answers)
     → LeavesBound plan me place far out answers work → LeavesBound plan me place far out answers (changes change work)
 unfolding changes
@@ -152,13 +162,15 @@ bits_peering : (wire : WireId) (bits : ℕ) (edge : EdgeState) → (with_bits wi
 unfolding with_bits
 bits_peering wire bits edge = refl
 
-changed_held : (besides : ℕ → Bool) (held : ℕ → List ℕ) (change : EdgeState → EdgeState) (work : Work) → (change work.edge).peering ≡ work.edge.peering → HoldsAll besides held work → HoldsAll besides held (changes change work)
+changed_held : (besides : ℕ → Bool) (held : ℕ → List ℕ) (change : EdgeState → EdgeState) (work : Work) → (change work.edge).peering ≡ work.edge.peering → HoldsAll besides held work
+    → HoldsAll besides held (changes change work)
 changed_held besides held change work same holds place here =
     subst (HoldsOctets (held place)) (sym (ap (λ (e : EdgeState). e.peering place) (changed_edge change work) ∙ ap (λ (f : ℕ → Option Peering). f place) same)) (holds place here)
 
 -- what is left of a place, by octets
 pub leaves_by_octets : (plan : Plan) (network : NetworkState) (me : EdgeId) (place : ℕ) (held : List ℕ) (answers : List Message) (work : Work) → AreAnswers plan network me place held answers
-    → HasSaid plan me place (network.edges place) (flight network me.0 place) work → HoldsOctets held (work.edge.peering place) → ((kept : Peering) → work.edge.peering place ≡ Some kept → closes place work.effects ≡ false)
+    → HasSaid plan me place (network.edges place) (flight network me.0 place) work → HoldsOctets held (work.edge.peering place)
+    → ((kept : Peering) → work.edge.peering place ≡ Some kept → closes place work.effects ≡ false)
     → LeavesBound plan me place (network.edges place) (flight network me.0 place) answers work → LeavesFor (AreBoundBy plan) network me work place
 leaves_by_octets plan network me place held answers work are has holds unclosed leaves = record {
   bound = λ messages others said other_said out_is back_is near far. by_end messages others said other_said out_is back_is far (work.edge.peering place) refl near;
@@ -167,7 +179,8 @@ leaves_by_octets plan network me place held answers work are has holds unclosed 
     by_end : (messages others : List Message) → AreSaid (ends_at plan me.0 place) messages → AreSaid (ends_at plan place me.0) others
         → and_more ((network.edges place).peering me.0) (flight network me.0 place) (said_to place work.effects) ≡ octets_of_all (ends_at plan me.0 place).me messages
         → held_by (work.edge.peering place) ++ cond (closes place work.effects) [] (network.pipes place me.0) ≡ octets_of_all (ends_at plan place me.0).me others
-        → is_there ((network.edges place).peering me.0) ≡ true → (near : Option Peering) → work.edge.peering place ≡ near → is_there (work.edge.peering place) ≡ true → AreBound plan me.0 place work.edge (network.edges place) messages others
+        → is_there ((network.edges place).peering me.0) ≡ true → (near : Option Peering) → work.edge.peering place ≡ near → is_there (work.edge.peering place) ≡ true
+        → AreBound plan me.0 place work.edge (network.edges place) messages others
     by_end messages others said other_said out_is back_is far None at near = clash (sym (ap is_there at) ∙ near)
     by_end messages others said other_said out_is back_is far (Some kept) at near =
         let standing : IsStanding (ends_at plan me.0 place) (ends_at plan place me.0) kept = rw at at has.talk.here in
@@ -200,12 +213,14 @@ module _ (plan : Plan) (network : NetworkState) (me : EdgeId) (checked : IsCheck
   held_works = held_steady plan me (WorksOn plan network me) no_place held (works_steady plan network me)
 
   event_works : (peer : EdgeId) (event : SessionEvent) (work : Work)
-      → ((own other : Peers) (kept : Peering) (far : Option Peering) (ms rest : List Message) → AreTalking own other (Some kept) far ms rest → StayInStep own other kept far ms rest (outcome_of kept.session event))
+      → ((own other : Peers) (kept : Peering) (far : Option Peering) (ms rest : List Message) → AreTalking own other (Some kept) far ms rest
+      → StayInStep own other kept far ms rest (outcome_of kept.session event))
       → WorksOn plan network me work → LeavesThese work → LeavesThese (happens_with_ends taken_all peer event work)
   event_works peer event work step works leaves place away = elim (cases_Bool (nat_eq place peer.0)) [
     | inl same ↦ subst (λ (k : ℕ). LeavesBound plan me k (network.edges k) (flight network me.0 k) (answers k) (happens_with_ends taken_all peer event work)) (sym (eqb-true place peer.0 same))
         (by_end (subst (λ (k : ℕ). nat_eq k me.0 ≡ false) (eqb-true place peer.0 same) away) (work.edge.peering peer.0) refl)
-    | inr other ↦ spared_leaves plan me place (network.edges place) (flight network me.0 place) (answers place) work (happens_with_ends taken_all peer event work) (event_spare place peer event work other) (leaves place away)
+    | inr other ↦ spared_leaves plan me place (network.edges place) (flight network me.0 place) (answers place) work (happens_with_ends taken_all peer event work)
+        (event_spare place peer event work other) (leaves place away)
   ]
     where
       by_end : nat_eq peer.0 me.0 ≡ false → (near : Option Peering) → work.edge.peering peer.0 ≡ near
@@ -213,8 +228,10 @@ module _ (plan : Plan) (network : NetworkState) (me : EdgeId) (checked : IsCheck
       by_end off None at = leaves_no_event plan me peer (network.edges peer.0) (flight network me.0 peer.0) (answers peer.0) event work at
       by_end off (Some kept) at =
           let has : HasSaid plan me peer.0 (network.edges peer.0) (flight network me.0 peer.0) work = all_said work works peer.0 off in
-          leaves_event plan me peer (network.edges peer.0) (flight network me.0 peer.0) (answers peer.0) (answers peer.0) has.answers event kept work has works.fine at ((works.left peer.0 off).unclosed kept at)
-          (step (ends_at plan me.0 peer.0) (ends_at plan peer.0 me.0) kept ((network.edges peer.0).peering me.0) has.messages has.answers (rw at at has.talk)) (λ goes ms bound. bound) (leaves peer.0 off)
+          leaves_event plan me peer (network.edges peer.0) (flight network me.0 peer.0) (answers peer.0) (answers peer.0) has.answers event kept work has works.fine at
+          ((works.left peer.0 off).unclosed kept at)
+          (step (ends_at plan me.0 peer.0) (ends_at plan peer.0 me.0) kept ((network.edges peer.0).peering me.0) has.messages has.answers (rw at at has.talk)) (λ goes ms bound. bound)
+          (leaves peer.0 off)
 
   event_held : (peer : EdgeId) (event : SessionEvent) (work : Work) → WorksOn plan network me work → HoldsAll no_place held work → HoldsAll no_place held (happens_with_ends taken_all peer event work)
   event_held peer event work works holds place here =
@@ -228,7 +245,8 @@ module _ (plan : Plan) (network : NetworkState) (me : EdgeId) (checked : IsCheck
   bound_work_kept =
       let base : KeptByWork plan me (WorksOn plan network me) = works_kept plan network me checked types in
       record {
-        rows = rows_leave plan me checked network.edges (flight network me.0) answers types WorksHeld (steady_rows plan me checked types WorksHeld held_works) (λ work works. works.0.sound) (λ work works. all_said work works.0);
+        rows = rows_leave plan me checked network.edges (flight network me.0) answers types WorksHeld (steady_rows plan me checked types WorksHeld held_works)
+            (λ work works. works.0.sound) (λ work works. all_said work works.0);
         closed = λ peer work all. (
           (base.closed peer work all.0.0, event_held peer (Closed reason.Closed) work all.0.0 all.0.1),
           event_works peer (Closed reason.Closed) work (λ own other kept far ms rest t. closed_in_step own other kept far ms rest t) all.0.0 all.1,
@@ -239,8 +257,10 @@ module _ (plan : Plan) (network : NetworkState) (me : EdgeId) (checked : IsCheck
         );
         bridges = λ old new bridged all. (
           (base.bridges old new bridged all.0.0, λ place here. subst (HoldsOctets (held place)) (sym (ap (λ (f : ℕ → Option Peering). f place) bridged.peering)) (all.0.1 place here)),
-          λ place away. leaves_same plan me place (network.edges place) (flight network me.0 place) (answers place) old new (bridged.said place) (λ near. sym (ap (λ (f : ℕ → Option Peering). is_there (f place)) bridged.peering) ∙ near)
-              (record { label = given_on old.edge new.edge bridged.keeps.next_label bridged.keeps.kept; ends = λ wire. ap (λ (f : ℕ → ℕ → EndState). f wire place) bridged.keeps.ends }) (all.1 place away),
+          λ place away. leaves_same plan me place (network.edges place) (flight network me.0 place) (answers place) old new (bridged.said place)
+              (λ near. sym (ap (λ (f : ℕ → Option Peering). is_there (f place)) bridged.peering) ∙ near)
+              (record { label = given_on old.edge new.edge bridged.keeps.next_label bridged.keeps.kept; ends = λ wire. ap (λ (f : ℕ → ℕ → EndState). f wire place) bridged.keeps.ends })
+              (all.1 place away),
         );
         turned = λ wire on work all. (
           (base.turned wire on work all.0.0, changed_held no_place held (turned_wire wire on) work (turned_wire_keeps wire on work.edge) all.0.1),
@@ -255,7 +275,9 @@ module _ (plan : Plan) (network : NetworkState) (me : EdgeId) (checked : IsCheck
       }
 
   -- what it leaves of a place, by octets
-  pub leaves_octets : ((place : ℕ) → nat_eq place me.0 ≡ false → AreAnswers plan network me place (held place) (answers place)) → (work : Work) → WorksBound work → (place : ℕ) → nat_eq place me.0 ≡ false
+  pub leaves_octets : ((place : ℕ) → nat_eq place me.0 ≡ false → AreAnswers plan network me place (held place) (answers place)) → (work : Work) → WorksBound work → (place : ℕ)
+      → nat_eq place me.0 ≡ false
       → LeavesFor (AreBoundBy plan) network me work place
   leaves_octets are work all place away =
-      leaves_by_octets plan network me place (held place) (answers place) work (are place away) (all_said work all.0.0 place away) (all.0.1 place refl) (λ kept at. (all.0.0.left place away).unclosed kept at) (all.1 place away)
+      leaves_by_octets plan network me place (held place) (answers place) work (are place away) (all_said work all.0.0 place away) (all.0.1 place refl)
+      (λ kept at. (all.0.0.left place away).unclosed kept at) (all.1 place away)

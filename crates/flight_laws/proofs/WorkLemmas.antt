@@ -112,7 +112,8 @@ put_octets_spares place peer bytes true work apart =
     (spares_then place put (changes (with_spoken peer) put) _ (with_spoken_spares place peer put apart) (said_spares place peer bytes (changes (with_spoken peer) put) apart))
 put_octets_spares place peer bytes false work apart = puts_spares place peer bytes false work
 
-pub put_reply_spares : (told : Answers) (place : ℕ) (peer : EdgeId) (r : Reply) (kept : Option Peering) (work : Work) → nat_eq place peer.0 ≡ false → Spares place work (put_reply_to told peer r kept work).work
+pub put_reply_spares : (told : Answers) (place : ℕ) (peer : EdgeId) (r : Reply) (kept : Option Peering) (work : Work) → nat_eq place peer.0 ≡ false
+    → Spares place work (put_reply_to told peer r kept work).work
 put_reply_spares told place peer r None work apart = spares_same place work
 put_reply_spares told place peer r (Some kept) work apart = put_octets_spares place peer (octets_of kept r) (next_answer told work) work apart
 
@@ -131,7 +132,8 @@ pub ends_spares : (place : ℕ) (peer : EdgeId) (why : Reason) (work : Work) →
 ends_spares place peer why work apart =
     let gone : Work = changes (with_peering peer None) work in
     spares_then place work gone _ (with_peering_spares place peer None work apart)
-    (spares_then place gone (gives (effect.Session peer (name.Ended why)) gone) _ (session_spares place peer (name.Ended why) gone) (closed_spares place peer (gives (effect.Session peer (name.Ended why)) gone) apart))
+    (spares_then place gone (gives (effect.Session peer (name.Ended why)) gone) _ (session_spares place peer (name.Ended why) gone)
+    (closed_spares place peer (gives (effect.Session peer (name.Ended why)) gone) apart))
 
 tells_spares : (place : ℕ) (peer : EdgeId) (same : Bool) (new : Phase) (work : Work) → Spares place work (cond same work (gives (effect.Session peer (phase_name new)) work))
 tells_spares place peer true new work = spares_same place work
@@ -150,9 +152,11 @@ comes_spares told place peer kept (Goes next replies) work apart =
     spares_then place work moved _ (with_peering_spares place peer (Some (with_session next kept)) work apart)
     (spares_then place moved put.work _ (put_replies_spares told place peer replies moved apart) (went_spares place peer kept.session.phase next.phase put.failed put.work apart))
 comes_spares told place peer kept (Ends why replies) work apart =
-    spares_then place work (put_replies told peer replies work).work _ (put_replies_spares told place peer replies work apart) (ends_spares place peer why (put_replies told peer replies work).work apart)
+    spares_then place work (put_replies told peer replies work).work _ (put_replies_spares told place peer replies work apart)
+    (ends_spares place peer why (put_replies told peer replies work).work apart)
 
-happens_to_spares : (told : Answers) (place : ℕ) (peer : EdgeId) (event : SessionEvent) (kept : Option Peering) (work : Work) → nat_eq place peer.0 ≡ false → Spares place work (happens_to told peer event kept work)
+happens_to_spares : (told : Answers) (place : ℕ) (peer : EdgeId) (event : SessionEvent) (kept : Option Peering) (work : Work) → nat_eq place peer.0 ≡ false
+    → Spares place work (happens_to told peer event kept work)
 happens_to_spares told place peer event None work apart = spares_same place work
 happens_to_spares told place peer event (Some kept) work apart = comes_spares told place peer kept (outcome_of kept.session event) work apart
 
@@ -165,7 +169,8 @@ happens_spares told place peer event work apart = happens_to_spares told place p
 unfoldable pub wrote : EdgeId → List ℕ → Work → Work
 wrote peer bytes work = gives (effect.Said peer bytes) (changes (with_spoken peer) (puts peer bytes true work))
 
-one_put : (peer : EdgeId) (kept : Peering) (r : Reply) (work : Work) → work.edge.peering peer.0 ≡ Some kept → put_reply taken_all peer r work ≡ record { work = wrote peer (octets_of kept r) work; failed = false }
+one_put : (peer : EdgeId) (kept : Peering) (r : Reply) (work : Work) → work.edge.peering peer.0 ≡ Some kept → put_reply taken_all peer r work
+    ≡ record { work = wrote peer (octets_of kept r) work; failed = false }
 unfolding wrote
 one_put peer kept r work is = rw is refl
 
@@ -197,17 +202,26 @@ pub all_put : (me peer : EdgeId) (rs : List Reply) (kept : Peering) (work : Work
 all_put me peer [] kept work said closed shows fine = record { taken = refl; shows = record { keeps = shows.keeps; says = shows.says ∙ sym (same_end said); ended = shows.ended }; fine = fine }
 all_put me peer (r ∷ rs) kept work said closed shows fine =
     rw (one_put peer kept r work shows.keeps, ← append_assoc said (octets_of kept r) (octets_put rs (having_spoken kept)))
-    (all_put me peer rs (having_spoken kept) (wrote peer (octets_of kept r) work) (said ++ octets_of kept r) closed (wrote_shows peer kept (octets_of kept r) work said closed shows) (wrote_fine me peer (octets_of kept r) work fine))
+    (all_put me peer rs (having_spoken kept) (wrote peer (octets_of kept r) work) (said ++ octets_of kept r) closed (wrote_shows peer kept (octets_of kept r) work said closed shows)
+    (wrote_fine me peer (octets_of kept r) work fine))
 
 -- a session ends
-pub ends_shows : (me peer : EdgeId) (why : Reason) (kept : Option Peering) (work : Work) (said : List ℕ) (closed : Bool) → is_no_refusal why ≡ true → Shows peer.0 work kept said closed → IsFine me work
+pub ends_shows : (me peer : EdgeId) (why : Reason) (kept : Option Peering) (work : Work) (said : List ℕ) (closed : Bool) → is_no_refusal why ≡ true → Shows peer.0 work kept said closed
+    → IsFine me work
     → Shows peer.0 (ends peer why work) None said true × IsFine me (ends peer why work)
 unfolding gives changes with_peering
 ends_shows me peer why kept work said closed well shows fine = (
   record {
     keeps = rw (same_number peer.0) refl;
-    says = said-append peer.0 (work.effects ++ effect.Session peer (name.Ended why) ∷ []) (effect.Closed peer ∷ []) ∙ same_end _ ∙ said-append peer.0 work.effects (effect.Session peer (name.Ended why) ∷ []) ∙ same_end _ ∙ shows.says;
-    ended = closes-append peer.0 (work.effects ++ effect.Session peer (name.Ended why) ∷ []) (effect.Closed peer ∷ []) ∙ rw (same_number peer.0) (or_true (closes peer.0 (work.effects ++ effect.Session peer (name.Ended why) ∷ [])));
+    says = said-append peer.0 (work.effects ++ effect.Session peer (name.Ended why) ∷ []) (effect.Closed peer ∷ []) ∙ same_end _
+        ∙ said-append peer.0 work.effects (effect.Session peer (name.Ended why) ∷ []) ∙ same_end _ ∙ shows.says;
+    ended = closes-append peer.0 (work.effects ++ effect.Session peer (name.Ended why) ∷ []) (effect.Closed peer ∷ [])
+        ∙ rw (same_number peer.0) (or_true (closes peer.0 (work.effects ++ effect.Session peer (name.Ended why) ∷ [])));
   },
-  record { place = fine.place; idle = fine.idle; well = well-append (work.effects ++ effect.Session peer (name.Ended why) ∷ []) (effect.Closed peer) (well-append work.effects (effect.Session peer (name.Ended why)) fine.well well) tt },
+  record {
+    place = fine.place;
+    idle = fine.idle;
+    well = well-append (work.effects ++ effect.Session peer (name.Ended why) ∷ []) (effect.Closed peer)
+        (well-append work.effects (effect.Session peer (name.Ended why)) fine.well well) tt;
+  },
 )

@@ -43,7 +43,8 @@ forgetting_keeps : (plan : Plan) (edge : EdgeState) → KeepsEnds edge (forgetti
 unfolding with_learned
 forgetting_keeps plan edge = (record { me = refl; wire_on = refl; bits = refl; ends = refl; told_down = refl; next_label = refl; kept = refl }, refl)
 
-turned_keeps : (plan : Plan) (circuit : CircuitId) (row : CircuitPlan) (on : Bool) (edge : EdgeState) → KeepsEnds edge (turned plan circuit row on edge) × ((turned plan circuit row on edge).peering ≡ edge.peering)
+turned_keeps : (plan : Plan) (circuit : CircuitId) (row : CircuitPlan) (on : Bool) (edge : EdgeState) → KeepsEnds edge (turned plan circuit row on edge)
+    × ((turned plan circuit row on edge).peering ≡ edge.peering)
 unfolding with_addresses with_circuit
 turned_keeps plan circuit row true edge = (record { me = refl; wire_on = refl; bits = refl; ends = refl; told_down = refl; next_label = refl; kept = refl }, refl)
 turned_keeps plan circuit row false edge = (record { me = refl; wire_on = refl; bits = refl; ends = refl; told_down = refl; next_label = refl; kept = refl }, refl)
@@ -90,7 +91,8 @@ module _ (plan : Plan) (me : EdgeId) (I : Work → Type 0) (kept : KeptByWork pl
       mends_keep plan me I kept.rows _ (kept.rows.others (with_priority wire priority) work one.0 one.1 i)
 
   -- a frame comes, or a packet
-  pub received_kept : (told : Answers) (came : Arrival) (service : ServiceId) (arrival : Option ℕ) (read : Result (List ℕ) DropCause) (work : Work) → I work → I (received plan told came service arrival read work)
+  pub received_kept : (told : Answers) (came : Arrival) (service : ServiceId) (arrival : Option ℕ) (read : Result (List ℕ) DropCause) (work : Work) → I work
+      → I (received plan told came service arrival read work)
   received_kept told came service arrival read work i = kept.bridges work _ (received_bridged plan told came service arrival read work) i
 
   pub packet_kept : (told : Answers) (octets : List ℕ) (work : Work) → I work → I (packet_input plan told octets work)

@@ -87,7 +87,8 @@ pub record AreOthers (plan : Plan) (me : EdgeId) (network : NetworkState) : Type
 pub others_are : (plan : Plan) (me : EdgeId) (network : NetworkState) → IsOrdered plan network → AreOthers plan me network
 others_are plan me network ordered = record { alone = λ a away. ordered.alone a; placed = λ a away. ordered.placed a; sound = λ a away. ordered.sound a }
 
-pub works_settle : (plan : Plan) (network : NetworkState) (me : EdgeId) (origin hops : ℕ) (work : Work) → HoldsBut (IsPaired plan) me.0 network → AreOthers plan me network → WorksOn plan network me work
+pub works_settle : (plan : Plan) (network : NetworkState) (me : EdgeId) (origin hops : ℕ) (work : Work) → HoldsBut (IsPaired plan) me.0 network → AreOthers plan me network
+    → WorksOn plan network me work
     → IsOrdered plan (absorb me origin hops work network).state
 works_settle plan network me origin hops work two others works = record {
   two = settle (IsPaired plan) network me origin hops work (pair_turned plan) two (λ place away. (works.left place away).leaves);
@@ -115,7 +116,8 @@ works_settle plan network me origin hops work two others works = record {
     ]
 
 -- work on a network in order keeps it so
-pub work_keeps : (plan : Plan) (network : NetworkState) (me : EdgeId) (origin hops : ℕ) (work : Work) → IsOrdered plan network → WorksOn plan network me work → KeepsOrder plan (absorb me origin hops work network)
+pub work_keeps : (plan : Plan) (network : NetworkState) (me : EdgeId) (origin hops : ℕ) (work : Work) → IsOrdered plan network → WorksOn plan network me work
+    → KeepsOrder plan (absorb me origin hops work network)
 work_keeps plan network me origin hops work ordered works = record {
   ordered = works_settle plan network me origin hops work (λ a b apart away gone. ordered.two a b apart) (others_are plan me network ordered) works;
   good = all_good me origin hops work.effects (with_edge me work.edge network) works.fine.well;
@@ -136,7 +138,8 @@ works_begin plan network me ordered = record {
 
 -- ---- nothing else for a place
 
-pub left_spared : (own other : Peers) (place : ℕ) (far : Option Peering) (out more : List ℕ) (old new : Work) → Spares place old new → IsLeft own other place far out more old → IsLeft own other place far out more new
+pub left_spared : (own other : Peers) (place : ℕ) (far : Option Peering) (out more : List ℕ) (old new : Work) → Spares place old new → IsLeft own other place far out more old
+    → IsLeft own other place far out more new
 left_spared own other place far out more old new spared left = record {
   leaves = rw (spared.kept, spared.said, spared.closed) left.leaves;
   unclosed = λ kept is. spared.closed ∙ left.unclosed kept (sym spared.kept ∙ is);
@@ -244,12 +247,14 @@ no_event peer event work at = ap (clears_ends peer) same where
   same : happens taken_all peer event work ≡ work
   same = rw at refl
 
-pub works_clears : (plan : Plan) (network : NetworkState) (me peer : EdgeId) (work : Work) → TellsSoundly (point_limit plan me.0) (clears_ends peer work).edge → WorksOn plan network me work → WorksOn plan network me (clears_ends peer work)
+pub works_clears : (plan : Plan) (network : NetworkState) (me peer : EdgeId) (work : Work) → TellsSoundly (point_limit plan me.0) (clears_ends peer work).edge
+    → WorksOn plan network me work → WorksOn plan network me (clears_ends peer work)
 works_clears plan network me peer work sound works = record {
   fine = clears_fine me peer work works.fine;
   sound = sound;
   alone = (clears_spares me.0 peer work).kept ∙ works.alone;
-  left = λ place away. left_spared (ends_at plan me.0 place) (ends_at plan place me.0) place ((network.edges place).peering me.0) (flight network me.0 place) (network.pipes place me.0) work (clears_ends peer work)
+  left = λ place away. left_spared (ends_at plan me.0 place) (ends_at plan place me.0) place ((network.edges place).peering me.0) (flight network me.0 place)
+      (network.pipes place me.0) work (clears_ends peer work)
       (clears_spares place peer work) (works.left place away);
 }
 
@@ -260,14 +265,16 @@ works_happens plan network me peer event work takes works = elim (cases_Bool (na
   | inl same ↦ (let none : work.edge.peering peer.0 ≡ None = ap (λ (k : ℕ). work.edge.peering k) (eqb-true peer.0 me.0 same) ∙ works.alone in
       subst (WorksOn plan network me) (sym (no_event peer event work none))
       (works_clears plan network me peer work (subst (λ (w : Work). TellsSoundly (point_limit plan me.0) w.edge) (no_event peer event work none) sound) works))
-  | inr away ↦ (let own = happens_left (ends_at plan me.0 peer.0) (ends_at plan peer.0 me.0) me peer ((network.edges peer.0).peering me.0) (flight network me.0 peer.0) (network.pipes peer.0 me.0) event work takes works.fine (works.left peer.0 away) in
+  | inr away ↦ (let own = happens_left (ends_at plan me.0 peer.0) (ends_at plan peer.0 me.0) me peer ((network.edges peer.0).peering me.0) (flight network me.0 peer.0)
+      (network.pipes peer.0 me.0) event work takes works.fine (works.left peer.0 away) in
       record {
         fine = own.0;
         sound = sound;
         alone = (event_spares me.0 peer event work (apart_back peer.0 me.0 away)).kept ∙ works.alone;
         left = λ place gone. elim (cases_Bool (nat_eq place peer.0)) [
           | inl this ↦ subst (LeftFor plan network me (happens_with_ends taken_all peer event work)) (sym (eqb-true place peer.0 this)) own.1
-          | inr other ↦ left_spared (ends_at plan me.0 place) (ends_at plan place me.0) place ((network.edges place).peering me.0) (flight network me.0 place) (network.pipes place me.0) work (happens_with_ends taken_all peer event work)
+          | inr other ↦ left_spared (ends_at plan me.0 place) (ends_at plan place me.0) place ((network.edges place).peering me.0) (flight network me.0 place)
+              (network.pipes place me.0) work (happens_with_ends taken_all peer event work)
               (event_spares place peer event work other) (works.left place gone)
         ];
       })
@@ -307,7 +314,8 @@ pub gives_fine : (me : EdgeId) (e : Effect) (work : Work) → IsSilent e → IsF
 unfolding gives
 gives_fine me e work silent fine = record { place = fine.place; idle = fine.idle; well = well-append work.effects e fine.well silent.well }
 
-wrote_sound : {limit : ℕ → ℕ} → (peer : EdgeId) (kept : Peering) (bytes : List ℕ) (work : Work) → work.edge.peering peer.0 ≡ Some kept → TellsSoundly limit work.edge → TellsSoundly limit (wrote peer bytes work).edge
+wrote_sound : {limit : ℕ → ℕ} → (peer : EdgeId) (kept : Peering) (bytes : List ℕ) (work : Work) → work.edge.peering peer.0 ≡ Some kept → TellsSoundly limit work.edge
+    → TellsSoundly limit (wrote peer bytes work).edge
 unfolding wrote gives changes with_spoken with_peering puts
 wrote_sound peer kept bytes work at sound = record {
   least = sound.least;
@@ -330,17 +338,21 @@ says_sound {limit} peer message work sound = by_end (work.edge.peering peer.0) r
 abbrev pub LeftBut : Plan → NetworkState → EdgeId → (ℕ → Bool) → Work → Type 0
 LeftBut plan network me besides work = (place : ℕ) → nat_eq place me.0 ≡ false → besides place ≡ false → LeftFor plan network me work place
 
-pub but_spared : (plan : Plan) (network : NetworkState) (me : EdgeId) (besides : ℕ → Bool) (old new : Work) → ((place : ℕ) → Spares place old new) → LeftBut plan network me besides old → LeftBut plan network me besides new
+pub but_spared : (plan : Plan) (network : NetworkState) (me : EdgeId) (besides : ℕ → Bool) (old new : Work) → ((place : ℕ) → Spares place old new) → LeftBut plan network me besides old
+    → LeftBut plan network me besides new
 but_spared plan network me besides old new spares left place away here =
-    left_spared (ends_at plan me.0 place) (ends_at plan place me.0) place ((network.edges place).peering me.0) (flight network me.0 place) (network.pipes place me.0) old new (spares place) (left place away here)
+    left_spared (ends_at plan me.0 place) (ends_at plan place me.0) place ((network.edges place).peering me.0) (flight network me.0 place) (network.pipes place me.0) old new
+    (spares place) (left place away here)
 
-pub but_says : (plan : Plan) (network : NetworkState) (me : EdgeId) (besides : ℕ → Bool) (peer : EdgeId) (message : ℕ → Message) (kept : Peering) (work : Work) → work.edge.peering peer.0 ≡ Some kept → kept.session.phase ≡ phase.Operational
+pub but_says : (plan : Plan) (network : NetworkState) (me : EdgeId) (besides : ℕ → Bool) (peer : EdgeId) (message : ℕ → Message) (kept : Peering) (work : Work)
+    → work.edge.peering peer.0 ≡ Some kept → kept.session.phase ≡ phase.Operational
     → IsOfWires message → LeftBut plan network me besides work → LeftBut plan network me besides (says taken_all peer message work).work
 but_says plan network me besides peer message kept work at up is left place away here = elim (cases_Bool (nat_eq place peer.0)) [
   | inl this ↦ subst (LeftFor plan network me (says taken_all peer message work).work) (sym (eqb-true place peer.0 this))
       (left_says (ends_at plan me.0 peer.0) (ends_at plan peer.0 me.0) peer kept ((network.edges peer.0).peering me.0) (flight network me.0 peer.0) (network.pipes peer.0 me.0) message work at up is
       (subst (LeftFor plan network me work) (eqb-true place peer.0 this) (left place away here)))
-  | inr other ↦ left_spared (ends_at plan me.0 place) (ends_at plan place me.0) place ((network.edges place).peering me.0) (flight network me.0 place) (network.pipes place me.0) work (says taken_all peer message work).work
+  | inr other ↦ left_spared (ends_at plan me.0 place) (ends_at plan place me.0) place ((network.edges place).peering me.0) (flight network me.0 place) (network.pipes place me.0) work
+      (says taken_all peer message work).work
       (says_spares place peer message work other) (left place away here)
 ]
 
@@ -387,12 +399,19 @@ works_steady plan network me = record {
 
 -- ---- all parts of an input
 
-turned_same : (limit : ℕ → ℕ) (wire : WireId) (on : Bool) (edge : EdgeState) → ((turned_wire wire on edge).peering ≡ edge.peering) × ((turned_wire wire on edge).me ≡ edge.me) × (TellsSoundly limit edge → TellsSoundly limit (turned_wire wire on edge))
+turned_same : (limit : ℕ → ℕ) (wire : WireId) (on : Bool) (edge : EdgeState) → ((turned_wire wire on edge).peering ≡ edge.peering) × ((turned_wire wire on edge).me ≡ edge.me)
+    × (TellsSoundly limit edge → TellsSoundly limit (turned_wire wire on edge))
 unfolding with_renewed with_wire
-turned_same limit wire true edge = (refl, refl, λ sound. sound_ends edge _ refl refl refl refl (λ w peer is. renewed_sound (limit w) (nat_eq w wire.0) (is_up_with (edge.peering peer)) (edge.ends w peer) is) sound)
+turned_same limit wire true edge = (
+  refl,
+  refl,
+  λ sound. sound_ends edge _ refl refl refl refl
+      (λ w peer is. renewed_sound (limit w) (nat_eq w wire.0) (is_up_with (edge.peering peer)) (edge.ends w peer) is) sound,
+)
 turned_same limit wire false edge = (refl, refl, λ sound. sound_same edge _ refl refl refl refl refl sound)
 
-bits_same : (limit : ℕ → ℕ) (wire : WireId) (bits : ℕ) (edge : EdgeState) → bits ≤ 31 → ((with_bits wire bits edge).peering ≡ edge.peering) × ((with_bits wire bits edge).me ≡ edge.me) × (TellsSoundly limit edge → TellsSoundly limit (with_bits wire bits edge))
+bits_same : (limit : ℕ → ℕ) (wire : WireId) (bits : ℕ) (edge : EdgeState) → bits ≤ 31 → ((with_bits wire bits edge).peering ≡ edge.peering) × ((with_bits wire bits edge).me ≡ edge.me)
+    × (TellsSoundly limit edge → TellsSoundly limit (with_bits wire bits edge))
 unfolding with_bits
 bits_same limit wire bits edge few = (
   refl,
@@ -425,7 +444,8 @@ works_kept plan network me checked types =
         fine = bridged_fine me old new bridged works.fine;
         sound = sound_same old.edge new.edge bridged.keeps.next_label bridged.keeps.kept bridged.keeps.bits bridged.peering bridged.keeps.ends works.sound;
         alone = (bridged_spares me.0 old new bridged).kept ∙ works.alone;
-        left = λ k away. left_spared (ends_at plan me.0 k) (ends_at plan k me.0) k ((network.edges k).peering me.0) (flight network me.0 k) (network.pipes k me.0) old new (bridged_spares k old new bridged) (works.left k away);
+        left = λ k away. left_spared (ends_at plan me.0 k) (ends_at plan k me.0) k ((network.edges k).peering me.0) (flight network me.0 k) (network.pipes k me.0) old new
+            (bridged_spares k old new bridged) (works.left k away);
       };
       turned = λ wire on work works. (let same = turned_same (point_limit plan me.0) wire on work.edge in steady.changes (turned_wire wire on) work same.0 same.1 (same.2 works.sound) works);
       bits = λ wire bits work few works. (let same = bits_same (point_limit plan me.0) wire bits work.edge few in steady.changes (with_bits wire bits) work same.0 same.1 (same.2 works.sound) works);

@@ -76,7 +76,8 @@ next_one (first ∷ next ∷ rest) a b c once one other =
 pub found_too : (first other : EndPlace → Bool) (xs : List EndPlace) (x : EndPlace) → find first xs ≡ Some x → other x ≡ true → (y : EndPlace) × (find other xs ≡ Some y)
 found_too first other [] x found passes = absurd (cc (found))
 found_too first other (y ∷ ys) x found passes = by (first y) (other y) refl found (found_too first other ys x) where
-  by : (b c : Bool) → other y ≡ c → cond b (Some y) (find first ys) ≡ Some x → (find first ys ≡ Some x → other x ≡ true → (z : EndPlace) × (find other ys ≡ Some z)) → (z : EndPlace) × (cond c (Some y) (find other ys) ≡ Some z)
+  by : (b c : Bool) → other y ≡ c → cond b (Some y) (find first ys) ≡ Some x → (find first ys ≡ Some x → other x ≡ true → (z : EndPlace) × (find other ys ≡ Some z)) → (z : EndPlace)
+      × (cond c (Some y) (find other ys) ≡ Some z)
   by b true here found rest = (y, refl)
   by true false here found rest =
       let same : y ≡ x = cc (found) in
@@ -104,7 +105,8 @@ pub record IsTaken (plan : Plan) (network : NetworkState) (packet : Packet) (row
   pub forwards : end_forwards plan (network.edges packet.to.0) packet.wire ≡ true
   pub port : ℕ
   pub found : position (is_wire_port packet.wire) (ports_of plan row.service packet.to) ≡ Some port
-  pub work : packet_work plan network packet ≡ forwarded plan taken_all (arrival.Wire packet.wire) row.service frame (position (is_wire_port packet.wire) (ports_of plan row.service packet.to)) (begin_at network packet.to)
+  pub work : packet_work plan network packet ≡ forwarded plan taken_all (arrival.Wire packet.wire) row.service frame
+      (position (is_wire_port packet.wire) (ports_of plan row.service packet.to)) (begin_at network packet.to)
 
 pub data Arrived (plan : Plan) (network : NetworkState) (packet : Packet) (row : WirePlan) (frame : List ℕ) : Type 0 where
   NotTaken : Drops (begin_at network packet.to) (packet_work plan network packet) → Arrived plan network packet row frame
@@ -148,7 +150,8 @@ module _ (plan : Plan) (network : NetworkState) (trace : List Entry) (packet : P
   pub opened : packet_work plan network packet ≡ owned plan taken_all packet.bytes entry (advertiser plan edge rule.label) work
   opened =
       ap (λ r. opened_by plan taken_all packet.bytes r work) arrives_under
-      ∙ (ap (λ (b : Bool). cond b (alerted plan taken_all (behind_entry packet.bytes) (entry_of (behind_entry packet.bytes)) work) (labelled plan taken_all packet.bytes entry work)) (and_false (nat_eq rule.label 1))
+      ∙ (ap (λ (b : Bool). cond b (alerted plan taken_all (behind_entry packet.bytes) (entry_of (behind_entry packet.bytes)) work) (labelled plan taken_all packet.bytes entry work))
+      (and_false (nat_eq rule.label 1))
       ∙ ap (λ (b : Bool). cond b (drops cause.NoLabel work) (owned plan taken_all packet.bytes entry (advertiser plan edge rule.label) work)) given)
 
   -- ---- at a terminal edge
@@ -199,19 +202,22 @@ module _ (plan : Plan) (network : NetworkState) (trace : List Entry) (packet : P
     owner_forwards : (place : EndPlace) → advertiser plan edge rule.label ≡ Some place → down_at plan edge place ≡ None → end_forwards plan edge packet.wire ≡ true
     owner_forwards place owner up =
         let beside : IsBeside packet place = owner_beside place owner in
-        let passes : is_end_of_wire packet.wire place ≡ true = and_from (nat_eq place.wire.0 packet.wire.0) place.terminal (eq-eqb place.wire.0 packet.wire.0 (ap (λ (w : WireId). w.0) beside.wire)) beside.terminal in
+        let passes : is_end_of_wire packet.wire place ≡ true =
+        and_from (nat_eq place.wire.0 packet.wire.0) place.terminal (eq-eqb place.wire.0 packet.wire.0 (ap (λ (w : WireId). w.0) beside.wire)) beside.terminal in
         let (other, found) = found_too (λ (p : EndPlace). advertises_label rule.label (end_at edge p).local) (is_end_of_wire packet.wire) (end_places plan edge.me) place owner passes in
         ap (forwards_at plan edge) found ∙ ap is_up (same_down other place (found_beside other found) beside ∙ up)
 
     -- at an end that forwards the frame is bridged
     bridged_at : (place : EndPlace) → advertiser plan edge rule.label ≡ Some place → down_at plan edge place ≡ None
-        → packet_work plan network packet ≡ forwarded plan taken_all (arrival.Wire packet.wire) rule.row.service rule.frame (position (is_wire_port packet.wire) (ports_of plan rule.row.service packet.to)) work
+        → packet_work plan network packet ≡ forwarded plan taken_all (arrival.Wire packet.wire) rule.row.service rule.frame
+        (position (is_wire_port packet.wire) (ports_of plan rule.row.service packet.to)) work
     bridged_at place owner up =
         let beside : IsBeside packet place = owner_beside place owner in
         let is : wire_row plan place.wire ≡ Some rule.row = ap (wire_row plan) beside.wire ∙ rule.is in
         let agree : BothAgree (end_at edge place) = forwards_where_both_agree (role_at plan edge place) (edge.bits place.wire.0) (end_at edge place) up in
         packet_is plan taken_all packet.bytes rule.frame work place rule.row agree.binding
-        (record { entry = entry; read = arrives_under; owner = owner; terminal = beside.terminal; is = is; forwards = up }) refl given (frame_ttl plan network trace packet checked ruled rule) agree.bound unpacks
+        (record { entry = entry; read = arrives_under; owner = owner; terminal = beside.terminal; is = is; forwards = up }) refl given
+        (frame_ttl plan network trace packet checked ruled rule) agree.bound unpacks
         ∙ (ap (λ (w : WireId). forwarded plan taken_all (arrival.Wire w) rule.row.service rule.frame (position (is_wire_port w) (ports_of plan rule.row.service edge.me)) work) beside.wire
         ∙ ap (λ (k : EdgeId). forwarded plan taken_all (arrival.Wire packet.wire) rule.row.service rule.frame (position (is_wire_port packet.wire) (ports_of plan rule.row.service k)) work) at)
 
@@ -231,7 +237,8 @@ module _ (plan : Plan) (network : NetworkState) (trace : List Entry) (packet : P
     enters_drops place why is_down = ap (λ (d : Option Down). cond (is_up d) (bridges_frame plan taken_all rule.row place (behind_entry packet.bytes) work) (drops cause.Down work)) is_down
 
     -- nor is it taken for a ping
-    offer_drops : (place : EndPlace) (binding : Binding) (why : Down) (cword : Bool) → advertiser plan edge rule.label ≡ Some place → (end_at edge place).remote ≡ Some binding → down_at plan edge place ≡ Some why
+    offer_drops : (place : EndPlace) (binding : Binding) (why : Down) (cword : Bool) → advertiser plan edge rule.label ≡ Some place → (end_at edge place).remote ≡ Some binding
+        → down_at plan edge place ≡ Some why
         → Drops work (by_offer plan taken_all rule.row place binding rule.packed.ttl cword (behind_entry packet.bytes) work)
     offer_drops place binding why false owner bound is_down = record {
       why = cause.Down;
@@ -261,7 +268,8 @@ module _ (plan : Plan) (network : NetworkState) (trace : List Entry) (packet : P
       offered channel false picks = record { why = cause.NotOffered; is = refl }
 
       by : (empty channel : Bool) → is_channel (behind_entry packet.bytes) ≡ channel
-          → Drops work (cond empty (drops cause.Short work) (cond channel (verifies_in taken_all place rule.row Header binding (behind_entry packet.bytes) work) (enters plan taken_all rule.row place (behind_entry packet.bytes) work)))
+          → Drops work (cond empty (drops cause.Short work)
+          (cond channel (verifies_in taken_all place rule.row Header binding (behind_entry packet.bytes) work) (enters plan taken_all rule.row place (behind_entry packet.bytes) work)))
       by true channel is = record { why = cause.Short; is = refl }
       by false true is = offered is (is_picked Header (channel_under rule.row edge.me binding)) refl
       by false false is = record { why = cause.Down; is = enters_drops place why is_down }
@@ -272,20 +280,29 @@ module _ (plan : Plan) (network : NetworkState) (trace : List Entry) (packet : P
         let beside : IsBeside packet place = owner_beside place owner in
         opened
         ∙ (ap (λ (o : Option EndPlace). owned plan taken_all packet.bytes entry o work) owner
-        ∙ (ap (λ (b : Bool). cond b (terminated plan taken_all place rule.packed.ttl (wire_row plan place.wire) (end_at edge place).remote (behind_entry packet.bytes) work) (switched plan taken_all packet.bytes entry place work)) beside.terminal
+        ∙ (ap (λ (b : Bool). cond b (terminated plan taken_all place rule.packed.ttl (wire_row plan place.wire) (end_at edge place).remote (behind_entry packet.bytes) work)
+        (switched plan taken_all packet.bytes entry place work)) beside.terminal
         ∙ ap (λ (r : Option WirePlan). terminated plan taken_all place rule.packed.ttl r (end_at edge place).remote (behind_entry packet.bytes) work) (ap (wire_row plan) beside.wire ∙ rule.is)))
 
     at_end : (place : EndPlace) → advertiser plan edge rule.label ≡ Some place → (remote : Option Binding) → (end_at edge place).remote ≡ remote → (why : Option Down) → down_at plan edge place ≡ why
         → Arrived plan network packet rule.row rule.frame
     at_end place owner None bound why is_down =
-        NotTaken (record { why = cause.Down; is = terminated_at place owner ∙ ap (λ (b : Option Binding). terminated plan taken_all place rule.packed.ttl (Some rule.row) b (behind_entry packet.bytes) work) bound })
+        NotTaken (record {
+          why = cause.Down;
+          is = terminated_at place owner
+              ∙ ap (λ (b : Option Binding). terminated plan taken_all place rule.packed.ttl (Some rule.row) b (behind_entry packet.bytes) work) bound;
+        })
     at_end place owner (Some binding) bound None up =
         let (p, found) = has_port place owner in
         Taken (record { forwards = owner_forwards place owner up; port = p; found = found; work = bridged_at place owner up })
     at_end place owner (Some binding) bound (Some why) is_down =
         let dropped : Drops work (by_offer plan taken_all rule.row place binding rule.packed.ttl (offer_of rule.row edge.me.0).cword (behind_entry packet.bytes) work) =
         offer_drops place binding why (offer_of rule.row edge.me.0).cword owner bound is_down in
-        NotTaken (record { why = dropped.why; is = terminated_at place owner ∙ (ap (λ (b : Option Binding). terminated plan taken_all place rule.packed.ttl (Some rule.row) b (behind_entry packet.bytes) work) bound ∙ dropped.is) })
+        NotTaken (record {
+          why = dropped.why;
+          is = terminated_at place owner
+              ∙ (ap (λ (b : Option Binding). terminated plan taken_all place rule.packed.ttl (Some rule.row) b (behind_entry packet.bytes) work) bound ∙ dropped.is);
+        })
 
     -- whatever comes of it
     pub arrived : Arrived plan network packet rule.row rule.frame
@@ -296,10 +313,12 @@ module _ (plan : Plan) (network : NetworkState) (trace : List Entry) (packet : P
 
     -- where the wire's end advertises the label and forwards, the frame is bridged
     pub taken_where : (told : Told) → (edge.ends packet.wire.0 packet.from.0).local ≡ Advertised rule.label told → end_forwards plan edge packet.wire ≡ true
-        → packet_work plan network packet ≡ forwarded plan taken_all (arrival.Wire packet.wire) rule.row.service rule.frame (position (is_wire_port packet.wire) (ports_of plan rule.row.service packet.to)) work
+        → packet_work plan network packet ≡ forwarded plan taken_all (arrival.Wire packet.wire) rule.row.service rule.frame
+        (position (is_wire_port packet.wire) (ports_of plan rule.row.service packet.to)) work
     taken_where told advertised forwards = by (wire_end plan edge.me packet.wire) refl forwards where
       by : (found : Option EndPlace) → wire_end plan edge.me packet.wire ≡ found → forwards_at plan edge found ≡ true
-          → packet_work plan network packet ≡ forwarded plan taken_all (arrival.Wire packet.wire) rule.row.service rule.frame (position (is_wire_port packet.wire) (ports_of plan rule.row.service packet.to)) work
+          → packet_work plan network packet ≡ forwarded plan taken_all (arrival.Wire packet.wire) rule.row.service rule.frame
+          (position (is_wire_port packet.wire) (ports_of plan rule.row.service packet.to)) work
       by None found up = clash up
       by (Some place) found up =
           let beside : IsBeside packet place = found_beside place found in

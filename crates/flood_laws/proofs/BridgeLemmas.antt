@@ -73,7 +73,8 @@ module _ (plan : Plan) (came : Arrival) (calm : NetworkState) (service : Service
   by_wire : (wire : WireId) (work : Work) → work.edge ≡ edge → end_forwards plan edge wire ≡ true
       → ServesMore plan calm service circuit edge.me (end_serves plan calm service circuit edge.me (wire_end plan edge.me wire)) work (copy_by plan taken_all came frame (port.Mesh wire) work)
   by_wire wire work same up =
-      subst (λ (e : EdgeState). ServesMore plan calm service circuit e.me (end_serves plan calm service circuit e.me (wire_end plan e.me wire)) work (copy_by plan taken_all came frame (port.Mesh wire) work)) same
+      subst (λ (e : EdgeState). ServesMore plan calm service circuit e.me (end_serves plan calm service circuit e.me (wire_end plan e.me wire)) work
+      (copy_by plan taken_all came frame (port.Mesh wire) work)) same
       (wire_serves plan came calm service circuit frame wire work (ap (λ (e : EdgeState). end_forwards plan e wire) same ∙ up))
 
   copy_serves : (x : Port) (goes : Bool) (work : Work) → work.edge ≡ edge → (goes ≡ true → forwards plan edge (Some x) ≡ true)
@@ -105,7 +106,8 @@ module _ (plan : Plan) (came : Arrival) (calm : NetworkState) (service : Service
 -- ---- what they serve
 
 -- what a bridge has learned does not tell whether an end forwards
-still_forwards : (plan : Plan) (service : ServiceId) (frame : List ℕ) (arrival : ℕ) (calm edge : EdgeState) (wire : WireId) → IsStillEdge calm edge → end_forwards plan (hearing service frame arrival edge) wire ≡ end_forwards plan calm wire
+still_forwards : (plan : Plan) (service : ServiceId) (frame : List ℕ) (arrival : ℕ) (calm edge : EdgeState) (wire : WireId) → IsStillEdge calm edge
+    → end_forwards plan (hearing service frame arrival edge) wire ≡ end_forwards plan calm wire
 unfolding with_addresses with_learned
 still_forwards plan service frame arrival calm edge wire still =
     ap (λ (e : EdgeState). end_forwards plan (hearing service frame arrival e) wire) still.is ∙ by (wire_end plan calm.me wire) where
@@ -156,7 +158,8 @@ module _ (plan : Plan) (came : Arrival) (calm : NetworkState) (service : Service
     wire : WireId
     wire = record { 0 = place }
 
-    by : (mesh : Bool) → count (cond mesh (port.Mesh wire) (port.Spoke wire)) ≡ cond (end_forwards plan after wire && class_may plan from place mesh) (end_serves plan calm service circuit after.me (wire_end plan after.me wire)) 0
+    by : (mesh : Bool) → count (cond mesh (port.Mesh wire) (port.Spoke wire))
+        ≡ cond (end_forwards plan after wire && class_may plan from place mesh) (end_serves plan calm service circuit after.me (wire_end plan after.me wire)) 0
     by true = refl
     by false = refl
 
@@ -167,7 +170,8 @@ module _ (plan : Plan) (came : Arrival) (calm : NetworkState) (service : Service
         tally_wires count 0 plan.wires service edge.me
         ∙ same_sums (λ place row. cond (wire_ends_at service edge.me.0 row) (count (wire_port place row)) 0) (due_by plan calm service circuit edge.me.0 from) plan.wires each
       where
-        each : (place : ℕ) (row : WirePlan) → slice_get plan.wires place ≡ Some row → cond (wire_ends_at service edge.me.0 row) (count (wire_port place row)) 0 ≡ due_by plan calm service circuit edge.me.0 from place row
+        each : (place : ℕ) (row : WirePlan) → slice_get plan.wires place ≡ Some row → cond (wire_ends_at service edge.me.0 row) (count (wire_port place row)) 0
+            ≡ due_by plan calm service circuit edge.me.0 from place row
         each place row is =
             let wire : WireId = record { 0 = place } in
             let forward : end_forwards plan after wire ≡ end_forwards plan (calm.edges edge.me.0) wire = still_forwards plan service frame arrival (calm.edges edge.me.0) edge wire still in
@@ -179,7 +183,8 @@ module _ (plan : Plan) (came : Arrival) (calm : NetworkState) (service : Service
             (λ up. end_is_due plan calm service circuit after wire row checked is (forward ∙ up))
 
     -- the copies of a frame that goes by each port that it should
-    flood_serves : ((p : ℕ) (x : Port) → slice_get (ports_of plan service edge.me) p ≡ Some x → targets_of plan after service (ports_of plan service edge.me) frame arrival p ≡ goes_by plan after others from x)
+    flood_serves : ((p : ℕ) (x : Port) → slice_get (ports_of plan service edge.me) p ≡ Some x → targets_of plan after service (ports_of plan service edge.me) frame arrival p
+        ≡ goes_by plan after others from x)
         → meets plan calm service circuit edge.me (forwarded plan taken_all came service frame (Some arrival) (beginning edge [])).effects
         ≡ cond (serves_here plan service edge circuit && others circuit.0) 1 0 + wires_due plan calm service circuit edge.me.0 from
     unfolding changes with_addresses
@@ -195,7 +200,8 @@ module _ (plan : Plan) (came : Arrival) (calm : NetworkState) (service : Service
 -- ---- which ports go out
 
 -- of a bridge that knows no port for the destination
-unknown_target : (plan : Plan) (edge : EdgeState) (ports : List Port) (arrival p : ℕ) (known : Option ℕ) (a x : Port) (same : Bool) → known ≡ None → slice_get ports arrival ≡ Some a → slice_get ports p ≡ Some x → nat_eq p arrival ≡ same
+unknown_target : (plan : Plan) (edge : EdgeState) (ports : List Port) (arrival p : ℕ) (known : Option ℕ) (a x : Port) (same : Bool) → known ≡ None → slice_get ports arrival ≡ Some a
+    → slice_get ports p ≡ Some x → nat_eq p arrival ≡ same
     → is_target ports (port_forwards plan edge ports) arrival known p ≡ (forwards plan edge (Some x) && not same) && not (is_mesh (Some a) && is_mesh (Some x))
 unknown_target plan edge ports arrival p known a x same unknown from to is =
     let met : Option Port → Option Port → Bool → Bool = λ y z equal. (forwards plan edge z && not equal) && not (is_mesh y && is_mesh z) in
@@ -234,7 +240,8 @@ pub circuit_targets : (plan : Plan) (service : ServiceId) (at : EdgeId) (edge : 
 circuit_targets plan service at edge known arrival sender p (port.Circuit c) unknown from to =
     let ports : List Port = ports_of plan service at in
     let leads : LeadsTo ports p c.0 = record { is = to } in
-    unknown_target plan edge ports arrival p known (port.Circuit (record { 0 = sender })) (port.Circuit c) (nat_eq c.0 sender) unknown from.is to (same_circuit_port plan service at p arrival c.0 sender leads from)
+    unknown_target plan edge ports arrival p known (port.Circuit (record { 0 = sender })) (port.Circuit c) (nat_eq c.0 sender) unknown from.is to
+    (same_circuit_port plan service at p arrival c.0 sender leads from)
     ∙ goes_other (edge.circuit_on c.0) (nat_eq c.0 sender)
 circuit_targets plan service at edge known arrival sender p (port.Mesh wire) unknown from to =
     let ports : List Port = ports_of plan service at in

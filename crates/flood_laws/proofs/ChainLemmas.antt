@@ -90,7 +90,8 @@ module _ (plan : Plan) (network : NetworkState) (service : ServiceId) (wire : Wi
   -- ---- each content ends a chain
 
   linked : (me to : EdgeId) (content : Told) → joins me.0 to.0 row.path ≡ true → Advertises network wire me to content
-      → ((from : EdgeId) (before : Told) → suc (length before.points) ≡ length content.points → joins from.0 me.0 row.path ≡ true → Advertises network wire from me before → IsChain plan network wire row from me before)
+      → ((from : EdgeId) (before : Told) → suc (length before.points) ≡ length content.points → joins from.0 me.0 row.path ≡ true → Advertises network wire from me before
+      → IsChain plan network wire row from me before)
       → IsChain plan network wire row me to content
   linked me to content joined told further = by_side (is_terminal row me) refl where
     inner : (from : EdgeId) → mate row me.0 from.0 ≡ Some to → joins me.0 from.0 row.path ≡ true → IsChain plan network wire row me to content
@@ -101,13 +102,15 @@ module _ (plan : Plan) (network : NetworkState) (service : ServiceId) (wire : Wi
           is = far_advertises plan network service me.0 from.0 wire row passes.binding checked quiet settled is ours beside passes.held;
         } in
         GoesOnAt from me to passes.binding.told content mated
-        (further from passes.binding.told (one_more passes.binding.told.points _ ∙ ap (λ (t : Told). length t.points) (sym passes.content_is)) (sym (joins_turned row.path me.0 from.0) ∙ beside) before)
+        (further from passes.binding.told (one_more passes.binding.told.points _ ∙ ap (λ (t : Told). length t.points) (sym passes.content_is))
+        (sym (joins_turned row.path me.0 from.0) ∙ beside) before)
         passes.content_is told
 
     by_side : (b : Bool) → is_terminal row me ≡ b → IsChain plan network wire row me to content
     by_side true ends = BeginsAt me to content ends told
     by_side false inside =
-        let other = has_mate row.path to me row_is.once (sym (joins_turned row.path me.0 to.0) ∙ joined) (first_fails (is_first me.0 row.path) (is_last me.0 row.path) inside) (second_fails (is_first me.0 row.path) (is_last me.0 row.path) inside) in
+        let other = has_mate row.path to me row_is.once (sym (joins_turned row.path me.0 to.0) ∙ joined) (first_fails (is_first me.0 row.path) (is_last me.0 row.path) inside)
+        (second_fails (is_first me.0 row.path) (is_last me.0 row.path) inside) in
         inner other.0 (mate_from me other.0 to other.1) (mate_joined row.path me.0 to.0 other.0 other.1)
 
   chain : (n : ℕ) (me to : EdgeId) (content : Told) → length content.points ≡ n → joins me.0 to.0 row.path ≡ true → Advertises network wire me to content → IsChain plan network wire row me to content
@@ -117,7 +120,8 @@ module _ (plan : Plan) (network : NetworkState) (service : ServiceId) (wire : Wi
 
   -- ---- and is told on
 
-  tells_on : (from me to : EdgeId) (content : Told) → mate row me.0 from.0 ≡ Some to → Advertises network wire from me content → (network.edges me.0).wire_on wire.0 ≡ true → is_up_with ((network.edges me.0).peering to.0) ≡ true
+  tells_on : (from me to : EdgeId) (content : Told) → mate row me.0 from.0 ≡ Some to → Advertises network wire from me content → (network.edges me.0).wire_on wire.0 ≡ true
+      → is_up_with ((network.edges me.0).peering to.0) ≡ true
       → TellsOn (network.edges me.0) wire to (told_on plan row me from content)
   tells_on from me to content mated told on up = by ((network.edges me.0).ends wire.0 to.0).local refl where
     beside : joins me.0 from.0 row.path ≡ true

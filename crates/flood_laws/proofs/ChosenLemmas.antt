@@ -54,7 +54,8 @@ forwards_chosen plan edge wire row is spoke first up = by_end (wire_end plan edg
     | inl chosen ↦ some_wire wire (edge.chosen row.service.0) chosen
     | inr away ↦
         not_chosen_down (edge.bits place.wire.0) (end_at edge place)
-        (ap (λ (r : EndRole). down r (edge.bits place.wire.0) (end_at edge place)) (sym (role_is place (found_end plan edge.me wire place at).of_wire false away)) ∙ up_is_none (down_at plan edge place) up)
+        (ap (λ (r : EndRole). down r (edge.bits place.wire.0) (end_at edge place)) (sym (role_is place (found_end plan edge.me wire place at).of_wire false away))
+        ∙ up_is_none (down_at plan edge place) up)
   ]
 
 same_wire : (one other : WireId) → Some one ≡ Some other → one ≡ other

@@ -91,12 +91,14 @@ still_is_stitched plan calm edge wire still = ap (λ (e : EdgeState). is_stitche
 
 -- the sender of a copy is a terminal edge of its wire
 pub sent_ended : (plan : Plan) (network : NetworkState) (me : EdgeId) (came : Arrival) (service : ServiceId) (frame : List ℕ) (arrival : ℕ) (peer : EdgeId) (wire : WireId) (of_arrival : Arrival) (bytes : List ℕ)
-    → IsChecked plan → IsRuledNetwork plan network → (copy : SentCopy plan (network.edges me.0) came service frame arrival peer wire of_arrival bytes) → is_first me.0 copy.row.path || is_last me.0 copy.row.path ≡ true
+    → IsChecked plan → IsRuledNetwork plan network → (copy : SentCopy plan (network.edges me.0) came service frame arrival peer wire of_arrival bytes)
+    → is_first me.0 copy.row.path || is_last me.0 copy.row.path ≡ true
 sent_ended plan network me came service frame arrival peer wire of_arrival bytes checked ruled copy =
     let edge : EdgeState = network.edges me.0 in
     let end : IsEndOf plan edge.me copy.place = wire_end_is plan edge.me wire copy.place copy.here in
     let row : end.row ≡ copy.row = same_row end.row copy.row (sym end.is ∙ (ap (wire_row plan) (sym copy.same_wire) ∙ copy.is)) in
-    ap (λ (r : WirePlan). is_terminal r me) (sym row) ∙ (ap (λ (k : EdgeId). is_terminal end.row k) (sym (ruled.edges me.0).place) ∙ (sym end.terminal ∙ (found_end plan edge.me wire copy.place copy.here).terminal))
+    ap (λ (r : WirePlan). is_terminal r me) (sym row)
+    ∙ (ap (λ (k : EdgeId). is_terminal end.row k) (sym (ruled.edges me.0).place) ∙ (sym end.terminal ∙ (found_end plan edge.me wire copy.place copy.here).terminal))
 
 copy_carries : (plan : Plan) (calm network : NetworkState) (me : EdgeId) (origin hops sent : ℕ) (came : Arrival) (service : ServiceId) (frame : List ℕ) (arrival : ℕ) (peer : EdgeId) (wire : WireId) (of_arrival : Arrival) (bytes : List ℕ)
     → IsChecked plan → IsRuledNetwork plan network → IsStill calm network → is_quiet plan calm service ≡ true
@@ -171,13 +173,15 @@ sent_carry plan network me origin hops sent came service frame arrival (effect.S
   },
   sent_carry plan network me origin hops (sent + 1) came service frame arrival es checked ruled sized all.1,
 )
-sent_carry plan network me origin hops sent came service frame arrival (e ∷ es) checked ruled sized all = sent_carry plan network me origin hops sent came service frame arrival es checked ruled sized all.1
+sent_carry plan network me origin hops sent came service frame arrival (e ∷ es) checked ruled sized all =
+    sent_carry plan network me origin hops sent came service frame arrival es checked ruled sized all.1
 
 -- ---- what comes of a copy where it arrives
 
 -- a copy arrives where its wire's end forwards
 pub copy_arrives : (plan : Plan) (calm network : NetworkState) (trace : List Entry) (service : ServiceId) (frame : List ℕ) (packet : Packet)
-    → IsChecked plan → IsRuledNetwork plan network → IsStill calm network → (rule : IsCarried plan network trace packet) → CarriesCopy plan calm service frame packet → is_terminal rule.row packet.to ≡ true
+    → IsChecked plan → IsRuledNetwork plan network → IsStill calm network → (rule : IsCarried plan network trace packet) → CarriesCopy plan calm service frame packet
+    → is_terminal rule.row packet.to ≡ true
     → end_forwards plan (calm.edges packet.to.0) packet.wire ≡ true
     → packet_work plan network packet
     ≡ forwarded plan taken_all (arrival.Wire packet.wire) service frame (position (is_wire_port packet.wire) (ports_of plan service packet.to)) (begin_at network packet.to)
@@ -187,14 +191,17 @@ copy_arrives plan calm network trace service frame packet checked ruled still ru
     let labelled : IsLabelled calm packet = copy.labelled in
     let label : labelled.label ≡ rule.label =
     sym labelled.same
-    ∙ same_entry (entry_of packet.bytes) labelled.entry (record { label = rule.label; bottom = true; ttl = rule.packed.ttl }) labelled.read (arrives_under plan network trace packet checked ruled rule) in
+    ∙ same_entry (entry_of packet.bytes) labelled.entry (record { label = rule.label; bottom = true; ttl = rule.packed.ttl }) labelled.read
+    (arrives_under plan network trace packet checked ruled rule) in
     let advertised : (edge.ends packet.wire.0 packet.from.0).local ≡ Advertised rule.label labelled.told =
-    ap (λ (f : ℕ → ℕ → EndState). (f packet.wire.0 packet.from.0).local) (still_ends (calm.edges packet.to.0) edge is_still) ∙ (labelled.advertised ∙ ap (λ (n : ℕ). Advertised n labelled.told) label) in
+    ap (λ (f : ℕ → ℕ → EndState). (f packet.wire.0 packet.from.0).local) (still_ends (calm.edges packet.to.0) edge is_still)
+    ∙ (labelled.advertised ∙ ap (λ (n : ℕ). Advertised n labelled.told) label) in
     let same_service : rule.row.service ≡ service =
     ap (λ (r : WirePlan). r.service) (same_row rule.row copy.row (sym rule.is ∙ copy.is)) ∙ ap (λ (n : ℕ). record { 0 = n }) (eqb-true copy.row.service.0 service.0 copy.of_service) in
     let same : rule.frame ≡ frame = same_frame (carried plan packet) rule.frame frame (arrives_with plan network trace packet checked ruled rule) copy.carries in
     taken_where plan network trace packet checked ruled rule ended labelled.told advertised (still_forwards plan (calm.edges packet.to.0) edge packet.wire is_still ∙ forwards)
-    ∙ (ap (λ (s : ServiceId). forwarded plan taken_all (arrival.Wire packet.wire) s rule.frame (position (is_wire_port packet.wire) (ports_of plan s packet.to)) (begin_at network packet.to)) same_service
+    ∙ (ap (λ (s : ServiceId). forwarded plan taken_all (arrival.Wire packet.wire) s rule.frame (position (is_wire_port packet.wire) (ports_of plan s packet.to))
+    (begin_at network packet.to)) same_service
     ∙ ap (λ (f : List ℕ). forwarded plan taken_all (arrival.Wire packet.wire) service f (position (is_wire_port packet.wire) (ports_of plan service packet.to)) (begin_at network packet.to)) same)
 
 -- where it does not, the copy is dropped
@@ -204,7 +211,8 @@ pub record IsDropped (plan : Plan) (network : NetworkState) (packet : Packet) : 
 
 -- a copy is dropped where its wire's end does not forward
 pub copy_drops : (plan : Plan) (calm network : NetworkState) (trace : List Entry) (service : ServiceId) (frame : List ℕ) (packet : Packet)
-    → IsChecked plan → IsRuledNetwork plan network → IsStill calm network → (rule : IsCarried plan network trace packet) → CarriesCopy plan calm service frame packet → is_terminal rule.row packet.to ≡ true
+    → IsChecked plan → IsRuledNetwork plan network → IsStill calm network → (rule : IsCarried plan network trace packet) → CarriesCopy plan calm service frame packet
+    → is_terminal rule.row packet.to ≡ true
     → end_forwards plan (calm.edges packet.to.0) packet.wire ≡ false
     → IsDropped plan network packet
 copy_drops plan calm network trace service frame packet checked ruled still rule copy ended down = by (arrived plan network trace packet checked ruled rule ended) where
@@ -228,7 +236,8 @@ pub record IsPassed (plan : Plan) (network : NetworkState) (packet : Packet) : T
   pub bytes : List ℕ
   pub edge : (packet_work plan network packet).edge ≡ network.edges packet.to.0
   pub effects : (packet_work plan network packet).effects ≡ effect.Sent to packet.wire (arrival.Wire packet.wire) bytes ∷ []
-  pub carries : (number origin hops : ℕ) → carried plan (record { number = number; wire = packet.wire; from = packet.to; to = to; origin = origin; hops = hops; age = 0; bytes = bytes }) ≡ carried plan packet
+  pub carries : (number origin hops : ℕ) → carried plan
+      (record { number = number; wire = packet.wire; from = packet.to; to = to; origin = origin; hops = hops; age = 0; bytes = bytes }) ≡ carried plan packet
 
 pub data Arrives (plan : Plan) (network : NetworkState) (packet : Packet) : Type 0 where
   DropsIt : IsDropped plan network packet → Arrives plan network packet

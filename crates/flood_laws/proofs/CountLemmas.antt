@@ -60,8 +60,14 @@ one_due : (plan : Plan) (calm : NetworkState) (service : ServiceId) (circuit : C
     ≡ due plan calm service circuit origin network + meets plan calm service circuit me (e ∷ [])
 unfolding with_packet
 one_due plan calm service circuit origin me hops (effect.Left at octets) network = rw (eq-eqb origin origin refl) (omega arith)
-one_due plan calm service circuit origin me hops (effect.Sent peer wire came octets) network = omega (arith, awaited-last plan calm service circuit origin (record { number = network.sent + 1; wire = wire; from = me; to = peer; origin = origin; hops = hops + 1; age = 0; bytes = octets }) network.under_way (eq-eqb origin origin refl))
-one_due plan calm service circuit origin me hops (effect.Said peer octets) network = omega (arith, ap (awaited plan calm service circuit) (pipe_leaves origin me peer (network.pipes me.0 peer.0 ++ octets) network (stands network peer.0 me.0)))
+one_due plan calm service circuit origin me hops (effect.Sent peer wire came octets) network =
+    omega (
+      arith,
+      awaited-last plan calm service circuit origin
+          (record { number = network.sent + 1; wire = wire; from = me; to = peer; origin = origin; hops = hops + 1; age = 0; bytes = octets }) network.under_way (eq-eqb origin origin refl),
+    )
+one_due plan calm service circuit origin me hops (effect.Said peer octets) network =
+    omega (arith, ap (awaited plan calm service circuit) (pipe_leaves origin me peer (network.pipes me.0 peer.0 ++ octets) network (stands network peer.0 me.0)))
 one_due plan calm service circuit origin me hops (effect.Closed peer) network = omega (arith, ap (awaited plan calm service circuit) (pipe_leaves origin peer me [] network true))
 one_due plan calm service circuit origin me hops e network = omega arith
 

@@ -56,7 +56,8 @@ carries_by plan calm k w link = rw (link.path, last_sends plan calm k w link) re
 module _ (plan : Plan) (calm : NetworkState) (service : ServiceId) (circuit : CircuitId) (site : CircuitPlan) (site_is : circuit_row plan circuit ≡ Some site) (of_service : nat_eq site.service.0 service.0 ≡ true) where
   -- by a mesh wire: what is beside its core edge
   pub awaits_mesh : (to k : ℕ) (w : WirePlan) → slice_get plan.wires k ≡ Some w → is_mesh_class w.class ≡ true
-      → awaits plan calm service circuit (record { 0 = to }) (record { 0 = k }) ≡ nat_eq site.edge.0 to || (is_spoke_edge plan service site.edge.0 && is_home to (home_of plan calm service site.edge.0))
+      → awaits plan calm service circuit (record { 0 = to }) (record { 0 = k })
+      ≡ nat_eq site.edge.0 to || (is_spoke_edge plan service site.edge.0 && is_home to (home_of plan calm service site.edge.0))
   awaits_mesh to k w is mesh = rw (is, mesh, site_is, of_service) refl
 
   -- by a spoke, at its spoke edge: what is there
@@ -78,7 +79,8 @@ module _ (plan : Plan) (calm : NetworkState) (service : ServiceId) (circuit : Ci
 
   pub due_near : due_by plan calm service circuit link.near.0 None k w
       ≡ cond (is_wire_of service w && forwards plan calm link.near.0 k) (one (awaits plan calm service circuit link.far (record { 0 = k }))) 0
-  due_near = rw (link.path, link.ends, eq-eqb link.near.0 link.near.0 refl) (ap (λ (t : Bool). cond t (one (awaits plan calm service circuit link.far (record { 0 = k }))) 0) (trims (is_wire_of service w) (forwards plan calm link.near.0 k)))
+  due_near = rw (link.path, link.ends, eq-eqb link.near.0 link.near.0 refl)
+      (ap (λ (t : Bool). cond t (one (awaits plan calm service circuit link.far (record { 0 = k }))) 0) (trims (is_wire_of service w) (forwards plan calm link.near.0 k)))
 
   pub due_far : due_by plan calm service circuit link.far.0 None k w
       ≡ cond (is_wire_of service w && forwards plan calm link.far.0 k) (one (awaits plan calm service circuit link.near (record { 0 = k }))) 0
@@ -97,12 +99,16 @@ module _ (plan : Plan) (calm : NetworkState) (service : ServiceId) (circuit : Ci
     (home : HasHome plan calm service site.edge.0) (checked : IsChecked plan) (calmed : is_calm plan calm service ≡ true) where
   module _ (k : ℕ) (w : WirePlan) (is : slice_get plan.wires k ≡ Some w) (link : IsLink plan w) (ours : is_wire_of service w ≡ true) where
     -- by a mesh wire, towards the home of the circuit
-    by_near_mesh : is_mesh_class w.class ≡ true → due_by plan calm service circuit link.near.0 None k w ≡ by_spoke plan calm service site.edge.0 link.near.0 k w + by_mesh service home.home link.near.0 k w
+    by_near_mesh : is_mesh_class w.class ≡ true → due_by plan calm service circuit link.near.0 None k w
+        ≡ by_spoke plan calm service site.edge.0 link.near.0 k w + by_mesh service home.home link.near.0 k w
     by_near_mesh mesh =
         let live = sym (carries_by plan calm k w link) ∙ mesh_carries plan calm service k w checked calmed is (rw (ours, mesh) refl) in
-        let sends = first_holds (forwards plan calm link.near.0 k) (forwards plan calm link.far.0 k) (first_holds (forwards plan calm link.near.0 k && forwards plan calm link.far.0 k) (stitches calm k link) live) in
+        let sends = first_holds (forwards plan calm link.near.0 k) (forwards plan calm link.far.0 k)
+        (first_holds (forwards plan calm link.near.0 k && forwards plan calm link.far.0 k) (stitches calm k link) live) in
         let serves = awaits_mesh plan calm service circuit site site_is of_service link.far.0 k w is mesh ∙ home.beside link.far.0 (far_core plan service k w link checked is ours) in
-        due_near plan calm service circuit k w link ∙ (rw (ours, sends, serves) (rw (mesh, link.path, link.last link.near.0, link.last home.home, eq-eqb link.near.0 link.near.0 refl, link.apart) (only (nat_eq home.home link.near.0) (nat_eq home.home link.far.0))))
+        due_near plan calm service circuit k w link
+        ∙ (rw (ours, sends, serves) (rw (mesh, link.path, link.last link.near.0, link.last home.home, eq-eqb link.near.0 link.near.0 refl, link.apart)
+        (only (nat_eq home.home link.near.0) (nat_eq home.home link.far.0))))
       where
         only : (a b : Bool) → one b ≡ 0 + one ((a && false) || b)
         only true true = refl
@@ -113,9 +119,12 @@ module _ (plan : Plan) (calm : NetworkState) (service : ServiceId) (circuit : Ci
     by_far_mesh : is_mesh_class w.class ≡ true → due_by plan calm service circuit link.far.0 None k w ≡ by_spoke plan calm service site.edge.0 link.far.0 k w + by_mesh service home.home link.far.0 k w
     by_far_mesh mesh =
         let live = sym (carries_by plan calm k w link) ∙ mesh_carries plan calm service k w checked calmed is (rw (ours, mesh) refl) in
-        let sends = second_holds (forwards plan calm link.near.0 k) (forwards plan calm link.far.0 k) (first_holds (forwards plan calm link.near.0 k && forwards plan calm link.far.0 k) (stitches calm k link) live) in
-        let serves = awaits_mesh plan calm service circuit site site_is of_service link.near.0 k w is mesh ∙ home.beside link.near.0 (mesh_near plan service k w link checked is (rw (ours, mesh) refl)) in
-        due_far plan calm service circuit k w link ∙ (rw (ours, sends, serves) (rw (mesh, link.path, link.last link.far.0, eq-eqb link.far.0 link.far.0 refl, apart_back link.near.0 link.far.0 link.apart) (only (nat_eq home.home link.near.0))))
+        let sends = second_holds (forwards plan calm link.near.0 k) (forwards plan calm link.far.0 k)
+        (first_holds (forwards plan calm link.near.0 k && forwards plan calm link.far.0 k) (stitches calm k link) live) in
+        let serves = awaits_mesh plan calm service circuit site site_is of_service link.near.0 k w is mesh
+        ∙ home.beside link.near.0 (mesh_near plan service k w link checked is (rw (ours, mesh) refl)) in
+        due_far plan calm service circuit k w link
+        ∙ (rw (ours, sends, serves) (rw (mesh, link.path, link.last link.far.0, eq-eqb link.far.0 link.far.0 refl, apart_back link.near.0 link.far.0 link.apart) (only (nat_eq home.home link.near.0))))
       where
         only : (a : Bool) → one a ≡ 0 + one ((a && true) || false)
         only true = refl
@@ -130,7 +139,8 @@ module _ (plan : Plan) (calm : NetworkState) (service : ServiceId) (circuit : Ci
         let wrong : true ≡ false = sym some ∙ none in
         absurd (cc (wrong))
 
-    by_far_spoke : is_mesh_class w.class ≡ false → due_by plan calm service circuit link.far.0 None k w ≡ by_spoke plan calm service site.edge.0 link.far.0 k w + by_mesh service home.home link.far.0 k w
+    by_far_spoke : is_mesh_class w.class ≡ false → due_by plan calm service circuit link.far.0 None k w
+        ≡ by_spoke plan calm service site.edge.0 link.far.0 k w + by_mesh service home.home link.far.0 k w
     by_far_spoke spoke =
         due_far plan calm service circuit k w link
         ∙ (rw (ours, awaits_near plan calm service circuit site site_is of_service k w link is spoke)
@@ -171,15 +181,17 @@ module _ (plan : Plan) (calm : NetworkState) (service : ServiceId) (circuit : Ci
     where
       at : is_wire_of service w ≡ true → IsLink plan w → due_by plan calm service circuit e None k w ≡ by_spoke plan calm service site.edge.0 e k w + by_mesh service home.home e k w
       at ours link = elim (cases_Bool (nat_eq e link.near.0)) [
-        | inl near ↦ subst (λ n. due_by plan calm service circuit n None k w ≡ by_spoke plan calm service site.edge.0 n k w + by_mesh service home.home n k w) (sym (eqb-true e link.near.0 near)) (elim (cases_Bool (is_mesh_class w.class)) [
-          | inl mesh ↦ by_near_mesh k w is link ours mesh
-          | inr spoke ↦ by_near_spoke k w is link ours spoke (ap (is_spoke_edge plan service) (sym (eqb-true e link.near.0 near)) ∙ core)
-        ])
+        | inl near ↦ subst (λ n. due_by plan calm service circuit n None k w ≡ by_spoke plan calm service site.edge.0 n k w + by_mesh service home.home n k w)
+            (sym (eqb-true e link.near.0 near)) (elim (cases_Bool (is_mesh_class w.class)) [
+              | inl mesh ↦ by_near_mesh k w is link ours mesh
+              | inr spoke ↦ by_near_spoke k w is link ours spoke (ap (is_spoke_edge plan service) (sym (eqb-true e link.near.0 near)) ∙ core)
+            ])
         | inr away ↦ elim (cases_Bool (nat_eq e link.far.0)) [
-          | inl far ↦ subst (λ n. due_by plan calm service circuit n None k w ≡ by_spoke plan calm service site.edge.0 n k w + by_mesh service home.home n k w) (sym (eqb-true e link.far.0 far)) (elim (cases_Bool (is_mesh_class w.class)) [
-            | inl mesh ↦ by_far_mesh k w is link ours mesh
-            | inr spoke ↦ by_far_spoke k w is link ours spoke
-          ])
+          | inl far ↦ subst (λ n. due_by plan calm service circuit n None k w ≡ by_spoke plan calm service site.edge.0 n k w + by_mesh service home.home n k w)
+              (sym (eqb-true e link.far.0 far)) (elim (cases_Bool (is_mesh_class w.class)) [
+                | inl mesh ↦ by_far_mesh k w is link ours mesh
+                | inr spoke ↦ by_far_spoke k w is link ours spoke
+              ])
           | inr apart ↦ by_away k w is link ours e away apart
         ]
       ]
@@ -223,7 +235,8 @@ spoke_due plan calm service circuit site site_is of_service checked e k w spoke_
       | inr apart ↦ elim (cases_Bool (nat_eq e link.near.0)) [
         | inl near ↦ elim (cases_Bool (is_mesh_class w.class)) [
           | inl mesh ↦ core link.near.0 near (mesh_near plan service k w link checked is (rw (ours, mesh) refl))
-          | inr spoke ↦ subst (λ n. due_by plan calm service circuit n None k w ≡ cond (is_live_spoke plan calm service n k w) (cond (nat_eq site.edge.0 n) 0 1) 0) (sym (eqb-true e link.near.0 near)) (at_near ours spoke link)
+          | inr spoke ↦ subst (λ n. due_by plan calm service circuit n None k w ≡ cond (is_live_spoke plan calm service n k w) (cond (nat_eq site.edge.0 n) 0 1) 0)
+              (sym (eqb-true e link.near.0 near)) (at_near ours spoke link)
         ]
         | inr away ↦ due_away plan calm service circuit k w link e away apart ∙ (rw (link.path, away) (away_from (is_wire_of service w && not (is_mesh_class w.class)) _ _))
       ]

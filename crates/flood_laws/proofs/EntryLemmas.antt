@@ -112,7 +112,8 @@ joined_within plan (first ∷ next ∷ rest) a b all joined =
     by : (one other : Bool) → nat_eq a first.0 && nat_eq b next.0 ≡ one → nat_eq b first.0 && nat_eq a next.0 ≡ other
         → (joins a b (next ∷ rest) ≡ true → nat_lt b (length plan.edges) ≡ true) → (one || other) || joins a b (next ∷ rest) ≡ true → nat_lt b (length plan.edges) ≡ true
     by true other is also later some =
-        ap (λ (n : ℕ). nat_lt n (length plan.edges)) (eqb-true b next.0 (second_holds (nat_eq a first.0) (nat_eq b next.0) is)) ∙ first_holds (is_edge_of plan next) (list_all (is_edge_of plan) rest) behind
+        ap (λ (n : ℕ). nat_lt n (length plan.edges)) (eqb-true b next.0 (second_holds (nat_eq a first.0) (nat_eq b next.0) is))
+        ∙ first_holds (is_edge_of plan next) (list_all (is_edge_of plan) rest) behind
     by false true is also later some = ap (λ (n : ℕ). nat_lt n (length plan.edges)) (eqb-true b first.0 (first_holds (nat_eq b first.0) (nat_eq a next.0) also)) ∙ here
     by false false is also later some = later some
 

@@ -75,7 +75,8 @@ far_advertises plan calm service a b wire row binding checked quiet settled is o
     two : AreSettled plan calm a b
     two = settled a b (joined_by plan calm service a b wire row checked is of_service joined)
 
-    by : (x y drained : Bool) → stands calm a b ≡ x → stands calm b a ≡ y → (not x && not y) || ((x && y) && drained) ≡ true → ((calm.edges b).ends wire.0 a).local ≡ Advertised binding.label binding.told
+    by : (x y drained : Bool) → stands calm a b ≡ x → stands calm b a ≡ y → (not x && not y) || ((x && y) && drained) ≡ true → ((calm.edges b).ends wire.0 a).local
+        ≡ Advertised binding.label binding.told
     by true true drained one other test =
         advertises_bound ((calm.edges b).ends wire.0 a).local binding (sym bound ∙ ((two.up (record { one = one; other = other })).1.1 wire row is joined).near)
     by true false drained one other test = clash test

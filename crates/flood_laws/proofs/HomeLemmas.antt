@@ -116,7 +116,8 @@ has_home plan calm service edge checked calmed within port = elim (cases_Bool (i
     within = within;
     core = core_edge plan service edge port none;
     beside = λ d core. rw none (or_false (nat_eq edge d));
-    spokes = λ d core. add_none (nat_eq edge d) (sum-none (by_spoke plan calm service edge d) plan.wires (λ k row is. not_live (carries plan calm k row) (is_last d row.path) (none_at (is_spoke_from service edge) plan.wires k row none is)));
+    spokes = λ d core. add_none (nat_eq edge d) (sum-none (by_spoke plan calm service edge d) plan.wires
+        (λ k row is. not_live (carries plan calm k row) (is_last d row.path) (none_at (is_spoke_from service edge) plan.wires k row none is)));
   }
 ]
   where
@@ -142,7 +143,8 @@ has_home plan calm service edge checked calmed within port = elim (cases_Bool (i
         from = first_holds (is_spoke_from service edge wire.row) (carries plan calm (0 + wire.k) wire.row) wire.live
 
         ours : is_wire_of service wire.row ≡ true
-        ours = first_holds (is_wire_of service wire.row) (not (is_mesh_class wire.row.class)) (first_holds (is_wire_of service wire.row && not (is_mesh_class wire.row.class)) (is_first edge wire.row.path) from)
+        ours = first_holds (is_wire_of service wire.row) (not (is_mesh_class wire.row.class))
+            (first_holds (is_wire_of service wire.row && not (is_mesh_class wire.row.class)) (is_first edge wire.row.path) from)
 
         count : {sum : ℕ} {p q r : Bool} → sum ≡ cond p 1 0 → p ≡ q → q ≡ r → 0 + sum ≡ cond r 1 0
         count e same also = zero-add _ ∙ (e ∙ ap (λ (t : Bool). cond {A = ℕ} t 1 0) (same ∙ also))

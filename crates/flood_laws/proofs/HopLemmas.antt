@@ -76,7 +76,8 @@ module _ (plan : Plan) (calm : NetworkState) (service : ServiceId) (wire next : 
     | inr last ↦ ap (is_spoke_edge plan service) last ∙ far_core plan service next.0 other second checked next_is also
   ]
 
-  spoke_at : (k : ℕ) (w : WirePlan) (link : IsLink plan w) → slice_get plan.wires k ≡ Some w → is_wire_of service w ≡ true → is_mesh_class w.class ≡ false → to ≡ link.near.0 → is_spoke_edge plan service to ≡ true
+  spoke_at : (k : ℕ) (w : WirePlan) (link : IsLink plan w) → slice_get plan.wires k ≡ Some w → is_wire_of service w ≡ true → is_mesh_class w.class ≡ false → to ≡ link.near.0
+      → is_spoke_edge plan service to ≡ true
   spoke_at k w link w_is of spoke at = ap (is_spoke_edge plan service) at ∙ Rattle.flood_laws.proofs.WireEdgeLemmas.near_spoke plan service k w link w_is of spoke
 
   -- at the first edge of a spoke it does not end
@@ -86,7 +87,8 @@ module _ (plan : Plan) (calm : NetworkState) (service : ServiceId) (wire next : 
   -- of one spoke edge two spokes would forward
   twice : {P : Type 0} → is_mesh_class row.class ≡ false → is_mesh_class other.class ≡ false → to ≡ first.near.0 → to ≡ second.near.0 → P
   twice spoke too here there =
-      let same : next.0 ≡ wire.0 = one_chosen plan (calm.edges to) to service wire next row other placed is ours spoke (not_last row first here) takes next_is also too (not_last other second there) sends in
+      let same : next.0 ≡ wire.0 = one_chosen plan (calm.edges to) to service wire next row other placed is ours spoke (not_last row first here) takes next_is also too
+      (not_last other second there) sends in
       clash_at (nat_eq next.0 wire.0) (eq-eqb next.0 wire.0 same) apart
 
   pub later_stage : stage to row + 1 ≤ stage far other
@@ -113,10 +115,13 @@ module _ (plan : Plan) (calm : NetworkState) (service : ServiceId) (wire next : 
 
       after_near : is_mesh_class row.class ≡ false → is_mesh_class other.class ≡ false → to ≡ first.near.0 → AreSides second.near.0 second.far.0 to far → stage to row + 1 ≤ stage far other
       after_near spoke too near (IsNear here there) = twice spoke too near here
-      after_near spoke too near (IsFar last there) = clash_at (is_spoke_edge plan service to) (spoke_at wire.0 row first is ours spoke near) (ap (is_spoke_edge plan service) last ∙ far_core plan service next.0 other second checked next_is also)
+      after_near spoke too near (IsFar last there) =
+          clash_at (is_spoke_edge plan service to) (spoke_at wire.0 row first is ours spoke near)
+          (ap (is_spoke_edge plan service) last ∙ far_core plan service next.0 other second checked next_is also)
 
       after_far : is_mesh_class row.class ≡ false → is_mesh_class other.class ≡ false → to ≡ first.far.0 → AreSides second.near.0 second.far.0 to far → stage to row + 1 ≤ stage far other
-      after_far spoke too last (IsNear here there) = clash_at (is_spoke_edge plan service to) (spoke_at next.0 other second next_is also too here) (ap (is_spoke_edge plan service) last ∙ far_core plan service wire.0 row first checked is ours)
+      after_far spoke too last (IsNear here there) =
+          clash_at (is_spoke_edge plan service to) (spoke_at next.0 other second next_is also too here) (ap (is_spoke_edge plan service) last ∙ far_core plan service wire.0 row first checked is ours)
       after_far spoke too last (IsFar here near) = omega (arith, stage_far plan row first to spoke last, stage_near plan other second far too near)
 
 -- ---- where what a terminal edge sends travels
@@ -126,7 +131,8 @@ last_of d start [] = refl
 last_of d start (after ∷ rest) = last_of d after rest
 
 -- to the other terminal edge
-pub sent_far : (path : List EdgeId) (me peer : EdgeId) → has_repeat path ≡ false → joins me.0 peer.0 path ≡ true → is_first me.0 path || is_last me.0 path ≡ true → far_of me.0 path ≡ Some (goal path me peer).0
+pub sent_far : (path : List EdgeId) (me peer : EdgeId) → has_repeat path ≡ false → joins me.0 peer.0 path ≡ true → is_first me.0 path || is_last me.0 path ≡ true → far_of me.0 path
+    ≡ Some (goal path me peer).0
 sent_far [] me peer once joined terminal = clash joined
 sent_far (first ∷ rest) me peer once joined terminal = by (nat_eq me.0 first.0) refl where
   only : (p : Bool) {q : Bool} → q ≡ false → p || q ≡ true → p ≡ true
@@ -135,7 +141,8 @@ sent_far (first ∷ rest) me peer once joined terminal = by (nat_eq me.0 first.0
 
   by : (t : Bool) → nat_eq me.0 first.0 ≡ t → far_of me.0 (first ∷ rest) ≡ Some (goal (first ∷ rest) me peer).0
   by true here =
-      let way : follows (first ∷ rest) me.0 peer.0 ≡ true = only (follows (first ∷ rest) me.0 peer.0) (begins_first (first ∷ rest) me.0 peer.0 once here) (sym (joins_is (first ∷ rest) me.0 peer.0) ∙ joined) in
+      let way : follows (first ∷ rest) me.0 peer.0 ≡ true =
+      only (follows (first ∷ rest) me.0 peer.0) (begins_first (first ∷ rest) me.0 peer.0 once here) (sym (joins_is (first ∷ rest) me.0 peer.0) ∙ joined) in
       rw (here, way) (last_of peer first rest)
   by false away =
       let way : follows (first ∷ rest) me.0 peer.0 ≡ false = ends_last (first ∷ rest) me.0 peer.0 once (second_of_two (nat_eq me.0 first.0) away terminal) in
@@ -150,13 +157,15 @@ pub hop_on : (plan : Plan) (wire next : WireId) (row other : WirePlan) (from to 
 hop_on plan wire next row other from to peer hops checked is next_is joined reached next_joined terminal later come =
     let few = points_three plan row from.0 to.0 (wire_fits plan wire row checked is).once (wire_fits plan wire row checked is).most (sym (joins_is row.path from.0 to.0) ∙ joined) in
     let none : length (expected plan other to.0 peer.0).points ≡ 0 = ap length (tells_own_offer plan other to peer (wire_fits plan next other checked next_is).once next_joined terminal).points in
-    on hops (stage (goal row.path from to).0 row) (stage to.0 row) (stage (goal other.path to peer).0 other) (points_passed plan row from.0 to.0) (points_passed plan other to.0 peer.0) (ap (λ (e : EdgeId). stage e.0 row) reached) few none later come
+    on hops (stage (goal row.path from to).0 row) (stage to.0 row) (stage (goal other.path to peer).0 other) (points_passed plan row from.0 to.0) (points_passed plan other to.0 peer.0)
+    (ap (λ (e : EdgeId). stage e.0 row) reached) few none later come
   where
     on : (h a s t p q : ℕ) → a ≡ s → p ≤ 3 → q ≡ 0 → s + 1 ≤ t → h ≤ 4 * a + (p + 1) → h + 1 ≤ 4 * t + (q + 1)
     on h a s t p q same few none later come = omega (arith, same, few, none, later, come)
 
 -- and what arrives has passed twelve segments at most
-pub twelve_hops : (plan : Plan) (wire : WireId) (row : WirePlan) (from to : EdgeId) (hops : ℕ) → IsChecked plan → wire_row plan wire ≡ Some row → joins from.0 to.0 row.path ≡ true → hops ≤ most_hops plan from to row → hops ≤ 12
+pub twelve_hops : (plan : Plan) (wire : WireId) (row : WirePlan) (from to : EdgeId) (hops : ℕ) → IsChecked plan → wire_row plan wire ≡ Some row → joins from.0 to.0 row.path ≡ true
+    → hops ≤ most_hops plan from to row → hops ≤ 12
 twelve_hops plan wire row from to hops checked is joined come =
     most hops (stage (goal row.path from to).0 row) (points_passed plan row from.0 to.0) (stage_most (goal row.path from to).0 row)
     (points_three plan row from.0 to.0 (wire_fits plan wire row checked is).once (wire_fits plan wire row checked is).most (sym (joins_is row.path from.0 to.0) ∙ joined)) come

@@ -31,7 +31,8 @@ use Rattle.flood_laws.proofs.MeshLemmas.{by_mesh, core_edge, far_core, mesh_carr
 use Rattle.flood_laws.proofs.SumLemmas.{one_of_count, sum-add, sum-at, sum-same, sum-times}
 
 -- an edge with a circuit of the service has a port of it
-pub circuit_port : (plan : Plan) (service : ServiceId) (at : CircuitId) (row : CircuitPlan) → circuit_row plan at ≡ Some row → nat_eq row.service.0 service.0 ≡ true → has_port plan service row.edge.0 ≡ true
+pub circuit_port : (plan : Plan) (service : ServiceId) (at : CircuitId) (row : CircuitPlan) → circuit_row plan at ≡ Some row → nat_eq row.service.0 service.0 ≡ true
+    → has_port plan service row.edge.0 ≡ true
 circuit_port plan service at row is of_service =
     or_left (list_any (is_circuit_at service row.edge.0) plan.circuits) (list_any (wire_ends_at service row.edge.0) plan.wires)
     (any_passes_from_place (is_circuit_at service row.edge.0) plan.circuits at.0 row is (rw (of_service, eq-eqb row.edge.0 row.edge.0 refl) refl))
@@ -58,7 +59,8 @@ entry_at plan calm service circuit site e checked calmed site_is of_service with
       sum-same (due_by plan calm service circuit e None) (λ k w. by_spoke plan calm service site.edge.0 e k w + by_mesh service home.home e k w) plan.wires
       (λ k w is. core_due plan calm service circuit site site_is of_service home checked calmed e k w core is)
       ∙ (sum-add (by_spoke plan calm service site.edge.0 e) (by_mesh service home.home e) 0 plan.wires
-      ∙ joins (nat_eq site.edge.0 e) (nat_eq home.home e) _ _ (home.spokes e core) (mesh_sum plan calm service home.home e checked calmed home.within within home.core (core_edge plan service e port core)))
+      ∙ joins (nat_eq site.edge.0 e) (nat_eq home.home e) _ _ (home.spokes e core)
+      (mesh_sum plan calm service home.home e checked calmed home.within within home.core (core_edge plan service e port core)))
 ]
   where
     home : HasHome plan calm service site.edge.0
@@ -91,7 +93,8 @@ mesh_arrives plan calm service circuit site came v to checked calmed site_is of_
     ap one (awaits_mesh plan calm service circuit site site_is of_service to came v came_is mesh ∙ home.beside to core)
     ∙ (sym (home.spokes to core)
     ∙ ap (λ n. cond (nat_eq site.edge.0 to) 1 0 + n) (sym (sum-same (due_by plan calm service circuit to (Some came)) (by_spoke plan calm service site.edge.0 to) plan.wires (λ k w is.
-    due_after_mesh plan calm service circuit to came k w v came_is mesh is ∙ only k w (is_mesh_class w.class) refl (core_due plan calm service circuit site site_is of_service home checked calmed to k w core is)))))
+    due_after_mesh plan calm service circuit to came k w v came_is mesh is
+    ∙ only k w (is_mesh_class w.class) refl (core_due plan calm service circuit site site_is of_service home checked calmed to k w core is)))))
   where
     home : HasHome plan calm service site.edge.0
     home = site_home plan calm service circuit site checked calmed site_is of_service
@@ -104,7 +107,8 @@ mesh_arrives plan calm service circuit site came v to checked calmed site_is of_
     no_mesh true ends n = omega arith
     no_mesh false ends n = omega arith
 
-    only : (k : ℕ) (w : WirePlan) (m : Bool) → is_mesh_class w.class ≡ m → due_by plan calm service circuit to None k w ≡ by_spoke plan calm service site.edge.0 to k w + by_mesh service home.home to k w
+    only : (k : ℕ) (w : WirePlan) (m : Bool) → is_mesh_class w.class ≡ m → due_by plan calm service circuit to None k w
+        ≡ by_spoke plan calm service site.edge.0 to k w + by_mesh service home.home to k w
         → cond (is_mesh_class w.class) 0 (due_by plan calm service circuit to None k w) ≡ by_spoke plan calm service site.edge.0 to k w
     only k w true is due = rw is (no_spoke (is_wire_of service w) (is_first site.edge.0 w.path) (carries plan calm k w) (is_last to w.path))
     only k w false is due = ap (λ (t : Bool). cond t 0 (due_by plan calm service circuit to None k w)) is ∙ (due ∙ (rw is (no_mesh (is_wire_of service w) _ _)))
@@ -119,7 +123,8 @@ spoke_arrives plan calm service circuit site came v to a b checked calmed site_i
     let all = entry_at plan calm service circuit site to checked calmed site_is of_service within port in
     let two = sum-add (due_by plan calm service circuit to (Some came)) (λ k w. cond (nat_eq k came) (due_by plan calm service circuit to None k w) 0) 0 plan.wires in
     let there = sum-at (due_by plan calm service circuit to None) came v plan.wires came_is in
-    let each = sum-same (λ k w. due_by plan calm service circuit to (Some came) k w + cond (nat_eq k came) (due_by plan calm service circuit to None k w) 0) (due_by plan calm service circuit to None) plan.wires
+    let each = sum-same (λ k w. due_by plan calm service circuit to (Some came) k w + cond (nat_eq k came) (due_by plan calm service circuit to None k w) 0)
+    (due_by plan calm service circuit to None) plan.wires
     (λ k w is. due_after_spoke plan calm service circuit to came k w (rw (came_is, spoke) refl)) in
     joins a b (nat_eq site.edge.0 to) _ _ turned (sym two ∙ (each ∙ all)) (there ∙ back)
   where
@@ -155,10 +160,12 @@ module _ (plan : Plan) (calm : NetworkState) (service : ServiceId) (circuit : Ci
   both_send = sym (carries_by plan calm came v link) ∙ live
 
   near_sends : forwards plan calm link.near.0 came ≡ true
-  near_sends = first_holds (forwards plan calm link.near.0 came) (forwards plan calm link.far.0 came) (first_holds (forwards plan calm link.near.0 came && forwards plan calm link.far.0 came) (stitches calm came link) both_send)
+  near_sends = first_holds (forwards plan calm link.near.0 came) (forwards plan calm link.far.0 came)
+      (first_holds (forwards plan calm link.near.0 came && forwards plan calm link.far.0 came) (stitches calm came link) both_send)
 
   far_sends : forwards plan calm link.far.0 came ≡ true
-  far_sends = second_holds (forwards plan calm link.near.0 came) (forwards plan calm link.far.0 came) (first_holds (forwards plan calm link.near.0 came && forwards plan calm link.far.0 came) (stitches calm came link) both_send)
+  far_sends = second_holds (forwards plan calm link.near.0 came) (forwards plan calm link.far.0 came)
+      (first_holds (forwards plan calm link.near.0 came && forwards plan calm link.far.0 came) (stitches calm came link) both_send)
 
   live_spoke : is_live_spoke plan calm service link.near.0 came v ≡ true
   live_spoke =
@@ -211,10 +218,12 @@ arrival_law plan calm service circuit row wire w to from checked calmed is of_se
         | inr last ↦ ap (is_spoke_edge plan service) last.0 ∙ far_core plan service wire.0 w link checked wire_is ours
       ])
       | inr spoke ↦ elim (sides plan service w to from link ends far) [
-        | inl near ↦ subst (λ n. cond {A = ℕ} (awaits plan calm service circuit (record { 0 = n }) wire) 1 0 ≡ cond (nat_eq row.edge.0 n) 1 0 + wires_due plan calm service circuit n (Some wire.0)) (sym near.0)
+        | inl near ↦ subst (λ n. cond {A = ℕ} (awaits plan calm service circuit (record { 0 = n }) wire) 1 0
+            ≡ cond (nat_eq row.edge.0 n) 1 0 + wires_due plan calm service circuit n (Some wire.0)) (sym near.0)
             (near_arrives plan calm service circuit row wire.0 w link checked calmed is of_service wire_is spoke ours
             live (ap (has_port plan service) (sym near.0) ∙ port))
-        | inr last ↦ subst (λ n. cond {A = ℕ} (awaits plan calm service circuit (record { 0 = n }) wire) 1 0 ≡ cond (nat_eq row.edge.0 n) 1 0 + wires_due plan calm service circuit n (Some wire.0)) (sym last.0)
+        | inr last ↦ subst (λ n. cond {A = ℕ} (awaits plan calm service circuit (record { 0 = n }) wire) 1 0
+            ≡ cond (nat_eq row.edge.0 n) 1 0 + wires_due plan calm service circuit n (Some wire.0)) (sym last.0)
             (far_arrives plan calm service circuit row wire.0 w link checked calmed is of_service wire_is spoke ours
             live (ap (has_port plan service) (sym last.0) ∙ port))
       ]
@@ -276,4 +285,5 @@ one_live_spoke plan calm service edge wire other w v checked calmed wire_is spok
     first_within (first_edge ∷ rest) all first = below edge first_edge.0 (length plan.edges) first (first_holds (is_edge_of plan first_edge) (list_all (is_edge_of plan) rest) all)
 
     within : edge < length plan.edges
-    within = first_within w.path (row_holds (IsWireOf plan) plan.wires wire.0 w wire_is checked.wires).edges (second_holds (is_wire_of service w && not (is_mesh_class w.class)) (is_first edge w.path) spoke)
+    within = first_within w.path (row_holds (IsWireOf plan) plan.wires wire.0 w wire_is checked.wires).edges
+        (second_holds (is_wire_of service w && not (is_mesh_class w.class)) (is_first edge w.path) spoke)

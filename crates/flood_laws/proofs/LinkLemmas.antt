@@ -117,10 +117,12 @@ starts_apart : (plan : Plan) (service : ServiceId) (i j : ℕ) (spoke other : Wi
 starts_apart plan service i j spoke other checked first second apart ours also = elim (one_before i j apart) [
   | inl before ↦
       (or_parts (starts_in_mesh spoke other) (starts_in_mesh other spoke)
-      (of_one (nat_eq spoke.service.0 other.service.0) (equal_over spoke.service.0 other.service.0 service.0 ours also) (pair_apart is_spoke_in_mesh plan.wires i j spoke other checked.spokes first second before))).0
+      (of_one (nat_eq spoke.service.0 other.service.0) (equal_over spoke.service.0 other.service.0 service.0 ours also)
+      (pair_apart is_spoke_in_mesh plan.wires i j spoke other checked.spokes first second before))).0
   | inr behind ↦
       (or_parts (starts_in_mesh other spoke) (starts_in_mesh spoke other)
-      (of_one (nat_eq other.service.0 spoke.service.0) (equal_over other.service.0 spoke.service.0 service.0 also ours) (pair_apart is_spoke_in_mesh plan.wires j i other spoke checked.spokes second first behind))).1
+      (of_one (nat_eq other.service.0 spoke.service.0) (equal_over other.service.0 spoke.service.0 service.0 also ours)
+      (pair_apart is_spoke_in_mesh plan.wires j i other spoke checked.spokes second first behind))).1
 ]
   where
     of_one : (same : Bool) {clash : Bool} → same ≡ true → same && clash ≡ false → clash ≡ false
@@ -154,7 +156,8 @@ starts_none plan service k row link e checked is ours ends = elim (cases_Bool (i
       | inr apart ↦
           (let other = link_at plan spoke.k spoke.row checked spoke.is in
           let its : is_wire_of service spoke.row ≡ true =
-          first_holds (is_wire_of service spoke.row) (not (is_mesh_class spoke.row.class)) (first_holds (is_wire_of service spoke.row && not (is_mesh_class spoke.row.class)) (is_first e spoke.row.path) spoke.passes) in
+          first_holds (is_wire_of service spoke.row) (not (is_mesh_class spoke.row.class))
+          (first_holds (is_wire_of service spoke.row && not (is_mesh_class spoke.row.class)) (is_first e spoke.row.path) spoke.passes) in
           let away = starts_apart plan service spoke.k k spoke.row row checked spoke.is is apart its ours in
           let none =
           starts_away (is_wire_of service spoke.row) (is_mesh_class row.class) (is_mesh_class spoke.row.class) e link.near.0 link.far.0 other.near.0
@@ -196,5 +199,7 @@ one_between plan service i j a b w v checked first here second there = elim (cas
         let ends = same_ends a b link.near.0 link.far.0 also.near.0 also.far.0 (second_holds (is_mesh_of service x) _ p) (second_holds (is_mesh_of service y) _ q) in
         let mesh = first_holds (is_mesh_of service x) _ one in
         let mesh_too = first_holds (is_mesh_of service y) _ other in
-        let service_same = equal_over x.service.0 y.service.0 service.0 (first_holds (is_wire_of service x) (is_mesh_class x.class) mesh) (first_holds (is_wire_of service y) (is_mesh_class y.class) mesh_too) in
-        all_of _ _ _ _ service_same (second_holds (is_wire_of service x) (is_mesh_class x.class) mesh) (second_holds (is_wire_of service y) (is_mesh_class y.class) mesh_too) (rw (link.path, also.path, link.ends, also.ends) ends)
+        let service_same = equal_over x.service.0 y.service.0 service.0 (first_holds (is_wire_of service x) (is_mesh_class x.class) mesh)
+        (first_holds (is_wire_of service y) (is_mesh_class y.class) mesh_too) in
+        all_of _ _ _ _ service_same (second_holds (is_wire_of service x) (is_mesh_class x.class) mesh) (second_holds (is_wire_of service y) (is_mesh_class y.class) mesh_too)
+        (rw (link.path, also.path, link.ends, also.ends) ends)

@@ -24,7 +24,8 @@ core_edge plan service e port none = rw (port, none) refl
 
 -- a terminal edge of a wire of the service has a port of it
 pub port_at : (plan : Plan) (service : ServiceId) (e k : ℕ) (row : WirePlan) → slice_get plan.wires k ≡ Some row → wire_ends_at service e row ≡ true → has_port plan service e ≡ true
-port_at plan service e k row is ends = or_right (list_any (is_circuit_at service e) plan.circuits) (list_any (wire_ends_at service e) plan.wires) (any_passes_from_place (wire_ends_at service e) plan.wires k row is ends)
+port_at plan service e k row is ends = or_right (list_any (is_circuit_at service e) plan.circuits) (list_any (wire_ends_at service e) plan.wires)
+    (any_passes_from_place (wire_ends_at service e) plan.wires k row is ends)
 
 -- a mesh wire between two edges that carries frames
 pub record MeshWire (plan : Plan) (calm : NetworkState) (service : ServiceId) (a b : ℕ) : Type 0 where
@@ -37,7 +38,8 @@ pub record MeshWire (plan : Plan) (calm : NetworkState) (service : ServiceId) (a
 pub mesh_wire : (plan : Plan) (calm : NetworkState) (service : ServiceId) (a b : ℕ) → is_calm plan calm service ≡ true → a < length plan.edges → b < length plan.edges
     → is_core_edge plan service a ≡ true → is_core_edge plan service b ≡ true → nat_eq a b ≡ false → MeshWire plan calm service a b
 mesh_wire plan calm service a b calmed within within_too core core_too apart =
-    let full = second_holds (is_quiet plan calm service) (is_full plan calm service) (first_holds (is_quiet plan calm service && is_full plan calm service) (has_live_spokes plan calm service) calmed) in
+    let full = second_holds (is_quiet plan calm service) (is_full plan calm service)
+    (first_holds (is_quiet plan calm service && is_full plan calm service) (has_live_spokes plan calm service) calmed) in
     let met : (c : ℕ) → (d : ℕ) → Bool = λ c d. not (is_core_edge plan service c && is_core_edge plan service d) || (c == d || any_wire (meshes plan calm service c d) 0 plan.wires) in
     let first = below_holds (length plan.edges) a (λ c. all_below (length plan.edges) (met c)) full within in
     let both = below_holds (length plan.edges) b (met a) first within_too in
@@ -84,7 +86,8 @@ near_port plan service k row link is ours = port_at plan service link.near.0 k r
 -- and so has its last edge
 pub far_port : (plan : Plan) (service : ServiceId) (k : ℕ) (row : WirePlan) (link : IsLink plan row) → slice_get plan.wires k ≡ Some row
     → is_wire_of service row ≡ true → has_port plan service link.far.0 ≡ true
-far_port plan service k row link is ours = port_at plan service link.far.0 k row is (rw (ours, link.path, link.last link.far.0, eq-eqb link.far.0 link.far.0 refl) (or_right (nat_eq link.far.0 link.near.0) true refl))
+far_port plan service k row link is ours = port_at plan service link.far.0 k row is
+    (rw (ours, link.path, link.last link.far.0, eq-eqb link.far.0 link.far.0 refl) (or_right (nat_eq link.far.0 link.near.0) true refl))
 
 -- each mesh wire of a calm service carries frames
 pub mesh_carries : (plan : Plan) (calm : NetworkState) (service : ServiceId) (k : ℕ) (row : WirePlan) → IsChecked plan → is_calm plan calm service ≡ true

@@ -70,10 +70,12 @@ follows_once (first ∷ next ∷ rest) a b once joined =
     beyond : (a b f n : ℕ) (p q : Bool) → (a == f) ≡ false → (b == f) ≡ false → q ≡ not p → (b == f && a == n) || q ≡ not ((a == f && b == n) || p)
     beyond a b f n p q one two opposite = grind (arith, nat_tests)
 
-    one : (a b f n : ℕ) (p q : Bool) → (n == f) ≡ false → (a == f) ≡ true → ((a == f && b == n) || (b == f && a == n)) || false ≡ true → q ≡ false → (b == f && a == n) || q ≡ not ((a == f && b == n) || p)
+    one : (a b f n : ℕ) (p q : Bool) → (n == f) ≡ false → (a == f) ≡ true → ((a == f && b == n) || (b == f && a == n)) || false ≡ true → q ≡ false → (b == f && a == n) || q
+        ≡ not ((a == f && b == n) || p)
     one a b f n p q apart same joined none = grind (arith, nat_tests)
 
-    two : (a b f n : ℕ) (p q : Bool) → (a == f) ≡ false → ((a == f && b == n) || (b == f && a == n)) || false ≡ true → ((b == f) ≡ true → p ≡ false) → (b == f && a == n) || q ≡ not ((a == f && b == n) || p)
+    two : (a b f n : ℕ) (p q : Bool) → (a == f) ≡ false → ((a == f && b == n) || (b == f && a == n)) || false ≡ true → ((b == f) ≡ true → p ≡ false) → (b == f && a == n) || q
+        ≡ not ((a == f && b == n) || p)
     two a b f n p q differ joined none =
         let back : b == f && a == n ≡ true = behind differ joined in
         let none_after : p ≡ false = none (first_of_two back) in

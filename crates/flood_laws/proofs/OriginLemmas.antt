@@ -78,7 +78,8 @@ not_named origin number (p ∷ ps) none =
     by (nat_eq p.number number) (nat_eq p.origin origin) refl (first_fails (is_copy origin number p) (list_any (is_copy origin number) ps) none)
     (not_named origin number ps (second_fails (is_copy origin number p) (list_any (is_copy origin number) ps) none))
   where
-    by : (here own : Bool) → nat_eq p.origin origin ≡ own → own && here ≡ false → is_of origin (find (has_number number) ps) ≡ false → is_of origin (cond here (Some p) (find (has_number number) ps)) ≡ false
+    by : (here own : Bool) → nat_eq p.origin origin ≡ own → own && here ≡ false → is_of origin (find (has_number number) ps) ≡ false
+        → is_of origin (cond here (Some p) (find (has_number number) ps)) ≡ false
     by true true is none rest = absurd (cc (none))
     by true false is none rest = is
     by false own is none rest = rest

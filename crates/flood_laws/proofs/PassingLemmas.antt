@@ -78,7 +78,16 @@ module _ (plan : Plan) (network : NetworkState) (trace : List Entry) (packet : P
 
   -- what is passed on carries the frame
   pub passed_carries : (on : PassedOn) (number origin hops : ℕ)
-      → carried plan (record { number = number; wire = packet.wire; from = packet.to; to = on.to; origin = origin; hops = hops; age = 0; bytes = relabelled on.binding.label (rule.packed.ttl - 1) packet.bytes }) ≡ carried plan packet
+      → carried plan (record {
+        number = number;
+        wire = packet.wire;
+        from = packet.to;
+        to = on.to;
+        origin = origin;
+        hops = hops;
+        age = 0;
+        bytes = relabelled on.binding.label (rule.packed.ttl - 1) packet.bytes;
+      }) ≡ carried plan packet
   passed_carries on number origin hops =
       packed_carried plan (relayed plan network trace packet on.to on.binding number hops checked ruled rule on.mate_is on.bound) rule.row on.binding.label rule.frame checked rule.is
       (relayed_packed plan network trace packet on.to on.binding number hops checked ruled rule on.mate_is on.bound)
@@ -103,7 +112,8 @@ module _ (plan : Plan) (network : NetworkState) (trace : List Entry) (packet : P
           passes = own.end.terminal ∙ (ap (λ (r : WirePlan). is_terminal r edge.me) row ∙ (ap (is_terminal rule.row) at ∙ between));
         }
 
-    by_side : (place : EndPlace) → IsSwitchedBy packet place → packet_work plan network packet ≡ switched plan taken_all packet.bytes entry place work → (remote : Option Binding) → (edge.ends packet.wire.0 has.0.0).remote ≡ remote → Passed
+    by_side : (place : EndPlace) → IsSwitchedBy packet place → packet_work plan network packet ≡ switched plan taken_all packet.bytes entry place work → (remote : Option Binding)
+        → (edge.ends packet.wire.0 has.0.0).remote ≡ remote → Passed
     unfolding gives posts
     by_side place beside is remote held =
         let row : wire_row plan place.wire ≡ Some rule.row = ap (wire_row plan) beside.wire ∙ rule.is in
@@ -117,7 +127,8 @@ module _ (plan : Plan) (network : NetworkState) (trace : List Entry) (packet : P
         ∙ ap (λ (o : Option Binding). switched_under taken_all packet.bytes entry place has.0 (label_onward o rule.packed.ttl) work) on)) in
         outcome remote held all
       where
-        outcome : (remote : Option Binding) → (edge.ends packet.wire.0 has.0.0).remote ≡ remote → packet_work plan network packet ≡ switched_under taken_all packet.bytes entry place has.0 (label_onward remote rule.packed.ttl) work → Passed
+        outcome : (remote : Option Binding) → (edge.ends packet.wire.0 has.0.0).remote ≡ remote → packet_work plan network packet
+            ≡ switched_under taken_all packet.bytes entry place has.0 (label_onward remote rule.packed.ttl) work → Passed
         outcome None held all = IsNotPassed cause.NoBinding all (inr (λ to to_is. ap (λ (k : EdgeId). (edge.ends packet.wire.0 k.0).remote) (same_option to has.0 (sym to_is ∙ has.1)) ∙ held))
         outcome (Some binding) held all =
             let lives : nat_eq rule.packed.ttl 1 ≡ false = relay_lives plan network trace packet has.0 binding 0 0 checked ruled rule has.1 held in
@@ -142,5 +153,6 @@ module _ (plan : Plan) (network : NetworkState) (trace : List Entry) (packet : P
           by_side place beside
           (opened plan network trace packet checked ruled rule
           ∙ (ap (λ (o : Option EndPlace). owned plan taken_all packet.bytes entry o work) owner
-          ∙ ap (λ (b : Bool). cond b (terminated plan taken_all place rule.packed.ttl (wire_row plan place.wire) (end_at edge place).remote (behind_entry packet.bytes) work) (switched plan taken_all packet.bytes entry place work)) beside.passes))
+          ∙ ap (λ (b : Bool). cond b (terminated plan taken_all place rule.packed.ttl (wire_row plan place.wire) (end_at edge place).remote (behind_entry packet.bytes) work)
+          (switched plan taken_all packet.bytes entry place work)) beside.passes))
           (edge.ends packet.wire.0 has.0.0).remote refl

@@ -76,7 +76,8 @@ module _ (plan : Plan) (network : NetworkState) (trace : List Entry) (packet : P
   -- and it has come one segment and one point further
   pub relay_passed : HasPassed plan packet → HasPassed plan relayed
   relay_passed near row is = subst (λ (r : WirePlan). packet.hops + 1 ≤ most_hops plan packet.to to r) (same_row rule.row row (sym rule.is ∙ is))
-      (further packet.hops (stage (goal rule.row.path packet.from packet.to).0 rule.row) (stage (goal rule.row.path packet.to to).0 rule.row) (points_passed plan rule.row packet.from.0 packet.to.0) (points_passed plan rule.row packet.to.0 to.0)
+      (further packet.hops (stage (goal rule.row.path packet.from packet.to).0 rule.row) (stage (goal rule.row.path packet.to to).0 rule.row)
+      (points_passed plan rule.row packet.from.0 packet.to.0) (points_passed plan rule.row packet.to.0 to.0)
       (ap (λ (e : EdgeId). stage e.0 rule.row) same_goal) more_points
       (near rule.row rule.is))
     where
@@ -85,7 +86,9 @@ module _ (plan : Plan) (network : NetworkState) (trace : List Entry) (packet : P
 
   -- ---- it is a copy again
 
-  pub relay_copy : (calm : NetworkState) (service : ServiceId) (frame : List ℕ) → is_quiet plan calm service ≡ true → ((x y : ℕ) → are_joined_by plan service x y ≡ true → AreSettled plan calm x y) → ((calm.edges packet.to.0).ends packet.wire.0 to.0).remote ≡ Some binding → (copy : CarriesCopy plan calm service frame packet)
+  pub relay_copy : (calm : NetworkState) (service : ServiceId) (frame : List ℕ) → is_quiet plan calm service ≡ true
+      → ((x y : ℕ) → are_joined_by plan service x y ≡ true → AreSettled plan calm x y) → ((calm.edges packet.to.0).ends packet.wire.0 to.0).remote ≡ Some binding
+      → (copy : CarriesCopy plan calm service frame packet)
       → CarriesCopy plan calm service frame relayed
   relay_copy calm service frame quiet settled held copy = record {
     row = rule.row;

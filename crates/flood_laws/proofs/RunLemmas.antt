@@ -69,7 +69,8 @@ module _ (plan : Plan) (events : List Event) (run : IsRun plan events) (before :
       ap (λ (l : List Event). entries_along plan (empty_network plan) l) split
       ∙ (along-append plan (empty_network plan) before (Frame at octets ∷ (during ++ after))
       ∙ ap (λ (l : List Entry). trace ++ l)
-      (ap (λ (l : List Entry). entry.entries ++ l) (along-append plan entry.state during after) ∙ sym (append_assoc entry.entries (entries_along plan entry.state during) (entries_along plan last after))))
+      (ap (λ (l : List Entry). entry.entries ++ l) (along-append plan entry.state during after)
+      ∙ sym (append_assoc entry.entries (entries_along plan entry.state during) (entries_along plan last after))))
 
   -- what leaves does so in the window
   counted : (circuit : CircuitId) → times_left origin circuit (entries_along plan (empty_network plan) events) ≡ times_left origin circuit (entry.entries ++ entries_along plan entry.state during)
@@ -94,8 +95,10 @@ module _ (plan : Plan) (events : List Event) (run : IsRun plan events) (before :
 
   within : LeftWithin 12 origin (entries_along plan (empty_network plan) events)
   within = subst (LeftWithin 12 origin) (sym told)
-      (within-append 12 origin trace ((entry.entries ++ entries_along plan entry.state during) ++ entries_along plan last after) (never_within 12 origin trace (λ circuit. (nothing_before circuit).left))
-      (within-append 12 origin (entry.entries ++ entries_along plan entry.state during) (entries_along plan last after) served.within (never_within 12 origin (entries_along plan last after) (λ circuit. (late circuit).left))))
+      (within-append 12 origin trace ((entry.entries ++ entries_along plan entry.state during) ++ entries_along plan last after)
+      (never_within 12 origin trace (λ circuit. (nothing_before circuit).left))
+      (within-append 12 origin (entry.entries ++ entries_along plan entry.state during) (entries_along plan last after) served.within
+      (never_within 12 origin (entries_along plan last after) (λ circuit. (late circuit).left))))
 
   serves_once : ServedOnce 12 plan before at service (entries_along plan (empty_network plan) events)
   serves_once = record { once = once; within = within }

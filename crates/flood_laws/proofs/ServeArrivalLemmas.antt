@@ -267,7 +267,8 @@ module _ (plan : Plan) (calm network : NetworkState) (trace : List Entry) (servi
       come = goes.here.1 copy.row copy.is
 
       -- the bridge knows no port for the destination
-      unknown : (goes_to_group frame ≡ true) ⊎ IsUnlearned plan service (destination_of frame) network → (from : ℕ) → known_port (addresses_of (hearing service frame from (network.edges packet.to.0)) service) (destination frame) ≡ None
+      unknown : (goes_to_group frame ≡ true) ⊎ IsUnlearned plan service (destination_of frame) network → (from : ℕ)
+          → known_port (addresses_of (hearing service frame from (network.edges packet.to.0)) service) (destination frame) ≡ None
       unknown unlearned from = elim unlearned [
         | inl group ↦ group_unknown network service frame from packet.to.0 group
         | inr nowhere ↦
@@ -281,16 +282,20 @@ module _ (plan : Plan) (calm network : NetworkState) (trace : List Entry) (servi
             unlearned_unknown plan network service frame from packet.to.0 nowhere other (carried_within plan network trace packet checked rule_here))
       ]
 
-      met : (goes_to_group frame ≡ true) ⊎ IsUnlearned plan service (destination_of frame) network → (circuit : CircuitId) → meets plan calm service circuit packet.to work.effects ≡ cond (serves_here plan service (network.edges packet.to.0) circuit) 1 0 + wires_due plan calm service circuit packet.to.0 (Some packet.wire.0)
+      met : (goes_to_group frame ≡ true) ⊎ IsUnlearned plan service (destination_of frame) network → (circuit : CircuitId) → meets plan calm service circuit packet.to work.effects
+          ≡ cond (serves_here plan service (network.edges packet.to.0) circuit) 1 0 + wires_due plan calm service circuit packet.to.0 (Some packet.wire.0)
       met unlearned circuit =
           ap (λ (w : Work). meets plan calm service circuit packet.to w.effects) bridged
-          ∙ (ap (λ (m : EdgeId). meets plan calm service circuit m (forwarded plan taken_all (arrival.Wire packet.wire) service frame (position (is_wire_port packet.wire) (ports_of plan service m)) (begin_at network packet.to)).effects) (sym placed)
-          ∙ (packet_meets plan (arrival.Wire packet.wire) calm (network.edges packet.to.0) service packet.wire copy.row circuit frame checked copy.is (ap (λ (m : EdgeId). wire_ends_at service m.0 copy.row) placed ∙ ends)
+          ∙ (ap (λ (m : EdgeId). meets plan calm service circuit m
+          (forwarded plan taken_all (arrival.Wire packet.wire) service frame (position (is_wire_port packet.wire) (ports_of plan service m)) (begin_at network packet.to)).effects) (sym placed)
+          ∙ (packet_meets plan (arrival.Wire packet.wire) calm (network.edges packet.to.0) service packet.wire copy.row circuit frame checked copy.is
+          (ap (λ (m : EdgeId). wire_ends_at service m.0 copy.row) placed ∙ ends)
           (subst (λ (m : EdgeId). IsStillEdge (calm.edges m.0) (network.edges packet.to.0)) (sym placed) (still.edges packet.to.0)) (unknown unlearned)
           ∙ ap (λ (m : EdgeId). cond {A = ℕ} (serves_here plan service (network.edges packet.to.0) circuit) 1 0 + wires_due plan calm service circuit m.0 (Some packet.wire.0)) placed))
 
       -- what was due by the copy is served here, or due by those that are sent on
-      balanced : (goes_to_group frame ≡ true) ⊎ IsUnlearned plan service (destination_of frame) network → (circuit : CircuitId) → is_site plan calm service circuit ≡ true → due plan calm service circuit origin base + meets plan calm service circuit packet.to work.effects ≡ due plan calm service circuit origin network
+      balanced : (goes_to_group frame ≡ true) ⊎ IsUnlearned plan service (destination_of frame) network → (circuit : CircuitId) → is_site plan calm service circuit ≡ true
+          → due plan calm service circuit origin base + meets plan calm service circuit packet.to work.effects ≡ due plan calm service circuit origin network
       balanced unlearned circuit site =
           let at = site_of plan calm service circuit site in
           let law = arrival_law plan calm service circuit at.row packet.wire copy.row packet.to.0 end_from.0 checked calmed at.is at.of_service copy.is ends far live in
@@ -308,17 +313,20 @@ module _ (plan : Plan) (calm network : NetworkState) (trace : List Entry) (servi
           (and_from (is_wire_of service row) (is_first packet.to.0 row.path || is_last packet.to.0 row.path)
           (eq-eqb row.service.0 service.0 (ap (λ (r : WirePlan). r.service.0) (sym next_rows) ∙ ap (λ (s : ServiceId). s.0) sent.same_service)) next_ended)
           (sent_far row.path packet.to peer (wire_fits plan wire row checked is).once joined next_ended)
-          (copy_forwards plan calm network packet.to (arrival.Wire packet.wire) service frame from peer wire of_arrival bytes still sent) (sym (same_wire_port plan service (network.edges packet.to.0).me sent.p from wire.0 packet.wire.0 there here) ∙ sent.by.other) meshes)
+          (copy_forwards plan calm network packet.to (arrival.Wire packet.wire) service frame from peer wire of_arrival bytes still sent)
+          (sym (same_wire_port plan service (network.edges packet.to.0).me sent.p from wire.0 packet.wire.0 there here) ∙ sent.by.other) meshes)
           come
         where
           next_rows : sent.row ≡ row
           next_rows = same_row sent.row row (sym sent.is ∙ is)
 
           next_ended : is_first packet.to.0 row.path || is_last packet.to.0 row.path ≡ true
-          next_ended = ap (λ (r : WirePlan). is_first packet.to.0 r.path || is_last packet.to.0 r.path) (sym next_rows) ∙ sent_ended plan network packet.to (arrival.Wire packet.wire) service frame from peer wire of_arrival bytes checked ruled sent
+          next_ended = ap (λ (r : WirePlan). is_first packet.to.0 r.path || is_last packet.to.0 r.path) (sym next_rows)
+              ∙ sent_ended plan network packet.to (arrival.Wire packet.wire) service frame from peer wire of_arrival bytes checked ruled sent
 
           here : LeadsToWire (ports_of plan service (network.edges packet.to.0).me) from packet.wire.0
-          here = found_wire_port packet.wire (ports_of plan service (network.edges packet.to.0).me) from (ap (λ (m : EdgeId). position (is_wire_port packet.wire) (ports_of plan service m)) placed ∙ at)
+          here = found_wire_port packet.wire (ports_of plan service (network.edges packet.to.0).me) from
+              (ap (λ (m : EdgeId). position (is_wire_port packet.wire) (ports_of plan service m)) placed ∙ at)
 
           there : LeadsToWire (ports_of plan service (network.edges packet.to.0).me) sent.p wire.0
           there = record { is = ap wire_behind sent.by.at ∙ wire_leads wire.0 sent.row }
@@ -334,20 +342,24 @@ module _ (plan : Plan) (calm network : NetworkState) (trace : List Entry) (servi
               ap (λ (b : Bool). b && is_mesh_class row.class) (sym (mesh_port (ports_of plan service (network.edges packet.to.0).me) from packet.wire.0 copy.row
               (wire_port_is plan service (network.edges packet.to.0).me from packet.wire.0 copy.row here copy.is)))
               ∙ (ap (λ (r : WirePlan). is_mesh_port (ports_of plan service (network.edges packet.to.0).me) from && is_mesh_class r.class) (sym next_rows)
-              ∙ (ap (λ (b : Bool). is_mesh_port (ports_of plan service (network.edges packet.to.0).me) from && b) (sym (mesh_port (ports_of plan service (network.edges packet.to.0).me) sent.p wire.0 sent.row sent.by.at))
+              ∙ (ap (λ (b : Bool). is_mesh_port (ports_of plan service (network.edges packet.to.0).me) from && b)
+              (sym (mesh_port (ports_of plan service (network.edges packet.to.0).me) sent.p wire.0 sent.row sent.by.at))
               ∙ sent.by.apart))
 
       pub flooding : Floods plan (network.edges packet.to.0) (arrival.Wire packet.wire) service frame port work.effects
-      flooding = subst (λ (w : Work). Floods plan (network.edges packet.to.0) (arrival.Wire packet.wire) service frame port w.effects) (sym bridged) (floods plan (arrival.Wire packet.wire) service frame port (network.edges packet.to.0))
+      flooding = subst (λ (w : Work). Floods plan (network.edges packet.to.0) (arrival.Wire packet.wire) service frame port w.effects) (sym bridged)
+          (floods plan (arrival.Wire packet.wire) service frame port (network.edges packet.to.0))
 
-      pub sends : (sent : ℕ) → Floods plan (network.edges packet.to.0) (arrival.Wire packet.wire) service frame port work.effects → AllByRecursion (IsNearCopy plan calm service frame) (packets_of packet.to origin packet.hops sent work.effects)
+      pub sends : (sent : ℕ) → Floods plan (network.edges packet.to.0) (arrival.Wire packet.wire) service frame port work.effects
+          → AllByRecursion (IsNearCopy plan calm service frame) (packets_of packet.to origin packet.hops sent work.effects)
       sends sent (FloodsNot none) = subst (λ (es : List Effect). AllByRecursion (IsNearCopy plan calm service frame) (packets_of packet.to origin packet.hops sent es)) (sym none) tt
       sends sent (FloodsBy from at all) =
           both_hold (CarriesCopy plan calm service frame) (HasPassed plan) (packets_of packet.to origin packet.hops sent work.effects)
           (copies_carry plan calm network packet.to origin packet.hops sent (arrival.Wire packet.wire) service frame from work.effects checked ruled still quiet settled sized all)
           (copies_near plan (network.edges packet.to.0) packet.to origin packet.hops sent (arrival.Wire packet.wire) service frame from work.effects (bound from at) all)
 
-      pub nowhere_else : (circuit : CircuitId) (other : NetworkState) → is_site plan calm service circuit ≡ false → Floods plan (network.edges packet.to.0) (arrival.Wire packet.wire) service frame port work.effects
+      pub nowhere_else : (circuit : CircuitId) (other : NetworkState) → is_site plan calm service circuit ≡ false
+          → Floods plan (network.edges packet.to.0) (arrival.Wire packet.wire) service frame port work.effects
           → times_left origin circuit (all_entries_of packet.to origin packet.hops work.effects other) ≡ 0
       nowhere_else circuit other away (FloodsNot none) = ap (λ (es : List Effect). times_left origin circuit (all_entries_of packet.to origin packet.hops es other)) none
       nowhere_else circuit other away (FloodsBy from at all) =
@@ -380,7 +392,8 @@ module _ (plan : Plan) (calm network : NetworkState) (trace : List Entry) (servi
     advertised =
         ap (λ (f : ℕ → ℕ → EndState). (f packet.wire.0 packet.from.0).local) (still_ends (calm.edges packet.to.0) here (still.edges packet.to.0))
         ∙ (copy.labelled.advertised ∙ ap (λ (n : ℕ). Advertised n copy.labelled.told) (sym copy.labelled.same
-        ∙ same_entry (entry_of packet.bytes) copy.labelled.entry (record { label = rule_here.label; bottom = true; ttl = rule_here.packed.ttl }) copy.labelled.read (arrives_under plan network trace packet checked ruled rule_here)))
+        ∙ same_entry (entry_of packet.bytes) copy.labelled.entry (record { label = rule_here.label; bottom = true; ttl = rule_here.packed.ttl }) copy.labelled.read
+        (arrives_under plan network trace packet checked ruled rule_here)))
 
     -- an end of the edge advertises its label
     advertises : {P : Type 0} → advertiser plan here rule_here.label ≡ None → P
@@ -396,7 +409,8 @@ module _ (plan : Plan) (calm network : NetworkState) (trace : List Entry) (servi
         absurd (cc (wrong))
 
     -- where the wire carries frames the other side is bound
-    holds : {P : Type 0} → carries plan calm packet.wire.0 copy.row ≡ true → ((to : EdgeId) → mate_on rule_here.row.path packet.to.0 packet.from.0 ≡ Some to → (here.ends packet.wire.0 to.0).remote ≡ None) → P
+    holds : {P : Type 0} → carries plan calm packet.wire.0 copy.row ≡ true
+        → ((to : EdgeId) → mate_on rule_here.row.path packet.to.0 packet.from.0 ≡ Some to → (here.ends packet.wire.0 to.0).remote ≡ None) → P
     holds live none =
         let apart = or_parts (is_first packet.to.0 copy.row.path) (is_last packet.to.0 copy.row.path) between in
         let (to, mate_is) = has_mate copy.row.path packet.from packet.to once copy.joined apart.0 apart.1 in
@@ -458,7 +472,8 @@ module _ (plan : Plan) (calm network : NetworkState) (trace : List Entry) (servi
     switching_serves = passing (passed plan network trace packet checked ruled rule_here between_rule)
 
   -- what was due by the copies before it arrived is served, or due by those after it
-  pub arriving_serves : (goes_to_group frame ≡ true) ⊎ IsUnlearned plan service (destination_of frame) network → Serves plan calm service frame origin (λ circuit. due plan calm service circuit origin network) (arriving plan packet network)
+  pub arriving_serves : (goes_to_group frame ≡ true) ⊎ IsUnlearned plan service (destination_of frame) network
+      → Serves plan calm service frame origin (λ circuit. due plan calm service circuit origin network) (arriving plan packet network)
   arriving_serves unlearned = numbered (elim (cases_Bool (is_terminal copy.row packet.to)) [
     | inl ended ↦ terminal_serves ended unlearned
     | inr between ↦ switching_serves between

@@ -97,9 +97,11 @@ module _ (plan : Plan) (calm : NetworkState) (service : ServiceId) (frame : List
   serves_absorb owed me hops work base copies sent balance none within =
       let packets : List Packet = packets_of me origin hops base.sent work.effects in
       let all : AllByRecursion (IsNearCopy plan calm service frame) (of_origin origin base.under_way ++ of_origin origin packets) =
-      append_holds (IsNearCopy plan calm service frame) (of_origin origin base.under_way) (of_origin origin packets) copies (of_origin_hold (IsNearCopy plan calm service frame) origin packets (sent base.sent)) in
+      append_holds (IsNearCopy plan calm service frame) (of_origin origin base.under_way) (of_origin origin packets) copies
+      (of_origin_hold (IsNearCopy plan calm service frame) origin packets (sent base.sent)) in
       record {
-        copies = subst (AllByRecursion (IsNearCopy plan calm service frame)) (sym (ap (of_origin origin) (absorb_sends me origin hops work base).under_way ∙ of_origin-append origin base.under_way packets)) all;
+        copies = subst (AllByRecursion (IsNearCopy plan calm service frame))
+            (sym (ap (of_origin origin) (absorb_sends me origin hops work base).under_way ∙ of_origin-append origin base.under_way packets)) all;
         balance = λ circuit site. omega (arith, all_due plan calm service circuit origin me hops work.effects (with_edge me work.edge base), due_still circuit me work.edge base, balance circuit site);
         none = λ circuit away. none circuit (with_edge me work.edge base) away;
         within = within (with_edge me work.edge base);

@@ -38,25 +38,30 @@ use Rattle.flood_laws.proofs.StartLemmas.{owed_to}
 
 -- ---- what is due is what is ahead
 
-ahead_awaited : (plan : Plan) (calm : NetworkState) (service : ServiceId) (circuit : CircuitId) (to : EdgeId) (wire : WireId) → awaits plan calm service circuit to wire ≡ ahead plan calm service to.0 (arrival_port plan wire) circuit
+ahead_awaited : (plan : Plan) (calm : NetworkState) (service : ServiceId) (circuit : CircuitId) (to : EdgeId) (wire : WireId) → awaits plan calm service circuit to wire
+    ≡ ahead plan calm service to.0 (arrival_port plan wire) circuit
 ahead_awaited plan calm service circuit to wire = by (is_mesh_wire plan wire) where
   by : (mesh : Bool) → ahead_wire plan calm service to.0 wire.0 mesh (wire_row plan wire) circuit ≡ ahead plan calm service to.0 (cond mesh (port.Mesh wire) (port.Spoke wire)) circuit
   by true = refl
   by false = refl
 
-ahead_due : (plan : Plan) (calm : NetworkState) (service : ServiceId) (origin : ℕ) (circuit : CircuitId) (packets : List Packet) → awaited plan calm service circuit (of_origin origin packets) ≡ times_ahead plan calm service origin circuit packets
+ahead_due : (plan : Plan) (calm : NetworkState) (service : ServiceId) (origin : ℕ) (circuit : CircuitId) (packets : List Packet)
+    → awaited plan calm service circuit (of_origin origin packets) ≡ times_ahead plan calm service origin circuit packets
 ahead_due plan calm service origin circuit [] = refl
 ahead_due plan calm service origin circuit (p ∷ ps) =
-    by (nat_eq p.origin origin) (copy_awaits plan calm service circuit p) (ahead plan calm service (heading plan p).0 (arrival_port plan p.wire) circuit) (ahead_awaited plan calm service circuit (heading plan p) p.wire) refl (ahead_due plan calm service origin circuit ps)
+    by (nat_eq p.origin origin) (copy_awaits plan calm service circuit p) (ahead plan calm service (heading plan p).0 (arrival_port plan p.wire) circuit)
+    (ahead_awaited plan calm service circuit (heading plan p) p.wire) refl (ahead_due plan calm service origin circuit ps)
   where
-    by : (own waits before : Bool) → waits ≡ before → copy_awaits plan calm service circuit p ≡ waits → awaited plan calm service circuit (of_origin origin ps) ≡ times_ahead plan calm service origin circuit ps
+    by : (own waits before : Bool) → waits ≡ before → copy_awaits plan calm service circuit p ≡ waits → awaited plan calm service circuit (of_origin origin ps)
+        ≡ times_ahead plan calm service origin circuit ps
         → awaited plan calm service circuit (cond own (p ∷ of_origin origin ps) (of_origin origin ps)) ≡ cond (own && before) 1 0 + times_ahead plan calm service origin circuit ps
     by true waits before same is rest = omega (arith, ap (λ (b : Bool). cond {A = ℕ} b 1 0) (is ∙ same), rest)
     by false waits before same is rest = omega (arith, rest)
 
 -- ---- how far the copies have come
 
-copies_passed : (plan : Plan) (calm : NetworkState) (service : ServiceId) (frame : List ℕ) (origin : ℕ) (packets : List Packet) → AllByRecursion (IsNearCopy plan calm service frame) (of_origin origin packets) → CopiesHavePassed plan origin packets
+copies_passed : (plan : Plan) (calm : NetworkState) (service : ServiceId) (frame : List ℕ) (origin : ℕ) (packets : List Packet)
+    → AllByRecursion (IsNearCopy plan calm service frame) (of_origin origin packets) → CopiesHavePassed plan origin packets
 copies_passed plan calm service frame origin [] all = tt
 copies_passed plan calm service frame origin (p ∷ ps) all = elim (cases_Bool (nat_eq p.origin origin)) [
   | inl own ↦

@@ -46,7 +46,8 @@ site_of plan calm service circuit site = by (circuit_row plan circuit) refl site
 
 is_site_by : (plan : Plan) (calm : NetworkState) (service : ServiceId) (circuit : CircuitId) → IsSiteOf plan calm service circuit → is_site plan calm service circuit ≡ true
 is_site_by plan calm service circuit site =
-    ap (λ (row : Option CircuitPlan). is_row_of service row && is_row_on calm circuit row) site.is ∙ and_from (nat_eq site.row.service.0 service.0) (is_on (edge_at calm site.row.edge) circuit) site.of_service site.on
+    ap (λ (row : Option CircuitPlan). is_row_of service row && is_row_on calm circuit row) site.is
+    ∙ and_from (nat_eq site.row.service.0 service.0) (is_on (edge_at calm site.row.edge) circuit) site.of_service site.on
 
 -- a circuit that was on when the frame entered is on still
 pub still_on : (calm edge : EdgeState) → IsStillEdge calm edge → edge.circuit_on ≡ calm.circuit_on
@@ -66,7 +67,8 @@ site_serves plan calm service circuit edge place site me still =
         ap (λ (on : ℕ → Bool). on circuit.0) (still_on (calm.edges place) edge still)
         ∙ (ap (λ (n : ℕ). is_on (calm.edges n) circuit) (sym (eqb-true site.row.edge.0 place same)) ∙ site.on)
 
-    by : (of : Bool) → of ≡ true → (nat_eq site.row.edge.0 place ≡ true) ⊎ (nat_eq site.row.edge.0 place ≡ false) → (of && nat_eq site.row.edge.0 place) && is_on edge circuit ≡ nat_eq site.row.edge.0 place
+    by : (of : Bool) → of ≡ true → (nat_eq site.row.edge.0 place ≡ true) ⊎ (nat_eq site.row.edge.0 place ≡ false) → (of && nat_eq site.row.edge.0 place) && is_on edge circuit
+        ≡ nat_eq site.row.edge.0 place
     by of is (inl same) = rw (is, same) (here same)
     by of is (inr other) = rw (is, other) refl
 
@@ -79,7 +81,8 @@ left_site plan calm network me service frame arrival at bytes placed still copy 
     let edge : EdgeState = network.edges me.0 in
     let served = served_at plan service edge.me copy.p (port.Circuit at) copy.by.at in
     let on : is_on edge at ≡ true = sym (ap (forwards plan edge) copy.by.at) ∙ copy.by.forwards in
-    let there : served.row.edge.0 ≡ me.0 = eqb-true served.row.edge.0 edge.me.0 (second_holds (nat_eq served.row.service.0 service.0) (nat_eq served.row.edge.0 edge.me.0) served.serve) ∙ ap (λ (e : EdgeId). e.0) placed in
+    let there : served.row.edge.0 ≡ me.0 = eqb-true served.row.edge.0 edge.me.0 (second_holds (nat_eq served.row.service.0 service.0) (nat_eq served.row.edge.0 edge.me.0) served.serve)
+    ∙ ap (λ (e : EdgeId). e.0) placed in
     is_site_by plan calm service at (record {
       row = served.row;
       is = served.is;
@@ -122,6 +125,7 @@ pub left_within : (most number hops : ℕ) (me : EdgeId) (origin : ℕ) (es : Li
 left_within most number hops me origin [] network within = tt
 left_within most number hops me origin (effect.Left at octets ∷ es) network within = (λ same. within, left_within most number hops me origin es network within)
 left_within most number hops me origin (effect.Said peer octets ∷ es) network within = left_within most number hops me origin es (absorb_one me origin hops (effect.Said peer octets) network) within
-left_within most number hops me origin (effect.Sent peer wire came octets ∷ es) network within = left_within most number hops me origin es (absorb_one me origin hops (effect.Sent peer wire came octets) network) within
+left_within most number hops me origin (effect.Sent peer wire came octets ∷ es) network within =
+    left_within most number hops me origin es (absorb_one me origin hops (effect.Sent peer wire came octets) network) within
 left_within most number hops me origin (effect.Closed peer ∷ es) network within = left_within most number hops me origin es (absorb_one me origin hops (effect.Closed peer) network) within
 left_within most number hops me origin (e ∷ es) network within = left_within most number hops me origin es network within

@@ -54,7 +54,8 @@ record Starts (plan : Plan) (calm : NetworkState) (service : ServiceId) (frame :
 
 starts : (plan : Plan) (calm : NetworkState) (at : CircuitId) (octets frame : List ℕ) (service : ServiceId) (during : List Event) (found : Option CircuitPlan)
     → IsChecked plan → is_calm plan calm service ≡ true → ((a b : ℕ) → are_joined_by plan service a b ≡ true → AreSettled plan calm a b) → IsSized (mtu_of plan service) frame
-    → IsRuledNetwork plan calm → circuit_row plan at ≡ found → option_map (λ (row : CircuitPlan). row.service) found ≡ Some service → is_row_on calm at found ≡ true → inner_at plan at octets ≡ Ok frame
+    → IsRuledNetwork plan calm → circuit_row plan at ≡ found → option_map (λ (row : CircuitPlan). row.service) found ≡ Some service → is_row_on calm at found ≡ true
+    → inner_at plan at octets ≡ Ok frame
     → is_flooded_frame plan calm service frame (Frame at octets ∷ during) ≡ true → of_origin (next_origin calm) calm.under_way ≡ []
     → Starts plan calm service frame at (frame_event plan at octets found calm)
 starts plan calm at octets frame service during None checked calmed settled sized ruled is of_service on formed floods none = absurd (cc (of_service))
@@ -84,12 +85,14 @@ front_spare plan origin network (e ∷ xs) ys all =
     (first_holds (spares network origin e) (all_spare plan origin (step plan network e).state (xs ++ ys)) all)
     (front_spare plan origin (step plan network e).state xs ys (second_holds (spares network origin e) (all_spare plan origin (step plan network e).state (xs ++ ys)) all))
 
-front_untaught : (plan : Plan) (network : NetworkState) (service : ServiceId) (address : List ℕ) (xs ys : List Event) → some_teach plan network service address (xs ++ ys) ≡ false → some_teach plan network service address xs ≡ false
+front_untaught : (plan : Plan) (network : NetworkState) (service : ServiceId) (address : List ℕ) (xs ys : List Event) → some_teach plan network service address (xs ++ ys) ≡ false
+    → some_teach plan network service address xs ≡ false
 front_untaught plan network service address [] ys none = refl
 front_untaught plan network service address (e ∷ xs) ys none =
     or_from (teaches plan network service address e) (some_teach plan (step plan network e).state service address xs)
     (first_fails (teaches plan network service address e) (some_teach plan (step plan network e).state service address (xs ++ ys)) none)
-    (front_untaught plan (step plan network e).state service address xs ys (second_fails (teaches plan network service address e) (some_teach plan (step plan network e).state service address (xs ++ ys)) none))
+    (front_untaught plan (step plan network e).state service address xs ys
+    (second_fails (teaches plan network service address e) (some_teach plan (step plan network e).state service address (xs ++ ys)) none))
 
 -- ---- from the entry on
 
@@ -126,7 +129,8 @@ module _ (plan : Plan) (events : List Event) (run : IsRun plan events) (before :
   settled : (a b : ℕ) → are_joined_by plan service a b ≡ true → AreSettled plan calm a b
   settled a b joined =
       runs_settle plan before run_before service
-      (first_holds (is_quiet plan calm service) (is_full plan calm service) (first_holds (is_quiet plan calm service && is_full plan calm service) (has_live_spokes plan calm service) window.calm)) a b joined
+      (first_holds (is_quiet plan calm service) (is_full plan calm service)
+      (first_holds (is_quiet plan calm service && is_full plan calm service) (has_live_spokes plan calm service) window.calm)) a b joined
 
   sized : IsSized (mtu_of plan service) frame
   sized = come_sized plan (In at origin octets ∷ []) service origin frame
@@ -137,7 +141,8 @@ module _ (plan : Plan) (events : List Event) (run : IsRun plan events) (before :
   early circuit = apart_before plan origin circuit (empty_network plan) before (some_number calm.entered) (omega arith) refl
 
   begins : Starts plan calm service frame at (frame_event plan at octets (circuit_row plan at) calm)
-  begins = starts plan calm at octets frame service (during ++ rest) (circuit_row plan at) run.checked window.calm settled sized reached.ruled refl window.sender window.on window.formed window.flooded (early at).under_way
+  begins = starts plan calm at octets frame service (during ++ rest)
+      (circuit_row plan at) run.checked window.calm settled sized reached.ruled refl window.sender window.on window.formed window.flooded (early at).under_way
 
   first : Serves plan calm service frame origin (owed_to at) entry
   first = serves_told plan calm service frame origin (owed_to at) (Frame at octets) (frame_event plan at octets (circuit_row plan at) calm) begins.serves

@@ -73,7 +73,8 @@ module _ (plan : Plan) (calm : NetworkState) (at : CircuitId) (octets frame : Li
   port = port_at plan (edge_at calm row.edge) at row
 
   quiet : is_quiet plan calm row.service ≡ true
-  quiet = first_holds (is_quiet plan calm row.service) (is_full plan calm row.service) (first_holds (is_quiet plan calm row.service && is_full plan calm row.service) (has_live_spokes plan calm row.service) calmed)
+  quiet = first_holds (is_quiet plan calm row.service) (is_full plan calm row.service)
+      (first_holds (is_quiet plan calm row.service && is_full plan calm row.service) (has_live_spokes plan calm row.service) calmed)
 
   placed : (edge_at calm row.edge).me ≡ row.edge
   placed = (ruled.edges row.edge.0).place
@@ -110,12 +111,14 @@ module _ (plan : Plan) (calm : NetworkState) (at : CircuitId) (octets frame : Li
       ∙ (ap (λ (m : EdgeId). meets plan calm row.service circuit m (forwarded plan taken_all (arrival.Circuit at) row.service frame port (begin_at calm row.edge)).effects) (sym placed)
       ∙ frame_meets plan (arrival.Circuit at) calm (edge_at calm row.edge) at circuit frame row checked is placed ((still_self calm).edges row.edge.0) unknown)
 
-  balanced : (circuit : CircuitId) → is_site plan calm row.service circuit ≡ true → due plan calm row.service circuit origin base + meets plan calm row.service circuit row.edge work.effects ≡ owed_to at circuit
+  balanced : (circuit : CircuitId) → is_site plan calm row.service circuit ≡ true
+      → due plan calm row.service circuit origin base + meets plan calm row.service circuit row.edge work.effects ≡ owed_to at circuit
   balanced circuit site =
       let there = site_of plan calm row.service circuit site in
       let none : due plan calm row.service circuit origin base ≡ 0 = ap (awaited plan calm row.service circuit) none_there in
       let law = entry_law plan calm row.service circuit at there.row row checked calmed there.is there.of_service is (eq-eqb row.service.0 row.service.0 refl) in
-      let served : cond {A = ℕ} (serves_here plan row.service (edge_at calm row.edge) circuit && not (nat_eq circuit.0 at.0)) 1 0 ≡ cond (nat_eq there.row.edge.0 row.edge.0 && not (nat_eq circuit.0 at.0)) 1 0 =
+      let served : cond {A = ℕ} (serves_here plan row.service (edge_at calm row.edge) circuit && not (nat_eq circuit.0 at.0)) 1 0
+      ≡ cond (nat_eq there.row.edge.0 row.edge.0 && not (nat_eq circuit.0 at.0)) 1 0 =
       ap (λ (b : Bool). cond {A = ℕ} (b && not (nat_eq circuit.0 at.0)) 1 0)
       (site_serves plan calm row.service circuit (edge_at calm row.edge) row.edge.0 there (ap (λ (m : EdgeId). m.0) placed) ((still_self calm).edges row.edge.0)) in
       omega (arith, none, met circuit, served, law, owed_by (nat_eq there.row.edge.0 row.edge.0) (nat_eq circuit.0 at.0) (beside there.row there.is))
@@ -128,9 +131,11 @@ module _ (plan : Plan) (calm : NetworkState) (at : CircuitId) (octets frame : Li
           eq-eqb other.edge.0 row.edge.0 (ap (λ (r : CircuitPlan). r.edge.0) equal)
 
   flooding : Floods plan (edge_at calm row.edge) (arrival.Circuit at) row.service frame port work.effects
-  flooding = subst (λ (w : Work). Floods plan (edge_at calm row.edge) (arrival.Circuit at) row.service frame port w.effects) (sym bridged) (floods plan (arrival.Circuit at) row.service frame port (edge_at calm row.edge))
+  flooding = subst (λ (w : Work). Floods plan (edge_at calm row.edge) (arrival.Circuit at) row.service frame port w.effects) (sym bridged)
+      (floods plan (arrival.Circuit at) row.service frame port (edge_at calm row.edge))
 
-  sends : (sent : ℕ) → Floods plan (edge_at calm row.edge) (arrival.Circuit at) row.service frame port work.effects → AllByRecursion (IsNearCopy plan calm row.service frame) (packets_of row.edge origin 0 sent work.effects)
+  sends : (sent : ℕ) → Floods plan (edge_at calm row.edge) (arrival.Circuit at) row.service frame port work.effects
+      → AllByRecursion (IsNearCopy plan calm row.service frame) (packets_of row.edge origin 0 sent work.effects)
   sends sent (FloodsNot none) = subst (λ (es : List Effect). AllByRecursion (IsNearCopy plan calm row.service frame) (packets_of row.edge origin 0 sent es)) (sym none) tt
   sends sent (FloodsBy from found all) =
       both_hold (CarriesCopy plan calm row.service frame) (HasPassed plan) (packets_of row.edge origin 0 sent work.effects)
@@ -138,7 +143,8 @@ module _ (plan : Plan) (calm : NetworkState) (at : CircuitId) (octets frame : Li
       (copies_near plan (edge_at calm row.edge) row.edge origin 0 sent (arrival.Circuit at) row.service frame from work.effects
       (λ peer wire of_arrival bytes copy r r_is. first_hop plan row.edge peer r) all)
 
-  nowhere_else : (circuit : CircuitId) (other : NetworkState) → is_site plan calm row.service circuit ≡ false → Floods plan (edge_at calm row.edge) (arrival.Circuit at) row.service frame port work.effects
+  nowhere_else : (circuit : CircuitId) (other : NetworkState) → is_site plan calm row.service circuit ≡ false
+      → Floods plan (edge_at calm row.edge) (arrival.Circuit at) row.service frame port work.effects
       → times_left origin circuit (all_entries_of row.edge origin 0 work.effects other) ≡ 0
   nowhere_else circuit other away (FloodsNot none) = ap (λ (es : List Effect). times_left origin circuit (all_entries_of row.edge origin 0 es other)) none
   nowhere_else circuit other away (FloodsBy from found all) =
@@ -156,4 +162,5 @@ module _ (plan : Plan) (calm : NetworkState) (at : CircuitId) (octets frame : Li
 
   -- what it serves as it does
   pub entering_serves : Serves plan calm row.service frame origin (owed_to at) (frame_event plan at octets (Some row) calm)
-  entering_serves = subst (Serves plan calm row.service frame origin (owed_to at)) (sym entering_is) (serves_in plan calm row.service frame origin (owed_to at) at origin octets (absorb row.edge origin 0 work base) absorbed)
+  entering_serves = subst (Serves plan calm row.service frame origin (owed_to at)) (sym entering_is)
+      (serves_in plan calm row.service frame origin (owed_to at) at origin octets (absorb row.edge origin 0 work base) absorbed)

@@ -68,7 +68,8 @@ edge_each P me edge network holds here k = elim (cases_Bool (nat_eq k me.0)) [
 ]
 
 -- the work of an edge goes into a network
-absorb_each : (P : ℕ → EdgeState → Type 0) (me : EdgeId) (origin hops : ℕ) (work : Work) (network : NetworkState) → HoldsOfEach P network → P me.0 work.edge → HoldsOfEach P (absorb me origin hops work network).state
+absorb_each : (P : ℕ → EdgeState → Type 0) (me : EdgeId) (origin hops : ℕ) (work : Work) (network : NetworkState) → HoldsOfEach P network → P me.0 work.edge
+    → HoldsOfEach P (absorb me origin hops work network).state
 absorb_each P me origin hops work network holds here k =
     subst (λ (edges : ℕ → EdgeState). P k (edges k)) (sym (all_keep me origin hops work.effects (with_edge me work.edge network)).edges) (edge_each P me work.edge network holds here k)
 
@@ -94,21 +95,25 @@ still_learns calm old new only still = record { learned = new.learned; is = lear
 abbrev StaysStill : NetworkState → ℕ → EdgeState → Type 0
 StaysStill calm k edge = IsStillEdge (calm.edges k) edge
 
-pub frame_still : (plan : Plan) (calm network : NetworkState) (circuit : CircuitId) (octets : List ℕ) (row : Option CircuitPlan) → IsStill calm network → IsStill calm (frame_event plan circuit octets row network).state
+pub frame_still : (plan : Plan) (calm network : NetworkState) (circuit : CircuitId) (octets : List ℕ) (row : Option CircuitPlan) → IsStill calm network
+    → IsStill calm (frame_event plan circuit octets row network).state
 frame_still plan calm network circuit octets None still = still
 frame_still plan calm network circuit octets (Some row) still = by (frame_work plan network circuit octets row).idle where
   by : (idles : Bool) → IsStill calm (cond idles (idle network) (entering network circuit octets row (frame_work plan network circuit octets row))).state
   by true = still
   by false = record {
     edges = absorb_each (StaysStill calm) row.edge (next_origin network) 0 (frame_work plan network circuit octets row) (with_frame network) (entered_each (StaysStill calm) network still.edges)
-        (still_learns (calm.edges row.edge.0) (network.edges row.edge.0) (frame_work plan network circuit octets row).edge (frame_bridges plan taken_all circuit octets (Some row) (begin_at network row.edge)).edge (still.edges row.edge.0));
+        (still_learns (calm.edges row.edge.0) (network.edges row.edge.0) (frame_work plan network circuit octets row).edge
+        (frame_bridges plan taken_all circuit octets (Some row) (begin_at network row.edge)).edge (still.edges row.edge.0));
   }
 
 pub arrive_still : (plan : Plan) (calm network : NetworkState) (found : Option Packet) → IsStill calm network → IsStill calm (arrive_event plan found network).state
 arrive_still plan calm network None still = still
 arrive_still plan calm network (Some packet) still = record {
-  edges = absorb_each (StaysStill calm) packet.to packet.origin packet.hops (packet_work plan network packet) (without_packet packet.number network) (without_each (StaysStill calm) packet.number network still.edges)
-      (still_learns (calm.edges packet.to.0) (network.edges packet.to.0) (packet_work plan network packet).edge (packet_bridges plan taken_all packet.bytes (begin_at network packet.to)).edge (still.edges packet.to.0));
+  edges = absorb_each (StaysStill calm) packet.to packet.origin packet.hops (packet_work plan network packet) (without_packet packet.number network)
+      (without_each (StaysStill calm) packet.number network still.edges)
+      (still_learns (calm.edges packet.to.0) (network.edges packet.to.0) (packet_work plan network packet).edge
+      (packet_bridges plan taken_all packet.bytes (begin_at network packet.to)).edge (still.edges packet.to.0));
 }
 
 pub discard_still : (calm network : NetworkState) (found : Option Packet) → IsStill calm network → IsStill calm (discard_event found network).state
@@ -141,7 +146,8 @@ absent_learned table entry address other absent = elim (cases_Bool (has_address 
   | inr none ↦ none
 ]
 
-absent_heard : (entries : List MacEntry) (from address : Mac) (arrival now : ℕ) → bytes_eq from.0 address.0 ≡ false → has_address entries address ≡ false → has_address (heard entries from arrival now) address ≡ false
+absent_heard : (entries : List MacEntry) (from address : Mac) (arrival now : ℕ) → bytes_eq from.0 address.0 ≡ false → has_address entries address ≡ false
+    → has_address (heard entries from arrival now) address ≡ false
 absent_heard entries from address arrival now other absent = elim (cases_Bool (is_group_address from.0)) [
   | inl group ↦ rw group absent
   | inr single ↦ rw single (absent_learned (table_of entries) (record { address = from; port = arrival; tick = now }) address other absent)
@@ -167,11 +173,13 @@ abbrev Unteaching : Plan → ServiceId → List ℕ → Packet → Type 0
 Unteaching plan service address packet = packet_teaches plan service address packet ≡ false
 
 -- none of the packets does
-none_teach : (plan : Plan) (service : ServiceId) (address : List ℕ) (packets : List Packet) → AllByRecursion (Unteaching plan service address) packets → list_any (packet_teaches plan service address) packets ≡ false
+none_teach : (plan : Plan) (service : ServiceId) (address : List ℕ) (packets : List Packet) → AllByRecursion (Unteaching plan service address) packets
+    → list_any (packet_teaches plan service address) packets ≡ false
 none_teach plan service address [] all = refl
 none_teach plan service address (p ∷ ps) all = ap (λ (b : Bool). b || list_any (packet_teaches plan service address) ps) all.0 ∙ none_teach plan service address ps all.1
 
-each_unteaching : (plan : Plan) (service : ServiceId) (address : List ℕ) (packets : List Packet) → list_any (packet_teaches plan service address) packets ≡ false → AllByRecursion (Unteaching plan service address) packets
+each_unteaching : (plan : Plan) (service : ServiceId) (address : List ℕ) (packets : List Packet) → list_any (packet_teaches plan service address) packets ≡ false
+    → AllByRecursion (Unteaching plan service address) packets
 each_unteaching plan service address [] none = tt
 each_unteaching plan service address (p ∷ ps) none = (
   first_fails (packet_teaches plan service address p) (list_any (packet_teaches plan service address) ps) none,
@@ -179,7 +187,8 @@ each_unteaching plan service address (p ∷ ps) none = (
 )
 
 -- a packet on a wire of a service teaches what the frame does that it carries, where it has the number of a frame
-teaches_as : (plan : Plan) (of service : ServiceId) (address frame : List ℕ) (packet : Packet) (row : WirePlan) → wire_row plan packet.wire ≡ Some row → row.service ≡ of → carried plan packet ≡ Ok frame
+teaches_as : (plan : Plan) (of service : ServiceId) (address frame : List ℕ) (packet : Packet) (row : WirePlan) → wire_row plan packet.wire ≡ Some row → row.service ≡ of
+    → carried plan packet ≡ Ok frame
     → packet_teaches plan service address packet ≡ (not (nat_eq packet.origin 0) && (nat_eq of.0 service.0 && bytes_eq (source_of frame) address))
 teaches_as plan of service address frame packet row is same carries =
     let there : is_row_of_service service (wire_row plan packet.wire) ≡ nat_eq of.0 service.0 = ap (is_row_of_service service) is ∙ ap (λ (s : ServiceId). nat_eq s.0 service.0) same in
@@ -187,7 +196,8 @@ teaches_as plan of service address frame packet row is same carries =
     ∙ ap (λ (read : Result (List ℕ) DropCause). not (nat_eq packet.origin 0) && (nat_eq of.0 service.0 && is_sourced address read)) carries
 
 -- a packet without such a number teaches nothing
-unnumbered_teaches : (plan : Plan) (service : ServiceId) (address : List ℕ) (me : EdgeId) (origin hops sent : ℕ) (es : List Effect) → origin ≡ 0 → AllByRecursion (Unteaching plan service address) (packets_of me origin hops sent es)
+unnumbered_teaches : (plan : Plan) (service : ServiceId) (address : List ℕ) (me : EdgeId) (origin hops sent : ℕ) (es : List Effect) → origin ≡ 0
+    → AllByRecursion (Unteaching plan service address) (packets_of me origin hops sent es)
 unnumbered_teaches plan service address me origin hops sent [] none = tt
 unnumbered_teaches plan service address me origin hops sent (effect.Sent peer wire came octets ∷ es) none = (
   ap (λ (n : ℕ). not (nat_eq n 0) && (is_row_of_service service (wire_row plan wire) && is_sourced address (carried plan (packet_from me origin hops sent peer wire octets)))) none,
@@ -254,7 +264,8 @@ module _ (plan : Plan) (network : NetworkState) (service : ServiceId) (address :
 
 -- on a frame that does not teach the address
 frame_leaves : (plan : Plan) (network : NetworkState) (service : ServiceId) (address : List ℕ) (origin : ℕ) (circuit : CircuitId) (octets : List ℕ) (row : CircuitPlan)
-    → IsChecked plan → IsRuledNetwork plan network → HasNot plan service address row.edge.0 (network.edges row.edge.0) → circuit_row plan circuit ≡ Some row → teaches plan network service address (Frame circuit octets) ≡ false
+    → IsChecked plan → IsRuledNetwork plan network → HasNot plan service address row.edge.0 (network.edges row.edge.0) → circuit_row plan circuit ≡ Some row
+    → teaches plan network service address (Frame circuit octets) ≡ false
     → LeavesUnlearned plan service address row.edge origin (frame_work plan network circuit octets row)
 frame_leaves plan network service address origin circuit octets row checked ruled absent is untaught = by (is_own (edge_at network row.edge) row && is_on (edge_at network row.edge) circuit) refl where
   site : is_on (edge_at network row.edge) circuit ≡ true → is_site plan network service circuit ≡ nat_eq row.service.0 service.0
@@ -274,16 +285,19 @@ frame_leaves plan network service address origin circuit octets row checked rule
 
   by : (b : Bool) → is_own (edge_at network row.edge) row && is_on (edge_at network row.edge) circuit ≡ b
       → LeavesUnlearned plan service address row.edge origin
-      (cond b (received plan taken_all (arrival.Circuit circuit) row.service (port_at plan (edge_at network row.edge) circuit row) (inner_at plan circuit octets) (begin_at network row.edge)) (idles (begin_at network row.edge)))
+      (cond b (received plan taken_all (arrival.Circuit circuit) row.service (port_at plan (edge_at network row.edge) circuit row) (inner_at plan circuit octets)
+      (begin_at network row.edge)) (idles (begin_at network row.edge)))
   by true applies =
       let on : is_on (edge_at network row.edge) circuit ≡ true = second_holds (is_own (edge_at network row.edge) row) (is_on (edge_at network row.edge) circuit) applies in
-      leaves_received plan network service address row.edge origin checked ruled absent (arrival.Circuit circuit) row.service (port_at plan (edge_at network row.edge) circuit row) (inner_at plan circuit octets) sized
+      leaves_received plan network service address row.edge origin checked ruled absent (arrival.Circuit circuit) row.service (port_at plan (edge_at network row.edge) circuit row)
+      (inner_at plan circuit octets) sized
       (ap (λ (b : Bool). b && is_sourced address (inner_at plan circuit octets)) (sym (site on)) ∙ untaught)
   by false applies = leaves_idle plan network service address row.edge origin checked ruled absent
 
 -- on a packet that does not
 packet_leaves : (plan : Plan) (network : NetworkState) (service : ServiceId) (address : List ℕ) (packet : Packet)
-    → IsChecked plan → IsRuledNetwork plan network → HasNot plan service address packet.to.0 (network.edges packet.to.0) → (packet.origin == 0) ≡ false → packet_teaches plan service address packet ≡ false
+    → IsChecked plan → IsRuledNetwork plan network → HasNot plan service address packet.to.0 (network.edges packet.to.0) → (packet.origin == 0) ≡ false
+    → packet_teaches plan service address packet ≡ false
     → Arrives plan network packet → LeavesUnlearned plan service address packet.to packet.origin (packet_work plan network packet)
 packet_leaves plan network service address packet checked ruled absent numbered untaught (DropsIt dropped) =
     subst (LeavesUnlearned plan service address packet.to packet.origin) (sym dropped.is) (leaves_dropped plan network service address packet.to packet.origin checked ruled absent dropped.why)
@@ -294,12 +308,16 @@ packet_leaves plan network service address packet checked ruled absent numbered 
     ∙ (sym (teaches_as plan bridges.row.service service address bridges.frame packet bridges.row bridges.is refl bridges.carries) ∙ untaught)))
 packet_leaves plan network service address packet checked ruled absent numbered untaught (PassesIt passes) = record {
   table = subst (HasNot plan service address packet.to.0) (sym passes.edge) absent;
-  sent = λ hops sent. subst (λ (es : List Effect). AllByRecursion (Unteaching plan service address) (packets_of packet.to packet.origin hops sent es)) (sym passes.effects)
-      (ap (λ (read : Result (List ℕ) DropCause). not (nat_eq packet.origin 0) && (is_row_of_service service (wire_row plan packet.wire) && is_sourced address read)) (passes.carries (sent + 1) packet.origin (hops + 1)) ∙ untaught, tt);
+  sent = λ hops sent. subst (λ (es : List Effect). AllByRecursion (Unteaching plan service address) (packets_of packet.to packet.origin hops sent es)) (sym passes.effects) (
+    ap (λ (read : Result (List ℕ) DropCause). not (nat_eq packet.origin 0) && (is_row_of_service service (wire_row plan packet.wire) && is_sourced address read))
+        (passes.carries (sent + 1) packet.origin (hops + 1)) ∙ untaught,
+    tt,
+  );
 }
 
 -- on a ping or an answer, which no bridge hears
-echo_leaves : (plan : Plan) (network : NetworkState) (service : ServiceId) (address : List ℕ) (packet : Packet) → IsChecked plan → IsRuledNetwork plan network → HasNot plan service address packet.to.0 (network.edges packet.to.0)
+echo_leaves : (plan : Plan) (network : NetworkState) (service : ServiceId) (address : List ℕ) (packet : Packet) → IsChecked plan → IsRuledNetwork plan network
+    → HasNot plan service address packet.to.0 (network.edges packet.to.0)
     → IsEchoed plan network packet → LeavesUnlearned plan service address packet.to packet.origin (packet_work plan network packet)
 echo_leaves plan network service address packet checked ruled absent echo = record {
   table = subst (HasNot plan service address packet.to.0) (sym (echo_unheard plan network packet checked ruled echo)) absent;
@@ -348,10 +366,12 @@ module _ (plan : Plan) (service : ServiceId) (address : List ℕ) where
         (frame_leaves plan network service address (next_origin network) circuit octets row checked ruled (unlearned.tables row.edge.0) is untaught)
 
   -- what holds of the packet that is found
-  found_untaught : (network : NetworkState) (number : ℕ) (packet : Packet) → IsUnlearned plan service address network → packet_at network number ≡ Some packet → packet_teaches plan service address packet ≡ false
+  found_untaught : (network : NetworkState) (number : ℕ) (packet : Packet) → IsUnlearned plan service address network → packet_at network number ≡ Some packet
+      → packet_teaches plan service address packet ≡ false
   found_untaught network number packet unlearned is = packet_holds (Unteaching plan service address) network number packet (each_unteaching plan service address network.under_way unlearned.packets) is
 
-  arrive_unlearned : (network : NetworkState) (trace : List Entry) (number : ℕ) (found : Option Packet) → IsChecked plan → IsRuledNetwork plan network → KeepsPacketRule plan network trace → packet_at network number ≡ found
+  arrive_unlearned : (network : NetworkState) (trace : List Entry) (number : ℕ) (found : Option Packet) → IsChecked plan → IsRuledNetwork plan network
+      → KeepsPacketRule plan network trace → packet_at network number ≡ found
       → IsUnlearned plan service address network → IsUnlearned plan service address (arrive_event plan found network).state
   arrive_unlearned network trace number None checked ruled rule is unlearned = unlearned
   arrive_unlearned network trace number (Some packet) checked ruled rule is unlearned =
@@ -368,7 +388,8 @@ module _ (plan : Plan) (service : ServiceId) (address : List ℕ) where
   discard_unlearned network None unlearned = unlearned
   discard_unlearned network (Some packet) unlearned = without_unlearned packet.number network unlearned
 
-  again_unlearned : (network : NetworkState) (number : ℕ) (found : Option Packet) → packet_at network number ≡ found → IsUnlearned plan service address network → IsUnlearned plan service address (again_event found network).state
+  again_unlearned : (network : NetworkState) (number : ℕ) (found : Option Packet) → packet_at network number ≡ found → IsUnlearned plan service address network
+      → IsUnlearned plan service address (again_event found network).state
   unfolding test
   again_unlearned network number None is unlearned = unlearned
   again_unlearned network number (Some packet) is unlearned =
@@ -390,6 +411,8 @@ step_unlearned plan network trace origin service address (Frame circuit octets) 
     frame_unlearned plan service address network circuit octets (circuit_row plan circuit) checked ruled refl untaught unlearned
 step_unlearned plan network trace origin service address (Arrive number) checked ruled rule spared untaught unlearned =
     arrive_unlearned plan service address network trace number (packet_at network number) checked ruled rule refl unlearned
-step_unlearned plan network trace origin service address (Discard number) checked ruled rule spared untaught unlearned = discard_unlearned plan service address network (packet_at network number) unlearned
-step_unlearned plan network trace origin service address (Again number) checked ruled rule spared untaught unlearned = again_unlearned plan service address network number (packet_at network number) refl unlearned
+step_unlearned plan network trace origin service address (Discard number) checked ruled rule spared untaught unlearned =
+    discard_unlearned plan service address network (packet_at network number) unlearned
+step_unlearned plan network trace origin service address (Again number) checked ruled rule spared untaught unlearned =
+    again_unlearned plan service address network number (packet_at network number) refl unlearned
 step_unlearned plan network trace origin service address event checked ruled rule spared untaught unlearned = absurd (cc (spared))

@@ -27,15 +27,18 @@ use Rattle.network_model.proofs.WayLemmas.{Homeward, Onward, Passes, earlier_sta
 use Rattle.network_model.proofs.GoalLemmas.{mate_inside}
 
 -- a switching point of a stitched path is stitched
-pub point_stitched : (plan : Plan) (network : NetworkState) (wire : ℕ) (path : List EdgeId) (me : EdgeId) → inner_stitched plan network wire path ≡ true → stands_on me.0 path ≡ true → is_last me.0 path ≡ false
+pub point_stitched : (plan : Plan) (network : NetworkState) (wire : ℕ) (path : List EdgeId) (me : EdgeId) → inner_stitched plan network wire path ≡ true → stands_on me.0 path ≡ true
+    → is_last me.0 path ≡ false
     → is_stitched plan (network.edges me.0) (record { 0 = wire }) ≡ true
 point_stitched plan network wire [] me all there not_last = clash there
 point_stitched plan network wire (last ∷ []) me all there not_last = clash (sym not_last ∙ here me.0 last.0 there) where
   here : (a b : ℕ) → (b == a) || false ≡ true → (a == b) ≡ true
   here a b h = grind (arith, nat_tests)
 point_stitched plan network wire (point ∷ next ∷ rest) me all there not_last = split {P = is_stitched plan (network.edges me.0) (record { 0 = wire }) ≡ true} (point.0 == me.0)
-    (λ same. subst (λ (n : ℕ). is_stitched plan (network.edges n) (record { 0 = wire }) ≡ true) (eqb-true point.0 me.0 same) (first_holds (is_stitched plan (network.edges point.0) (record { 0 = wire })) (inner_stitched plan network wire (next ∷ rest)) all))
-    (λ apart. point_stitched plan network wire (next ∷ rest) me (second_holds (is_stitched plan (network.edges point.0) (record { 0 = wire })) (inner_stitched plan network wire (next ∷ rest)) all) (rw apart at there) not_last)
+    (λ same. subst (λ (n : ℕ). is_stitched plan (network.edges n) (record { 0 = wire }) ≡ true) (eqb-true point.0 me.0 same)
+    (first_holds (is_stitched plan (network.edges point.0) (record { 0 = wire })) (inner_stitched plan network wire (next ∷ rest)) all))
+    (λ apart. point_stitched plan network wire (next ∷ rest) me
+    (second_holds (is_stitched plan (network.edges point.0) (record { 0 = wire })) (inner_stitched plan network wire (next ∷ rest)) all) (rw apart at there) not_last)
 
 -- an edge that passes on stands behind the first edge
 inside_stands : (path : List EdgeId) (me from : ℕ) (to : EdgeId) → mate_on path me from ≡ Some to → is_first me path ≡ false → stands_on me path ≡ true
@@ -45,14 +48,16 @@ inside_stands path me from to is not_first = by (mate_passes path me from to is)
   by (Homeward a b) = earlier_stands path me from b
 
 -- a wire that carries frames is stitched at each switching point
-pub carries_stitched : (plan : Plan) (network : NetworkState) (wire : WireId) (row : WirePlan) (me from to : EdgeId) → has_repeat row.path ≡ false → carries plan network wire.0 row ≡ true → mate_on row.path me.0 from.0 ≡ Some to
+pub carries_stitched : (plan : Plan) (network : NetworkState) (wire : WireId) (row : WirePlan) (me from to : EdgeId) → has_repeat row.path ≡ false → carries plan network wire.0 row
+    ≡ true → mate_on row.path me.0 from.0 ≡ Some to
     → is_stitched plan (network.edges me.0) wire ≡ true
 carries_stitched plan network wire row me from to once live is = by row.path once (second_holds (first_forwards plan network wire.0 row.path && last_forwards plan network wire.0 row.path) (is_joined_up plan network wire.0 row.path) live) is where
   by : (path : List EdgeId) → has_repeat path ≡ false → is_joined_up plan network wire.0 path ≡ true → mate_on path me.0 from.0 ≡ Some to → is_stitched plan (network.edges me.0) wire ≡ true
   by [] once up is = clash up
   by (first ∷ rest) once up is =
       let ends = or_parts (me.0 == first.0) (is_last me.0 (first ∷ rest)) (mate_inside (first ∷ rest) me from to once is) in
-      point_stitched plan network wire.0 rest me up (rest_stands first rest ends.0 (inside_stands (first ∷ rest) me.0 from.0 to is ends.0)) (not_last first rest ends.1 (rest_stands first rest ends.0 (inside_stands (first ∷ rest) me.0 from.0 to is ends.0)))
+      point_stitched plan network wire.0 rest me up (rest_stands first rest ends.0 (inside_stands (first ∷ rest) me.0 from.0 to is ends.0))
+      (not_last first rest ends.1 (rest_stands first rest ends.0 (inside_stands (first ∷ rest) me.0 from.0 to is ends.0)))
     where
       rest_stands : (first : EdgeId) (rest : List EdgeId) → (me.0 == first.0) ≡ false → stands_on me.0 (first ∷ rest) ≡ true → stands_on me.0 rest ≡ true
       rest_stands first rest apart there = second_of_two (first.0 == me.0) (turned_test me.0 first.0 apart) there
@@ -78,19 +83,24 @@ joined_side end is = by end.remote refl (second_holds (has_told end.local) (is_s
   by None at some = clash some
   by (Some binding) at some = record { binding = binding; bound = at; advertises = first_holds (has_told end.local) (is_some end.remote) is }
 
-pub side_joined : (plan : Plan) (edge : EdgeState) (me peer : EdgeId) (wire : WireId) (row : WirePlan) → IsChecked plan → edge.me ≡ me → wire_row plan wire ≡ Some row → joins me.0 peer.0 row.path ≡ true
+pub side_joined : (plan : Plan) (edge : EdgeState) (me peer : EdgeId) (wire : WireId) (row : WirePlan) → IsChecked plan → edge.me ≡ me → wire_row plan wire ≡ Some row
+    → joins me.0 peer.0 row.path ≡ true
     → is_stitched plan edge wire ≡ true → IsJoinedSide (edge.ends wire.0 peer.0)
 side_joined plan edge me peer wire row checked at is joined all =
     let end : NamedEnd plan me peer wire row = end_of plan me peer wire row checked is joined in
-    let each : AllByRecursion (λ (p : EndPlace). is_joined_place edge wire p ≡ true) (end_places plan me) = all_by (is_joined_place edge wire) (end_places plan me) (ap (λ (m : EdgeId). list_all (is_joined_place edge wire) (end_places plan m)) (sym at) ∙ all) in
-    let found : IsFound (λ (p : EndPlace). is_joined_place edge wire p ≡ true) (is_named peer row.pw_id) end.place = find_holds (λ (p : EndPlace). is_joined_place edge wire p ≡ true) (is_named peer row.pw_id) (end_places plan me) end.place each end.named in
+    let each : AllByRecursion (λ (p : EndPlace). is_joined_place edge wire p ≡ true) (end_places plan me) =
+    all_by (is_joined_place edge wire) (end_places plan me) (ap (λ (m : EdgeId). list_all (is_joined_place edge wire) (end_places plan m)) (sym at) ∙ all) in
+    let found : IsFound (λ (p : EndPlace). is_joined_place edge wire p ≡ true) (is_named peer row.pw_id) end.place =
+    find_holds (λ (p : EndPlace). is_joined_place edge wire p ≡ true) (is_named peer row.pw_id) (end_places plan me) end.place each end.named in
     joined_side (edge.ends wire.0 peer.0)
     (subst (λ (w : WireId). is_joined_end (edge.ends w.0 peer.0) ≡ true) end.wire_is
     (subst (λ (k : EdgeId). is_joined_end (edge.ends end.place.wire.0 k.0) ≡ true) end.peer_is
     (implied (nat_eq end.place.wire.0 wire.0) (eq-eqb end.place.wire.0 wire.0 (ap (λ (w : WireId). w.0) end.wire_is)) found.holds)))
 
 -- so what a copy needs there to go on is there: where its wire carries frames, the side towards the mate is bound
-pub relay_bound : (plan : Plan) (network : NetworkState) (wire : WireId) (row : WirePlan) (me from to : EdgeId) → IsChecked plan → (network.edges me.0).me ≡ me → wire_row plan wire ≡ Some row → carries plan network wire.0 row ≡ true
+pub relay_bound : (plan : Plan) (network : NetworkState) (wire : WireId) (row : WirePlan) (me from to : EdgeId) → IsChecked plan → (network.edges me.0).me ≡ me → wire_row plan wire
+    ≡ Some row → carries plan network wire.0 row ≡ true
     → mate_on row.path me.0 from.0 ≡ Some to → IsJoinedSide ((network.edges me.0).ends wire.0 to.0)
 relay_bound plan network wire row me from to checked at is live passes =
-    side_joined plan (network.edges me.0) me to wire row checked at is (mate_joined row.path me.0 from.0 to passes) (carries_stitched plan network wire row me from to (wire_fits plan wire row checked is).once live passes)
+    side_joined plan (network.edges me.0) me to wire row checked at is (mate_joined row.path me.0 from.0 to passes)
+    (carries_stitched plan network wire row me from to (wire_fits plan wire row checked is).once live passes)

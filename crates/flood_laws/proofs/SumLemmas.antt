@@ -135,7 +135,8 @@ one_of_count test place (suc i) zero w v (row ∷ rows) count is passes other al
     let same : row ≡ v = cc (other) in
     clash_at (test (place + suc i) w) passes (none_after test place i v w row rows count same also is)
 one_of_count test place (suc i) (suc j) w v (row ∷ rows) count is passes other also =
-    later (test place row) count refl (λ one. one_of_count test (place + 1) i j w v rows one is (ap (λ n. test n w) (sym (step_into place i)) ∙ passes) other (ap (λ n. test n v) (sym (step_into place j)) ∙ also))
+    later (test place row) count refl (λ one. one_of_count test (place + 1) i j w v rows one is (ap (λ n. test n w) (sym (step_into place i)) ∙ passes) other
+    (ap (λ n. test n v) (sym (step_into place j)) ∙ also))
   where
     keeps : (n : ℕ) → 0 + n ≡ 1 → n ≡ 1
     keeps n one = omega arith

@@ -25,7 +25,8 @@ use Rattle.flood_laws.proofs.LinkLemmas.{IsLink, link_at}
 use Rattle.flood_laws.proofs.MeshLemmas.{mesh_carries}
 
 -- a spoke of a calm service that forwards at its spoke edge carries frames
-pub spoke_whole : (plan : Plan) (calm : NetworkState) (service : ServiceId) (wire : WireId) (w : WirePlan) (link : IsLink plan w) → IsChecked plan → is_calm plan calm service ≡ true → ((k : ℕ) → (calm.edges k).me ≡ record { 0 = k })
+pub spoke_whole : (plan : Plan) (calm : NetworkState) (service : ServiceId) (wire : WireId) (w : WirePlan) (link : IsLink plan w) → IsChecked plan → is_calm plan calm service ≡ true
+    → ((k : ℕ) → (calm.edges k).me ≡ record { 0 = k })
     → wire_row plan wire ≡ Some w → is_wire_of service w ≡ true → is_mesh_class w.class ≡ false → end_forwards plan (calm.edges link.near.0) wire ≡ true → carries plan calm wire.0 w ≡ true
 spoke_whole plan calm service wire w link checked calmed placed is ours spoke up = same (live_found plan calm service link.near.0 0 plan.wires (live_count plan calm service link.near.0 calmed link.near_within starts)) where
   from : is_spoke_from service link.near.0 w ≡ true
@@ -43,14 +44,17 @@ spoke_whole plan calm service wire w link checked calmed placed is ours spoke up
   same : LiveSpoke plan calm service link.near.0 0 plan.wires → carries plan calm wire.0 w ≡ true
   same live =
       let kind = first_holds (is_spoke_from service link.near.0 live.row) (carries plan calm (0 + live.k) live.row) live.live in
-      let carried : carries plan calm live.k live.row ≡ true = subst (λ (n : ℕ). carries plan calm n live.row ≡ true) (zero-add live.k) (second_holds (is_spoke_from service link.near.0 live.row) (carries plan calm (0 + live.k) live.row) live.live) in
+      let carried : carries plan calm live.k live.row ≡ true =
+      subst (λ (n : ℕ). carries plan calm n live.row ≡ true) (zero-add live.k) (second_holds (is_spoke_from service link.near.0 live.row) (carries plan calm (0 + live.k) live.row) live.live) in
       let two = first_holds (is_wire_of service live.row && not (is_mesh_class live.row.class)) (is_first link.near.0 live.row.path) kind in
       let first = second_holds (is_wire_of service live.row && not (is_mesh_class live.row.class)) (is_first link.near.0 live.row.path) kind in
       let of = first_holds (is_wire_of service live.row) (not (is_mesh_class live.row.class)) two in
       let class = not-true (is_mesh_class live.row.class) (second_holds (is_wire_of service live.row) (not (is_mesh_class live.row.class)) two) in
       let l : IsLink plan live.row = link_at plan live.k live.row checked live.is in
       let near : link.near.0 ≡ l.near.0 = eqb-true link.near.0 l.near.0 (sym (ap (is_first link.near.0) l.path) ∙ first) in
-      let sends : forwards plan calm l.near.0 live.k ≡ true = first_holds (forwards plan calm l.near.0 live.k) (forwards plan calm l.far.0 live.k) (first_holds (forwards plan calm l.near.0 live.k && forwards plan calm l.far.0 live.k) (stitches calm live.k l) (sym (carries_by plan calm live.k live.row l) ∙ carried)) in
+      let sends : forwards plan calm l.near.0 live.k ≡ true =
+      first_holds (forwards plan calm l.near.0 live.k) (forwards plan calm l.far.0 live.k)
+      (first_holds (forwards plan calm l.near.0 live.k && forwards plan calm l.far.0 live.k) (stitches calm live.k l) (sym (carries_by plan calm live.k live.row l) ∙ carried)) in
       let place : live.k ≡ wire.0 = one_chosen plan (calm.edges link.near.0) link.near.0 service wire (record { 0 = live.k }) w live.row (placed link.near.0)
       is ours spoke (not_last w link (rw (link.path, eq-eqb link.near.0 link.near.0 refl) refl)) up
       live.is of class (not_last live.row l first) (ap (λ (n : ℕ). end_forwards plan (calm.edges n) (record { 0 = live.k })) near ∙ sends) in
@@ -59,7 +63,8 @@ spoke_whole plan calm service wire w link checked calmed placed is ours spoke up
       ap (carries plan calm wire.0) (sym row_is) ∙ (ap (λ (n : ℕ). carries plan calm n live.row) (sym place) ∙ carried)
 
 -- and so does each wire of it on which a copy was sent by a terminal edge that forwards, where the other one forwards too
-pub wire_whole : (plan : Plan) (calm : NetworkState) (service : ServiceId) (wire : WireId) (w : WirePlan) (link : IsLink plan w) → IsChecked plan → is_calm plan calm service ≡ true → ((k : ℕ) → (calm.edges k).me ≡ record { 0 = k })
+pub wire_whole : (plan : Plan) (calm : NetworkState) (service : ServiceId) (wire : WireId) (w : WirePlan) (link : IsLink plan w) → IsChecked plan → is_calm plan calm service ≡ true
+    → ((k : ℕ) → (calm.edges k).me ≡ record { 0 = k })
     → wire_row plan wire ≡ Some w → is_wire_of service w ≡ true → end_forwards plan (calm.edges link.near.0) wire ≡ true → carries plan calm wire.0 w ≡ true
 wire_whole plan calm service wire w link checked calmed placed is ours up = by (is_mesh_class w.class) refl where
   by : (b : Bool) → is_mesh_class w.class ≡ b → carries plan calm wire.0 w ≡ true

@@ -107,9 +107,11 @@ module _ (plan : Plan) (calm : NetworkState) (service : ServiceId) (frame : List
       → Serves plan calm service frame origin (owes network) (arrive_event plan found network)
   arrive_serves network trace number None is own reached after unlearned = absurd (cc (own))
   arrive_serves network trace number (Some packet) is own reached after unlearned =
-      arriving_serves plan calm network trace service frame origin number packet checked calmed settled sized reached.ruled reached.rule after.still after.copies is own (same_number packet.origin origin own after.numbered) unlearned
+      arriving_serves plan calm network trace service frame origin number packet checked calmed settled sized reached.ruled reached.rule after.still after.copies is own
+      (same_number packet.origin origin own after.numbered) unlearned
 
-  unlearned_now : (network : NetworkState) (events : List Event) → StaysUnknown plan service frame network events → (goes_to_group frame ≡ true) ⊎ IsUnlearned plan service (destination_of frame) network
+  unlearned_now : (network : NetworkState) (events : List Event) → StaysUnknown plan service frame network events → (goes_to_group frame ≡ true)
+      ⊎ IsUnlearned plan service (destination_of frame) network
   unlearned_now network events (inl group) = inl group
   unlearned_now network events (inr unlearned) = inr unlearned.0
 
@@ -132,7 +134,8 @@ module _ (plan : Plan) (calm : NetworkState) (service : ServiceId) (frame : List
   -- ---- all events of the window
 
   -- each of them serves what was due before it, or leaves it due
-  pub window_serves : (network : NetworkState) (trace : List Entry) (events : List Event) → HasTypes plan → All (IsEventOf plan) events → IsReached plan network trace → IsAfter plan calm service frame origin network
+  pub window_serves : (network : NetworkState) (trace : List Entry) (events : List Event) → HasTypes plan → All (IsEventOf plan) events → IsReached plan network trace
+      → IsAfter plan calm service frame origin network
       → StaysUnknown plan service frame network events → all_spare plan origin network events ≡ true → Serves plan calm service frame origin (owes network) (along plan network events)
   window_serves network trace [] types planned reached after unknown spared = serves_none plan calm service frame origin network after.copies
   window_serves network trace (e ∷ es) types planned reached after unknown spared =

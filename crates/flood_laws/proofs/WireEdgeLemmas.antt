@@ -23,7 +23,8 @@ pub data AreSides (near far me peer : ℕ) : Type 0 where
   IsFar : me ≡ far → peer ≡ near → AreSides near far me peer
 
 -- a terminal edge and the other one
-pub sides_far : (plan : Plan) (service : ServiceId) (w : WirePlan) (link : IsLink plan w) (me peer : ℕ) → wire_ends_at service me w ≡ true → far_of me w.path ≡ Some peer → AreSides link.near.0 link.far.0 me peer
+pub sides_far : (plan : Plan) (service : ServiceId) (w : WirePlan) (link : IsLink plan w) (me peer : ℕ) → wire_ends_at service me w ≡ true → far_of me w.path ≡ Some peer
+    → AreSides link.near.0 link.far.0 me peer
 sides_far plan service w link me peer ends far = elim (sides plan service w me peer link ends far) [
   | inl near ↦ IsNear near.0 near.1
   | inr last ↦ IsFar last.0 last.1

@@ -60,7 +60,8 @@ end_is_due plan calm service circuit edge wire row checked is up = by (wire_end 
       let of_wire : place.wire ≡ wire = (found_end plan edge.me wire place found).of_wire in
       let rows : end.row ≡ row = same_row end.row row (sym end.is ∙ (ap (wire_row plan) of_wire ∙ is)) in
       let joined : joins edge.me.0 place.peer.0 row.path ≡ true = ap (λ (r : WirePlan). joins edge.me.0 place.peer.0 r.path) (sym rows) ∙ end.joined in
-      let ended : is_first edge.me.0 row.path || is_last edge.me.0 row.path ≡ true = ap (λ (r : WirePlan). is_terminal r edge.me) (sym rows) ∙ (sym end.terminal ∙ (found_end plan edge.me wire place found).terminal) in
+      let ended : is_first edge.me.0 row.path || is_last edge.me.0 row.path ≡ true =
+      ap (λ (r : WirePlan). is_terminal r edge.me) (sym rows) ∙ (sym end.terminal ∙ (found_end plan edge.me wire place found).terminal) in
       let far : far_of edge.me.0 row.path ≡ Some (goal row.path edge.me place.peer).0 = sent_far row.path edge.me place.peer (wire_fits plan wire row checked is).once joined ended in
       ap (λ (w : WireId). cond {A = ℕ} (sent_awaits plan calm service circuit edge.me place.peer w) 1 0) of_wire
       ∙ (ap (λ (o : Option WirePlan). cond {A = ℕ} (awaits plan calm service circuit (heading_on o edge.me place.peer) wire) 1 0) is
@@ -76,11 +77,14 @@ pub record ServesMore (plan : Plan) (calm : NetworkState) (service : ServiceId) 
 -- a copy on a wire whose end forwards
 pub wire_serves : (plan : Plan) (came : Arrival) (calm : NetworkState) (service : ServiceId) (circuit : CircuitId) (frame : List ℕ) (wire : WireId) (work : Work)
     → forwards_at plan work.edge (wire_end plan work.edge.me wire) ≡ true
-    → ServesMore plan calm service circuit work.edge.me (end_serves plan calm service circuit work.edge.me (wire_end plan work.edge.me wire)) work (sends_copy plan taken_all came frame (wire_end plan work.edge.me wire) work)
+    → ServesMore plan calm service circuit work.edge.me (end_serves plan calm service circuit work.edge.me (wire_end plan work.edge.me wire)) work
+    (sends_copy plan taken_all came frame (wire_end plan work.edge.me wire) work)
 unfolding gives posts
 wire_serves plan came calm service circuit frame wire work up = by (wire_end plan work.edge.me wire) refl up where
-  under : (place : EndPlace) (end : IsEndOf plan work.edge.me place) (agree : BothAgree (end_at work.edge place)) (row : Option WirePlan) (remote : Option Binding) → row ≡ Some end.row → remote ≡ Some agree.binding
-      → ServesMore plan calm service circuit work.edge.me (cond (sent_awaits plan calm service circuit work.edge.me place.peer place.wire) 1 0) work (sends_under taken_all came frame work.edge.me place row remote work)
+  under : (place : EndPlace) (end : IsEndOf plan work.edge.me place) (agree : BothAgree (end_at work.edge place)) (row : Option WirePlan) (remote : Option Binding) → row ≡ Some end.row
+      → remote ≡ Some agree.binding
+      → ServesMore plan calm service circuit work.edge.me (cond (sent_awaits plan calm service circuit work.edge.me place.peer place.wire) 1 0) work
+      (sends_under taken_all came frame work.edge.me place row remote work)
   under place end agree None remote is bound = absurd (cc (is))
   under place end agree (Some row) None is bound = absurd (cc (bound))
   under place end agree (Some row) (Some binding) is bound =

@@ -29,7 +29,8 @@ Precedes first second = precedes (name_of second) first ≡ true
 -- ---- ports that are made of rows in order
 
 -- what holds of a port of each later row holds of all that are made
-all_made : {Row : Type 0} (P : Port → Type 0) (test : Row → Bool) (make : ℕ → Row → Port) (k : ℕ) (rows : List Row) → ((place : ℕ) (row : Row) → k ≤ place → P (make place row)) → All P (made_ports test make k rows)
+all_made : {Row : Type 0} (P : Port → Type 0) (test : Row → Bool) (make : ℕ → Row → Port) (k : ℕ) (rows : List Row) → ((place : ℕ) (row : Row) → k ≤ place → P (make place row))
+    → All P (made_ports test make k rows)
 all_made P test make k [] each = λ j d within. absurd (omega (arith, within))
 all_made P test make k (row ∷ rows) each =
     let later : All P (made_ports test make (k + 1) rows) = all_made P test make (k + 1) rows (λ place r from. each place r (omega (arith, from))) in
@@ -37,7 +38,8 @@ all_made P test make k (row ∷ rows) each =
     (λ _. All-cons P (make k row) (made_ports test make (k + 1) rows) (each k row (omega arith)) later)
     (λ _. later)
 
-made_in_order : {Row : Type 0} (test : Row → Bool) (make : ℕ → Row → Port) → ((i j : ℕ) (r s : Row) → i < j → Precedes (make i r) (make j s)) → (k : ℕ) (rows : List Row) → ArePortsInOrder (made_ports test make k rows)
+made_in_order : {Row : Type 0} (test : Row → Bool) (make : ℕ → Row → Port) → ((i j : ℕ) (r s : Row) → i < j → Precedes (make i r) (make j s)) → (k : ℕ) (rows : List Row)
+    → ArePortsInOrder (made_ports test make k rows)
 made_in_order test make rise k [] = λ i j d below within. absurd (omega (arith, within))
 made_in_order test make rise k (row ∷ rows) =
     let rest : List Port = made_ports test make (k + 1) rows in

@@ -24,18 +24,21 @@ set_same words port fits len =
     let low : port % 64 < 64 = omega arith in
     rw get_or-set_same (eq-eqb _ _ (bit_at_set_same w64 (get_or words (port / 64) 0) (port % 64) low))
 
-pub set_other : (words : List ℕ) (port p : ℕ) → port < 512 → length words ≡ 8 → p ≢ port → has (set words (port / 64) (bit_or (get_or words (port / 64) 0) (1 * 2 ^ (port % 64) % 2 ^ 64))) p ≡ has words p
+pub set_other : (words : List ℕ) (port p : ℕ) → port < 512 → length words ≡ 8 → p ≢ port
+    → has (set words (port / 64) (bit_or (get_or words (port / 64) 0) (1 * 2 ^ (port % 64) % 2 ^ 64))) p ≡ has words p
 set_other words port p fits len ne =
     let low : port % 64 < 64 = omega arith in
     other_bits words port p _ fits len ne (λ bit within other. bit_at_set_other w64 (get_or words (port / 64) 0) (port % 64) low bit other)
 
-pub clear_same : (words : List ℕ) (port : ℕ) → port < 512 → length words ≡ 8 → has (set words (port / 64) (bit_and (get_or words (port / 64) 0) (bit_not w64 (1 * 2 ^ (port % 64) % 2 ^ 64)))) port ≡ false
+pub clear_same : (words : List ℕ) (port : ℕ) → port < 512 → length words ≡ 8
+    → has (set words (port / 64) (bit_and (get_or words (port / 64) 0) (bit_not w64 (1 * 2 ^ (port % 64) % 2 ^ 64)))) port ≡ false
 clear_same words port fits len =
     let within : port / 64 < length words = omega arith in
     let low : port % 64 < 64 = omega arith in
     rw get_or-set_same (ap (λ (bit : ℕ). nat_eq bit 1) (bit_at_clear_same w64 (get_or words (port / 64) 0) (port % 64) low))
 
-pub clear_other : (words : List ℕ) (port p : ℕ) → port < 512 → length words ≡ 8 → p ≢ port → has (set words (port / 64) (bit_and (get_or words (port / 64) 0) (bit_not w64 (1 * 2 ^ (port % 64) % 2 ^ 64)))) p ≡ has words p
+pub clear_other : (words : List ℕ) (port p : ℕ) → port < 512 → length words ≡ 8 → p ≢ port
+    → has (set words (port / 64) (bit_and (get_or words (port / 64) 0) (bit_not w64 (1 * 2 ^ (port % 64) % 2 ^ 64)))) p ≡ has words p
 clear_other words port p fits len ne =
     let low : port % 64 < 64 = omega arith in
     other_bits words port p _ fits len ne (λ bit within other. bit_at_clear_other w64 (get_or words (port / 64) 0) (port % 64) low bit within other)

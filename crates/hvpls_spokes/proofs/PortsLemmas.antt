@@ -59,11 +59,13 @@ same_port k rows service edge p q c d at_p at_q =
     same_if_rising circuit_behind refl (circuit_ports k rows service edge) (circuits_rise k rows service edge) p q c d (ap circuit_behind at_p.is) (ap circuit_behind at_q.is)
 
 -- a port that leads to a circuit is one of the circuits
-among_circuits : (plan : Plan) (service : ServiceId) (edge : EdgeId) (p c : ℕ) → circuit_behind (slice_get (ports_of plan service edge) p) ≡ Some c → circuit_behind (slice_get (circuit_ports 0 plan.circuits service edge) p) ≡ Some c
+among_circuits : (plan : Plan) (service : ServiceId) (edge : EdgeId) (p c : ℕ) → circuit_behind (slice_get (ports_of plan service edge) p) ≡ Some c
+    → circuit_behind (slice_get (circuit_ports 0 plan.circuits service edge) p) ≡ Some c
 among_circuits plan service edge p c at =
     leads_before circuit_behind refl (circuit_ports 0 plan.circuits service edge) (wire_ports 0 plan.wires service edge) p c (λ q d. no_circuit 0 plan.wires service edge q d) at
 
-pub same_circuit_port : (plan : Plan) (service : ServiceId) (edge : EdgeId) (p q c d : ℕ) → LeadsTo (ports_of plan service edge) p c → LeadsTo (ports_of plan service edge) q d → nat_eq p q ≡ nat_eq c d
+pub same_circuit_port : (plan : Plan) (service : ServiceId) (edge : EdgeId) (p q c d : ℕ) → LeadsTo (ports_of plan service edge) p c → LeadsTo (ports_of plan service edge) q d
+    → nat_eq p q ≡ nat_eq c d
 same_circuit_port plan service edge p q c d at_p at_q =
     same_if_rising circuit_behind refl (ports_of plan service edge)
     (λ i j a b below at_i at_j. circuits_rise 0 plan.circuits service edge i j a b below (among_circuits plan service edge i a at_i) (among_circuits plan service edge j b at_j))
@@ -74,13 +76,15 @@ pub record HasPort (ports : List Port) (circuit : ℕ) : Type 0 where
   pub p : ℕ
   pub leads : LeadsTo ports p circuit
 
-pub has_port : (k j c : ℕ) (rows : List CircuitPlan) (row : CircuitPlan) (service : ServiceId) (edge : EdgeId) → c ≡ k + j → slice_get rows j ≡ Some row → is_circuit_at service edge.0 row ≡ true → HasPort (circuit_ports k rows service edge) c
+pub has_port : (k j c : ℕ) (rows : List CircuitPlan) (row : CircuitPlan) (service : ServiceId) (edge : EdgeId) → c ≡ k + j → slice_get rows j ≡ Some row
+    → is_circuit_at service edge.0 row ≡ true → HasPort (circuit_ports k rows service edge) c
 has_port k j c rows row service edge place is serve =
     let has = has_made (is_circuit_at service edge.0) circuit_made k j rows row is serve in
     let here = ap (λ (ports : List Port). slice_get ports has.p) (circuits_made k rows service edge) ∙ has.at in
     record { p = has.p; leads = record { is = here ∙ ap (λ (n : ℕ). Some (port.Circuit (record { 0 = n }))) (sym place) } }
 
-pub has_circuit_port : (plan : Plan) (service : ServiceId) (edge : EdgeId) (c : ℕ) (row : CircuitPlan) → slice_get plan.circuits c ≡ Some row → is_circuit_at service edge.0 row ≡ true → HasPort (ports_of plan service edge) c
+pub has_circuit_port : (plan : Plan) (service : ServiceId) (edge : EdgeId) (c : ℕ) (row : CircuitPlan) → slice_get plan.circuits c ≡ Some row → is_circuit_at service edge.0 row ≡ true
+    → HasPort (ports_of plan service edge) c
 has_circuit_port plan service edge c row is serve =
     let has = has_port 0 c c plan.circuits row service edge (omega arith) is serve in
     record {
@@ -135,7 +139,8 @@ circuit_served plan service edge p x at =
     let served : IsServed plan.circuits service edge (0 + made.place) = record { row = made.row; is = ap (slice_get plan.circuits) place ∙ made.is; serve = made.passes } in
     subst (λ (y : Port). IsServedBy plan service edge y) (sym made.made) served
 
-wired_by_class : (plan : Plan) (service : ServiceId) (edge : EdgeId) (wire : ℕ) (row : WirePlan) (mesh : Bool) → is_mesh_class row.class ≡ mesh → slice_get plan.wires wire ≡ Some row → wire_ends_at service edge.0 row ≡ true
+wired_by_class : (plan : Plan) (service : ServiceId) (edge : EdgeId) (wire : ℕ) (row : WirePlan) (mesh : Bool) → is_mesh_class row.class ≡ mesh → slice_get plan.wires wire ≡ Some row
+    → wire_ends_at service edge.0 row ≡ true
     → IsServedBy plan service edge (cond mesh (port.Mesh (record { 0 = wire })) (port.Spoke (record { 0 = wire })))
 wired_by_class plan service edge wire row true class is ends = record { row = row; is = is; ends = ends; class = class }
 wired_by_class plan service edge wire row false class is ends = record { row = row; is = is; ends = ends; class = class }
@@ -153,7 +158,8 @@ served_at plan service edge p x at =
     (λ q here. circuit_served plan service edge q x here)
     (λ q here. wire_served plan service edge q x here)
 
-all_served : (plan : Plan) (service : ServiceId) (edge : EdgeId) (ports : List Port) → ((p : ℕ) (x : Port) → slice_get ports p ≡ Some x → IsServedBy plan service edge x) → AreServed plan service edge ports
+all_served : (plan : Plan) (service : ServiceId) (edge : EdgeId) (ports : List Port) → ((p : ℕ) (x : Port) → slice_get ports p ≡ Some x → IsServedBy plan service edge x)
+    → AreServed plan service edge ports
 all_served plan service edge [] at = tt
 all_served plan service edge (x ∷ ports) at = (at 0 x refl, all_served plan service edge ports (λ p y there. at (suc p) y there))
 

@@ -103,7 +103,8 @@ not_both service edge row meets =
       by false class spoke = absurd (cc (class))
 
 -- no two wires of a checked plan meet so
-apart : (plan : Plan) (service : ServiceId) (edge i j : ℕ) (mesh spoke : WirePlan) → IsChecked plan → slice_get plan.wires i ≡ Some mesh → slice_get plan.wires j ≡ Some spoke → Meets service edge mesh spoke → ⊥
+apart : (plan : Plan) (service : ServiceId) (edge i j : ℕ) (mesh spoke : WirePlan) → IsChecked plan → slice_get plan.wires i ≡ Some mesh → slice_get plan.wires j ≡ Some spoke
+    → Meets service edge mesh spoke → ⊥
 apart plan service edge i j mesh spoke checked is_mesh_row is_spoke_row meets =
     let at_i : get_or plan.wires i mesh ≡ mesh = get_or_from_slice_get plan.wires i mesh mesh is_mesh_row in
     let at_j : get_or plan.wires j mesh ≡ spoke = get_or_from_slice_get plan.wires j spoke mesh is_spoke_row in
@@ -124,7 +125,8 @@ apart plan service edge i j mesh spoke checked is_mesh_row is_spoke_row meets =
 no_mesh_wire : (plan : Plan) (service : ServiceId) (edge : EdgeId) (wire : ℕ) → IsChecked plan → is_spoke_edge plan service edge.0 ≡ true → IsWired plan.wires service edge true wire → ⊥
 no_mesh_wire plan service edge wire checked spoke wired =
     let any = Any-from_list_any (is_spoke_from service edge.0) plan.wires spoke in
-    apart plan service edge.0 wire any.0 wired.row any.1 checked wired.is (slice_get-get_or plan.wires any.0 any.1 any.2 ∙ ap Some any.3) (record { class = wired.class; ends = wired.ends; starts = any.4 })
+    apart plan service edge.0 wire any.0 wired.row any.1 checked wired.is (slice_get-get_or plan.wires any.0 any.1 any.2 ∙ ap Some any.3)
+    (record { class = wired.class; ends = wired.ends; starts = any.4 })
 
 -- no port of a spoke edge of the service is a mesh wire
 pub no_mesh_port : SpokeEdgesHaveNoMeshPort

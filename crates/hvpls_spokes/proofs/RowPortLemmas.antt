@@ -69,7 +69,8 @@ made_more : (passes : Bool) (first : Port) (rest : List Port) (x : Port) → Has
 made_more true first rest x has = record { p = suc has.p; at = has.at }
 made_more false first rest x has = has
 
-pub has_made : {Row : Type 0} (test : Row → Bool) (make : ℕ → Row → Port) (k j : ℕ) (rows : List Row) (row : Row) → slice_get rows j ≡ Some row → test row ≡ true → HasMade (made_ports test make k rows) (make (k + j) row)
+pub has_made : {Row : Type 0} (test : Row → Bool) (make : ℕ → Row → Port) (k j : ℕ) (rows : List Row) (row : Row) → slice_get rows j ≡ Some row → test row ≡ true
+    → HasMade (made_ports test make k rows) (make (k + j) row)
 has_made test make k j [] row is passes = absurd (cc (is))
 has_made test make k zero (first ∷ rows) row is passes =
     let same : first ≡ row = cc (is) in
@@ -84,7 +85,8 @@ has_made test make k (suc j) (first ∷ rows) row is passes =
 -- what the port with number p leads to: none where there is no port
 module _ (to : Option Port → Option ℕ) (nothing : to None ≡ None) where
   -- the ports lead to places from k on
-  places_from_if : (k : ℕ) (passes : Bool) (x : Port) (rest : List Port) (p c : ℕ) → to (Some x) ≡ Some k → ((q : ℕ) → to (slice_get rest q) ≡ Some c → k + 1 ≤ c) → to (slice_get (cond passes (x ∷ rest) rest) p) ≡ Some c → k ≤ c
+  places_from_if : (k : ℕ) (passes : Bool) (x : Port) (rest : List Port) (p c : ℕ) → to (Some x) ≡ Some k → ((q : ℕ) → to (slice_get rest q) ≡ Some c → k + 1 ≤ c)
+      → to (slice_get (cond passes (x ∷ rest) rest) p) ≡ Some c → k ≤ c
   places_from_if k true x rest zero c leads later at =
       let same : k ≡ c = cc (sym leads ∙ at) in
       omega arith
@@ -108,9 +110,11 @@ module _ (to : Option Port → Option ℕ) (nothing : to None ≡ None) where
   none_if true x rest (suc p) c leads later at = later p at
   none_if false x rest p c leads later at = later p at
 
-  pub made_none : {Row : Type 0} (test : Row → Bool) (make : ℕ → Row → Port) → ((k : ℕ) (row : Row) → to (Some (make k row)) ≡ None) → (k : ℕ) (rows : List Row) (p c : ℕ) → to (slice_get (made_ports test make k rows) p) ≡ Some c → ⊥
+  pub made_none : {Row : Type 0} (test : Row → Bool) (make : ℕ → Row → Port) → ((k : ℕ) (row : Row) → to (Some (make k row)) ≡ None) → (k : ℕ) (rows : List Row) (p c : ℕ)
+      → to (slice_get (made_ports test make k rows) p) ≡ Some c → ⊥
   made_none test make leads k [] p c at = absurd (cc (sym nothing ∙ at))
-  made_none test make leads k (row ∷ rows) p c at = none_if (test row) (make k row) (made_ports test make (k + 1) rows) p c (leads k row) (λ q later. made_none test make leads (k + 1) rows q c later) at
+  made_none test make leads k (row ∷ rows) p c at =
+      none_if (test row) (make k row) (made_ports test make (k + 1) rows) p c (leads k row) (λ q later. made_none test make leads (k + 1) rows q c later) at
 
   module _ {Row : Type 0} (test : Row → Bool) (make : ℕ → Row → Port) (leads : (k : ℕ) (row : Row) → to (Some (make k row)) ≡ Some k) where
     pub made_from : (k : ℕ) (rows : List Row) (p c : ℕ) → to (slice_get (made_ports test make k rows) p) ≡ Some c → k ≤ c
@@ -144,7 +148,8 @@ module _ (to : Option Port → Option ℕ) (nothing : to None ≡ None) where
   ]
 
   -- of two lists of ports one after the other, the first leads nowhere
-  pub leads_behind : (front back : List Port) (p c : ℕ) → ((q d : ℕ) → to (slice_get front q) ≡ Some d → ⊥) → to (slice_get (front ++ back) p) ≡ Some c → (q : ℕ) × (p ≡ length front + q) × (to (slice_get back q) ≡ Some c)
+  pub leads_behind : (front back : List Port) (p c : ℕ) → ((q d : ℕ) → to (slice_get front q) ≡ Some d → ⊥) → to (slice_get (front ++ back) p) ≡ Some c → (q : ℕ)
+      × (p ≡ length front + q) × (to (slice_get back q) ≡ Some c)
   leads_behind [] back p c none at = (p, omega arith, at)
   leads_behind (x ∷ front) back zero c none at = absurd (none 0 c at)
   leads_behind (x ∷ front) back (suc p) c none at =
@@ -171,7 +176,8 @@ in_back (y ∷ front) back p zero x place at = absurd (omega (arith, place))
 in_back (y ∷ front) back p (suc n) x place at = in_back front back p n x (omega (arith, place)) at
 
 -- each port is in one of the two
-pub in_either : {P : Type 0} (front back : List Port) (p : ℕ) (x : Port) → slice_get (front ++ back) p ≡ Some x → ((q : ℕ) → slice_get front q ≡ Some x → P) → ((q : ℕ) → slice_get back q ≡ Some x → P) → P
+pub in_either : {P : Type 0} (front back : List Port) (p : ℕ) (x : Port) → slice_get (front ++ back) p ≡ Some x → ((q : ℕ) → slice_get front q ≡ Some x → P)
+    → ((q : ℕ) → slice_get back q ≡ Some x → P) → P
 in_either [] back p x at f g = g p at
 in_either (y ∷ front) back zero x at f g = f 0 at
 in_either (y ∷ front) back (suc p) x at f g = in_either front back p x at (λ q there. f (suc q) there) g

@@ -53,7 +53,8 @@ module _ {X : Type 0} (test : X → Bool) where
     pub found : find test xs ≡ kept_if test (slice_get xs k)
 
   -- all elements before a place fail the test, and where the one there fails it, so do all behind it
-  first_at : (xs : List X) (k : ℕ) → k ≤ length xs → ((i : ℕ) (d : X) → i < k → test (get_or xs i d) ≡ false) → ((i : ℕ) (d : X) → k ≤ i → i < length xs → test (get_or xs k d) ≡ false → test (get_or xs i d) ≡ false)
+  first_at : (xs : List X) (k : ℕ) → k ≤ length xs → ((i : ℕ) (d : X) → i < k → test (get_or xs i d) ≡ false)
+      → ((i : ℕ) (d : X) → k ≤ i → i < length xs → test (get_or xs k d) ≡ false → test (get_or xs i d) ≡ false)
       → IsFirst xs k
   first_at [] k bound before behind = record { place = refl; found = refl }
   first_at (x ∷ xs) k bound before behind = elim (cases_lt k (length (x ∷ xs))) [

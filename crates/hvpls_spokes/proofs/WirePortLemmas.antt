@@ -71,7 +71,8 @@ ports_rise plan service edge p q v w below at_p at_q =
     wires_rise 0 plan.wires service edge i j v w (omega (arith, below, place_p, place_q)) leads_p leads_q
 
 -- two ports are one exactly where their wires are one
-pub same_wire_port : (plan : Plan) (service : ServiceId) (edge : EdgeId) (p q v w : ℕ) → LeadsToWire (ports_of plan service edge) p v → LeadsToWire (ports_of plan service edge) q w → nat_eq p q ≡ nat_eq v w
+pub same_wire_port : (plan : Plan) (service : ServiceId) (edge : EdgeId) (p q v w : ℕ) → LeadsToWire (ports_of plan service edge) p v → LeadsToWire (ports_of plan service edge) q w
+    → nat_eq p q ≡ nat_eq v w
 same_wire_port plan service edge p q v w at_p at_q = same_if_rising wire_behind refl (ports_of plan service edge) (ports_rise plan service edge) p q v w at_p.is at_q.is
 
 -- a wire of the service, of which the edge is a terminal edge, has a port there
@@ -79,7 +80,8 @@ pub record HasWirePort (ports : List Port) (wire : ℕ) : Type 0 where
   pub p : ℕ
   pub leads : LeadsToWire ports p wire
 
-pub has_wire_port : (plan : Plan) (service : ServiceId) (edge : EdgeId) (w : ℕ) (row : WirePlan) → slice_get plan.wires w ≡ Some row → wire_ends_at service edge.0 row ≡ true → HasWirePort (ports_of plan service edge) w
+pub has_wire_port : (plan : Plan) (service : ServiceId) (edge : EdgeId) (w : ℕ) (row : WirePlan) → slice_get plan.wires w ≡ Some row → wire_ends_at service edge.0 row ≡ true
+    → HasWirePort (ports_of plan service edge) w
 has_wire_port plan service edge w row is ends =
     let has = has_made (wire_ends_at service edge.0) wire_port 0 w plan.wires row is ends in
     let circuits : List Port = circuit_ports 0 plan.circuits service edge in
@@ -117,13 +119,15 @@ wired_at plan service edge p w leads = elim (mesh_or_spoke (ports_of plan servic
   | inr at ↦ (false, served_at plan service edge p (port.Spoke (record { 0 = w })) at)
 ]
 
-class_of : (rows : List WirePlan) (service : ServiceId) (edge : EdgeId) (mesh : Bool) (w : ℕ) (row : WirePlan) → IsWired rows service edge mesh w → slice_get rows w ≡ Some row → is_mesh_class row.class ≡ mesh
+class_of : (rows : List WirePlan) (service : ServiceId) (edge : EdgeId) (mesh : Bool) (w : ℕ) (row : WirePlan) → IsWired rows service edge mesh w → slice_get rows w ≡ Some row
+    → is_mesh_class row.class ≡ mesh
 class_of rows service edge mesh w row wired is =
     let found : Some wired.row ≡ Some row = sym wired.is ∙ is in
     let same : row ≡ wired.row = cc (found) in
     ap (λ (r : WirePlan). is_mesh_class r.class) same ∙ wired.class
 
-pub wire_port_is : (plan : Plan) (service : ServiceId) (edge : EdgeId) (p w : ℕ) (row : WirePlan) → LeadsToWire (ports_of plan service edge) p w → slice_get plan.wires w ≡ Some row → slice_get (ports_of plan service edge) p ≡ Some (wire_port w row)
+pub wire_port_is : (plan : Plan) (service : ServiceId) (edge : EdgeId) (p w : ℕ) (row : WirePlan) → LeadsToWire (ports_of plan service edge) p w → slice_get plan.wires w ≡ Some row
+    → slice_get (ports_of plan service edge) p ≡ Some (wire_port w row)
 wire_port_is plan service edge p w row leads is = elim (mesh_or_spoke (ports_of plan service edge) p w leads) [
   | inl at ↦
       let class = class_of plan.wires service edge true w row (served_at plan service edge p (port.Mesh (record { 0 = w })) at) is in

@@ -33,15 +33,19 @@ use Rattle.independent_model.proofs.CommonLemmas.{then_same}
 
 -- ---- messages in order
 
-pub messages_more : (plan : Plan) (told : Answers) (me : ℕ) (peer : EdgeId) (messages : List Message) (place : ℕ) (message : Message) (edge : IndepState) (calls : List LinkCall) → place < length messages → message ≡ slice_index_or messages place message
-    → hears_messages plan told me peer (drop place messages) edge calls ≡ and_then (hears_message plan told me peer message edge calls) (λ e c. hears_messages plan told me peer (drop (place + 1) messages) e c)
+pub messages_more : (plan : Plan) (told : Answers) (me : ℕ) (peer : EdgeId) (messages : List Message) (place : ℕ) (message : Message) (edge : IndepState) (calls : List LinkCall)
+    → place < length messages → message ≡ slice_index_or messages place message
+    → hears_messages plan told me peer (drop place messages) edge calls
+    ≡ and_then (hears_message plan told me peer message edge calls) (λ e c. hears_messages plan told me peer (drop (place + 1) messages) e c)
 messages_more plan told me peer [] place message edge calls within at = absurd (omega (arith, within))
-messages_more plan told me peer (x ∷ messages) zero message edge calls within at = ap (λ (m : Message). and_then (hears_message plan told me peer m edge calls) (λ e c. hears_messages plan told me peer messages e c)) (sym at)
+messages_more plan told me peer (x ∷ messages) zero message edge calls within at =
+    ap (λ (m : Message). and_then (hears_message plan told me peer m edge calls) (λ e c. hears_messages plan told me peer messages e c)) (sym at)
 messages_more plan told me peer (x ∷ messages) (suc place) message edge calls within at =
     let behind : suc place + 1 ≡ suc (place + 1) = omega arith in
     rw behind (messages_more plan told me peer messages place message edge calls (omega (arith, within)) at)
 
-pub messages_end : (plan : Plan) (told : Answers) (me : ℕ) (peer : EdgeId) (messages : List Message) (place : ℕ) (edge : IndepState) (calls : List LinkCall) → length messages ≤ place → hears_messages plan told me peer (drop place messages) edge calls ≡ Goes edge calls
+pub messages_end : (plan : Plan) (told : Answers) (me : ℕ) (peer : EdgeId) (messages : List Message) (place : ℕ) (edge : IndepState) (calls : List LinkCall) → length messages ≤ place
+    → hears_messages plan told me peer (drop place messages) edge calls ≡ Goes edge calls
 messages_end plan told me peer [] zero edge calls past = refl
 messages_end plan told me peer [] (suc place) edge calls past = refl
 messages_end plan told me peer (x ∷ messages) zero edge calls past = absurd (omega (arith, past))
@@ -55,12 +59,14 @@ module _ (plan : Plan) (told : Answers) (me : ℕ) (peer : EdgeId) where
   few_at n base held front edge calls is = ap (λ (f : Front). hears_front plan told me peer (hears_few plan told me peer n) base held f edge calls) is
 
   -- more turns than octets change nothing
-  enough : (n m base : ℕ) (held : List ℕ) (edge : IndepState) (calls : List LinkCall) → AreOctets held → length held < n → length held < m → hears_few plan told me peer n base held edge calls ≡ hears_few plan told me peer m base held edge calls
+  enough : (n m base : ℕ) (held : List ℕ) (edge : IndepState) (calls : List LinkCall) → AreOctets held → length held < n → length held < m
+      → hears_few plan told me peer n base held edge calls ≡ hears_few plan told me peer m base held edge calls
   enough zero m base held edge calls octets few many = absurd (omega (arith, few))
   enough (suc n) zero base held edge calls octets few many = absurd (omega (arith, many))
   enough (suc n) (suc m) base held edge calls octets few many = by (λ b rest e c are one two. enough n m b rest e c are one two) (front_of 4096 held) refl
     where
-      by : ((b : ℕ) (rest : List ℕ) (e : IndepState) (c : List LinkCall) → AreOctets rest → length rest < n → length rest < m → hears_few plan told me peer n b rest e c ≡ hears_few plan told me peer m b rest e c)
+      by : ((b : ℕ) (rest : List ℕ) (e : IndepState) (c : List LinkCall) → AreOctets rest → length rest < n → length rest < m → hears_few plan told me peer n b rest e c
+          ≡ hears_few plan told me peer m b rest e c)
           → (front : Front) → front_of 4096 held ≡ front → hears_few plan told me peer (suc n) base held edge calls ≡ hears_few plan told me peer (suc m) base held edge calls
       by again More is = few_at n base held More edge calls is ∙ sym (few_at m base held More edge calls is)
       by again (Bad wrong) is = few_at n base held (Bad wrong) edge calls is ∙ sym (few_at m base held (Bad wrong) edge calls is)
@@ -98,14 +104,16 @@ module _ (plan : Plan) (told : Answers) (me : ℕ) (peer : EdgeId) where
   shut_is s wrong is = ap (λ (o : Option Fault). heard_by s.base s.held o) is
 
   got_at : (old new : StreamState) (pdu : Pdu) (more : List ℕ) (edge : IndepState) (calls : List LinkCall) → IsGot old new pdu → AreOctets more
-      → hears_at plan told me peer (receiver_of old) more edge calls ≡ and_then (hears_messages plan told me peer pdu.messages edge calls) (λ e c. hears_at plan told me peer (receiver_of new) more e c)
+      → hears_at plan told me peer (receiver_of old) more edge calls
+      ≡ and_then (hears_messages plan told me peer pdu.messages edge calls) (λ e c. hears_at plan told me peer (receiver_of new) more e c)
   got_at old new pdu more edge calls got octets =
       ap (λ (receiver : Receiver). hears_at plan told me peer receiver more edge calls) (going_is old got.was)
       ∙ (all_got old.base old.held new.held more pdu edge calls got.octets octets got.front
       ∙ then_same (hears_messages plan told me peer pdu.messages edge calls)
       (λ e c. hears_all plan told me peer (place_behind old.base (length old.held - length new.held)) (new.held ++ more) e c)
       (λ e c. hears_at plan told me peer (receiver_of new) more e c)
-      (λ e c. ap (λ (n : ℕ). hears_all plan told me peer n (new.held ++ more) e c) (sym got.base) ∙ ap (λ (receiver : Receiver). hears_at plan told me peer receiver more e c) (sym (going_is new got.going))))
+      (λ e c. ap (λ (n : ℕ). hears_all plan told me peer n (new.held ++ more) e c) (sym got.base)
+      ∙ ap (λ (receiver : Receiver). hears_at plan told me peer receiver more e c) (sym (going_is new got.going))))
 
   -- one PDU was heard
   pub at_got : (old new : StreamState) (pdu : Pdu) (more : List ℕ) (whole : Outcome) (edge next : IndepState) (calls after : List LinkCall) → IsGot old new pdu → AreOctets more
@@ -115,7 +123,8 @@ module _ (plan : Plan) (told : Answers) (me : ℕ) (peer : EdgeId) where
       was ∙ (got_at old new pdu more edge calls got octets ∙ ap (λ (o : Outcome). and_then o (λ e c. hears_at plan told me peer (receiver_of new) more e c)) heard)
 
   -- more octets are wanted
-  pub at_waits : (s : StreamState) (edge : IndepState) (calls : List LinkCall) → IsWaiting s → hears_at plan told me peer (receiver_of s) [] edge calls ≡ Goes (with_receiver peer.0 (receiver_of s) edge) calls
+  pub at_waits : (s : StreamState) (edge : IndepState) (calls : List LinkCall) → IsWaiting s → hears_at plan told me peer (receiver_of s) [] edge calls
+      ≡ Goes (with_receiver peer.0 (receiver_of s) edge) calls
   at_waits s edge calls waits = ap (λ (receiver : Receiver). hears_at plan told me peer receiver [] edge calls) is
       ∙ (ap (λ (l : List ℕ). hears_all plan told me peer s.base l edge calls) (append-nil s.held)
       ∙ (few_at (length s.held) s.base s.held More edge calls waits.front ∙ ap (λ (receiver : Receiver). Goes (with_receiver peer.0 receiver edge) calls) (sym is)))
@@ -129,7 +138,8 @@ module _ (plan : Plan) (told : Answers) (me : ℕ) (peer : EdgeId) where
   at_refused old new answer more edge calls refused octets = by refused.cause ∙ rw (refused.is, refused.receiver) refl
     where
       by : (old.refused ≡ Some refused.wrong) ⊎ ((old.refused ≡ None) × (front_of 4096 old.held ≡ Bad refused.wrong))
-          → hears_at plan told me peer (receiver_of old) more edge calls ≡ Stops (stop.Refused (fault.Refused old.base (refusal_of refused.wrong))) (with_receiver peer.0 (Broken old.base refused.wrong) edge) calls
+          → hears_at plan told me peer (receiver_of old) more edge calls
+          ≡ Stops (stop.Refused (fault.Refused old.base (refusal_of refused.wrong))) (with_receiver peer.0 (Broken old.base refused.wrong) edge) calls
       by (inl before) = ap (λ (receiver : Receiver). hears_at plan told me peer receiver more edge calls) (shut_is old refused.wrong before)
       by (inr here) =
           let all : AreOctets (old.held ++ more) = octets_append old.held more refused.octets octets in
@@ -144,14 +154,16 @@ module _ (plan : Plan) (told : Answers) (me : ℕ) (peer : EdgeId) where
   drop_both (suc count) (suc at) [] = let same : suc at + suc count ≡ suc (at + suc count) = omega arith in rw same refl
   drop_both count (suc at) (x ∷ octets) = let same : suc at + count ≡ suc (at + count) = omega arith in rw same (drop_both count at octets)
 
-  pub fed_at : (old new : StreamState) (octets : List ℕ) (at count : ℕ) (edge : IndepState) (calls : List LinkCall) → IsWaiting old → new ≡ record old { held = old.held ++ take count (drop at octets) }
+  pub fed_at : (old new : StreamState) (octets : List ℕ) (at count : ℕ) (edge : IndepState) (calls : List LinkCall) → IsWaiting old → new
+      ≡ record old { held = old.held ++ take count (drop at octets) }
       → hears_at plan told me peer (receiver_of old) (drop at octets) edge calls ≡ hears_at plan told me peer (receiver_of new) (drop (at + count) octets) edge calls
   fed_at old new octets at count edge calls waits is =
       ap (λ (receiver : Receiver). hears_at plan told me peer receiver (drop at octets) edge calls) (going_is old waits.going)
       ∙ (ap (λ (l : List ℕ). hears_all plan told me peer old.base l edge calls)
       (ap (λ (l : List ℕ). old.held ++ l) (sym (take-append-drop count (drop at octets))) ∙ (sym (append_assoc old.held (take count (drop at octets)) (drop count (drop at octets)))
       ∙ ap (λ (l : List ℕ). (old.held ++ take count (drop at octets)) ++ l) (drop_both count at octets)))
-      ∙ ap (λ (receiver : Receiver). hears_at plan told me peer receiver (drop (at + count) octets) edge calls) (sym (ap receiver_of is ∙ going_is (record old { held = old.held ++ take count (drop at octets) }) waits.going)))
+      ∙ ap (λ (receiver : Receiver). hears_at plan told me peer receiver (drop (at + count) octets) edge calls)
+      (sym (ap receiver_of is ∙ going_is (record old { held = old.held ++ take count (drop at octets) }) waits.going)))
 
   pub drop_end : (octets : List ℕ) → drop (length octets) octets ≡ []
   drop_end [] = refl
@@ -160,8 +172,10 @@ module _ (plan : Plan) (told : Answers) (me : ℕ) (peer : EdgeId) where
   -- ---- what a call has answered
 
   -- a message of a PDU was not taken
-  pub hears_stopped : (T U : Type 0) (why : IndepStop) (old new : StreamState) (pdu : Pdu) (more : List ℕ) (whole : Outcome) (edge next : IndepState) (calls after : List LinkCall) → IsGot old new pdu → AreOctets more
-      → whole ≡ hears_at plan told me peer (receiver_of old) more edge calls → NeverRefused {T = T} (Err why) → Comes {T = T} (Err why) next after (hears_messages plan told me peer pdu.messages edge calls)
+  pub hears_stopped : (T U : Type 0) (why : IndepStop) (old new : StreamState) (pdu : Pdu) (more : List ℕ) (whole : Outcome) (edge next : IndepState) (calls after : List LinkCall)
+      → IsGot old new pdu → AreOctets more
+      → whole ≡ hears_at plan told me peer (receiver_of old) more edge calls → NeverRefused {T = T} (Err why)
+      → Comes {T = T} (Err why) next after (hears_messages plan told me peer pdu.messages edge calls)
       → HearsTo {T = U} plan told me peer (Err why) new more next after whole
   hears_stopped T U stop.Link old new pdu more whole edge next calls after got octets was never comes =
       was ∙ (got_at old new pdu more edge calls got octets ∙ ap (λ (o : Outcome). and_then o (λ e c. hears_at plan told me peer (receiver_of new) more e c)) comes)
@@ -176,13 +190,15 @@ module _ (plan : Plan) (told : Answers) (me : ℕ) (peer : EdgeId) where
   next_stopped U stop.NoMemory old new more whole edge calls next octets was = tt
 
   -- nothing was left to hear
-  pub all_heard : (s : StreamState) (octets : List ℕ) (at : ℕ) (whole : Outcome) (edge : IndepState) (calls : List LinkCall) → IsWaiting s → at ≡ length octets → whole ≡ hears_at plan told me peer (receiver_of s) (drop at octets) edge calls
+  pub all_heard : (s : StreamState) (octets : List ℕ) (at : ℕ) (whole : Outcome) (edge : IndepState) (calls : List LinkCall) → IsWaiting s → at ≡ length octets → whole
+      ≡ hears_at plan told me peer (receiver_of s) (drop at octets) edge calls
       → whole ≡ Goes (with_receiver peer.0 (receiver_of s) edge) calls
   all_heard s octets at whole edge calls waits end was =
       was ∙ (ap (λ (l : List ℕ). hears_at plan told me peer (receiver_of s) l edge calls) (ap (λ (n : ℕ). drop n octets) end ∙ drop_end octets) ∙ at_waits s edge calls waits)
 
   -- what a call on octets in parts has answered
-  pub part_stopped : (T U : Type 0) (why : IndepStop) (s : StreamState) (more : List ℕ) (whole start : Outcome) (edge : IndepState) (calls : List LinkCall) → start ≡ whole → HearsTo {T = T} plan told me peer (Err why) s more edge calls whole
+  pub part_stopped : (T U : Type 0) (why : IndepStop) (s : StreamState) (more : List ℕ) (whole start : Outcome) (edge : IndepState) (calls : List LinkCall) → start ≡ whole
+      → HearsTo {T = T} plan told me peer (Err why) s more edge calls whole
       → Comes {T = U} (Err why) (kept_after {T = U} peer.0 s (Err why) edge) calls start
   part_stopped T U stop.Link s more whole start edge calls was to = was ∙ to
   part_stopped T U (stop.Refused answer) s more whole start edge calls was to = was ∙ to
@@ -196,7 +212,8 @@ on_ok plan told me peer r done s more edge calls whole is to = subst (λ x. Hear
 -- ---- by what the edge hears with
 
 -- it hears nothing
-pub hears_none : (plan : Plan) (told : Answers) (me : ℕ) (peer : EdgeId) (octets : List ℕ) (edge : IndepState) (calls : List LinkCall) → HasNoReceiver (edge.connection peer.0) → hears plan told me peer octets edge calls ≡ Goes edge calls
+pub hears_none : (plan : Plan) (told : Answers) (me : ℕ) (peer : EdgeId) (octets : List ℕ) (edge : IndepState) (calls : List LinkCall) → HasNoReceiver (edge.connection peer.0)
+    → hears plan told me peer octets edge calls ≡ Goes edge calls
 hears_none plan told me peer octets edge calls none = by (edge.connection peer.0) none
   where
     by : (o : Option ConnectionState) → HasNoReceiver o → hears_on plan told me peer octets o edge calls ≡ Goes edge calls
@@ -204,7 +221,8 @@ hears_none plan told me peer octets edge calls none = by (edge.connection peer.0
     by (Some kept) none = ap (λ (receiver : Receiver). hears_by plan told me peer octets receiver edge calls) none
 
 -- it is put back as it was taken out
-back : (peer : ℕ) (kept : ConnectionState) (receiver : Receiver) (edge : IndepState) → edge.connection peer ≡ Some kept → kept.receiver ≡ receiver → with_receiver peer receiver (with_receiver peer Stopped edge) ≡ edge
+back : (peer : ℕ) (kept : ConnectionState) (receiver : Receiver) (edge : IndepState) → edge.connection peer ≡ Some kept → kept.receiver ≡ receiver
+    → with_receiver peer receiver (with_receiver peer Stopped edge) ≡ edge
 unfolding with_connection
 back peer kept receiver edge is same = λ i. record edge { connection = λ k. by k (k == peer) refl i }
   where
@@ -218,16 +236,20 @@ back peer kept receiver edge is same = λ i. record edge { connection = λ k. by
     one = rw (self, is) refl
 
     by : (k : ℕ) (b : Bool) → (k == peer) ≡ b
-        → (if b then option_map (receiver_set receiver) (if peer == peer then option_map (receiver_set Stopped) (edge.connection peer) else edge.connection peer) else if b then option_map (receiver_set Stopped) (edge.connection peer) else edge.connection k) ≡ edge.connection k
+        → (if b then option_map (receiver_set receiver)
+        (if peer == peer then option_map (receiver_set Stopped) (edge.connection peer) else edge.connection peer) else if b then option_map (receiver_set Stopped)
+        (edge.connection peer) else edge.connection k) ≡ edge.connection k
     by k true e = rw one (ap (λ (x : Receiver). Some (receiver_set x kept)) (sym same) ∙ (sym is ∙ ap edge.connection (sym (number k e))))
     by k false e = refl
 
 -- a stream that is heard on
-pub hears_stream : (plan : Plan) (told : Answers) (me : ℕ) (peer : EdgeId) (octets : List ℕ) (s : StreamState) (edge : IndepState) (calls : List LinkCall) → HasReceiver (receiver_of s) (edge.connection peer.0)
+pub hears_stream : (plan : Plan) (told : Answers) (me : ℕ) (peer : EdgeId) (octets : List ℕ) (s : StreamState) (edge : IndepState) (calls : List LinkCall)
+    → HasReceiver (receiver_of s) (edge.connection peer.0)
     → hears plan told me peer octets edge calls ≡ hears_at plan told me peer (receiver_of s) octets (with_receiver peer.0 Stopped edge) calls
 hears_stream plan told me peer octets s edge calls has = by (edge.connection peer.0) refl has
   where
-    same : (receiver : Receiver) (kept : ConnectionState) → edge.connection peer.0 ≡ Some kept → kept.receiver ≡ receiver → IsHearing receiver → hears_by plan told me peer octets receiver edge calls ≡ hears_at plan told me peer receiver octets (with_receiver peer.0 Stopped edge) calls
+    same : (receiver : Receiver) (kept : ConnectionState) → edge.connection peer.0 ≡ Some kept → kept.receiver ≡ receiver → IsHearing receiver
+        → hears_by plan told me peer octets receiver edge calls ≡ hears_at plan told me peer receiver octets (with_receiver peer.0 Stopped edge) calls
     same (Receiving base held) kept is at hearing = refl
     same (Broken base wrong) kept is at hearing = ap (λ (e : IndepState). Stops (stop.Refused (fault.Refused base (refusal_of wrong))) e calls) (sym (back peer.0 kept (Broken base wrong) edge is at))
     same Stopped kept is at hearing = absurd hearing
@@ -236,7 +258,8 @@ hears_stream plan told me peer octets s edge calls has = by (edge.connection pee
     hearing None = tt
     hearing (Some wrong) = tt
 
-    by : (o : Option ConnectionState) → edge.connection peer.0 ≡ o → HasReceiver (receiver_of s) o → hears_on plan told me peer octets o edge calls ≡ hears_at plan told me peer (receiver_of s) octets (with_receiver peer.0 Stopped edge) calls
+    by : (o : Option ConnectionState) → edge.connection peer.0 ≡ o → HasReceiver (receiver_of s) o → hears_on plan told me peer octets o edge calls
+        ≡ hears_at plan told me peer (receiver_of s) octets (with_receiver peer.0 Stopped edge) calls
     by None is none = absurd none
     by (Some kept) is at = ap (λ (receiver : Receiver). hears_by plan told me peer octets receiver edge calls) at ∙ same (receiver_of s) kept is at (hearing s.refused)
 
@@ -266,7 +289,8 @@ same_under : (p q : ℕ → Bool) (edge : IndepState) → ((wire : ℕ) → p wi
 unfolding without_remotes
 same_under p q edge same = λ i. record edge { remote = λ wire. (ap (λ (b : Bool). if b then None else edge.remote wire) (same wire)) i }
 
-more_under : (n : ℕ) (test : ℕ → Bool) (edge : IndepState) → with_remote n None (without_remotes (λ wire. nat_lt wire n && test wire) edge) ≡ without_remotes (λ wire. nat_lt wire n && test wire || wire == n) edge
+more_under : (n : ℕ) (test : ℕ → Bool) (edge : IndepState) → with_remote n None (without_remotes (λ wire. nat_lt wire n && test wire) edge)
+    ≡ without_remotes (λ wire. nat_lt wire n && test wire || wire == n) edge
 unfolding without_remotes with_remote
 more_under n test edge = λ i. record edge { remote = λ wire. by (nat_lt wire n && test wire) (wire == n) (edge.remote wire) i }
   where
@@ -300,7 +324,8 @@ forgets_without n test edge now last is was put = put ∙ (was ∙ same_under (�
     by wire true e = let at : test wire ≡ false = ap test (same wire e) ∙ is in grind (arith, nat_tests, at, e)
     by wire false e = grind (arith, nat_tests, e)
 
-pub forgets_step : (n : ℕ) (test : ℕ → Bool) (edge now last : IndepState) → now ≡ without_remotes (λ wire. nat_lt wire n && test wire) edge → (test n ≡ true → last ≡ with_remote n None now) → (test n ≡ false → last ≡ now)
+pub forgets_step : (n : ℕ) (test : ℕ → Bool) (edge now last : IndepState) → now ≡ without_remotes (λ wire. nat_lt wire n && test wire) edge
+    → (test n ≡ true → last ≡ with_remote n None now) → (test n ≡ false → last ≡ now)
     → last ≡ without_remotes (λ wire. nat_lt wire (n + 1) && test wire) edge
 forgets_step n test edge now last was with_it without_it = elim (cases_Bool (test n)) [
   | inl is ↦ forgets_with n test edge now last is was (with_it is)
@@ -318,7 +343,8 @@ past_last plan wire a b past = by (slice_get plan.wires wire) refl
 
 pub forgets_all : (plan : Plan) (me peer n : ℕ) (edge last : IndepState) → length plan.wires ≤ n → last ≡ without_remotes (λ wire. nat_lt wire n && is_between plan wire me peer) edge
     → last ≡ without_remotes (λ wire. is_between plan wire me peer) edge
-forgets_all plan me peer n edge last past was = was ∙ same_under (λ wire. nat_lt wire n && is_between plan wire me peer) (λ wire. is_between plan wire me peer) edge (λ wire. by wire (nat_lt wire n) refl)
+forgets_all plan me peer n edge last past was = was
+    ∙ same_under (λ wire. nat_lt wire n && is_between plan wire me peer) (λ wire. is_between plan wire me peer) edge (λ wire. by wire (nat_lt wire n) refl)
   where
     by : (wire : ℕ) (b : Bool) → nat_lt wire n ≡ b → (b && is_between plan wire me peer) ≡ is_between plan wire me peer
     by wire true e = refl

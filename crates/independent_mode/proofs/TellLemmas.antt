@@ -50,11 +50,13 @@ put_twice peer first next edge = λ i. record edge { connection = λ k. over (k 
   over true other = refl
   over false other = refl
 
-pub counted : (peer : ℕ) (kept now said : ConnectionState) (first next last : IndepState) → Some kept ≡ first.connection peer → first.connection peer ≡ Some now → said ≡ spoken kept → next ≡ with_connection peer None first
+pub counted : (peer : ℕ) (kept now said : ConnectionState) (first next last : IndepState) → Some kept ≡ first.connection peer → first.connection peer ≡ Some now → said ≡ spoken kept
+    → next ≡ with_connection peer None first
     → last ≡ with_connection peer (Some said) next → last ≡ with_connection peer (Some (spoken now)) first
 counted peer kept now said first next last was is spoke taken put =
     let same : kept ≡ now = cc (was ∙ is) in
-    put ∙ (ap (λ (e : IndepState). with_connection peer (Some said) e) taken ∙ (put_twice peer None (Some said) first ∙ ap (λ (k : ConnectionState). with_connection peer (Some k) first) (spoke ∙ ap spoken same)))
+    put ∙ (ap (λ (e : IndepState). with_connection peer (Some said) e) taken
+    ∙ (put_twice peer None (Some said) first ∙ ap (λ (k : ConnectionState). with_connection peer (Some k) first) (spoke ∙ ap spoken same)))
 
 -- the connection that was taken out is as it was put back
 pub put_same : (peer : ℕ) (kept : Option ConnectionState) (edge : IndepState) → edge.connection peer ≡ kept → with_connection peer kept edge ≡ edge
@@ -67,18 +69,21 @@ put_same peer kept edge is = λ i. record edge { connection = λ k. by k (k == p
   by k true e = sym (ap edge.connection (same k e) ∙ is)
   by k false e = refl
 
-pub put_receiver : (peer : ℕ) (kept said : ConnectionState) (receiver : Receiver) (first next last : IndepState) → Some kept ≡ first.connection peer → next ≡ with_connection peer None first → said ≡ receiver_set receiver kept
+pub put_receiver : (peer : ℕ) (kept said : ConnectionState) (receiver : Receiver) (first next last : IndepState) → Some kept ≡ first.connection peer → next
+    ≡ with_connection peer None first → said ≡ receiver_set receiver kept
     → last ≡ with_connection peer (Some said) next → last ≡ with_receiver peer receiver first
 put_receiver peer kept said receiver first next last was taken is put =
     put ∙ (ap (with_connection peer (Some said)) taken ∙ (put_twice peer None (Some said) first
     ∙ (ap (λ (k : ConnectionState). with_connection peer (Some k) first) is ∙ ap (λ (o : Option ConnectionState). with_connection peer (option_map (receiver_set receiver) o) first) was)))
 
-pub none_taken : (peer : ℕ) (o : Option ConnectionState) (first next : IndepState) → o ≡ None → o ≡ first.connection peer → next ≡ with_connection peer None first → (next ≡ first) × HasNoReceiver (first.connection peer)
+pub none_taken : (peer : ℕ) (o : Option ConnectionState) (first next : IndepState) → o ≡ None → o ≡ first.connection peer → next ≡ with_connection peer None first → (next ≡ first)
+    × HasNoReceiver (first.connection peer)
 none_taken peer o first next none was taken =
     let gone : first.connection peer ≡ None = sym was ∙ none in
     (taken ∙ put_same peer None first gone, subst HasNoReceiver (sym gone) tt)
 
-pub out_taken : (peer : ℕ) (kept rest : ConnectionState) (receiver : Option StreamState) (first next last : IndepState) → Some kept ≡ first.connection peer → receiver_in receiver ≡ kept.receiver → rest ≡ receiver_set Stopped kept
+pub out_taken : (peer : ℕ) (kept rest : ConnectionState) (receiver : Option StreamState) (first next last : IndepState) → Some kept ≡ first.connection peer → receiver_in receiver
+    ≡ kept.receiver → rest ≡ receiver_set Stopped kept
     → next ≡ with_connection peer None first → last ≡ with_connection peer (Some rest) next → IsTakenOut peer first last receiver
 out_taken peer kept rest None first next last was is left taken put =
     let same : rest ≡ kept = left ∙ ap (λ (e : Receiver). receiver_set e kept) is in (
@@ -159,5 +164,6 @@ pub from_more : (plan : Plan) (told : Answers) (me : ℕ) (peer : EdgeId) (i n :
     → tells_from plan told me peer i (n - i) edge calls ≡ and_then (tells_place plan told me peer i edge calls) (λ e c. tells_from plan told me peer (i + 1) (n - (i + 1)) e c)
 from_more plan told me peer i n edge calls less = let e : n - i ≡ suc (n - (i + 1)) = omega (arith, less) in rw e refl
 
-pub from_end : (plan : Plan) (told : Answers) (me : ℕ) (peer : EdgeId) (i n : ℕ) (edge : IndepState) (calls : List LinkCall) → n ≤ i → tells_from plan told me peer i (n - i) edge calls ≡ Goes edge calls
+pub from_end : (plan : Plan) (told : Answers) (me : ℕ) (peer : EdgeId) (i n : ℕ) (edge : IndepState) (calls : List LinkCall) → n ≤ i → tells_from plan told me peer i (n - i) edge calls
+    ≡ Goes edge calls
 from_end plan told me peer i n edge calls past = let e : n - i ≡ 0 = omega (arith, past) in rw e refl

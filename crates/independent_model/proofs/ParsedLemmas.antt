@@ -107,25 +107,33 @@ module _ (plan : Plan) (told : Answers) (me : ℕ) (peer : EdgeId) where
   }
   pdu_first base at octets rest pdu (Stops stop.NoMemory e c) front place is = is
 
-  then_parses : (base : ℕ) (octets : List ℕ) (o : Outcome) (f : IndepState → List LinkCall → Outcome) → NoneRefused o → ((e : IndepState) (c : List LinkCall) → ParsesAs base octets (f e c)) → ParsesAs base octets (and_then o f)
+  then_parses : (base : ℕ) (octets : List ℕ) (o : Outcome) (f : IndepState → List LinkCall → Outcome) → NoneRefused o
+      → ((e : IndepState) (c : List LinkCall) → ParsesAs base octets (f e c)) → ParsesAs base octets (and_then o f)
   then_parses base octets (Goes e c) f none more = more e c
   then_parses base octets (Stops stop.Link e c) f none more = tt
   then_parses base octets (Stops (stop.Refused answer) e c) f none more = absurd none
   then_parses base octets (Stops stop.NoMemory e c) f none more = none
 
-  few_parse : (n base : ℕ) (octets : List ℕ) (e : IndepState) (c : List LinkCall) → AreOctets octets → length octets < n → base + length octets < 2 ^ 64 → ParsesAs base octets (hears_few plan told me peer n base octets e c)
+  few_parse : (n base : ℕ) (octets : List ℕ) (e : IndepState) (c : List LinkCall) → AreOctets octets → length octets < n → base + length octets < 2 ^ 64
+      → ParsesAs base octets (hears_few plan told me peer n base octets e c)
   few_parse zero base octets e c are few places = absurd (omega (arith, few))
   few_parse (suc n) base octets e c are few places = by (front_of 4096 octets) refl (λ b r e c a l p. few_parse n b r e c a l p)
     where
       by : (front : Front) → front_of 4096 octets ≡ front
           → ((b : ℕ) (r : List ℕ) (e : IndepState) (c : List LinkCall) → AreOctets r → length r < n → b + length r < 2 ^ 64 → ParsesAs b r (hears_few plan told me peer n b r e c))
           → ParsesAs base octets (hears_front plan told me peer (hears_few plan told me peer n) base octets front e c)
-      by More is again = record { pdus = []; at = base; rest = octets; parsed = one_parsing.waits base 4096 octets (subst (StandsInFront 4096 octets) is (front_is_read.stands 4096 octets are (omega arith))) }
+      by More is again = record {
+        pdus = [];
+        at = base;
+        rest = octets;
+        parsed = one_parsing.waits base 4096 octets (subst (StandsInFront 4096 octets) is (front_is_read.stands 4096 octets are (omega arith)));
+      }
       by (Bad wrong) is again = record {
         pdus = [];
         at = base;
         wrong = wrong;
-        parsed = subst (λ (l : List ℕ). IsParsedFrom base 4096 l [] (Refused base wrong)) (append-nil octets) (one_parsing.faulty base 4096 octets [] wrong (subst (StandsInFront 4096 octets) is (front_is_read.stands 4096 octets are (omega arith))));
+        parsed = subst (λ (l : List ℕ). IsParsedFrom base 4096 l [] (Refused base wrong)) (append-nil octets)
+            (one_parsing.faulty base 4096 octets [] wrong (subst (StandsInFront 4096 octets) is (front_is_read.stands 4096 octets are (omega arith))));
         is = refl;
       }
       by (Got pdu rest) is again =
@@ -138,4 +146,5 @@ module _ (plan : Plan) (told : Answers) (me : ℕ) (peer : EdgeId) where
           (λ e c. pdu_first base at octets rest pdu (hears_few plan told me peer n at rest e c) front place (again at rest e c behind (omega (arith, less, few)) (omega (arith, places, less, place))))
 
 pub hears_parsed : HearsParsed
-hears_parsed plan told me peer base held octets e c are places = few_parse plan told me peer (suc (length (held ++ octets))) base (held ++ octets) (with_receiver peer.0 Stopped e) c are (omega arith) places
+hears_parsed plan told me peer base held octets e c are places =
+    few_parse plan told me peer (suc (length (held ++ octets))) base (held ++ octets) (with_receiver peer.0 Stopped e) c are (omega arith) places

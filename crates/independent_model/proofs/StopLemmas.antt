@@ -43,7 +43,8 @@ module _ (told : Answers) where
   done_ends : (e : IndepState) (c : List LinkCall) → EndsAs told (length c) (Goes e c)
   done_ends e c = (omega arith, none_taken (length c))
 
-  then_ends : (from : ℕ) (o : Outcome) (f : IndepState → List LinkCall → Outcome) → EndsAs told from o → ((e : IndepState) (c : List LinkCall) → EndsAs told (length c) (f e c)) → EndsAs told from (and_then o f)
+  then_ends : (from : ℕ) (o : Outcome) (f : IndepState → List LinkCall → Outcome) → EndsAs told from o → ((e : IndepState) (c : List LinkCall) → EndsAs told (length c) (f e c))
+      → EndsAs told from (and_then o f)
   then_ends from (Goes e c) f is more = earlier from (length c) (f e c) is.0 is.1 (more e c)
   then_ends from (Stops why e c) f is more = is
 
@@ -117,9 +118,11 @@ module _ (told : Answers) where
     few_end zero base held e c = done_ends (with_receiver peer.0 (Receiving base held) e) c
     few_end (suc n) base held e c = by (front_of 4096 held) (λ b r e c. few_end n b r e c)
       where
-        by : (front : Front) → ((b : ℕ) (r : List ℕ) (e : IndepState) (c : List LinkCall) → EndsAs told (length c) (hears_few plan told me peer n b r e c)) → EndsAs told (length c) (hears_front plan told me peer (hears_few plan told me peer n) base held front e c)
+        by : (front : Front) → ((b : ℕ) (r : List ℕ) (e : IndepState) (c : List LinkCall) → EndsAs told (length c) (hears_few plan told me peer n b r e c))
+            → EndsAs told (length c) (hears_front plan told me peer (hears_few plan told me peer n) base held front e c)
         by More again = done_ends (with_receiver peer.0 (Receiving base held) e) c
-        by (Got pdu rest) again = then_ends (length c) (hears_messages plan told me peer pdu.messages e c) (λ e c. hears_few plan told me peer n (place_behind base (length held - length rest)) rest e c)
+        by (Got pdu rest) again = then_ends (length c) (hears_messages plan told me peer pdu.messages e c)
+            (λ e c. hears_few plan told me peer n (place_behind base (length held - length rest)) rest e c)
             (messages_end pdu.messages e c) (λ e c. again (place_behind base (length held - length rest)) rest e c)
         by (Bad wrong) again = (omega arith, none_taken (length c))
 
@@ -163,14 +166,16 @@ agrees_self calls = record { each = each calls }
     each (call ∷ calls) zero other within = refl
     each (call ∷ calls) (suc k) other within = each calls k other (omega (arith, within))
 
-ends_by : {T : Type 0} (result : Result T IndepStop) (edge : IndepState) (old new : List LinkCall) (outcome : Outcome) → Comes result edge new outcome → EndsAs (answers_of new) (length old) outcome → EndsBy old new result
+ends_by : {T : Type 0} (result : Result T IndepStop) (edge : IndepState) (old new : List LinkCall) (outcome : Outcome) → Comes result edge new outcome
+    → EndsAs (answers_of new) (length old) outcome → EndsBy old new result
 ends_by (Ok done) edge old new outcome comes ends = (subst (λ (o : Outcome). EndsAs (answers_of new) (length old) o) comes ends).1
 ends_by (Err stop.Link) edge old new outcome comes ends = subst (λ (o : Outcome). EndsAs (answers_of new) (length old) o) comes ends
 ends_by (Err (stop.Refused fault)) edge old new outcome comes ends = (subst (λ (o : Outcome). EndsAs (answers_of new) (length old) o) comes ends).1
 ends_by (Err stop.NoMemory) edge old new outcome comes ends = tt
 
 -- a call that does not go on answers what another one has answered
-pub comes_err : (T U : Type 0) (why : IndepStop) (edge : IndepState) (calls : List LinkCall) (outcome : Outcome) → Comes {T = T} (Err why) edge calls outcome → Comes {T = U} (Err why) edge calls outcome
+pub comes_err : (T U : Type 0) (why : IndepStop) (edge : IndepState) (calls : List LinkCall) (outcome : Outcome) → Comes {T = T} (Err why) edge calls outcome
+    → Comes {T = U} (Err why) edge calls outcome
 comes_err T U stop.Link edge calls outcome comes = comes
 comes_err T U (stop.Refused fault) edge calls outcome comes = comes
 comes_err T U stop.NoMemory edge calls outcome comes = tt
@@ -190,11 +195,14 @@ pub none_ends : (calls : List LinkCall) → AllTaken (answers_of calls) (length 
 none_ends calls = none_taken (answers_of calls) (length calls)
 
 -- wires of a connection were told
-pub all_end : {T : Type 0} (result : Result T IndepStop) (plan : Plan) (me : ℕ) (peer : EdgeId) (k n : ℕ) (first last : IndepState) (old new : List LinkCall) → Comes result last new (tells_from plan (answers_of new) me peer k n first old) → EndsBy old new result
-all_end result plan me peer k n first last old new comes = ends_by result last old new (tells_from plan (answers_of new) me peer k n first old) comes (from_ends (answers_of new) plan me peer k n first old)
+pub all_end : {T : Type 0} (result : Result T IndepStop) (plan : Plan) (me : ℕ) (peer : EdgeId) (k n : ℕ) (first last : IndepState) (old new : List LinkCall)
+    → Comes result last new (tells_from plan (answers_of new) me peer k n first old) → EndsBy old new result
+all_end result plan me peer k n first last old new comes =
+    ends_by result last old new (tells_from plan (answers_of new) me peer k n first old) comes (from_ends (answers_of new) plan me peer k n first old)
 
 -- one wire was told
-pub other_ends : {T : Type 0} (result : Result T IndepStop) (plan : Plan) (me wire : ℕ) (other : Option EdgeId) (first last : IndepState) (old new : List LinkCall) → Comes result last new (tells_other plan (answers_of new) me wire other first old) → EndsBy old new result
+pub other_ends : {T : Type 0} (result : Result T IndepStop) (plan : Plan) (me wire : ℕ) (other : Option EdgeId) (first last : IndepState) (old new : List LinkCall)
+    → Comes result last new (tells_other plan (answers_of new) me wire other first old) → EndsBy old new result
 other_ends result plan me wire other first last old new comes = ends_by result last old new (tells_other plan (answers_of new) me wire other first old) comes (by other)
   where
     by : (o : Option EdgeId) → EndsAs (answers_of new) (length old) (tells_other plan (answers_of new) me wire o first old)

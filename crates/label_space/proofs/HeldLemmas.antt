@@ -51,10 +51,12 @@ owner_put owner xs ys none is = ap (owner_of owner.label) is ∙ owner_of-put ow
 -- ---- a number is taken
 
 -- what is taken of the kept ones is free
-pub taken_owner : (next room reserved : ℕ) (owners : List Owner) (kept : List Kept) (label : ℕ) → IsHeldSpace next room reserved owners kept → kept_at label kept ≡ Some Free → (label < next) × (owner_of label owners ≡ None)
+pub taken_owner : (next room reserved : ℕ) (owners : List Owner) (kept : List Kept) (label : ℕ) → IsHeldSpace next room reserved owners kept → kept_at label kept ≡ Some Free
+    → (label < next) × (owner_of label owners ≡ None)
 taken_owner next room reserved owners kept label held free = left_at next label owners kept held.left (λ none. something Free (sym free ∙ none))
 
-pub taken_unowned : (next room reserved : ℕ) (owners : List Owner) (kept : List Kept) (r : Option ℕ) → IsHeldSpace next room reserved owners kept → IfSome r (λ label. kept_at label kept ≡ Some Free) → IfSome r (λ label. owner_of label owners ≡ None)
+pub taken_unowned : (next room reserved : ℕ) (owners : List Owner) (kept : List Kept) (r : Option ℕ) → IsHeldSpace next room reserved owners kept
+    → IfSome r (λ label. kept_at label kept ≡ Some Free) → IfSome r (λ label. owner_of label owners ≡ None)
 taken_unowned next room reserved owners kept None held free = free
 taken_unowned next room reserved owners kept (Some label) held free = (taken_owner next room reserved owners kept label held free).1
 
@@ -86,7 +88,8 @@ held_next next room reserved owners kept held less = record {
   left = left_later next owners kept held.left;
 }
 
-pub held_without : (next room reserved : ℕ) (owners : List Owner) (kept now : List Kept) (label : Option ℕ) → IsHeldSpace next room reserved owners kept → now ≡ without_one label kept → IsHeldSpace next room reserved owners now
+pub held_without : (next room reserved : ℕ) (owners : List Owner) (kept now : List Kept) (label : Option ℕ) → IsHeldSpace next room reserved owners kept → now ≡ without_one label kept
+    → IsHeldSpace next room reserved owners now
 held_without next room reserved owners kept now None held is = rw is held
 held_without next room reserved owners kept now (Some label) held is = rw is (record {
   above = held.above;
@@ -111,10 +114,12 @@ held_freed label owner next room reserved now xs ys kept more held found is kept
   given = below_filtered (λ o. not (owns label o)) next xs held.given;
   distinct = distinct_filtered (λ o. not (owns label o)) xs held.distinct;
   rising = rising_filtered owned_label (λ o. not (owns label o)) 0 xs held.rising;
-  left = left_kept next label owner.peer (filter (λ o. not (owns label o)) xs) kept (found_below label next xs owner held.given found) (owner_of-freed label xs) (left_filtered (λ o. not (owns label o)) next xs kept held.left);
+  left = left_kept next label owner.peer (filter (λ o. not (owns label o)) xs) kept (found_below label next xs owner held.given found) (owner_of-freed label xs)
+      (left_filtered (λ o. not (owns label o)) next xs kept held.left);
 })
 
-pub unkept_found : (label next room reserved : ℕ) (owner : Owner) (xs : List Owner) (kept : List Kept) → IsHeldSpace next room reserved xs kept → find (owns label) xs ≡ Some owner → kept_at label kept ≡ None
+pub unkept_found : (label next room reserved : ℕ) (owner : Owner) (xs : List Owner) (kept : List Kept) → IsHeldSpace next room reserved xs kept → find (owns label) xs ≡ Some owner
+    → kept_at label kept ≡ None
 unkept_found label next room reserved owner xs kept held found = unkept_owned next label xs kept held.left (found_owns label xs owner found)
 
 -- ---- connections, ticks and restarts
@@ -131,13 +136,15 @@ held_with next room reserved owners kept now held left = record {
   left = left;
 }
 
-pub held_meeting : (peer : EdgeId) (next room reserved : ℕ) (owners : List Owner) (kept now : List Kept) → IsHeldSpace next room reserved owners kept → now ≡ met peer kept → IsHeldSpace next room reserved owners now
+pub held_meeting : (peer : EdgeId) (next room reserved : ℕ) (owners : List Owner) (kept now : List Kept) → IsHeldSpace next room reserved owners kept → now ≡ met peer kept
+    → IsHeldSpace next room reserved owners now
 held_meeting peer next room reserved owners kept now held is = held_with next room reserved owners kept now held (rw is (left_met next peer owners kept held.left))
 
 pub held_ticking : (next room reserved : ℕ) (owners : List Owner) (kept now : List Kept) → IsHeldSpace next room reserved owners kept → now ≡ ticked kept → IsHeldSpace next room reserved owners now
 held_ticking next room reserved owners kept now held is = held_with next room reserved owners kept now held (rw is (left_ticked next owners kept held.left))
 
-pub held_emptied : (next room reserved now : ℕ) (owners none : List Owner) (kept more : List Kept) → IsHeldSpace next room reserved owners kept → none ≡ [] → more ≡ keeps_each owners kept → now ≡ reserved → IsHeldSpace next room now none more
+pub held_emptied : (next room reserved now : ℕ) (owners none : List Owner) (kept more : List Kept) → IsHeldSpace next room reserved owners kept → none ≡ [] → more
+    ≡ keeps_each owners kept → now ≡ reserved → IsHeldSpace next room now none more
 held_emptied next room reserved now owners none kept more held is kept_is same_room = rw (is, kept_is, same_room) (record {
   above = held.above;
   below = held.below;

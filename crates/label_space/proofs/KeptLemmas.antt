@@ -57,10 +57,11 @@ kept_more label peer kept none other unlike = elim (nat_lt (length kept) most_ke
 
 pub kept_map : (f : KeptState → KeptState) (kept : List Kept) (label : ℕ) → kept_at label (map (λ k. record { label = k.label; state = f k.state }) kept) ≡ option_map f (kept_at label kept)
 kept_map f [] label = refl
-kept_map f (k ∷ ks) label = elim (k.label == label) as (λ v. cond v (Some (f k.state)) (kept_at label (map (λ o. record { label = o.label; state = f o.state }) ks)) ≡ option_map f (cond v (Some k.state) (kept_at label ks))) [
-  | true ↦ refl
-  | false ↦ kept_map f ks label
-]
+kept_map f (k ∷ ks) label = elim (k.label == label) as
+    (λ v. cond v (Some (f k.state)) (kept_at label (map (λ o. record { label = o.label; state = f o.state }) ks)) ≡ option_map f (cond v (Some k.state) (kept_at label ks))) [
+      | true ↦ refl
+      | false ↦ kept_map f ks label
+    ]
 
 pub long_map : {X : Type 0} (f : X → X) (xs : List X) → length (map f xs) ≡ length xs
 long_map f [] = refl
@@ -82,7 +83,8 @@ kept_without at label (k ∷ ks) = elim (cases_Bool (k.label == at)) [
     gone true is here = refl
     gone false is here = rw (elsewhere k.label at label here is) refl
 
-    by : (b : Bool) → (k.label == label) ≡ b → (k.label == at) ≡ false → kept_at label (without at ks) ≡ cond (at == label) None (kept_at label ks) → cond b (Some k.state) (kept_at label (without at ks)) ≡ cond (at == label) None (cond b (Some k.state) (kept_at label ks))
+    by : (b : Bool) → (k.label == label) ≡ b → (k.label == at) ≡ false → kept_at label (without at ks) ≡ cond (at == label) None (kept_at label ks)
+        → cond b (Some k.state) (kept_at label (without at ks)) ≡ cond (at == label) None (cond b (Some k.state) (kept_at label ks))
     by true is other rest = elim (cases_Bool (at == label)) [
       | inl clash ↦ equal_to_one k.label at label is clash other
       | inr apart ↦ rw apart refl

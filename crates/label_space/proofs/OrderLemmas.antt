@@ -23,7 +23,8 @@ module _ {X : Type 0} (number : X → ℕ) where
   -- ---- one more
 
   -- at its place, an item that has another number than all
-  pub rising_put : (new : X) (from : ℕ) (xs : List X) → AllByRecursion (λ x. (number x == number new) ≡ false) xs → from ≤ number new → AreRisingBy number from xs → AreRisingBy number from (put_by number new xs)
+  pub rising_put : (new : X) (from : ℕ) (xs : List X) → AllByRecursion (λ x. (number x == number new) ≡ false) xs → from ≤ number new → AreRisingBy number from xs
+      → AreRisingBy number from (put_by number new xs)
   rising_put new from [] apart least rising = (least, tt)
   rising_put new from (x ∷ xs) apart least rising = elim (cases_Bool (nat_lt (number x) (number new))) [
     | inl before ↦ rw before (rising.0, rising_put new (number x + 1) xs apart.1 (omega (arith, ltb-true (number x) (number new) before)) rising.1)
@@ -55,10 +56,12 @@ module _ {X : Type 0} (number : X → ℕ) where
   insert_put new (x ∷ xs) zero within before behind = rw (behind 0 new (omega arith) (omega arith)) refl
   insert_put new (x ∷ xs) (suc i) within before behind =
       rw (before 0 new (omega arith))
-      (ap (λ (l : List X). x ∷ l) (insert_put new xs i (omega (arith, within)) (λ k d less. before (suc k) d (omega (arith, less))) (λ k d low high. behind (suc k) d (omega (arith, low)) (omega (arith, high)))))
+      (ap (λ (l : List X). x ∷ l) (insert_put new xs i (omega (arith, within)) (λ k d less. before (suc k) d (omega (arith, less)))
+      (λ k d low high. behind (suc k) d (omega (arith, low)) (omega (arith, high)))))
 
   -- numbers that rise are parted by a number
-  pub parted : (at from : ℕ) (xs : List X) → AreRisingBy number from xs → (i j : ℕ) (d : X) → i ≤ j → j < length xs → nat_lt (number (get_or xs j d)) at ≡ true → nat_lt (number (get_or xs i d)) at ≡ true
+  pub parted : (at from : ℕ) (xs : List X) → AreRisingBy number from xs → (i j : ℕ) (d : X) → i ≤ j → j < length xs → nat_lt (number (get_or xs j d)) at ≡ true
+      → nat_lt (number (get_or xs i d)) at ≡ true
   parted at from [] rising i j d order within is = absurd (omega (arith, within))
   parted at from (x ∷ xs) rising zero zero d order within is = is
   parted at from (x ∷ xs) rising zero (suc j) d order within is =
@@ -102,7 +105,10 @@ module _ {X : Type 0} (number : X → ℕ) where
 
   pub rising_map : (f : X → X) (keep : (x : X) → number (f x) ≡ number x) (from : ℕ) (xs : List X) → AreRisingBy number from xs → AreRisingBy number from (map f xs)
   rising_map f keep from [] rising = tt
-  rising_map f keep from (x ∷ xs) rising = (omega (arith, rising.0, keep x), rising_lower (number x + 1) (number (f x) + 1) (map f xs) (omega (arith, keep x)) (rising_map f keep (number x + 1) xs rising.1))
+  rising_map f keep from (x ∷ xs) rising = (
+    omega (arith, rising.0, keep x),
+    rising_lower (number x + 1) (number (f x) + 1) (map f xs) (omega (arith, keep x)) (rising_map f keep (number x + 1) xs rising.1),
+  )
 
   pub all_map : (P Q : X → Type 0) (f : X → X) (xs : List X) → ((x : X) → P x → Q (f x)) → AllByRecursion P xs → AllByRecursion Q (map f xs)
   all_map P Q f [] each all = tt
@@ -110,7 +116,8 @@ module _ {X : Type 0} (number : X → ℕ) where
 
   pub map_put : (f : X → X) (keep : (x : X) → number (f x) ≡ number x) (new : X) (xs : List X) → map f (put_by number new xs) ≡ put_by number (f new) (map f xs)
   map_put f keep new [] = refl
-  map_put f keep new (x ∷ xs) = rw (keep x, keep new) (elim (nat_lt (number x) (number new)) as (λ v. map f (cond v (x ∷ put_by number new xs) (new ∷ x ∷ xs)) ≡ cond v (f x ∷ put_by number (f new) (map f xs)) (f new ∷ f x ∷ map f xs)) [
-    | true ↦ ap (λ (l : List X). f x ∷ l) (map_put f keep new xs)
-    | false ↦ refl
-  ])
+  map_put f keep new (x ∷ xs) = rw (keep x, keep new)
+      (elim (nat_lt (number x) (number new)) as (λ v. map f (cond v (x ∷ put_by number new xs) (new ∷ x ∷ xs)) ≡ cond v (f x ∷ put_by number (f new) (map f xs)) (f new ∷ f x ∷ map f xs)) [
+        | true ↦ ap (λ (l : List X). f x ∷ l) (map_put f keep new xs)
+        | false ↦ refl
+      ])

@@ -98,7 +98,8 @@ module _ {S : Type 0} where
       by label owner (Some slot) is found = (slot, sym (ap (option_and_then (slab.get s)) is) ∙ found)
 
   -- one more owner
-  pub step_added : (s t : slab.Slab Owner) (m n : map.IndexMap ℕ ℕ S) (xs : List Owner) (o : Owner) (slot : ℕ) → AreLabelSlots s m xs → owner_of o.label xs ≡ None → slab.get s slot ≡ None → slab.Updates s t slot (Some o) → map.Updates nat_eq m n o.label (Some slot) → AreLabelSlots t n (xs ++ o ∷ [])
+  pub step_added : (s t : slab.Slab Owner) (m n : map.IndexMap ℕ ℕ S) (xs : List Owner) (o : Owner) (slot : ℕ) → AreLabelSlots s m xs → owner_of o.label xs ≡ None → slab.get s slot
+      ≡ None → slab.Updates s t slot (Some o) → map.Updates nat_eq m n o.label (Some slot) → AreLabelSlots t n (xs ++ o ∷ [])
   step_added s t m n xs o slot step absent vacant put mapped = record { finds = finds; filled = filled; back = back }
     where
       -- a label that has a slot has another one
@@ -154,7 +155,8 @@ module _ {S : Type 0} where
       ]
 
   -- one owner less
-  pub step_taken : (s t : slab.Slab Owner) (m n : map.IndexMap ℕ ℕ S) (xs : List Owner) (label slot : ℕ) → AreLabelSlots s m xs → map.get nat_eq m label ≡ Some slot → slab.Updates s t slot None → map.Updates nat_eq m n label None → AreLabelSlots t n (filter (λ o. not (owns label o)) xs)
+  pub step_taken : (s t : slab.Slab Owner) (m n : map.IndexMap ℕ ℕ S) (xs : List Owner) (label slot : ℕ) → AreLabelSlots s m xs → map.get nat_eq m label ≡ Some slot
+      → slab.Updates s t slot None → map.Updates nat_eq m n label None → AreLabelSlots t n (filter (λ o. not (owns label o)) xs)
   step_taken s t m n xs label slot step at took unmapped = record { finds = finds; filled = filled; back = back }
     where
       -- two labels have two slots
@@ -211,7 +213,8 @@ module _ {S : Type 0} where
       ]
 
   -- no owner of the label
-  pub step_stays : (s : slab.Slab Owner) (m n : map.IndexMap ℕ ℕ S) (xs : List Owner) (label : ℕ) → AreLabelSlots s m xs → map.get nat_eq m label ≡ None → map.IsUnchanged m n → AreLabelSlots s n (filter (λ o. not (owns label o)) xs)
+  pub step_stays : (s : slab.Slab Owner) (m n : map.IndexMap ℕ ℕ S) (xs : List Owner) (label : ℕ) → AreLabelSlots s m xs → map.get nat_eq m label ≡ None → map.IsUnchanged m n
+      → AreLabelSlots s n (filter (λ o. not (owns label o)) xs)
   step_stays s m n xs label step at unchanged = record {
     finds = finds;
     filled = λ j k is. step.filled j k (sym (gets j) ∙ is);
@@ -225,7 +228,8 @@ module _ {S : Type 0} where
       finds j = elim (cases_Bool (nat_eq label j)) [
         | inl here ↦
             (let is : label ≡ j = eqb-true label j here in
-            ap (option_and_then (slab.get s)) (gets j ∙ sym (ap (map.get nat_eq m) is) ∙ at) ∙ sym (subst (λ (k : ℕ). find (owns k) (filter (λ o. not (owns label o)) xs) ≡ None) is (find-left label xs)))
+            ap (option_and_then (slab.get s)) (gets j ∙ sym (ap (map.get nat_eq m) is) ∙ at)
+            ∙ sym (subst (λ (k : ℕ). find (owns k) (filter (λ o. not (owns label o)) xs) ≡ None) is (find-left label xs)))
         | inr other ↦
             ap (option_and_then (slab.get s)) (gets j) ∙ step.finds j
             ∙ sym (find-left_other label j xs (λ is. true≢false (sym (subst (λ (k : ℕ). nat_eq label k ≡ true) (sym is) (same_number label)) ∙ other)))
@@ -268,7 +272,8 @@ find-end : (label : ℕ) (xs : List Owner) (o : Owner) → find (owns o.label) x
 find-end label xs o none = elim (cases_Bool (owns label o)) [
   | inl here ↦
       (let same_label : o.label ≡ label = eqb-true o.label label here in
-      find-pushed label xs o (subst (λ (l : ℕ). find (owns l) xs ≡ None) same_label none) ∙ cond-true (owns label o) (Some o) None here ∙ sym (cond-true (owns label o) (Some o) (find (owns label) xs) here))
+      find-pushed label xs o (subst (λ (l : ℕ). find (owns l) xs ≡ None) same_label none) ∙ cond-true (owns label o) (Some o) None here
+      ∙ sym (cond-true (owns label o) (Some o) (find (owns label) xs) here))
   | inr other ↦ find-pushed_other label xs o other ∙ sym (cond-false (owns label o) (Some o) (find (owns label) xs) other)
 ]
 
@@ -276,12 +281,14 @@ module _ {S : Type 0} where
   step_same : (s : slab.Slab Owner) (m : map.IndexMap ℕ ℕ S) (xs ys : List Owner) → ((label : ℕ) → find (owns label) xs ≡ find (owns label) ys) → AreLabelSlots s m xs → AreLabelSlots s m ys
   step_same s m xs ys same_finds step = record { finds = λ label. step.finds label ∙ same_finds label; filled = step.filled; back = step.back }
 
-  index_same : (asked : Bool) (s : slab.Slab Owner) (m : map.IndexMap ℕ ℕ S) (xs ys : List Owner) → ((label : ℕ) → find (owns label) xs ≡ find (owns label) ys) → IsLabelIndex asked s m xs → IsLabelIndex asked s m ys
+  index_same : (asked : Bool) (s : slab.Slab Owner) (m : map.IndexMap ℕ ℕ S) (xs ys : List Owner) → ((label : ℕ) → find (owns label) xs ≡ find (owns label) ys)
+      → IsLabelIndex asked s m xs → IsLabelIndex asked s m ys
   index_same true s m xs ys same_finds index = step_same s m xs ys same_finds index
   index_same false s m xs ys same_finds index = index
 
   -- an owner stands at its place
-  pub index_put : (asked : Bool) (s : slab.Slab Owner) (m : map.IndexMap ℕ ℕ S) (xs : List Owner) (o : Owner) → owner_of o.label xs ≡ None → IsLabelIndex asked s m (xs ++ o ∷ []) → IsLabelIndex asked s m (put_by owned_label o xs)
+  pub index_put : (asked : Bool) (s : slab.Slab Owner) (m : map.IndexMap ℕ ℕ S) (xs : List Owner) (o : Owner) → owner_of o.label xs ≡ None → IsLabelIndex asked s m (xs ++ o ∷ [])
+      → IsLabelIndex asked s m (put_by owned_label o xs)
   index_put asked s m xs o none index = index_same asked s m (xs ++ o ∷ []) (put_by owned_label o xs) (λ label. find-end label xs o absent ∙ sym (find-put label xs o absent)) index where
     absent : find (owns o.label) xs ≡ None
     absent = none_found o.label xs none

@@ -99,7 +99,8 @@ least_all from (x ∷ xs) rising =
     All-cons (λ k. from ≤ k.label) x xs rising.0
     (All-weaker (λ k. x.label + 1 ≤ k.label) (λ k. from ≤ k.label) (λ k more. omega (arith, more, rising.0)) xs (least_all (x.label + 1) xs rising.1))
 
-rest_all : (x y : Kept) (xs ys : List Kept) → ((P : Kept → Type 0) → All P (x ∷ xs) → All P (y ∷ ys)) → x.label ≡ y.label → AreRisingBy label_of (y.label + 1) ys → (P : Kept → Type 0) → All P xs → All P ys
+rest_all : (x y : Kept) (xs ys : List Kept) → ((P : Kept → Type 0) → All P (x ∷ xs) → All P (y ∷ ys)) → x.label ≡ y.label → AreRisingBy label_of (y.label + 1) ys → (P : Kept → Type 0)
+    → All P xs → All P ys
 rest_all x y xs ys there is rising P all =
     let past : All (λ k. x.label < k.label → P k) ys =
     All-tail (λ k. x.label < k.label → P k) y ys
@@ -108,7 +109,8 @@ rest_all x y xs ys there is rising P all =
     let least : All (λ k. y.label + 1 ≤ k.label) ys = least_all (y.label + 1) ys rising in
     λ i d within. past i d within (omega (arith, least i d within, is))
 
-rising_same : (from to : ℕ) (xs ys : List Kept) → ((P : Kept → Type 0) → All P xs → All P ys) → ((P : Kept → Type 0) → All P ys → All P xs) → AreRisingBy label_of from xs → AreRisingBy label_of to ys → xs ≡ ys
+rising_same : (from to : ℕ) (xs ys : List Kept) → ((P : Kept → Type 0) → All P xs → All P ys) → ((P : Kept → Type 0) → All P ys → All P xs) → AreRisingBy label_of from xs
+    → AreRisingBy label_of to ys → xs ≡ ys
 rising_same from to [] [] there back first second = refl
 rising_same from to [] (y ∷ ys) there back first second = absurd (All-head (λ k. ⊥) y ys (there (λ k. ⊥) (All-nil (λ k. ⊥))))
 rising_same from to (x ∷ xs) [] there back first second = absurd (All-head (λ k. ⊥) x xs (back (λ k. ⊥) (All-nil (λ k. ⊥))))
@@ -125,16 +127,19 @@ rising_same from to (x ∷ xs) (y ∷ ys) there back first second =
     ap (λ (k : Kept). k ∷ xs) (sym head) ∙ ap (λ (l : List Kept). y ∷ l) rest
   where
     least_from : (x : Kept) (xs : List Kept) → AreRisingBy label_of (x.label + 1) xs → All (λ k. x.label ≤ k.label) (x ∷ xs)
-    least_from x xs rising = All-cons (λ k. x.label ≤ k.label) x xs (omega arith) (All-weaker (λ k. x.label + 1 ≤ k.label) (λ k. x.label ≤ k.label) (λ k more. omega (arith, more)) xs (least_all (x.label + 1) xs rising))
+    least_from x xs rising = All-cons (λ k. x.label ≤ k.label) x xs (omega arith)
+        (All-weaker (λ k. x.label + 1 ≤ k.label) (λ k. x.label ≤ k.label) (λ k more. omega (arith, more)) xs (least_all (x.label + 1) xs rising))
 
 -- in whatever order they are stored
 pub same_kept : (ks ls : List Kept) → AreRisingBy label_of 0 (in_order ks) → IsPermutation ks ls → in_order ls ≡ in_order ks
 same_kept ks ls rising moved =
     let back : IsPermutation (in_order ls) (in_order ks) =
-    IsPermutation-trans (in_order ls) ls (in_order ks) (IsPermutation-sym ls (in_order ls) (order_moves ls)) (IsPermutation-trans ls ks (in_order ks) (IsPermutation-sym ks ls moved) (order_moves ks)) in
+    IsPermutation-trans (in_order ls) ls (in_order ks) (IsPermutation-sym ls (in_order ls) (order_moves ls))
+    (IsPermutation-trans ls ks (in_order ks) (IsPermutation-sym ks ls moved) (order_moves ks)) in
     let rises : AreRisingBy label_of 0 (in_order ls) =
     rising_in_order ls (λ label. omega (arith, once label 0 (in_order ks) rising, sum_by-IsPermutation (has label) ks (in_order ks) (order_moves ks), sum_by-IsPermutation (has label) ks ls moved)) in
-    rising_same 0 0 (in_order ls) (in_order ks) (λ P. All-permutation P (in_order ls) (in_order ks) back) (λ P. All-permutation P (in_order ks) (in_order ls) (IsPermutation-sym (in_order ls) (in_order ks) back)) rises rising
+    rising_same 0 0 (in_order ls) (in_order ks) (λ P. All-permutation P (in_order ls) (in_order ks) back)
+    (λ P. All-permutation P (in_order ks) (in_order ls) (IsPermutation-sym (in_order ls) (in_order ks) back)) rises rising
 
 -- ---- one more waits
 
@@ -146,9 +151,11 @@ rising_more : (new : Kept) (ks : List Kept) → kept_at new.label (in_order ks) 
 rising_more new ks none rising = rising_put label_of new 0 (in_order ks) (apart_all new.label (in_order ks) none) (omega arith) rising
 
 one_moves : (new : Kept) (ws ks : List Kept) → IsPermutation (new ∷ (ws ++ ks)) ((ws ++ new ∷ []) ++ ks)
-one_moves new ws ks = subst (λ (l : List Kept). IsPermutation (new ∷ (ws ++ ks)) l) (sym (append_assoc ws (new ∷ []) ks)) (IsPermutation-sym (ws ++ new ∷ ks) (new ∷ (ws ++ ks)) (IsPermutation-middle ws new ks))
+one_moves new ws ks = subst (λ (l : List Kept). IsPermutation (new ∷ (ws ++ ks)) l) (sym (append_assoc ws (new ∷ []) ks))
+    (IsPermutation-sym (ws ++ new ∷ ks) (new ∷ (ws ++ ks)) (IsPermutation-middle ws new ks))
 
-pub one_more : (new : Kept) (ws rs : List Kept) (fs : List (Reverse ℕ)) → kept_at new.label (kept_of ws rs fs) ≡ None → AreRisingBy label_of 0 (kept_of ws rs fs) → kept_of (ws ++ new ∷ []) rs fs ≡ put_in new (kept_of ws rs fs)
+pub one_more : (new : Kept) (ws rs : List Kept) (fs : List (Reverse ℕ)) → kept_at new.label (kept_of ws rs fs) ≡ None → AreRisingBy label_of 0 (kept_of ws rs fs)
+    → kept_of (ws ++ new ∷ []) rs fs ≡ put_in new (kept_of ws rs fs)
 one_more new ws rs fs none rising =
     same_kept (new ∷ stored ws rs fs) (stored (ws ++ new ∷ []) rs fs) (rising_more new (stored ws rs fs) none rising) (one_moves new ws (rs ++ map freed_number fs))
 
@@ -186,10 +193,12 @@ pub met_kept : (peer : EdgeId) (ws rs : List Kept) (fs : List (Reverse ℕ)) →
 met_kept peer ws rs fs rest rising =
     let each : met peer (stored ws rs fs) ≡ stored (met peer ws) rs fs =
     map-append (met_one peer) ws (rs ++ map freed_number fs)
-    ∙ ap (λ (l : List Kept). met peer ws ++ l) (map-append (met_one peer) rs (map freed_number fs) ∙ ap (λ (l : List Kept). l ++ met peer (map freed_number fs)) (met_rests peer rs rest) ∙ ap (λ (l : List Kept). rs ++ l) (met_free peer fs)) in
+    ∙ ap (λ (l : List Kept). met peer ws ++ l) (map-append (met_one peer) rs (map freed_number fs)
+    ∙ ap (λ (l : List Kept). l ++ met peer (map freed_number fs)) (met_rests peer rs rest) ∙ ap (λ (l : List Kept). rs ++ l) (met_free peer fs)) in
     let whole : met peer (kept_of ws rs fs) ≡ kept_of (met peer ws) rs fs = map_in_order (met_one peer) (λ k. refl) (stored ws rs fs) ∙ ap in_order each in
     let rises : AreRisingBy label_of 0 (kept_of (met peer ws) rs fs) = subst (AreRisingBy label_of 0) whole (rising_map label_of (met_one peer) (λ k. refl) 0 (kept_of ws rs fs) rising) in
-    same_kept (stored (met peer ws) rs fs) (stored (filter (λ k. not (rests k)) (met peer ws)) (rs ++ filter rests (met peer ws)) fs) rises (some_move rests (met peer ws) rs (map freed_number fs)) ∙ sym whole
+    same_kept (stored (met peer ws) rs fs) (stored (filter (λ k. not (rests k)) (met peer ws)) (rs ++ filter rests (met peer ws)) fs) rises
+    (some_move rests (met peer ws) rs (map freed_number fs)) ∙ sym whole
 
 pub still_wait : (peer : EdgeId) (ks : List Kept) → AllByRecursion (λ k. waits k ≡ true) ks → AllByRecursion (λ k. waits k ≡ true) (filter (λ k. not (rests k)) (met peer ks))
 still_wait peer [] wait = tt
@@ -229,7 +238,8 @@ ticked_free : (fs : List (Reverse ℕ)) → ticked (map freed_number fs) ≡ map
 ticked_free [] = refl
 ticked_free (n ∷ ns) = ap (λ (l : List Kept). freed_number n ∷ l) (ticked_free ns)
 
-pub ticked_kept : (ws rs : List Kept) (fs gs : List (Reverse ℕ)) → AllByRecursion (λ k. waits k ≡ true) ws → AreRisingBy label_of 0 (kept_of ws rs fs) → IsPermutation (map freed_number fs ++ filter is_free (ticked rs)) (map freed_number gs)
+pub ticked_kept : (ws rs : List Kept) (fs gs : List (Reverse ℕ)) → AllByRecursion (λ k. waits k ≡ true) ws → AreRisingBy label_of 0 (kept_of ws rs fs)
+    → IsPermutation (map freed_number fs ++ filter is_free (ticked rs)) (map freed_number gs)
     → kept_of ws (filter (λ k. not (is_free k)) (ticked rs)) gs ≡ ticked (kept_of ws rs fs)
 ticked_kept ws rs fs gs wait rising freed =
     let each : ticked (stored ws rs fs) ≡ stored ws (ticked rs) fs =
@@ -243,7 +253,8 @@ ticked_kept ws rs fs gs wait rising freed =
     let moved : IsPermutation (ticked rs ++ map freed_number fs) (stay ++ map freed_number gs) =
     IsPermutation-trans (ticked rs ++ map freed_number fs) (stay ++ (map freed_number fs ++ go)) (stay ++ map freed_number gs)
     (subst (λ (l : List Kept). IsPermutation (ticked rs ++ map freed_number fs) (stay ++ l)) (append-nil (map freed_number fs ++ go))
-    (subst (λ (l : List Kept). IsPermutation (ticked rs ++ l) (stay ++ ((map freed_number fs ++ go) ++ []))) (append-nil (map freed_number fs)) (some_move is_free (ticked rs) (map freed_number fs) [])))
+    (subst (λ (l : List Kept). IsPermutation (ticked rs ++ l) (stay ++ ((map freed_number fs ++ go) ++ []))) (append-nil (map freed_number fs))
+    (some_move is_free (ticked rs) (map freed_number fs) [])))
     (IsPermutation-append_right stay (map freed_number fs ++ go) (map freed_number gs) freed) in
     same_kept (stored ws (ticked rs) fs) (stored ws stay gs) rises (IsPermutation-append_right ws (ticked rs ++ map freed_number fs) (stay ++ map freed_number gs) moved) ∙ sym whole
 
@@ -319,19 +330,24 @@ find_none [] none = refl
 find_none (k ∷ ks) none = rw none.0 (find_none ks none.1)
 
 -- all of them once the top is taken
-pub top_taken : (n : Reverse ℕ) (ws rs : List Kept) (fs gs : List (Reverse ℕ)) → AreRisingBy label_of 0 (kept_of ws rs fs) → IsPermutation fs (n ∷ gs) → put_in (freed_number n) (kept_of ws rs gs) ≡ kept_of ws rs fs
+pub top_taken : (n : Reverse ℕ) (ws rs : List Kept) (fs gs : List (Reverse ℕ)) → AreRisingBy label_of 0 (kept_of ws rs fs) → IsPermutation fs (n ∷ gs)
+    → put_in (freed_number n) (kept_of ws rs gs) ≡ kept_of ws rs fs
 top_taken n ws rs fs gs rising popped =
     let freed : IsPermutation (map freed_number fs) (freed_number n ∷ map freed_number gs) = IsPermutation-map freed_number fs (n ∷ gs) popped in
-    let behind : IsPermutation ((ws ++ rs) ++ map freed_number fs) ((ws ++ rs) ++ freed_number n ∷ map freed_number gs) = IsPermutation-append_right (ws ++ rs) (map freed_number fs) (freed_number n ∷ map freed_number gs) freed in
+    let behind : IsPermutation ((ws ++ rs) ++ map freed_number fs) ((ws ++ rs) ++ freed_number n ∷ map freed_number gs) =
+    IsPermutation-append_right (ws ++ rs) (map freed_number fs) (freed_number n ∷ map freed_number gs) freed in
     let before : IsPermutation ((ws ++ rs) ++ map freed_number fs) (freed_number n ∷ ((ws ++ rs) ++ map freed_number gs)) =
-    IsPermutation-trans ((ws ++ rs) ++ map freed_number fs) ((ws ++ rs) ++ freed_number n ∷ map freed_number gs) (freed_number n ∷ ((ws ++ rs) ++ map freed_number gs)) behind (IsPermutation-middle (ws ++ rs) (freed_number n) (map freed_number gs)) in
+    IsPermutation-trans ((ws ++ rs) ++ map freed_number fs) ((ws ++ rs) ++ freed_number n ∷ map freed_number gs) (freed_number n ∷ ((ws ++ rs) ++ map freed_number gs)) behind
+    (IsPermutation-middle (ws ++ rs) (freed_number n) (map freed_number gs)) in
     same_kept (stored ws rs fs) (freed_number n ∷ stored ws rs gs) rising (rw (sym (append_assoc ws rs (map freed_number fs)), sym (append_assoc ws rs (map freed_number gs))) before)
 
-pub least_top : (n : Reverse ℕ) (ws rs : List Kept) (gs : List (Reverse ℕ)) → AllByRecursion (λ k. waits k ≡ true) ws → AllByRecursion (λ k. rests k ≡ true) rs → IsUpperBound (λ x y. nat_cmp y.0 x.0) n gs
+pub least_top : (n : Reverse ℕ) (ws rs : List Kept) (gs : List (Reverse ℕ)) → AllByRecursion (λ k. waits k ≡ true) ws → AllByRecursion (λ k. rests k ≡ true) rs
+    → IsUpperBound (λ x y. nat_cmp y.0 x.0) n gs
     → least_free (put_in (freed_number n) (kept_of ws rs gs)) ≡ Some n.0
 least_top n ws rs gs wait rest bound =
     ap (option_map label_of) (find_first n (kept_of ws rs gs) (all_in_order (IsAbove n.0) (stored ws rs gs)
-    (all_append (IsAbove n.0) ws (rs ++ map freed_number gs) (unfree_above n.0 ws (unfree_waits ws wait)) (all_append (IsAbove n.0) rs (map freed_number gs) (unfree_above n.0 rs (unfree_rests rs rest)) (free_above n gs bound)))))
+    (all_append (IsAbove n.0) ws (rs ++ map freed_number gs) (unfree_above n.0 ws (unfree_waits ws wait))
+    (all_append (IsAbove n.0) rs (map freed_number gs) (unfree_above n.0 rs (unfree_rests rs rest)) (free_above n gs bound)))))
 
 pub least_none : (ws rs : List Kept) → AllByRecursion (λ k. waits k ≡ true) ws → AllByRecursion (λ k. rests k ≡ true) rs → least_free (kept_of ws rs []) ≡ None
 least_none ws rs wait rest =
@@ -369,7 +385,8 @@ long_numbers (n ∷ ns) = ap suc (long_numbers ns)
 pub long_kept : (ws rs : List Kept) (fs : List (Reverse ℕ)) → length (kept_of ws rs fs) ≡ length ws + (length rs + length fs)
 long_kept ws rs fs = omega (arith, long_in_order (stored ws rs fs), length-append ws (rs ++ map freed_number fs), length-append rs (map freed_number fs), long_numbers fs)
 
-pub held_more : (new : Kept) (a now b c : ℕ) (ws vs rs : List Kept) (fs : List (Reverse ℕ)) → IsHeldKept a b c ws rs fs → kept_at new.label (kept_of ws rs fs) ≡ None → waits new ≡ true → length (kept_of ws rs fs) < most_kept → vs ≡ ws ++ new ∷ [] → a ≤ now
+pub held_more : (new : Kept) (a now b c : ℕ) (ws vs rs : List Kept) (fs : List (Reverse ℕ)) → IsHeldKept a b c ws rs fs → kept_at new.label (kept_of ws rs fs) ≡ None → waits new ≡ true
+    → length (kept_of ws rs fs) < most_kept → vs ≡ ws ++ new ∷ [] → a ≤ now
     → IsHeldKept now b c vs rs fs
 held_more new a now b c ws vs rs fs held none wait more is room =
     let whole : kept_of vs rs fs ≡ put_in new (kept_of ws rs fs) = ap (λ (l : List Kept). kept_of l rs fs) is ∙ one_more new ws rs fs none held.rising in
@@ -385,7 +402,8 @@ held_more new a now b c ws vs rs fs held none wait more is room =
       least_on_top = held.least_on_top;
     }
 
-pub held_met : (peer : EdgeId) (a now b more c : ℕ) (ws vs rs ss : List Kept) (fs : List (Reverse ℕ)) → IsHeldKept a b c ws rs fs → vs ≡ filter (λ k. not (rests k)) (met peer ws) → ss ≡ rs ++ filter rests (met peer ws) → now ≡ a → b ≤ more
+pub held_met : (peer : EdgeId) (a now b more c : ℕ) (ws vs rs ss : List Kept) (fs : List (Reverse ℕ)) → IsHeldKept a b c ws rs fs → vs ≡ filter (λ k. not (rests k)) (met peer ws) → ss
+    ≡ rs ++ filter rests (met peer ws) → now ≡ a → b ≤ more
     → IsHeldKept now more c vs ss fs
 held_met peer a now b more c ws vs rs ss fs held is also same_room room =
     let whole : kept_of vs ss fs ≡ met peer (kept_of ws rs fs) = rw (is, also) (met_kept peer ws rs fs held.rest held.rising) in
@@ -401,7 +419,8 @@ held_met peer a now b more c ws vs rs ss fs held is also same_room room =
       least_on_top = held.least_on_top;
     }
 
-pub held_ticked : (a b now c more : ℕ) (ws rs ss : List Kept) (fs gs : List (Reverse ℕ)) → IsHeldKept a b c ws rs fs → ss ≡ filter (λ k. not (is_free k)) (ticked rs) → IsPermutation (map freed_number fs ++ filter is_free (ticked rs)) (map freed_number gs)
+pub held_ticked : (a b now c more : ℕ) (ws rs ss : List Kept) (fs gs : List (Reverse ℕ)) → IsHeldKept a b c ws rs fs → ss ≡ filter (λ k. not (is_free k)) (ticked rs)
+    → IsPermutation (map freed_number fs ++ filter is_free (ticked rs)) (map freed_number gs)
     → All (λ n. IsLabel n.0) gs → IsHeap (λ x y. nat_cmp y.0 x.0) gs → now ≡ b → c ≤ more → IsHeldKept a now more ws ss gs
 held_ticked a b now c more ws rs ss fs gs held is freed labels top same_room room =
     let whole : kept_of ws ss gs ≡ ticked (kept_of ws rs fs) = rw is (ticked_kept ws rs fs gs held.wait held.rising freed) in
@@ -417,7 +436,8 @@ held_ticked a b now c more ws rs ss fs gs held is freed labels top same_room roo
       least_on_top = top;
     }
 
-pub held_popped : (n : Reverse ℕ) (a b c now : ℕ) (ws rs : List Kept) (fs gs : List (Reverse ℕ)) → IsHeldKept a b c ws rs fs → IsPermutation fs (n ∷ gs) → IsHeap (λ x y. nat_cmp y.0 x.0) gs → now ≡ c → IsHeldKept a b now ws rs gs
+pub held_popped : (n : Reverse ℕ) (a b c now : ℕ) (ws rs : List Kept) (fs gs : List (Reverse ℕ)) → IsHeldKept a b c ws rs fs → IsPermutation fs (n ∷ gs)
+    → IsHeap (λ x y. nat_cmp y.0 x.0) gs → now ≡ c → IsHeldKept a b now ws rs gs
 held_popped n a b c now ws rs fs gs held popped top same_room = record {
   few = omega (arith, held.few, length_permutation fs (n ∷ gs) popped);
   may_wait = held.may_wait;
@@ -438,7 +458,8 @@ pub record IsTaken (label : ℕ) (kept now : List Kept) : Type 0 where
   pub rest : now ≡ without label kept
   pub free : kept_at label kept ≡ Some Free
 
-pub taken : (n : Reverse ℕ) (a b c : ℕ) (ws rs : List Kept) (fs gs : List (Reverse ℕ)) → IsHeldKept a b c ws rs fs → IsPermutation fs (n ∷ gs) → IsUpperBound (λ x y. nat_cmp y.0 x.0) n gs → IsTaken n.0 (kept_of ws rs fs) (kept_of ws rs gs)
+pub taken : (n : Reverse ℕ) (a b c : ℕ) (ws rs : List Kept) (fs gs : List (Reverse ℕ)) → IsHeldKept a b c ws rs fs → IsPermutation fs (n ∷ gs)
+    → IsUpperBound (λ x y. nat_cmp y.0 x.0) n gs → IsTaken n.0 (kept_of ws rs fs) (kept_of ws rs gs)
 taken n a b c ws rs fs gs held popped bound =
     let whole : put_in (freed_number n) (kept_of ws rs gs) ≡ kept_of ws rs fs = top_taken n ws rs fs gs held.rising popped in
     let rising : AreRisingBy label_of 0 (put_in (freed_number n) (kept_of ws rs gs)) = subst (AreRisingBy label_of 0) (sym whole) held.rising in
@@ -453,7 +474,8 @@ unwaited ws rs [] wait rest none = least_none ws rs wait rest
 unwaited ws rs (f ∷ fs) wait rest none = absurd (omega (arith, none))
 
 -- a number stands on the heap exactly where one is free
-pub free_here : (ws rs : List Kept) (fs : List (Reverse ℕ)) → AllByRecursion (λ k. waits k ≡ true) ws → AllByRecursion (λ k. rests k ≡ true) rs → is_some (least_free (kept_of ws rs fs)) ≡ not (length fs == 0)
+pub free_here : (ws rs : List Kept) (fs : List (Reverse ℕ)) → AllByRecursion (λ k. waits k ≡ true) ws → AllByRecursion (λ k. rests k ≡ true) rs
+    → is_some (least_free (kept_of ws rs fs)) ≡ not (length fs == 0)
 free_here ws rs fs wait rest = has_free (kept_of ws rs fs) ∙ any_order (stored ws rs fs) ∙ any_before ws (rs ++ map freed_number fs) (unfree_waits ws wait) ∙ any_before rs (map freed_number fs) (unfree_rests rs rest) ∙ any_number fs where
   has_free : (ks : List Kept) → is_some (least_free ks) ≡ list_any is_free ks
   has_free [] = refl
@@ -485,7 +507,8 @@ freed_more old ks i k n gs hs within is free number so_far pushed =
     let next : old ++ filter is_free (take (i + 1) ks) ≡ (old ++ filter is_free (take i ks)) ++ k ∷ [] =
     ap (λ (l : List Kept). old ++ l) (next_filtered ks i k within is ∙ rw free refl) ∙ sym (append_assoc old (filter is_free (take i ks)) (k ∷ [])) in
     subst (λ (l : List Kept). IsPermutation l (map freed_number hs)) (sym next)
-    (IsPermutation-push_more (old ++ filter is_free (take i ks)) (map freed_number gs) (map freed_number hs) k so_far (subst (λ (x : Kept). IsPermutation (x ∷ map freed_number gs) (map freed_number hs)) one (IsPermutation-map freed_number (n ∷ gs) hs pushed)))
+    (IsPermutation-push_more (old ++ filter is_free (take i ks)) (map freed_number gs) (map freed_number hs) k so_far
+    (subst (λ (x : Kept). IsPermutation (x ∷ map freed_number gs) (map freed_number hs)) one (IsPermutation-map freed_number (n ∷ gs) hs pushed)))
   where
     state_free : (s : KeptState) → is_free_state s ≡ true → s ≡ Free
     state_free (Waits peer) is = absurd (true≢false (sym is))
@@ -499,16 +522,18 @@ freed_same old ks i k gs within is other so_far =
     subst (λ (l : List Kept). IsPermutation (old ++ l) (map freed_number gs)) (sym next) so_far
 
 -- one more is kept, as there is room
-pub kept_more : (label : ℕ) (peer : EdgeId) (ws vs rs : List Kept) (fs : List (Reverse ℕ)) (kept : List Kept) → AreRisingBy label_of 0 (kept_of ws rs fs) → vs ≡ ws ++ waiting label peer ∷ [] → kept_of ws rs fs ≡ kept → kept_at label kept ≡ None → length kept < most_kept
+pub kept_more : (label : ℕ) (peer : EdgeId) (ws vs rs : List Kept) (fs : List (Reverse ℕ)) (kept : List Kept) → AreRisingBy label_of 0 (kept_of ws rs fs) → vs
+    ≡ ws ++ waiting label peer ∷ [] → kept_of ws rs fs ≡ kept → kept_at label kept ≡ None → length kept < most_kept
     → kept_of vs rs fs ≡ keeps label peer kept
 kept_more label peer ws vs rs fs kept rising is view none few =
     let room : nat_lt (length kept) most_kept ≡ true = lt-ltb (length kept) most_kept few in
-    ap (λ (l : List Kept). kept_of l rs fs) is ∙ one_more (waiting label peer) ws rs fs (ap (kept_at label) view ∙ none) rising ∙ ap (λ (l : List Kept). put_in (waiting label peer) l) view ∙ rw room refl
+    ap (λ (l : List Kept). kept_of l rs fs) is ∙ one_more (waiting label peer) ws rs fs (ap (kept_at label) view ∙ none) rising
+    ∙ ap (λ (l : List Kept). put_in (waiting label peer) l) view ∙ rw room refl
 
 -- what the top is as a label
 pub number_of : (n : Reverse ℕ) (fs gs : List (Reverse ℕ)) → IsPermutation fs (n ∷ gs) → All (λ m. IsLabel m.0) fs → IsLabel n.0
 number_of n fs gs popped labels = All-head (λ m. IsLabel m.0) n gs (All-permutation (λ m. IsLabel m.0) fs (n ∷ gs) popped labels)
 
 pub label_of_some : (number : ℕ) (r : Option ℕ) → (IsSome r ↔ IsLabel number) → IfSome r (λ label. label ≡ number) → IsLabel number → r ≡ Some number
-label_of_some number None both same_number label = absurd (true≢false (sym (both.1 label)))
-label_of_some number (Some l) both same_number label = ap Some same_number
+label_of_some number None both same label = absurd (true≢false (sym (both.1 label)))
+label_of_some number (Some l) both same label = ap Some same

@@ -41,7 +41,8 @@ told P (Repeated at field) tells = inl (record { place = at; cause = cause.Repea
 told P NoMemory tells = inr refl
 
 -- where a PDU is spelled, it is the answer
-pub accepts : (bytes : List ℕ) (max : ℕ) (r : Result Pdu DecodeFault) → max ≤ 4096 → IfOk r (Spells bytes max) → IfErr r (TellsFault (FirstFault bytes max)) → (pdu : Pdu) → Spells bytes max pdu → IsUnlessNoMemory r (Ok pdu)
+pub accepts : (bytes : List ℕ) (max : ℕ) (r : Result Pdu DecodeFault) → max ≤ 4096 → IfOk r (Spells bytes max) → IfErr r (TellsFault (FirstFault bytes max)) → (pdu : Pdu)
+    → Spells bytes max pdu → IsUnlessNoMemory r (Ok pdu)
 accepts bytes max (Ok p) small spelled fault pdu is = inl (ap Ok (one_pdu bytes max p pdu spelled is))
 accepts bytes max (Err e) small spelled fault pdu is = elim (told (FirstFault bytes max) e fault) [
   | inl w ↦ absurd (never_both bytes max pdu w.0 small is w.1)
@@ -49,7 +50,8 @@ accepts bytes max (Err e) small spelled fault pdu is = elim (told (FirstFault by
 ]
 
 -- where a fault is the first, it is the answer
-pub refuses : (bytes : List ℕ) (max : ℕ) (r : Result Pdu DecodeFault) → max ≤ 4096 → IfOk r (Spells bytes max) → IfErr r (TellsFault (FirstFault bytes max)) → (f : Fault) → FirstFault bytes max f → IsUnlessNoMemory r (Err (refusal_of f))
+pub refuses : (bytes : List ℕ) (max : ℕ) (r : Result Pdu DecodeFault) → max ≤ 4096 → IfOk r (Spells bytes max) → IfErr r (TellsFault (FirstFault bytes max)) → (f : Fault)
+    → FirstFault bytes max f → IsUnlessNoMemory r (Err (refusal_of f))
 refuses bytes max (Ok p) small spelled fault f is = absurd (never_both bytes max p f small spelled is)
 refuses bytes max (Err e) small spelled fault f is = elim (told (FirstFault bytes max) e fault) [
   | inl w ↦ inl (ap Err (w.2 ∙ ap refusal_of (one_first (Names bytes max) w.0 f w.1 is)))

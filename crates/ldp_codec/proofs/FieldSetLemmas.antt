@@ -25,7 +25,8 @@ has_kept places f other within absent = elim (cases_eq (place_of other) (place_o
     has_at : ℕ → Bool
     has_at n = get_or (set places (place_of f) true) n false
 
-pub may_come : (row : Row) (tlv : ℕ) (f : Field) (places : List Bool) (ts : List Tlv) → listed row tlv ≡ Some f → has places f ≡ false → HoldsListed row places ts → MayComeAgain (listed row tlv) (count_of tlv ts)
+pub may_come : (row : Row) (tlv : ℕ) (f : Field) (places : List Bool) (ts : List Tlv) → listed row tlv ≡ Some f → has places f ≡ false → HoldsListed row places ts
+    → MayComeAgain (listed row tlv) (count_of tlv ts)
 may_come row tlv f places ts is_listed absent holds =
     let none : count_of tlv ts ≡ 0 = holds tlv f is_listed absent in
     subst (λ (o : Option Field). MayComeAgain o (count_of tlv ts)) (sym is_listed) (subst (λ (n : ℕ). n < most f) (sym none) (least_most f))
@@ -35,7 +36,8 @@ pub holds_none : (row : Row) (places : List Bool) (ts : List Tlv) → IsJoined [
 holds_none row places ts joined = λ tlv f is_listed absent. ap (count_of tlv) (joined_none ts joined)
 
 -- the same of octets that are equal
-pub holds_before : (row : Row) (places : List Bool) (octets before : List ℕ) → before ≡ octets → ((ts : List Tlv) → IsJoined octets ts → HoldsListed row places ts) → (ts : List Tlv) → IsJoined before ts → HoldsListed row places ts
+pub holds_before : (row : Row) (places : List Bool) (octets before : List ℕ) → before ≡ octets → ((ts : List Tlv) → IsJoined octets ts → HoldsListed row places ts) → (ts : List Tlv)
+    → IsJoined before ts → HoldsListed row places ts
 holds_before row places octets before is holds = λ ts joined. holds ts (subst (λ (l : List ℕ). IsJoined l ts) is joined)
 
 -- one more came, and was put into the set
@@ -51,8 +53,10 @@ holds_one row old new ts t holds put = λ tlv f is_listed absent.
           omega (arith, count-append tlv ts (t ∷ []), none, before)
     ]
 
-pub holds_more : (row : Row) (body : List ℕ) (at word size : ℕ) (unknown : Option ℕ) (old new : List Bool) → at ≤ length body → IsWalked row body (take at body) unknown → ((ts : List Tlv) → IsJoined (take at body) ts → IsTaken row body ts (drop at body) word size)
-    → ((ts : List Tlv) → IsJoined (take at body) ts → HoldsListed row old ts) → IsPutIn (listed row (type_in word)) old new → (ts : List Tlv) → IsJoined (take (at + size) body) ts → HoldsListed row new ts
+pub holds_more : (row : Row) (body : List ℕ) (at word size : ℕ) (unknown : Option ℕ) (old new : List Bool) → at ≤ length body → IsWalked row body (take at body) unknown
+    → ((ts : List Tlv) → IsJoined (take at body) ts → IsTaken row body ts (drop at body) word size)
+    → ((ts : List Tlv) → IsJoined (take at body) ts → HoldsListed row old ts) → IsPutIn (listed row (type_in word)) old new → (ts : List Tlv) → IsJoined (take (at + size) body) ts
+    → HoldsListed row new ts
 holds_more row body at word size unknown old new within w takes holds put = λ ts joined.
     let t = takes w.tlvs w.joined in
     let tlv : Tlv = record { word = word; value = t.value } in

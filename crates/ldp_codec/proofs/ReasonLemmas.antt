@@ -56,26 +56,31 @@ none_listed (Some f) = tt
 pub fec_absent : (k : MessageKind) (ts : List Tlv) → None ≡ value_of fec ts → OfBoth (fec_value (row_of k) ts) None IsFecValue
 fec_absent k ts e = subst (λ (v : Option (List ℕ)). OfBoth (where_listed (listed (row_of k) fec) v) None IsFecValue) e (none_listed (listed (row_of k) fec))
 
-told_there : (body value : List ℕ) (o : Option Field) (r : Option FecValue) → (o ≡ None → ⊥) → ((f : Field) → o ≡ Some f → f ≡ field.Fec) → HasValue body o value → ((told : FecValue) → IsFecValue value told → r ≡ Some told) → OfBoth (where_listed o (Some value)) r IsFecValue
+told_there : (body value : List ℕ) (o : Option Field) (r : Option FecValue) → (o ≡ None → ⊥) → ((f : Field) → o ≡ Some f → f ≡ field.Fec) → HasValue body o value
+    → ((told : FecValue) → IsFecValue value told → r ≡ Some told) → OfBoth (where_listed o (Some value)) r IsFecValue
 told_there body value None r some only has told = absurd (some refl)
 told_there body value (Some f) r some only has told =
     let fits : HasValue body (Some field.Fec) value = subst (λ (g : Field). HasValue body (Some g) value) (only f refl) has in
     let is = fits.1 in
     subst (λ (x : Option FecValue). OfBoth (Some value) x IsFecValue) (sym (told is.told is.is)) is.is
 
-pub fec_there : (k : MessageKind) (body value : List ℕ) (ts : List Tlv) (r : Option FecValue) → (listed (row_of k) fec ≡ None → ⊥) → IsFaultless (row_of k) body ts → Some value ≡ value_of fec ts → ((told : FecValue) → IsFecValue value told → r ≡ Some told) → OfBoth (fec_value (row_of k) ts) r IsFecValue
+pub fec_there : (k : MessageKind) (body value : List ℕ) (ts : List Tlv) (r : Option FecValue) → (listed (row_of k) fec ≡ None → ⊥) → IsFaultless (row_of k) body ts → Some value
+    ≡ value_of fec ts → ((told : FecValue) → IsFecValue value told → r ≡ Some told) → OfBoth (fec_value (row_of k) ts) r IsFecValue
 fec_there k body value ts r some faultless e told =
     subst (λ (v : Option (List ℕ)). OfBoth (where_listed (listed (row_of k) fec) v) r IsFecValue) e
     (told_there body value (listed (row_of k) fec) r some (listed_fec (row_of k)) (value_fits (row_of k) body ts fec value faultless.values (sym e)) told)
 
 -- the first reason
-pub reason_unknown : (k : MessageKind) (ts : List Tlv) (told : Option FecValue) (tlv : ℕ) → OfBoth (fec_value (row_of k) ts) told IsFecValue → Some tlv ≡ first_unknown (row_of k) ts → IsReason k ts (Some (UnknownTlv tlv))
+pub reason_unknown : (k : MessageKind) (ts : List Tlv) (told : Option FecValue) (tlv : ℕ) → OfBoth (fec_value (row_of k) ts) told IsFecValue → Some tlv ≡ first_unknown (row_of k) ts
+    → IsReason k ts (Some (UnknownTlv tlv))
 reason_unknown k ts told tlv is e = record { told = told; is_told = is; is = ap (λ (o : Option ℕ). reason_of o (missing (row_of k) ts) (fec_reason k told)) e }
 
-pub reason_missing : (k : MessageKind) (ts : List Tlv) (told : Option FecValue) (f : Field) → OfBoth (fec_value (row_of k) ts) told IsFecValue → None ≡ first_unknown (row_of k) ts → Some f ≡ missing (row_of k) ts → IsReason k ts (Some (Missing f))
+pub reason_missing : (k : MessageKind) (ts : List Tlv) (told : Option FecValue) (f : Field) → OfBoth (fec_value (row_of k) ts) told IsFecValue → None ≡ first_unknown (row_of k) ts
+    → Some f ≡ missing (row_of k) ts → IsReason k ts (Some (Missing f))
 reason_missing k ts told f is e m = record { told = told; is_told = is; is = λ i. reason_of (e i) (m i) (fec_reason k told) }
 
-pub reason_last : (k : MessageKind) (ts : List Tlv) (told : Option FecValue) → OfBoth (fec_value (row_of k) ts) told IsFecValue → None ≡ first_unknown (row_of k) ts → None ≡ missing (row_of k) ts → IsReason k ts (fec_reason k told)
+pub reason_last : (k : MessageKind) (ts : List Tlv) (told : Option FecValue) → OfBoth (fec_value (row_of k) ts) told IsFecValue → None ≡ first_unknown (row_of k) ts → None
+    ≡ missing (row_of k) ts → IsReason k ts (fec_reason k told)
 reason_last k ts told is e m = record { told = told; is_told = is; is = λ i. reason_of (e i) (m i) (fec_reason k told) }
 
 -- the FEC of a processed message is an element
@@ -86,15 +91,18 @@ element_is (Some v) None never is = absurd is
 element_is (Some v) (Some (Pw pw)) never is = is
 element_is (Some v) (Some (Foreign first)) never is = absurd (never first refl)
 
-pub has_element : (k : MessageKind) (body : List ℕ) (r : Option FecValue) → IsComplete k body → ((ts : List Tlv) → IsJoined body ts → IsFaultless (row_of k) body ts → OfBoth (fec_value (row_of k) ts) r IsFecValue) → HasElement k body (element_in r)
+pub has_element : (k : MessageKind) (body : List ℕ) (r : Option FecValue) → IsComplete k body
+    → ((ts : List Tlv) → IsJoined body ts → IsFaultless (row_of k) body ts → OfBoth (fec_value (row_of k) ts) r IsFecValue) → HasElement k body (element_in r)
 has_element k body r w tells = λ ts joined.
     let same : w.tlvs ≡ ts = joined_once body w.tlvs ts w.joined joined in
     let is : OfBoth (fec_value (row_of k) w.tlvs) r IsFecValue = tells w.tlvs w.joined w.faultless in
     let none = no_reason _ _ _ w.reason.is in
-    subst (λ (us : List Tlv). OfBoth (fec_value (row_of k) us) (element_in r) IsPwFec) same (element_is (fec_value (row_of k) w.tlvs) r (told_pw k (fec_value (row_of k) w.tlvs) w.reason.told r none.fec w.reason.is_told is) is)
+    subst (λ (us : List Tlv). OfBoth (fec_value (row_of k) us) (element_in r) IsPwFec) same
+    (element_is (fec_value (row_of k) w.tlvs) r (told_pw k (fec_value (row_of k) w.tlvs) w.reason.told r none.fec w.reason.is_told is) is)
 
 -- a message that is not processed
-pub unprocessed : (k : MessageKind) (body : List ℕ) (unknown : Option ℕ) (why : Option Why) (reason : Why) (w : IsWalked (row_of k) body body unknown) → IsReason k w.tlvs why → why ≡ Some reason → (id : ℕ) → IsRead k id body (Unprocessed id (type_of k) reason)
+pub unprocessed : (k : MessageKind) (body : List ℕ) (unknown : Option ℕ) (why : Option Why) (reason : Why) (w : IsWalked (row_of k) body body unknown) → IsReason k w.tlvs why → why
+    ≡ Some reason → (id : ℕ) → IsRead k id body (Unprocessed id (type_of k) reason)
 unprocessed k body unknown why reason w is e = λ id. record { tlvs = w.tlvs; joined = w.joined; faultless = w.faultless; why = Some reason; reason = subst (IsReason k w.tlvs) e is; tells = refl }
 
 -- a message that is processed
@@ -121,13 +129,15 @@ both_some P (Some v) None some is = absurd is
 both_some P (Some v) (Some x) some is = refl
 
 -- the PWid element of a message that needs a FEC is there
-pub needed_element : (k : MessageKind) (body : List ℕ) (pw : Option PwFec) → IsComplete k body → listed (row_of k) fec ≡ Some field.Fec → (row_of k).instead ≡ [] → is_in fec (row_of k).needed ≡ true → HasElement k body pw → IsSome pw
+pub needed_element : (k : MessageKind) (body : List ℕ) (pw : Option PwFec) → IsComplete k body → listed (row_of k) fec ≡ Some field.Fec → (row_of k).instead ≡ []
+    → is_in fec (row_of k).needed ≡ true → HasElement k body pw → IsSome pw
 needed_element k body pw w is_listed alone needed has =
     let is : OfBoth (value_of fec w.tlvs) pw IsPwFec = subst (λ (o : Option Field). OfBoth (where_listed o (value_of fec w.tlvs)) pw IsPwFec) is_listed (has w.tlvs w.joined) in
     both_some IsPwFec (value_of fec w.tlvs) pw (needed_some k fec body w alone needed) is
 
 -- the label of a message that is processed is looked at
-pub label_is : (k : MessageKind) (body value : List ℕ) → IsComplete k body → listed (row_of k) label ≡ Some field.Label → listed (row_of k) fec ≡ Some field.Fec → HasValue body (listed (row_of k) label) value → IsLabel (four_at 0 value)
+pub label_is : (k : MessageKind) (body value : List ℕ) → IsComplete k body → listed (row_of k) label ≡ Some field.Label → listed (row_of k) fec ≡ Some field.Fec
+    → HasValue body (listed (row_of k) label) value → IsLabel (four_at 0 value)
 label_is k body value w is_listed with_fec has =
     by ((subst (λ (o : Option Field). HasValue body o value) is_listed has).1)
   where

@@ -48,7 +48,8 @@ all_told zero [] few fits = refl
 all_told zero (s ∷ ss) few fits = absurd (omega (arith, few, octets_of s (flat_map spell_message ss)))
 all_told (suc most) [] few fits = refl
 all_told (suc most) (s ∷ ss) few fits =
-    one_told most s (flat_map spell_message ss) fits.0 ∙ ap (λ (l : List Spelling). s ∷ l) (all_told most ss (omega (arith, few, octets_of s (flat_map spell_message ss), length-append (spell_message s) (flat_map spell_message ss))) fits.1)
+    one_told most s (flat_map spell_message ss) fits.0
+    ∙ ap (λ (l : List Spelling). s ∷ l) (all_told most ss (omega (arith, few, octets_of s (flat_map spell_message ss), length-append (spell_message s) (flat_map spell_message ss))) fits.1)
 
 -- octets that are messages are these
 pub are_told : (body : List ℕ) (ss : List Spelling) → ArePassed body ss → spellings_of body ≡ ss
@@ -61,7 +62,8 @@ pub passed_of_counted : (body : List ℕ) (count : ℕ) → AreCounted body coun
 passed_of_counted body count c = subst (ArePassed body) (sym (are_told body c.spellings c.passed)) c.passed
 
 -- a right header and messages without fault behind it are a PDU
-pub view_spelled : (bytes body : List ℕ) (max count : ℕ) (id : LdpId) → length id.router.0 ≡ 4 → id.space < 65536 → IsFramed bytes max (id.router.0 ++ two id.space) body → AreCounted body count → IsViewOf bytes max (record { id = id; spellings = spellings_of body })
+pub view_spelled : (bytes body : List ℕ) (max count : ℕ) (id : LdpId) → length id.router.0 ≡ 4 → id.space < 65536 → IsFramed bytes max (id.router.0 ++ two id.space) body
+    → AreCounted body count → IsViewOf bytes max (record { id = id; spellings = spellings_of body })
 view_spelled bytes body max count id router space framed counted =
     let passed = passed_of_counted body count counted in
     let there = stand_there (spellings_of body) passed.sound in
@@ -128,7 +130,8 @@ pub record IsFirstRead (octets : List ℕ) (message : Spelling) (rest : List ℕ
   pub sound : IsSoundSpelling message
   pub first : IsFirstOf octets message rest
 
-pub first_read : (octets front : List ℕ) (word len number : ℕ) (rest : List ℕ) → ArePassed octets (spellings_of octets) → 0 < length octets → word ≡ two_at 0 octets → len ≡ two_at 2 octets → number ≡ four_at 4 octets → front ≡ take (4 + len) octets → rest ≡ drop (4 + len) octets
+pub first_read : (octets front : List ℕ) (word len number : ℕ) (rest : List ℕ) → ArePassed octets (spellings_of octets) → 0 < length octets → word ≡ two_at 0 octets → len
+    ≡ two_at 2 octets → number ≡ four_at 4 octets → front ≡ take (4 + len) octets → rest ≡ drop (4 + len) octets
     → IsFirstRead octets (record { word = word; id = number; body = drop 8 front }) rest
 first_read octets front word len number rest p some word_is len_is number_is front_is rest_is =
     let f = has_first octets p some in

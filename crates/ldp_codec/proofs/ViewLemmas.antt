@@ -26,7 +26,8 @@ sound_as : (o : Option MessageKind) (body : List ℕ) (unknown : Option ℕ) →
 sound_as None body unknown walked = tt
 sound_as (Some kind) body unknown walked = record { tlvs = walked.tlvs; joined = walked.joined; faultless = walked.faultless }
 
-pub passed_here : (rest body : List ℕ) (word id : ℕ) (o : Option MessageKind) (unknown : Option ℕ) → o ≡ kind_of (word % 2 ^ 15) → IsMessageSplit rest word id body → IsWalkedAs o body unknown → IsMessagePassed rest (8 + length body)
+pub passed_here : (rest body : List ℕ) (word id : ℕ) (o : Option MessageKind) (unknown : Option ℕ) → o ≡ kind_of (word % 2 ^ 15) → IsMessageSplit rest word id body
+    → IsWalkedAs o body unknown → IsMessagePassed rest (8 + length body)
 passed_here rest body word id o unknown known s walked = record {
   spelling = record { word = word; id = id; body = body };
   more = s.more;
@@ -42,7 +43,10 @@ record StandsThere (s : Spelling) : Type 0 where
   stands : StandsFor s message
 
 stands_as : (o : Option MessageKind) (s : Spelling) → kind_of (s.word % 2 ^ 15) ≡ o → IsSoundAs o s.body → StandsThere s
-stands_as None s known sound = record { message = message.Other s.id (bit 15 s.word) (s.word % 2 ^ 15); stands = subst (λ (k : Option MessageKind). StandsAs k s (message.Other s.id (bit 15 s.word) (s.word % 2 ^ 15))) (sym known) refl }
+stands_as None s known sound = record {
+  message = message.Other s.id (bit 15 s.word) (s.word % 2 ^ 15);
+  stands = subst (λ (k : Option MessageKind). StandsAs k s (message.Other s.id (bit 15 s.word) (s.word % 2 ^ 15))) (sym known) refl;
+}
 stands_as (Some kind) s known sound =
     let told = read_as kind s.id s.body sound.tlvs sound.joined sound.faultless in
     record { message = told.message; stands = subst (λ (k : Option MessageKind). StandsAs k s told.message) (sym known) told.is }
@@ -85,7 +89,8 @@ passes_more body at size count so p =
       };
     }
 
-pub passes_fault : (body : List ℕ) (at count : ℕ) (f : Fault) → CountedTo body at count → ((before : List Spelling) → IsFirstMessageFault before (drop at body) f) → IsFirst (NamesMessages body) (moved at f)
+pub passes_fault : (body : List ℕ) (at count : ℕ) (f : Fault) → CountedTo body at count → ((before : List Spelling) → IsFirstMessageFault before (drop at body) f)
+    → IsFirst (NamesMessages body) (moved at f)
 passes_fault body at count f so faults =
     let there = stand_there so.counted.spellings so.counted.passed.sound in
     let are : AreMessages (take at body) there.messages = record { spellings = so.counted.spellings; spelled = so.counted.passed.spelled; fit = so.counted.passed.fit; stand = there.stand } in

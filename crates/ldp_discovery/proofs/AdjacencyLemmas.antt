@@ -31,7 +31,8 @@ mapped f (x ∷ xs) zero d within = refl
 mapped f (x ∷ xs) (suc i) d within = mapped f xs i d (omega (arith, within))
 
 -- one adjacency is another one
-changed : (xs : List Adjacency) (place peer : ℕ) (f : Adjacency → Adjacency) → peer < length xs → get_or (set xs place (f (get_or xs place unknown))) peer unknown ≡ (if place == peer then f (get_or xs peer unknown) else get_or xs peer unknown)
+changed : (xs : List Adjacency) (place peer : ℕ) (f : Adjacency → Adjacency) → peer < length xs → get_or (set xs place (f (get_or xs place unknown))) peer unknown
+    ≡ (if place == peer then f (get_or xs peer unknown) else get_or xs peer unknown)
 changed xs place peer f within = elim (cases_Bool (nat_eq place peer)) [
   | inl same ↦
       let at : place ≡ peer = eqb-true place peer same in

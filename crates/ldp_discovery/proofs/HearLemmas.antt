@@ -19,7 +19,8 @@ Accepts octets result = (pdu : Pdu) → Spells octets 4096 pdu → IsUnlessNoMem
 same_of : (a b : Pdu) → ◌≡◌ {A = Result Pdu DecodeFault} (Ok a) (Ok b) → a ≡ b
 same_of a b e = cc
 
-pub says_pdu : (address : Addr) (octets : List ℕ) (pdu : Pdu) (verdict : Result ℕ HelloFault) → Spells octets 4096 pdu → Accepts octets (Ok pdu) → verdict ≡ hold_in address pdu → Says address octets verdict
+pub says_pdu : (address : Addr) (octets : List ℕ) (pdu : Pdu) (verdict : Result ℕ HelloFault) → Spells octets 4096 pdu → Accepts octets (Ok pdu) → verdict ≡ hold_in address pdu
+    → Says address octets verdict
 says_pdu address octets pdu verdict spells accepts is = record {
   spelled = λ other spelled. is ∙ of_answer other (accepts other spelled);
   other = λ none. absurd (none pdu spells);
@@ -50,5 +51,6 @@ sent_by address id hold = rw (same_octets address.0) refl
 pub hellos_heard : HellosAreHeard
 hellos_heard address id hold verdict four few short says =
     says.spelled (record { id = identifier address; messages = hello_of address id hold ∷ [] })
-    (written_is_read.read 4096 (hello_of address id hold) (identifier address) (omega arith) refl (few, short, four) (record { router = four; space = omega arith }) (omega (arith, hello_length address id hold four)))
+    (written_is_read.read 4096 (hello_of address id hold) (identifier address) (omega arith) refl (few, short, four) (record { router = four; space = omega arith })
+    (omega (arith, hello_length address id hold four)))
     ∙ sent_by address id hold

@@ -50,5 +50,6 @@ one_more ended known place x here within is lapsed so_far peer = elim (cases_Boo
 pub started : (n peer : ℕ) (known : List Adjacency) → get_or (replicate n false) peer false ≡ lapsed_below 0 known peer
 started n peer known = none_lapsed n peer ∙ sym (none_below known peer)
 
-pub ended_all : (ended : List Bool) (known : List Adjacency) (count : ℕ) → length known ≤ count → ((peer : ℕ) → get_or ended peer false ≡ lapsed_below count known peer) → (peer : ℕ) → get_or ended peer false ≡ lapses (get_or known peer unknown)
+pub ended_all : (ended : List Bool) (known : List Adjacency) (count : ℕ) → length known ≤ count → ((peer : ℕ) → get_or ended peer false ≡ lapsed_below count known peer) → (peer : ℕ)
+    → get_or ended peer false ≡ lapses (get_or known peer unknown)
 ended_all ended known count all so_far peer = so_far peer ∙ all_below known count peer all

@@ -37,7 +37,17 @@ keep_alive_spelled = record {
   router = refl;
   space = omega arith;
   fit = ((omega arith, omega arith, omega arith), tt);
-  stand = (record { tlvs = []; joined = record { spelled = refl; fit = tt }; faultless = record { values = tt; counts = λ k. keeps_none (listed (row_of kind.KeepAlive) k) }; why = None; reason = record { told = None; is_told = tt; is = refl }; tells = refl }, tt);
+  stand = (
+    record {
+      tlvs = [];
+      joined = record { spelled = refl; fit = tt };
+      faultless = record { values = tt; counts = λ k. keeps_none (listed (row_of kind.KeepAlive) k) };
+      why = None;
+      reason = record { told = None; is_told = tt; is = refl };
+      tells = refl;
+    },
+    tt,
+  );
 }
 
 -- why messages are not processed
@@ -107,7 +117,17 @@ fault_of_fec = record {
   split = refl;
   items = tt;
   here = record { place = 7; cause = cause.TlvValue field.InfoLength };
-  names = inr (record { tlv = a_tlv 256 short_information; more = []; split = refl; is_tlv = (omega arith, omega arith); field = field.Fec; is_listed = refl; here = Value 3 field.InfoLength; names = counts_too_little (record { element = refl; header = omega arith }) (omega arith, omega arith) refl; is = refl });
+  names = inr (record {
+    tlv = a_tlv 256 short_information;
+    more = [];
+    split = refl;
+    is_tlv = (omega arith, omega arith);
+    field = field.Fec;
+    is_listed = refl;
+    here = Value 3 field.InfoLength;
+    names = counts_too_little (record { element = refl; header = omega arith }) (omega arith, omega arith) refl;
+    is = refl;
+  });
   is = refl;
 }
 
@@ -135,7 +155,15 @@ too_long : Names (0 ∷ 1 ∷ 16 ∷ 1 ∷ []) 4096 (record { place = 2; cause =
 too_long = inl (refl, inr (inr (inl (omega arith))))
 
 length_of_three : NamesMessages (2 ∷ 1 ∷ 0 ∷ 3 ∷ 0 ∷ 0 ∷ 0 ∷ 1 ∷ []) (record { place = 2; cause = cause.MessageLength })
-length_of_three = record { before = []; rest = 2 ∷ 1 ∷ 0 ∷ 3 ∷ 0 ∷ 0 ∷ 0 ∷ 1 ∷ []; split = refl; items = tt; here = record { place = 2; cause = cause.MessageLength }; names = inl (inr (omega arith, inl (omega arith), refl)); is = refl }
+length_of_three = record {
+  before = [];
+  rest = 2 ∷ 1 ∷ 0 ∷ 3 ∷ 0 ∷ 0 ∷ 0 ∷ 1 ∷ [];
+  split = refl;
+  items = tt;
+  here = record { place = 2; cause = cause.MessageLength };
+  names = inl (inr (omega arith, inl (omega arith), refl));
+  is = refl;
+}
 
 -- a second status of which the header alone is there
 abbrev a_status : List ℕ

@@ -28,7 +28,8 @@ pub found_first : (kind : ℕ) (octets more : List ℕ) (t : Tlv) → IsTlv t �
 found_first kind octets more t is e is_kind = record { before = []; tlv = t; more = more; split = e; items = tt; is_tlv = is; none_before = refl; is_kind = is_kind; is = refl }
 
 -- a TLV of another type stands before the first
-pub stands_behind : (kind : ℕ) (octets more value : List ℕ) (t : Tlv) → IsTlv t → octets ≡ spell_tlv t ++ more → nat_eq (type_in t.word) kind ≡ false → StandsFirst kind more value → StandsFirst kind octets value
+pub stands_behind : (kind : ℕ) (octets more value : List ℕ) (t : Tlv) → IsTlv t → octets ≡ spell_tlv t ++ more → nat_eq (type_in t.word) kind ≡ false → StandsFirst kind more value
+    → StandsFirst kind octets value
 stands_behind kind octets more value t is e other s =
     let none : count_of kind (t ∷ s.before) ≡ count_of kind s.before = rw other refl in
     record {
@@ -43,7 +44,8 @@ stands_behind kind octets more value t is e other s =
       is = s.is;
     }
 
-pub stands_past : (kind : ℕ) (octets more value : List ℕ) (t : Tlv) → IsTlv t → octets ≡ spell_tlv t ++ more → nat_eq (type_in t.word) kind ≡ false → StandsFirst kind octets value → StandsFirst kind more value
+pub stands_past : (kind : ℕ) (octets more value : List ℕ) (t : Tlv) → IsTlv t → octets ≡ spell_tlv t ++ more → nat_eq (type_in t.word) kind ≡ false → StandsFirst kind octets value
+    → StandsFirst kind more value
 stands_past kind octets more value t is e other s = by s.before s.split s.items s.none_before
   where
     by : (before : List Tlv) → octets ≡ flat_map spell_tlv before ++ (spell_tlv s.tlv ++ s.more) → AllByRecursion IsTlv before → count_of kind before ≡ 0 → StandsFirst kind more value
@@ -52,7 +54,8 @@ stands_past kind octets more value t is e other s = by s.before s.split s.items 
         let is_kind : type_in t.word ≡ kind = ap (λ (x : Tlv). type_in x.word) same ∙ s.is_kind in
         absurd (cc (sym (eq-eqb _ _ is_kind) ∙ other))
     by (b ∷ bs) split items none =
-        let tail : spell_tlv t ++ more ≡ spell_tlv b ++ (flat_map spell_tlv bs ++ (spell_tlv s.tlv ++ s.more)) = sym e ∙ (split ∙ append_assoc (spell_tlv b) (flat_map spell_tlv bs) (spell_tlv s.tlv ++ s.more)) in
+        let tail : spell_tlv t ++ more ≡ spell_tlv b ++ (flat_map spell_tlv bs ++ (spell_tlv s.tlv ++ s.more)) =
+        sym e ∙ (split ∙ append_assoc (spell_tlv b) (flat_map spell_tlv bs) (spell_tlv s.tlv ++ s.more)) in
         let same = tlvs_apart t b more (flat_map spell_tlv bs ++ (spell_tlv s.tlv ++ s.more)) is items.0 tail in
         record { before = bs; tlv = s.tlv; more = s.more; split = same.1; items = items.1; is_tlv = s.is_tlv; none_before = (none_in kind b bs none).1; is_kind = s.is_kind; is = s.is }
 
@@ -65,7 +68,8 @@ none_stands kind octets value none s = by s.before s.split s.items
     by (b ∷ bs) split items = none b (flat_map spell_tlv bs ++ (spell_tlv s.tlv ++ s.more)) items.0 (split ∙ append_assoc (spell_tlv b) (flat_map spell_tlv bs) (spell_tlv s.tlv ++ s.more))
 
 -- there is one first
-stood_once : (kind : ℕ) (octets value : List ℕ) (before : List Tlv) (u : Tlv) (rest : List ℕ) → octets ≡ flat_map spell_tlv before ++ (spell_tlv u ++ rest) → AllByRecursion IsTlv before → IsTlv u → count_of kind before ≡ 0 → type_in u.word ≡ kind → StandsFirst kind octets value → value ≡ u.value
+stood_once : (kind : ℕ) (octets value : List ℕ) (before : List Tlv) (u : Tlv) (rest : List ℕ) → octets ≡ flat_map spell_tlv before ++ (spell_tlv u ++ rest)
+    → AllByRecursion IsTlv before → IsTlv u → count_of kind before ≡ 0 → type_in u.word ≡ kind → StandsFirst kind octets value → value ≡ u.value
 stood_once kind octets value [] u rest split items is none is_kind s = by s.before s.split s.items s.none_before
   where
     by : (other : List Tlv) → octets ≡ flat_map spell_tlv other ++ (spell_tlv s.tlv ++ s.more) → AllByRecursion IsTlv other → count_of kind other ≡ 0 → value ≡ u.value
@@ -73,14 +77,16 @@ stood_once kind octets value [] u rest split items is none is_kind s = by s.befo
         let same : s.tlv ≡ u = (tlvs_apart s.tlv u s.more rest s.is_tlv is (sym e ∙ split)).0 in
         s.is ∙ ap (λ (x : Tlv). x.value) same
     by (b ∷ bs) e all zero_of =
-        let tail : spell_tlv b ++ (flat_map spell_tlv bs ++ (spell_tlv s.tlv ++ s.more)) ≡ spell_tlv u ++ rest = sym (e ∙ append_assoc (spell_tlv b) (flat_map spell_tlv bs) (spell_tlv s.tlv ++ s.more)) ∙ split in
+        let tail : spell_tlv b ++ (flat_map spell_tlv bs ++ (spell_tlv s.tlv ++ s.more)) ≡ spell_tlv u ++ rest =
+        sym (e ∙ append_assoc (spell_tlv b) (flat_map spell_tlv bs) (spell_tlv s.tlv ++ s.more)) ∙ split in
         let same : b ≡ u = (tlvs_apart b u (flat_map spell_tlv bs ++ (spell_tlv s.tlv ++ s.more)) rest all.0 is tail).0 in
         let here : nat_eq (type_in b.word) kind ≡ true = eq-eqb _ _ (ap (λ (x : Tlv). type_in x.word) same ∙ is_kind) in
         absurd (cc (sym here ∙ (none_in kind b bs zero_of).0))
 stood_once kind octets value (b ∷ bs) u rest split items is none is_kind s =
     let past = none_in kind b bs none in
     let next : octets ≡ spell_tlv b ++ (flat_map spell_tlv bs ++ (spell_tlv u ++ rest)) = split ∙ append_assoc (spell_tlv b) (flat_map spell_tlv bs) (spell_tlv u ++ rest) in
-    stood_once kind (flat_map spell_tlv bs ++ (spell_tlv u ++ rest)) value bs u rest refl items.1 is past.1 is_kind (stands_past kind octets (flat_map spell_tlv bs ++ (spell_tlv u ++ rest)) value b items.0 next past.0 s)
+    stood_once kind (flat_map spell_tlv bs ++ (spell_tlv u ++ rest)) value bs u rest refl items.1 is past.1 is_kind
+    (stands_past kind octets (flat_map spell_tlv bs ++ (spell_tlv u ++ rest)) value b items.0 next past.0 s)
 
 pub stands_once : (kind : ℕ) (octets value other : List ℕ) → StandsFirst kind octets value → StandsFirst kind octets other → value ≡ other
 stands_once kind octets value other s t = stood_once kind octets value t.before t.tlv t.more t.split t.items t.is_tlv t.none_before t.is_kind s ∙ sym t.is
@@ -93,7 +99,8 @@ first_of_joined kind octets value (t ∷ ts) joined s = elim (cases_Bool (nat_eq
       let first = found_first kind octets (flat_map spell_tlv ts) t joined.fit.0 joined.spelled (eqb-true _ _ same) in
       here ∙ ap Some (stands_once kind octets t.value value first s))
   | inr other ↦ (let there : value_of kind (t ∷ ts) ≡ value_of kind ts = rw other refl in
-      there ∙ first_of_joined kind (flat_map spell_tlv ts) value ts (record { spelled = refl; fit = joined.fit.1 }) (stands_past kind octets (flat_map spell_tlv ts) value t joined.fit.0 joined.spelled other s))
+      there ∙ first_of_joined kind (flat_map spell_tlv ts) value ts (record { spelled = refl; fit = joined.fit.1 })
+      (stands_past kind octets (flat_map spell_tlv ts) value t joined.fit.0 joined.spelled other s))
 ]
 
 -- no reason at all
@@ -108,7 +115,8 @@ no_reason None (Some field) c e = absurd (cc)
 no_reason None None c e = record { known = refl; there = refl; fec = sym e }
 
 -- the FEC of a processed message is an element
-pub told_pw : (k : MessageKind) (v : Option (List ℕ)) (told r : Option FecValue) → fec_reason k told ≡ None → OfBoth v told IsFecValue → OfBoth v r IsFecValue → (first : ℕ) → r ≡ Some (Foreign first) → ⊥
+pub told_pw : (k : MessageKind) (v : Option (List ℕ)) (told r : Option FecValue) → fec_reason k told ≡ None → OfBoth v told IsFecValue → OfBoth v r IsFecValue → (first : ℕ) → r
+    ≡ Some (Foreign first) → ⊥
 told_pw k None told None none is_told is first e = cc
 told_pw k None told (Some x) none is_told is first e = is
 told_pw k (Some v) None r none is_told is first e = is_told

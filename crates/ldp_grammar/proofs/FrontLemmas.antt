@@ -63,7 +63,8 @@ message_whole rest octets long least within =
     let body : length (drop 4 (take len (drop 4 rest))) ≡ len - 4 = omega (arith, size, length-drop 4 (take len (drop 4 rest))) in
     let two_len : two (4 + length (drop 4 (take len (drop 4 rest)))) ≡ two (two_at 2 rest) = ap two (omega (arith, body, least)) in
     let four_id : four (four_at 0 counted) ++ drop 4 (take len (drop 4 rest)) ≡ take len (drop 4 rest) = four_read (take len (drop 4 rest)) counted_octets (omega (arith, size, least)) in
-    let value : (four (four_at 0 counted) ++ drop 4 (take len (drop 4 rest))) ++ drop len (drop 4 rest) ≡ drop 4 rest = ap (λ (l : List ℕ). l ++ drop len (drop 4 rest)) four_id ∙ take-append-drop len (drop 4 rest) in
+    let value : (four (four_at 0 counted) ++ drop 4 (take len (drop 4 rest))) ++ drop len (drop 4 rest) ≡ drop 4 rest =
+    ap (λ (l : List ℕ). l ++ drop len (drop 4 rest)) four_id ∙ take-append-drop len (drop 4 rest) in
     message (record { word = two_at 0 rest; id = four_at 0 counted; body = drop 4 counted }) (drop len (drop 4 rest))
     (sym ((λ i. two (two_at 0 rest) ++ (two_len i ++ value i)) ∙ numbers_read rest octets long))
     (two_below rest octets, omega (arith, body, least, two_below (drop 2 rest) (octets_drop 2 rest octets)), four_below (take len (drop 4 rest)) counted_octets)

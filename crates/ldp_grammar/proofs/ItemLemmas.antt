@@ -23,13 +23,15 @@ record GoesOn {A : Type 0} (spelled : A → List ℕ) (ts before : List A) (more
   left : rest ≡ spelled item ++ (flat_map spelled further ++ more)
 
 -- of two lists of items whose octets are the same as far as they go, one begins with the other
-compared : {A : Type 0} (spelled : A → List ℕ) (IsItem : A → Type 0) → ArePrefixFree spelled IsItem → (ts before : List A) (more rest : List ℕ) → AllByRecursion IsItem ts → AllByRecursion IsItem before → flat_map spelled ts ++ more ≡ flat_map spelled before ++ rest
+compared : {A : Type 0} (spelled : A → List ℕ) (IsItem : A → Type 0) → ArePrefixFree spelled IsItem → (ts before : List A) (more rest : List ℕ) → AllByRecursion IsItem ts
+    → AllByRecursion IsItem before → flat_map spelled ts ++ more ≡ flat_map spelled before ++ rest
     → Extends spelled ts before more rest ⊎ GoesOn spelled ts before more rest
 compared spelled IsItem free [] before more rest fit_ts fit_before e = inl (record { further = before; longer = refl; left = e })
 compared spelled IsItem free (t ∷ ts) [] more rest fit_ts fit_before e =
     inr (record { item = t; further = ts; longer = refl; left = sym e ∙ append_assoc (spelled t) (flat_map spelled ts) more })
 compared spelled IsItem free (t ∷ ts) (b ∷ bs) more rest fit_ts fit_before e =
-    let joined : spelled t ++ (flat_map spelled ts ++ more) ≡ spelled b ++ (flat_map spelled bs ++ rest) = sym (append_assoc (spelled t) (flat_map spelled ts) more) ∙ (e ∙ append_assoc (spelled b) (flat_map spelled bs) rest) in
+    let joined : spelled t ++ (flat_map spelled ts ++ more) ≡ spelled b ++ (flat_map spelled bs ++ rest) =
+    sym (append_assoc (spelled t) (flat_map spelled ts) more) ∙ (e ∙ append_assoc (spelled b) (flat_map spelled bs) rest) in
     let (head, tail) = free t b (flat_map spelled ts ++ more) (flat_map spelled bs ++ rest) fit_ts.0 fit_before.0 joined in
     elim (compared spelled IsItem free ts bs more rest fit_ts.1 fit_before.1 tail) [
       | inl w ↦ inl (record { further = w.further; longer = (λ i. sym head i ∷ w.longer i); left = w.left })
@@ -52,7 +54,8 @@ item_after IsItem (x ∷ ts) further t all = item_after IsItem ts further t all.
 after : {A : Type 0} (spelled : A → List ℕ) (IsItem : A → Type 0) (Here : List A → List ℕ → Fault → Type 0) (ts : List A) (rest : List ℕ) (f : Fault)
     → ((g : Fault) → Here ts rest g → Precedes f g)
     → ((t : A) (more : List ℕ) → IsItem t → rest ≡ spelled t ++ more → f.place < length (spelled t))
-    → (further before : List A) (left : List ℕ) (here g : Fault) → AllByRecursion IsItem before → Here before left here → g ≡ moved (length (flat_map spelled before)) here → before ≡ ts ++ further → rest ≡ flat_map spelled further ++ left
+    → (further before : List A) (left : List ℕ) (here g : Fault) → AllByRecursion IsItem before → Here before left here → g ≡ moved (length (flat_map spelled before)) here → before
+    ≡ ts ++ further → rest ≡ flat_map spelled further ++ left
     → Precedes (moved (length (flat_map spelled ts)) f) g
 after {A = A} spelled IsItem Here ts rest f least inside [] before left here g items names is longer e =
     let same : before ≡ ts = longer ∙ append-nil ts in
@@ -64,7 +67,9 @@ after {A = A} spelled IsItem Here ts rest f least inside (t ∷ further) before 
     let item : IsItem t = item_after IsItem ts further t (subst (AllByRecursion IsItem) longer items) in
     let less : f.place < length (spelled t) = inside t (flat_map spelled further ++ left) item (e ∙ append_assoc (spelled t) (flat_map spelled further) left) in
     let size : length (flat_map spelled before) ≡ length (flat_map spelled ts) + (length (spelled t) + length (flat_map spelled further)) =
-    ap (λ (l : List A). length (flat_map spelled l)) longer ∙ (ap length (flat_map-append spelled ts (t ∷ further)) ∙ (length-append (flat_map spelled ts) (spelled t ++ flat_map spelled further) ∙ ap (λ (n : ℕ). length (flat_map spelled ts) + n) (length-append (spelled t) (flat_map spelled further)))) in
+    ap (λ (l : List A). length (flat_map spelled l)) longer
+    ∙ (ap length (flat_map-append spelled ts (t ∷ further))
+    ∙ (length-append (flat_map spelled ts) (spelled t ++ flat_map spelled further) ∙ ap (λ (n : ℕ). length (flat_map spelled ts) + n) (length-append (spelled t) (flat_map spelled further)))) in
     let place : g.place ≡ length (flat_map spelled before) + here.place = ap (λ (h : Fault). h.place) is in
     inl (omega (arith, less, size, place))
 

@@ -203,8 +203,10 @@ same_space a b fits_a fits_b e = same_two a b fits_a fits_b (cc (e)) (cc (e))
 -- one PDU at most is spelled
 pub one_pdu : (bytes : List ℕ) (max : ℕ) (p q : Pdu) → Spells bytes max p → Spells bytes max q → p ≡ q
 one_pdu bytes max p q is_p is_q =
-    let frame = same_frame bytes (p.id.router.0 ++ two p.id.space) (q.id.router.0 ++ two q.id.space) (flat_map spell_message is_p.spellings) (flat_map spell_message is_q.spellings) max is_p.framed is_q.framed in
-    let spelled : is_q.spellings ≡ is_p.spellings = one_list spell_message IsSpelling messages_apart (λ s. omega (arith, octets_of s [])) is_q.spellings is_p.spellings is_q.fit is_p.fit (sym frame.one_body) in
+    let frame = same_frame bytes (p.id.router.0 ++ two p.id.space) (q.id.router.0 ++ two q.id.space) (flat_map spell_message is_p.spellings)
+    (flat_map spell_message is_q.spellings) max is_p.framed is_q.framed in
+    let spelled : is_q.spellings ≡ is_p.spellings =
+    one_list spell_message IsSpelling messages_apart (λ s. omega (arith, octets_of s [])) is_q.spellings is_p.spellings is_q.fit is_p.fit (sym frame.one_body) in
     let id = same_front p.id.router.0 q.id.router.0 (two p.id.space) (two q.id.space) (is_p.router ∙ sym is_q.router) frame.one_sender in
     let space : p.id.space ≡ q.id.space = same_space p.id.space q.id.space is_p.space is_q.space id.1 in
     let messages : p.messages ≡ q.messages = stand_once is_p.spellings p.messages q.messages is_p.stand (subst (λ (ss : List Spelling). StandInOrder ss q.messages) spelled is_q.stand) in

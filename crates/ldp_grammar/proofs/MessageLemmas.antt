@@ -45,11 +45,13 @@ stands_faultless (Some other) kind s m f known stands names =
     let same : kind ≡ other = cc in
     tlvs_faultless (row_of other) s.body stands.tlvs stands.joined stands.faultless f (subst (λ (k : MessageKind). NamesTlvs (row_of k) s.body f) same names)
 
-no_fault_here : (s : Spelling) (m : Message) (rest : List ℕ) (f : Fault) → IsSpelling s → StandsFor s m → LengthFault (spell_message s ++ rest) f.cause f.place ⊎ IsInTlvs (spell_message s ++ rest) f → ⊥
+no_fault_here : (s : Spelling) (m : Message) (rest : List ℕ) (f : Fault) → IsSpelling s → StandsFor s m → LengthFault (spell_message s ++ rest) f.cause f.place
+    ⊎ IsInTlvs (spell_message s ++ rest) f → ⊥
 no_fault_here s m rest f is stands (inl cuts) = no_length_fault s rest is f.cause f.place cuts
 no_fault_here s m rest f is stands (inr w) =
     let same : s ≡ w.message = (messages_apart s w.message rest w.more is w.is_message w.split).0 in
-    stands_faultless (kind_of (s.word % 2 ^ 15)) w.kind s m w.here (ap (λ (x : Spelling). kind_of (x.word % 2 ^ 15)) same ∙ w.known) stands (subst (λ (x : Spelling). NamesTlvs (row_of w.kind) x.body w.here) (sym same) w.names)
+    stands_faultless (kind_of (s.word % 2 ^ 15)) w.kind s m w.here (ap (λ (x : Spelling). kind_of (x.word % 2 ^ 15)) same ∙ w.known) stands
+    (subst (λ (x : Spelling). NamesTlvs (row_of w.kind) x.body w.here) (sym same) w.names)
 
 record StandsThere (s : Spelling) : Type 0 where
   message : Message
@@ -84,7 +86,8 @@ pub messages_faultless : (ss : List Spelling) (ms : List Message) → AllByRecur
 messages_faultless ss ms items stand f names = none_named spell_message IsSpelling IsMessageFault messages_apart ss items (messages_clean ss ms items stand) no_fault_at_end f names
 
 -- the fault behind messages that stand for something is the first
-pub first_of_messages : (body front rest : List ℕ) (ss : List Spelling) (ms : List Message) (at : ℕ) (f : Fault) → body ≡ front ++ rest → at ≡ length front → front ≡ flat_map spell_message ss → AllByRecursion IsSpelling ss → StandInOrder ss ms → IsFirstMessageFault ss rest f → IsFirst (NamesMessages body) (moved at f)
+pub first_of_messages : (body front rest : List ℕ) (ss : List Spelling) (ms : List Message) (at : ℕ) (f : Fault) → body ≡ front ++ rest → at ≡ length front → front
+    ≡ flat_map spell_message ss → AllByRecursion IsSpelling ss → StandInOrder ss ms → IsFirstMessageFault ss rest f → IsFirst (NamesMessages body) (moved at f)
 first_of_messages body front rest ss ms at f split place spelled items stand here =
     let first : IsFirst (NamesMessages (flat_map spell_message ss ++ rest)) (moved (length (flat_map spell_message ss)) f) =
     first_behind spell_message IsSpelling IsMessageFault messages_apart ss rest f items (messages_clean ss ms items stand) here in
@@ -99,7 +102,8 @@ one_place rest a b (inl x) (inr y) = absurd (omega (arith, x.1, y.0))
 one_place rest a b (inr x) (inl y) = absurd (omega (arith, x.0, y.1))
 one_place rest a b (inr x) (inr y) = omega (arith, x.2, y.2)
 
-cut_before : (rest : List ℕ) (place : ℕ) → CutsMessage rest place → (c : Cause) (other : ℕ) → LengthFault rest c other → Precedes (record { place = place; cause = cause.MessageLength }) (record { place = other; cause = c })
+cut_before : (rest : List ℕ) (place : ℕ) → CutsMessage rest place → (c : Cause) (other : ℕ) → LengthFault rest c other
+    → Precedes (record { place = place; cause = cause.MessageLength }) (record { place = other; cause = c })
 cut_before rest place cuts cause.MessageLength other names = inr (one_place rest place other cuts names, omega arith)
 cut_before rest place cuts cause.Version other names = absurd names
 cut_before rest place cuts cause.PduLength other names = absurd names
@@ -122,20 +126,23 @@ cut_message before rest place cuts = record {
 no_cut_before : (rest more : List ℕ) (s : Spelling) → IsSpelling s → rest ≡ spell_message s ++ more → (c : Cause) (place : ℕ) → LengthFault rest c place → ⊥
 no_cut_before rest more s is e c place names = no_length_fault s more is c place (subst (λ (l : List ℕ). LengthFault l c place) e names)
 
-within_first : (rest more : List ℕ) (s : Spelling) (kind : MessageKind) (f : Fault) → IsSpelling s → rest ≡ spell_message s ++ more → kind_of (s.word % 2 ^ 15) ≡ Some kind → IsFirst (NamesTlvs (row_of kind) s.body) f
+within_first : (rest more : List ℕ) (s : Spelling) (kind : MessageKind) (f : Fault) → IsSpelling s → rest ≡ spell_message s ++ more → kind_of (s.word % 2 ^ 15) ≡ Some kind
+    → IsFirst (NamesTlvs (row_of kind) s.body) f
     → (g : Fault) → LengthFault rest g.cause g.place ⊎ IsInTlvs rest g → Precedes (moved 8 f) g
 within_first rest more s kind f is e known first g (inl cuts) = absurd (no_cut_before rest more s is e g.cause g.place cuts)
 within_first rest more s kind f is e known first g (inr w) =
     let same : s ≡ w.message = (messages_apart s w.message more w.more is w.is_message (sym e ∙ w.split)).0 in
     let also : kind_of (s.word % 2 ^ 15) ≡ Some w.kind = ap (λ (x : Spelling). kind_of (x.word % 2 ^ 15)) same ∙ w.known in
     let one : w.kind ≡ kind = same_kind (kind_of (s.word % 2 ^ 15)) w.kind kind also known in
-    let names : NamesTlvs (row_of kind) s.body w.here = subst (λ (k : MessageKind). NamesTlvs (row_of k) s.body w.here) one (subst (λ (x : Spelling). NamesTlvs (row_of w.kind) x.body w.here) (sym same) w.names) in
+    let names : NamesTlvs (row_of kind) s.body w.here =
+    subst (λ (k : MessageKind). NamesTlvs (row_of k) s.body w.here) one (subst (λ (x : Spelling). NamesTlvs (row_of w.kind) x.body w.here) (sym same) w.names) in
     subst (Precedes (moved 8 f)) (sym w.is) (moved_after 8 f w.here (first.first w.here names))
   where
     same_kind : (o : Option MessageKind) (a b : MessageKind) → o ≡ Some a → o ≡ Some b → a ≡ b
     same_kind o a b is_a is_b = cc
 
-pub fault_within : (before : List Spelling) (rest more : List ℕ) (s : Spelling) (kind : MessageKind) (f : Fault) → IsSpelling s → rest ≡ spell_message s ++ more → kind_of (s.word % 2 ^ 15) ≡ Some kind → IsFirst (NamesTlvs (row_of kind) s.body) f → f.place < length s.body
+pub fault_within : (before : List Spelling) (rest more : List ℕ) (s : Spelling) (kind : MessageKind) (f : Fault) → IsSpelling s → rest ≡ spell_message s ++ more
+    → kind_of (s.word % 2 ^ 15) ≡ Some kind → IsFirst (NamesTlvs (row_of kind) s.body) f → f.place < length s.body
     → IsFirstMessageFault before rest (moved 8 f)
 fault_within before rest more s kind f is e known first near = record {
   named = inr (record { message = s; more = more; split = e; is_message = is; kind = kind; known = known; here = f; names = first.named; is = refl });

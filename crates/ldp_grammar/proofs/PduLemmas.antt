@@ -48,7 +48,8 @@ same_frame bytes sender other body rest max f g =
     let both = same_front sender other body rest (f.identifier ∙ sym g.identifier) tail in
     record { one_sender = both.0; one_body = both.1 }
 
-inside_first : (bytes sender body : List ℕ) (max : ℕ) (f : Fault) → max ≤ 4096 → IsFramed bytes max sender body → IsFirst (NamesMessages body) f → (g : Fault) → HeaderFault bytes max g.cause g.place ⊎ IsInMessages bytes max g → Precedes (moved 10 f) g
+inside_first : (bytes sender body : List ℕ) (max : ℕ) (f : Fault) → max ≤ 4096 → IsFramed bytes max sender body → IsFirst (NamesMessages body) f → (g : Fault)
+    → HeaderFault bytes max g.cause g.place ⊎ IsInMessages bytes max g → Precedes (moved 10 f) g
 inside_first bytes sender body max f small framed first g (inl header) = absurd (no_header_fault bytes sender body max small framed g.cause g.place header)
 inside_first bytes sender body max f small framed first g (inr w) =
     let same : body ≡ w.body = (same_frame bytes sender w.sender body w.body max framed w.framed).one_body in
@@ -65,7 +66,8 @@ first_inside bytes sender body max f small framed first = record {
 named_nowhere : (bytes : List ℕ) (max : ℕ) (pdu : Pdu) → max ≤ 4096 → Spells bytes max pdu → (f : Fault) → HeaderFault bytes max f.cause f.place ⊎ IsInMessages bytes max f → ⊥
 named_nowhere bytes max pdu small s f (inl header) = no_header_fault bytes _ _ max small s.framed f.cause f.place header
 named_nowhere bytes max pdu small s f (inr w) =
-    let same : flat_map spell_message s.spellings ≡ w.body = (same_frame bytes (pdu.id.router.0 ++ two pdu.id.space) w.sender (flat_map spell_message s.spellings) w.body max s.framed w.framed).one_body in
+    let same : flat_map spell_message s.spellings ≡ w.body =
+    (same_frame bytes (pdu.id.router.0 ++ two pdu.id.space) w.sender (flat_map spell_message s.spellings) w.body max s.framed w.framed).one_body in
     messages_faultless s.spellings pdu.messages s.fit s.stand w.here (subst (λ (l : List ℕ). NamesMessages l w.here) (sym same) w.names)
 
 pub never_both : (bytes : List ℕ) (max : ℕ) (pdu : Pdu) (f : Fault) → max ≤ 4096 → Spells bytes max pdu → FirstFault bytes max f → ⊥

@@ -30,7 +30,8 @@ data MessageHere (before : List Spelling) (rest : List ℕ) : Type 0 where
   wrong : (f : Fault) → IsFirstMessageFault before rest f → MessageHere before rest
 
 -- a message of a known type, or of another one
-message_of : (before : List Spelling) (rest more : List ℕ) (s : Spelling) → rest ≡ spell_message s ++ more → IsSpelling s → AreOctets s.body → AreOctets more → (o : Option MessageKind) → kind_of (s.word % 2 ^ 15) ≡ o → MessageHere before rest
+message_of : (before : List Spelling) (rest more : List ℕ) (s : Spelling) → rest ≡ spell_message s ++ more → IsSpelling s → AreOctets s.body → AreOctets more → (o : Option MessageKind)
+    → kind_of (s.word % 2 ^ 15) ≡ o → MessageHere before rest
 message_of before rest more s e is body_octets more_octets None known =
     let m = message.Other s.id (bit 15 s.word) (s.word % 2 ^ 15) in
     taken s more e is more_octets m (subst (λ (o : Option MessageKind). StandsAs o s (message.Other s.id (bit 15 s.word) (s.word % 2 ^ 15))) (sym known) refl)
@@ -52,19 +53,23 @@ pub data MessagesReading (body : List ℕ) : Type 0 where
   read : (ss : List Spelling) (ms : List Message) → body ≡ flat_map spell_message ss → AllByRecursion IsSpelling ss → StandInOrder ss ms → MessagesReading body
   faulty : (f : Fault) → IsFirst (NamesMessages body) f → MessagesReading body
 
-message_split : (body rest more : List ℕ) (ss : List Spelling) (s : Spelling) → body ≡ flat_map spell_message ss ++ rest → rest ≡ spell_message s ++ more → body ≡ flat_map spell_message (ss ++ s ∷ []) ++ more
+message_split : (body rest more : List ℕ) (ss : List Spelling) (s : Spelling) → body ≡ flat_map spell_message ss ++ rest → rest ≡ spell_message s ++ more → body
+    ≡ flat_map spell_message (ss ++ s ∷ []) ++ more
 message_split body rest more ss s split e =
     split ∙ (ap (λ (l : List ℕ). flat_map spell_message ss ++ l) e ∙ (sym (append_assoc (flat_map spell_message ss) (spell_message s) more)
     ∙ ap (λ (l : List ℕ). l ++ more) (spelled_more (flat_map spell_message ss) (flat_map spell_message ss ++ spell_message s) ss s refl refl)))
 
-messages_from : (fuel : ℕ) (body rest : List ℕ) (ss : List Spelling) (ms : List Message) → AreOctets rest → length rest ≤ fuel → body ≡ flat_map spell_message ss ++ rest → AllByRecursion IsSpelling ss → StandInOrder ss ms → MessagesReading body
+messages_from : (fuel : ℕ) (body rest : List ℕ) (ss : List Spelling) (ms : List Message) → AreOctets rest → length rest ≤ fuel → body ≡ flat_map spell_message ss ++ rest
+    → AllByRecursion IsSpelling ss → StandInOrder ss ms → MessagesReading body
 messages_from fuel body [] ss ms octets few split items stand = read ss ms (split ∙ append-nil (flat_map spell_message ss)) items stand
 messages_from zero body (x ∷ rest) ss ms octets few split items stand = absurd (omega arith)
 messages_from (suc fuel) body (x ∷ rest) ss ms octets few split items stand = elim (message_here ss (x ∷ rest) octets (omega arith)) [
   | taken s more e is more_octets m stands ↦
-      messages_from fuel body more (ss ++ s ∷ []) (ms ++ m ∷ []) more_octets (omega (arith, octets_of s more, ap length e, few)) (message_split body (x ∷ rest) more ss s split e) (items_more IsSpelling ss s items is) (stand_more ss ms s m stand stands)
+      messages_from fuel body more (ss ++ s ∷ []) (ms ++ m ∷ []) more_octets (omega (arith, octets_of s more, ap length e, few)) (message_split body (x ∷ rest) more ss s split e)
+      (items_more IsSpelling ss s items is) (stand_more ss ms s m stand stands)
   | wrong fault first ↦
-      faulty (moved (length (flat_map spell_message ss)) fault) (first_of_messages body (flat_map spell_message ss) (x ∷ rest) ss ms (length (flat_map spell_message ss)) fault split refl refl items stand first)
+      faulty (moved (length (flat_map spell_message ss)) fault)
+      (first_of_messages body (flat_map spell_message ss) (x ∷ rest) ss ms (length (flat_map spell_message ss)) fault split refl refl items stand first)
 ]
 
 -- the octets of messages stand for something, or have a first fault
@@ -80,7 +85,8 @@ version_header bytes max cause.TlvLength place names = absurd names
 version_header bytes max (cause.TlvValue field) place names = absurd names
 version_header bytes max (cause.Repeated field) place names = absurd names
 
-version_before : (bytes : List ℕ) (max : ℕ) → (two_at 0 bytes ≢ 1) → (g : Fault) → HeaderFault bytes max g.cause g.place ⊎ IsInMessages bytes max g → Precedes (record { place = 0; cause = cause.Version }) g
+version_before : (bytes : List ℕ) (max : ℕ) → (two_at 0 bytes ≢ 1) → (g : Fault) → HeaderFault bytes max g.cause g.place ⊎ IsInMessages bytes max g
+    → Precedes (record { place = 0; cause = cause.Version }) g
 version_before bytes max other g (inl names) = version_header bytes max g.cause g.place names
 version_before bytes max other g (inr w) = absurd (other (ap (two_at 0) w.framed.split))
 
@@ -97,7 +103,8 @@ miscounted_framed bytes sender body max small f (inr (inl less)) = omega (arith,
 miscounted_framed bytes sender body max small f (inr (inr (inl more))) = omega (arith, more, length_of bytes sender body max small f, f.most)
 miscounted_framed bytes sender body max small f (inr (inr (inr differs))) = differs (omega (arith, count_of bytes sender body max f, length_of bytes sender body max small f))
 
-count_header : (bytes : List ℕ) (max : ℕ) → (2 ≤ length bytes → two_at 0 bytes ≡ 1) → (c : Cause) (place : ℕ) → HeaderFault bytes max c place → Precedes (record { place = 2; cause = cause.PduLength }) (record { place = place; cause = c })
+count_header : (bytes : List ℕ) (max : ℕ) → (2 ≤ length bytes → two_at 0 bytes ≡ 1) → (c : Cause) (place : ℕ) → HeaderFault bytes max c place
+    → Precedes (record { place = 2; cause = cause.PduLength }) (record { place = place; cause = c })
 count_header bytes max version cause.Version place names = absurd (names.2 (version names.1))
 count_header bytes max version cause.PduLength place names = inr (sym names.0, omega arith)
 count_header bytes max version cause.MessageLength place names = absurd names
@@ -105,7 +112,8 @@ count_header bytes max version cause.TlvLength place names = absurd names
 count_header bytes max version (cause.TlvValue field) place names = absurd names
 count_header bytes max version (cause.Repeated field) place names = absurd names
 
-count_before : (bytes : List ℕ) (max : ℕ) → max ≤ 4096 → (2 ≤ length bytes → two_at 0 bytes ≡ 1) → IsMiscounted bytes max → (g : Fault) → HeaderFault bytes max g.cause g.place ⊎ IsInMessages bytes max g → Precedes (record { place = 2; cause = cause.PduLength }) g
+count_before : (bytes : List ℕ) (max : ℕ) → max ≤ 4096 → (2 ≤ length bytes → two_at 0 bytes ≡ 1) → IsMiscounted bytes max → (g : Fault) → HeaderFault bytes max g.cause g.place
+    ⊎ IsInMessages bytes max g → Precedes (record { place = 2; cause = cause.PduLength }) g
 count_before bytes max small version miscounted g (inl names) = count_header bytes max version g.cause g.place names
 count_before bytes max small version miscounted g (inr w) = absurd (miscounted_framed bytes w.sender w.body max small w.framed miscounted)
 

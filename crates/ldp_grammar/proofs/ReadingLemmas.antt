@@ -39,7 +39,8 @@ pub data Standing (kind : ℕ) (octets : List ℕ) : Type 0 where
   none : ((value : List ℕ) → StandsFirst kind octets value → ⊥) → Standing kind octets
 
 -- with a TLV in front, it is the first or that behind it is
-standing_at : (kind : ℕ) (octets value more : List ℕ) → octets ≡ spell_tlv (record { word = two_at 0 octets; value = value }) ++ more → IsTlv (record { word = two_at 0 octets; value = value }) → Standing kind more → Standing kind octets
+standing_at : (kind : ℕ) (octets value more : List ℕ) → octets ≡ spell_tlv (record { word = two_at 0 octets; value = value }) ++ more
+    → IsTlv (record { word = two_at 0 octets; value = value }) → Standing kind more → Standing kind octets
 standing_at kind octets value more e is behind = elim (cases_Bool (nat_eq (type_in (two_at 0 octets)) kind)) [
   | inl same ↦ stands value (found_first kind octets more (record { word = two_at 0 octets; value = value }) is e (eqb-true _ _ same))
   | inr other ↦ elim behind [
@@ -70,8 +71,10 @@ foreign_of body are = elim (standing_of fec body are) [
   | none never ↦ inr (λ f. never f.value f.stands)
   | stands value s ↦ elim (fec_reading value) [
     | told (Foreign first) is ↦ inl (record { value = value; first = first; stands = s; foreign = is })
-    | told (Pw pw) is ↦ inr (λ f. no_element value f.first (Pw pw) is (λ other e. cc (e)) (subst (λ (v : List ℕ). IsFecValue v (Foreign f.first)) (stands_once fec body f.value value f.stands s) f.foreign))
-    | refused fault first ↦ inr (λ f. never_fec value (Foreign f.first) fault (subst (λ (v : List ℕ). IsFecValue v (Foreign f.first)) (stands_once fec body f.value value f.stands s) f.foreign) first.named)
+    | told (Pw pw) is ↦ inr (λ f. no_element value f.first (Pw pw) is (λ other e. cc (e))
+        (subst (λ (v : List ℕ). IsFecValue v (Foreign f.first)) (stands_once fec body f.value value f.stands s) f.foreign))
+    | refused fault first ↦ inr (λ f. never_fec value (Foreign f.first) fault
+        (subst (λ (v : List ℕ). IsFecValue v (Foreign f.first)) (stands_once fec body f.value value f.stands s) f.foreign) first.named)
   ]
 ]
 
@@ -135,7 +138,8 @@ room_of (Some field) count = elim (cases_lt count (most field)) [
 ]
 
 -- a TLV that the row lists stands here, and another one may come
-listed_here : (row : Row) (body : List ℕ) (ts : List Tlv) (rest value more : List ℕ) (f : Field) → AreOctets body → rest ≡ spell_tlv (record { word = two_at 0 rest; value = value }) ++ more → IsTlv (record { word = two_at 0 rest; value = value })
+listed_here : (row : Row) (body : List ℕ) (ts : List Tlv) (rest value more : List ℕ) (f : Field) → AreOctets body → rest
+    ≡ spell_tlv (record { word = two_at 0 rest; value = value }) ++ more → IsTlv (record { word = two_at 0 rest; value = value })
     → MayComeAgain (listed row (type_in (two_at 0 rest))) (count_of (type_in (two_at 0 rest)) ts) → listed row (type_in (two_at 0 rest)) ≡ Some f → TlvHere row body ts rest
 listed_here row body ts rest value more f are e is has_room is_listed =
     let t : Tlv = record { word = two_at 0 rest; value = value } in
@@ -150,13 +154,15 @@ listed_here row body ts rest value more f are e is has_room is_listed =
       ]
     ]
 
-whole_here : (row : Row) (body : List ℕ) (ts : List Tlv) (rest value more : List ℕ) → AreOctets body → rest ≡ spell_tlv (record { word = two_at 0 rest; value = value }) ++ more → IsTlv (record { word = two_at 0 rest; value = value })
+whole_here : (row : Row) (body : List ℕ) (ts : List Tlv) (rest value more : List ℕ) → AreOctets body → rest ≡ spell_tlv (record { word = two_at 0 rest; value = value }) ++ more
+    → IsTlv (record { word = two_at 0 rest; value = value })
     → MayComeAgain (listed row (type_in (two_at 0 rest))) (count_of (type_in (two_at 0 rest)) ts) → (o : Option Field) → listed row (type_in (two_at 0 rest)) ≡ o → TlvHere row body ts rest
 whole_here row body ts rest value more are e is has_room None is_listed =
     taken (record { word = two_at 0 rest; value = value }) more e is (subst (λ (o : Option Field). HasValue body o value) (sym is_listed) tt) has_room
 whole_here row body ts rest value more are e is has_room (Some f) is_listed = listed_here row body ts rest value more f are e is has_room is_listed
 
-long_enough : (row : Row) (body : List ℕ) (ts : List Tlv) (rest : List ℕ) (f : Field) → 4 ≤ length rest → listed row (type_in (two_at 0 rest)) ≡ Some f → most f ≤ count_of (type_in (two_at 0 rest)) ts → TlvHere row body ts rest
+long_enough : (row : Row) (body : List ℕ) (ts : List Tlv) (rest : List ℕ) (f : Field) → 4 ≤ length rest → listed row (type_in (two_at 0 rest)) ≡ Some f
+    → most f ≤ count_of (type_in (two_at 0 rest)) ts → TlvHere row body ts rest
 long_enough row body ts rest f long is_listed enough = wrong (record { place = 0; cause = cause.Repeated f }) (repeated_tlv row body ts rest f long is_listed enough) (omega (arith, long))
 
 -- a TLV at a place is without fault, or something is first wrong there
@@ -183,14 +189,17 @@ tlv_split body rest more ts t split e =
     split ∙ (ap (λ (l : List ℕ). flat_map spell_tlv ts ++ l) e ∙ (sym (append_assoc (flat_map spell_tlv ts) (spell_tlv t) more)
     ∙ ap (λ (l : List ℕ). l ++ more) (ap (λ (l : List ℕ). flat_map spell_tlv ts ++ l) (sym (append-nil (spell_tlv t))) ∙ sym (flat_map-append spell_tlv ts (t ∷ [])))))
 
-tlvs_from : (fuel : ℕ) (row : Row) (body rest : List ℕ) (ts : List Tlv) → AreOctets body → AreOctets rest → length rest ≤ fuel → body ≡ flat_map spell_tlv ts ++ rest → AllByRecursion IsTlv ts → IsFaultless row body ts → TlvsReading row body
+tlvs_from : (fuel : ℕ) (row : Row) (body rest : List ℕ) (ts : List Tlv) → AreOctets body → AreOctets rest → length rest ≤ fuel → body ≡ flat_map spell_tlv ts ++ rest
+    → AllByRecursion IsTlv ts → IsFaultless row body ts → TlvsReading row body
 tlvs_from fuel row body [] ts are octets few split items clean = faultless ts (record { spelled = split ∙ append-nil (flat_map spell_tlv ts); fit = items }) clean
 tlvs_from zero row body (x ∷ rest) ts are octets few split items clean = absurd (omega arith)
 tlvs_from (suc fuel) row body (x ∷ rest) ts are octets few split items clean = elim (tlv_here row body ts (x ∷ rest) are octets (omega arith)) [
   | taken t more e is fitting has_room ↦
-      tlvs_from fuel row body more (ts ++ t ∷ []) are (octets_behind (spell_tlv t) more (subst AreOctets e octets)) (omega (arith, size_of t more, ap length e, few)) (tlv_split body (x ∷ rest) more ts t split e) (items_more IsTlv ts t items is) (faultless_more row body ts t clean fitting has_room)
+      tlvs_from fuel row body more (ts ++ t ∷ []) are (octets_behind (spell_tlv t) more (subst AreOctets e octets)) (omega (arith, size_of t more, ap length e, few))
+      (tlv_split body (x ∷ rest) more ts t split e) (items_more IsTlv ts t items is) (faultless_more row body ts t clean fitting has_room)
   | wrong fault first near ↦
-      first_fault (moved (length (flat_map spell_tlv ts)) fault) (first_of_tlvs row body (flat_map spell_tlv ts) (x ∷ rest) ts (length (flat_map spell_tlv ts)) fault split refl (record { spelled = refl; fit = items }) clean first)
+      first_fault (moved (length (flat_map spell_tlv ts)) fault)
+      (first_of_tlvs row body (flat_map spell_tlv ts) (x ∷ rest) ts (length (flat_map spell_tlv ts)) fault split refl (record { spelled = refl; fit = items }) clean first)
       (omega (arith, near, ap length split, length-append (flat_map spell_tlv ts) (x ∷ rest)))
 ]
 

@@ -32,7 +32,8 @@ reading_where bytes max (inr other) size = None
 abbrev pub reading_of : (bytes : List ℕ) (max : ℕ) → Option (Reading bytes max)
 reading_of bytes max = reading_where bytes max (cases_Bool (are_octets bytes)) (cases_lt 4096 max)
 
-told_where : (bytes : List ℕ) (max : ℕ) (are : (are_octets bytes ≡ true) ⊎ (are_octets bytes ≡ false)) (size : (4096 < max) ⊎ (max ≤ 4096)) → are_octets bytes ≡ true → max ≤ 4096 → IsSome (reading_where bytes max are size)
+told_where : (bytes : List ℕ) (max : ℕ) (are : (are_octets bytes ≡ true) ⊎ (are_octets bytes ≡ false)) (size : (4096 < max) ⊎ (max ≤ 4096)) → are_octets bytes ≡ true → max ≤ 4096
+    → IsSome (reading_where bytes max are size)
 told_where bytes max (inl are) (inr small) passed within = refl
 told_where bytes max (inl are) (inl large) passed within = absurd (omega (arith, large, within))
 told_where bytes max (inr other) size passed within = absurd (true≢false (grind (arith, passed, other)))

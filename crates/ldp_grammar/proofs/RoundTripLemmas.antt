@@ -37,7 +37,8 @@ use Rattle.ldp_grammar.proofs.OctetLemmas.{read_two}
 use Rattle.ldp_grammar.proofs.PduLemmas.{length_of, count_of as size_of_pdu}
 
 -- a PDU with one message
-spelled_alone : (max : ℕ) (m : Message) (id : LdpId) → max ≤ 4096 → IsId id → 6 + length (message_octets m) ≤ max → IsSpelling (written_spelling m) → StandsFor (written_spelling m) m → Spells (written m id) max (record { id = id; messages = m ∷ [] })
+spelled_alone : (max : ℕ) (m : Message) (id : LdpId) → max ≤ 4096 → IsId id → 6 + length (message_octets m) ≤ max → IsSpelling (written_spelling m) → StandsFor (written_spelling m) m
+    → Spells (written m id) max (record { id = id; messages = m ∷ [] })
 spelled_alone max m id small is fits spelling stands =
     let whole : message_octets m ≡ message_octets m ++ [] = sym (append-nil (message_octets m)) in
     let size : length (message_octets m ++ []) ≡ length (message_octets m) = ap length (sym whole) in
@@ -79,22 +80,28 @@ pw_told : (pw : PwFec) → writable_fec pw ≡ true → IsFecInRange pw → IsPw
 pw_told pw can within = fec_again pw can within
 
 -- the TLVs of each message tell it
-read_notification : (id : ℕ) (s : StatusCode) (state : Option PwStatus) (pw : Option PwFec) → s.code < 1073741824 → s.message < 4294967296 → s.kind < 65536 → IsState state → writable_fecs pw ≡ true → IfSome pw IsFecInRange
-    → length (flat_map spell_tlv (written_tlvs (message.Notification id s state pw))) < 65536 → IsRead kind.Notification id (flat_map spell_tlv (written_tlvs (message.Notification id s state pw))) (message.Notification id s state pw)
+read_notification : (id : ℕ) (s : StatusCode) (state : Option PwStatus) (pw : Option PwFec) → s.code < 1073741824 → s.message < 4294967296 → s.kind < 65536 → IsState state
+    → writable_fecs pw ≡ true → IfSome pw IsFecInRange
+    → length (flat_map spell_tlv (written_tlvs (message.Notification id s state pw))) < 65536
+    → IsRead kind.Notification id (flat_map spell_tlv (written_tlvs (message.Notification id s state pw))) (message.Notification id s state pw)
 read_notification id s None None code message_id type held can within few =
     is_told kind.Notification id (tlv status (status_octets s) ∷ []) (message.Notification id s None None) (omega arith, tt) few ((refl, tt), tt) (refl, tt)
     (record { told = None; is_told = tt; is = refl }) (refl, status_back s code message_id type, tt, tt)
 read_notification id s (Some p) None code message_id type held can within few =
-    is_told kind.Notification id (tlv status (status_octets s) ∷ ignorable pw_status (written_status p) ∷ []) (message.Notification id s (Some p) None) (omega arith, (omega arith, tt)) few ((refl, tt), ((refl, tt), tt)) (refl, (refl, tt))
+    is_told kind.Notification id (tlv status (status_octets s) ∷ ignorable pw_status (written_status p) ∷ []) (message.Notification id s (Some p) None)
+    (omega arith, (omega arith, tt)) few ((refl, tt), ((refl, tt), tt)) (refl, (refl, tt))
     (record { told = None; is_told = tt; is = refl }) (refl, status_back s code message_id type, status_again p held, tt)
 read_notification id s None (Some pw) code message_id type held can within few =
-    is_told kind.Notification id (tlv status (status_octets s) ∷ tlv fec (written_fec pw) ∷ []) (message.Notification id s None (Some pw)) (omega arith, (omega arith, tt)) few ((refl, tt), ((refl, fec_told pw can within), tt)) (refl, (refl, tt))
+    is_told kind.Notification id (tlv status (status_octets s) ∷ tlv fec (written_fec pw) ∷ []) (message.Notification id s None (Some pw)) (omega arith, (omega arith, tt)) few
+    ((refl, tt), ((refl, fec_told pw can within), tt)) (refl, (refl, tt))
     (record { told = Some (Pw pw); is_told = pw_told pw can within; is = refl }) (refl, status_back s code message_id type, tt, pw_told pw can within)
 read_notification id s (Some p) (Some pw) code message_id type held can within few =
-    is_told kind.Notification id (tlv status (status_octets s) ∷ ignorable pw_status (written_status p) ∷ tlv fec (written_fec pw) ∷ []) (message.Notification id s (Some p) (Some pw)) (omega arith, (omega arith, (omega arith, tt))) few ((refl, tt), ((refl, tt), ((refl, fec_told pw can within), tt))) (refl, (refl, (refl, tt)))
+    is_told kind.Notification id (tlv status (status_octets s) ∷ ignorable pw_status (written_status p) ∷ tlv fec (written_fec pw) ∷ []) (message.Notification id s (Some p) (Some pw))
+    (omega arith, (omega arith, (omega arith, tt))) few ((refl, tt), ((refl, tt), ((refl, fec_told pw can within), tt))) (refl, (refl, (refl, tt)))
     (record { told = Some (Pw pw); is_told = pw_told pw can within; is = refl }) (refl, status_back s code message_id type, status_again p held, pw_told pw can within)
 
-read_hello : (id hold : ℕ) (t r : Bool) (transport : Option Addr) → hold < 65536 → IsAddress4 transport → IsRead kind.Hello id (flat_map spell_tlv (tlv hello_parameters (hello_octets hold t r) ∷ transport_tlvs transport)) (message.Hello id hold t r transport)
+read_hello : (id hold : ℕ) (t r : Bool) (transport : Option Addr) → hold < 65536 → IsAddress4 transport
+    → IsRead kind.Hello id (flat_map spell_tlv (tlv hello_parameters (hello_octets hold t r) ∷ transport_tlvs transport)) (message.Hello id hold t r transport)
 read_hello id hold t r None fits four_of = record {
   tlvs = tlv hello_parameters (hello_octets hold t r) ∷ [];
   joined = record { spelled = refl; fit = ((omega arith, omega arith), tt) };
@@ -106,7 +113,10 @@ read_hello id hold t r None fits four_of = record {
 read_hello id hold t r (Some a) fits four_of = record {
   tlvs = tlv hello_parameters (hello_octets hold t r) ∷ tlv transport_address a.0 ∷ [];
   joined = record { spelled = refl; fit = ((omega arith, omega arith), ((omega arith, omega (arith, four_of)), tt)) };
-  faultless = record { values = ((refl, tt), ((rw four_of refl, tt), tt)); counts = λ k. keeps_two (listed (row_of kind.Hello) k) k (tlv hello_parameters (hello_octets hold t r)) (tlv transport_address a.0) (λ e. omega (arith, e)) };
+  faultless = record {
+    values = ((refl, tt), ((rw four_of refl, tt), tt));
+    counts = λ k. keeps_two (listed (row_of kind.Hello) k) k (tlv hello_parameters (hello_octets hold t r)) (tlv transport_address a.0) (λ e. omega (arith, e));
+  };
   why = None;
   reason = record { told = None; is_told = tt; is = refl };
   tells = (refl, hello_back hold t r fits, refl);
@@ -134,7 +144,8 @@ read_keep_alive id = record {
   tells = refl;
 }
 
-read_address : (id family : ℕ) (octets : List ℕ) → family < 65536 → are_whole family octets ≡ true → length octets ≤ 4096 → IsRead kind.Address id (flat_map spell_tlv (tlv address_list (addresses_octets family octets) ∷ [])) (message.Address id family octets)
+read_address : (id family : ℕ) (octets : List ℕ) → family < 65536 → are_whole family octets ≡ true → length octets ≤ 4096
+    → IsRead kind.Address id (flat_map spell_tlv (tlv address_list (addresses_octets family octets) ∷ [])) (message.Address id family octets)
 read_address id family octets fits whole few = record {
   tlvs = tlv address_list (addresses_octets family octets) ∷ [];
   joined = record { spelled = refl; fit = ((omega arith, omega (arith, few)), tt) };
@@ -147,34 +158,42 @@ read_address id family octets fits whole few = record {
 list_told : (a : AddressList) → a.family < 65536 → a.family ≡ two_at 0 (addresses_octets a.family a.octets)
 list_told a fits = sym (read_two a.family a.octets fits)
 
-read_withdraw : (id : ℕ) (addresses : Option AddressList) (pw : Option PwFec) (macs : Option (List Mac)) → HasFamily addresses → is_withdrawal addresses pw macs ≡ true → writable_fecs pw ≡ true → IfSome pw IsFecInRange → AreSixOctets macs
+read_withdraw : (id : ℕ) (addresses : Option AddressList) (pw : Option PwFec) (macs : Option (List Mac)) → HasFamily addresses → is_withdrawal addresses pw macs ≡ true
+    → writable_fecs pw ≡ true → IfSome pw IsFecInRange → AreSixOctets macs
     → length (flat_map spell_tlv (written_tlvs (message.AddressWithdraw id addresses pw macs))) < 65536
     → IsRead kind.AddressWithdraw id (flat_map spell_tlv (written_tlvs (message.AddressWithdraw id addresses pw macs))) (message.AddressWithdraw id addresses pw macs)
 read_withdraw id None None macs family tells can within six few = absurd (cc)
 read_withdraw id None (Some pw) None family tells can within six few = absurd (cc)
 read_withdraw id None (Some pw) (Some macs) family tells can within six few =
-    is_told kind.AddressWithdraw id (tlv fec (written_fec pw) ∷ ignorable mac_list (mac_octets macs) ∷ []) (message.AddressWithdraw id None (Some pw) (Some macs)) (omega arith, (omega arith, tt)) few ((refl, fec_told pw can within), ((macs_fit macs six, tt), tt)) (refl, (refl, tt))
+    is_told kind.AddressWithdraw id (tlv fec (written_fec pw) ∷ ignorable mac_list (mac_octets macs) ∷ []) (message.AddressWithdraw id None (Some pw) (Some macs))
+    (omega arith, (omega arith, tt)) few ((refl, fec_told pw can within), ((macs_fit macs six, tt), tt)) (refl, (refl, tt))
     (record { told = Some (Pw pw); is_told = pw_told pw can within; is = refl }) (refl, tt, pw_told pw can within, record { joined = refl; whole = six })
 read_withdraw id (Some a) None None family whole can within six few =
-    is_told kind.AddressWithdraw id (tlv address_list (addresses_octets a.family a.octets) ∷ []) (message.AddressWithdraw id (Some a) None None) (omega arith, tt) few ((addresses_fit a.family a.octets family whole, tt), tt) (refl, tt)
+    is_told kind.AddressWithdraw id (tlv address_list (addresses_octets a.family a.octets) ∷ []) (message.AddressWithdraw id (Some a) None None) (omega arith, tt) few
+    ((addresses_fit a.family a.octets family whole, tt), tt) (refl, tt)
     (record { told = None; is_told = tt; is = refl }) (refl, record { number = list_told a family; addresses = refl }, tt, tt)
 read_withdraw id (Some a) (Some pw) None family whole can within six few =
-    is_told kind.AddressWithdraw id (tlv address_list (addresses_octets a.family a.octets) ∷ tlv fec (written_fec pw) ∷ []) (message.AddressWithdraw id (Some a) (Some pw) None) (omega arith, (omega arith, tt)) few ((addresses_fit a.family a.octets family whole, tt), ((refl, fec_told pw can within), tt)) (refl, (refl, tt))
+    is_told kind.AddressWithdraw id (tlv address_list (addresses_octets a.family a.octets) ∷ tlv fec (written_fec pw) ∷ []) (message.AddressWithdraw id (Some a) (Some pw) None)
+    (omega arith, (omega arith, tt)) few ((addresses_fit a.family a.octets family whole, tt), ((refl, fec_told pw can within), tt)) (refl, (refl, tt))
     (record { told = Some (Pw pw); is_told = pw_told pw can within; is = refl }) (refl, record { number = list_told a family; addresses = refl }, pw_told pw can within, tt)
 read_withdraw id (Some a) None (Some macs) family whole can within six few =
-    is_told kind.AddressWithdraw id (tlv address_list (addresses_octets a.family a.octets) ∷ ignorable mac_list (mac_octets macs) ∷ []) (message.AddressWithdraw id (Some a) None (Some macs)) (omega arith, (omega arith, tt)) few ((addresses_fit a.family a.octets family whole, tt), ((macs_fit macs six, tt), tt)) (refl, (refl, tt))
+    is_told kind.AddressWithdraw id (tlv address_list (addresses_octets a.family a.octets) ∷ ignorable mac_list (mac_octets macs) ∷ [])
+    (message.AddressWithdraw id (Some a) None (Some macs)) (omega arith, (omega arith, tt)) few ((addresses_fit a.family a.octets family whole, tt), ((macs_fit macs six, tt), tt)) (refl, (refl, tt))
     (record { told = None; is_told = tt; is = refl }) (refl, record { number = list_told a family; addresses = refl }, tt, record { joined = refl; whole = six })
 read_withdraw id (Some a) (Some pw) (Some macs) family whole can within six few =
-    is_told kind.AddressWithdraw id (tlv address_list (addresses_octets a.family a.octets) ∷ tlv fec (written_fec pw) ∷ ignorable mac_list (mac_octets macs) ∷ []) (message.AddressWithdraw id (Some a) (Some pw) (Some macs)) (omega arith, (omega arith, (omega arith, tt))) few
+    is_told kind.AddressWithdraw id (tlv address_list (addresses_octets a.family a.octets) ∷ tlv fec (written_fec pw) ∷ ignorable mac_list (mac_octets macs) ∷ [])
+    (message.AddressWithdraw id (Some a) (Some pw) (Some macs)) (omega arith, (omega arith, (omega arith, tt))) few
     ((addresses_fit a.family a.octets family whole, tt), ((refl, fec_told pw can within), ((macs_fit macs six, tt), tt))) (refl, (refl, (refl, tt)))
-    (record { told = Some (Pw pw); is_told = pw_told pw can within; is = refl }) (refl, record { number = list_told a family; addresses = refl }, pw_told pw can within, record { joined = refl; whole = six })
+    (record { told = Some (Pw pw); is_told = pw_told pw can within; is = refl })
+    (refl, record { number = list_told a family; addresses = refl }, pw_told pw can within, record { joined = refl; whole = six })
 
 -- switching points are no status
 no_state : (points : List Point) → OfBoth (value_of pw_status (point_tlvs points)) None IsPwStatus
 no_state [] = tt
 no_state (p ∷ points) = no_state points
 
-read_mapping : (id : ℕ) (pw : PwFec) (given : ℕ) (state : Option PwStatus) (points : List Point) → is_some pw.pw_id ≡ true → writable_fec pw ≡ true → IsFecInRange pw → IsLabel given → IsState state → length points ≤ 3 → AllByRecursion IsPointInRange points
+read_mapping : (id : ℕ) (pw : PwFec) (given : ℕ) (state : Option PwStatus) (points : List Point) → is_some pw.pw_id ≡ true → writable_fec pw ≡ true → IsFecInRange pw → IsLabel given
+    → IsState state → length points ≤ 3 → AllByRecursion IsPointInRange points
     → length (flat_map spell_tlv (written_tlvs (message.LabelMapping id pw given state points))) < 65536
     → IsRead kind.LabelMapping id (flat_map spell_tlv (written_tlvs (message.LabelMapping id pw given state points))) (message.LabelMapping id pw given state points)
 read_mapping id pw given None points has can within is held three all few =
@@ -183,7 +202,11 @@ read_mapping id pw given None points has can within is held three all few =
     is_read kind.LabelMapping id (front ++ point_tlvs points) (message.LabelMapping id pw given None points) (omega arith, (omega arith, points_words points)) few
     ((refl, fec_told pw can within), ((refl, inr (subst IsLabel (label_back given is) is)), points_fitting body points all))
     (λ n. keeps_points n front points (refl, (refl, tt)) refl three)
-    (record { told = Some (Pw pw); is_told = pw_told pw can within; is = sym (λ i. reason_of (points_known points i) (none_missing (written_fec pw) (four given) (point_tlvs points) i) (has_pw_id pw.pw_id has i)) })
+    (record {
+      told = Some (Pw pw);
+      is_told = pw_told pw can within;
+      is = sym (λ i. reason_of (points_known points i) (none_missing (written_fec pw) (four given) (point_tlvs points) i) (has_pw_id pw.pw_id has i));
+    })
     (refl, pw_told pw can within, label_back given is, no_state points, points_back points all)
 read_mapping id pw given (Some p) points has can within is held three all few =
     let front : List Tlv = tlv fec (written_fec pw) ∷ tlv label (four given) ∷ ignorable pw_status (written_status p) ∷ [] in
@@ -191,7 +214,11 @@ read_mapping id pw given (Some p) points has can within is held three all few =
     is_read kind.LabelMapping id (front ++ point_tlvs points) (message.LabelMapping id pw given (Some p) points) (omega arith, (omega arith, (omega arith, points_words points))) few
     ((refl, fec_told pw can within), ((refl, inr (subst IsLabel (label_back given is) is)), ((refl, tt), points_fitting body points all)))
     (λ n. keeps_points n front points (refl, (refl, (refl, tt))) refl three)
-    (record { told = Some (Pw pw); is_told = pw_told pw can within; is = sym (λ i. reason_of (points_known points i) (none_missing (written_fec pw) (four given) (ignorable pw_status (written_status p) ∷ point_tlvs points) i) (has_pw_id pw.pw_id has i)) })
+    (record {
+      told = Some (Pw pw);
+      is_told = pw_told pw can within;
+      is = sym (λ i. reason_of (points_known points i) (none_missing (written_fec pw) (four given) (ignorable pw_status (written_status p) ∷ point_tlvs points) i) (has_pw_id pw.pw_id has i));
+    })
     (refl, pw_told pw can within, label_back given is, status_again p held, points_back points all)
 
 read_request : (id : ℕ) (pw : PwFec) → writable_fec pw ≡ true → IsFecInRange pw → length (flat_map spell_tlv (written_tlvs (message.LabelRequest id pw))) < 65536
@@ -200,28 +227,34 @@ read_request id pw can within few =
     is_told kind.LabelRequest id (tlv fec (written_fec pw) ∷ []) (message.LabelRequest id pw) (omega arith, tt) few ((refl, fec_told pw can within), tt) (refl, tt)
     (record { told = Some (Pw pw); is_told = pw_told pw can within; is = refl }) (refl, pw_told pw can within)
 
-read_label_withdraw : (id : ℕ) (pw : PwFec) (given : Option ℕ) → writable_fec pw ≡ true → IsFecInRange pw → IfSome given IsLabel → length (flat_map spell_tlv (written_tlvs (message.LabelWithdraw id pw given))) < 65536
+read_label_withdraw : (id : ℕ) (pw : PwFec) (given : Option ℕ) → writable_fec pw ≡ true → IsFecInRange pw → IfSome given IsLabel
+    → length (flat_map spell_tlv (written_tlvs (message.LabelWithdraw id pw given))) < 65536
     → IsRead kind.LabelWithdraw id (flat_map spell_tlv (written_tlvs (message.LabelWithdraw id pw given))) (message.LabelWithdraw id pw given)
 read_label_withdraw id pw None can within is few =
     is_told kind.LabelWithdraw id (tlv fec (written_fec pw) ∷ []) (message.LabelWithdraw id pw None) (omega arith, tt) few ((refl, fec_told pw can within), tt) (refl, tt)
     (record { told = Some (Pw pw); is_told = pw_told pw can within; is = refl }) (refl, pw_told pw can within, tt)
 read_label_withdraw id pw (Some given) can within is few =
-    is_told kind.LabelWithdraw id (tlv fec (written_fec pw) ∷ tlv label (four given) ∷ []) (message.LabelWithdraw id pw (Some given)) (omega arith, (omega arith, tt)) few ((refl, fec_told pw can within), ((refl, inr (subst IsLabel (label_back given is) is)), tt)) (refl, (refl, tt))
+    is_told kind.LabelWithdraw id (tlv fec (written_fec pw) ∷ tlv label (four given) ∷ []) (message.LabelWithdraw id pw (Some given)) (omega arith, (omega arith, tt)) few
+    ((refl, fec_told pw can within), ((refl, inr (subst IsLabel (label_back given is) is)), tt)) (refl, (refl, tt))
     (record { told = Some (Pw pw); is_told = pw_told pw can within; is = refl }) (refl, pw_told pw can within, label_back given is)
 
-read_label_release : (id : ℕ) (pw : PwFec) (given : Option ℕ) → writable_fec pw ≡ true → IsFecInRange pw → IfSome given IsLabel → length (flat_map spell_tlv (written_tlvs (message.LabelRelease id pw given))) < 65536
+read_label_release : (id : ℕ) (pw : PwFec) (given : Option ℕ) → writable_fec pw ≡ true → IsFecInRange pw → IfSome given IsLabel
+    → length (flat_map spell_tlv (written_tlvs (message.LabelRelease id pw given))) < 65536
     → IsRead kind.LabelRelease id (flat_map spell_tlv (written_tlvs (message.LabelRelease id pw given))) (message.LabelRelease id pw given)
 read_label_release id pw None can within is few =
     is_told kind.LabelRelease id (tlv fec (written_fec pw) ∷ []) (message.LabelRelease id pw None) (omega arith, tt) few ((refl, fec_told pw can within), tt) (refl, tt)
     (record { told = Some (Pw pw); is_told = pw_told pw can within; is = refl }) (refl, pw_told pw can within, tt)
 read_label_release id pw (Some given) can within is few =
-    is_told kind.LabelRelease id (tlv fec (written_fec pw) ∷ tlv label (four given) ∷ []) (message.LabelRelease id pw (Some given)) (omega arith, (omega arith, tt)) few ((refl, fec_told pw can within), ((refl, inr (subst IsLabel (label_back given is) is)), tt)) (refl, (refl, tt))
+    is_told kind.LabelRelease id (tlv fec (written_fec pw) ∷ tlv label (four given) ∷ []) (message.LabelRelease id pw (Some given)) (omega arith, (omega arith, tt)) few
+    ((refl, fec_told pw can within), ((refl, inr (subst IsLabel (label_back given is) is)), tt)) (refl, (refl, tt))
     (record { told = Some (Pw pw); is_told = pw_told pw can within; is = refl }) (refl, pw_told pw can within, label_back given is)
 
-read_abort : (id : ℕ) (pw : PwFec) (request : ℕ) → writable_fec pw ≡ true → IsFecInRange pw → request < 4294967296 → length (flat_map spell_tlv (written_tlvs (message.LabelAbort id pw request))) < 65536
+read_abort : (id : ℕ) (pw : PwFec) (request : ℕ) → writable_fec pw ≡ true → IsFecInRange pw → request < 4294967296
+    → length (flat_map spell_tlv (written_tlvs (message.LabelAbort id pw request))) < 65536
     → IsRead kind.LabelAbort id (flat_map spell_tlv (written_tlvs (message.LabelAbort id pw request))) (message.LabelAbort id pw request)
 read_abort id pw request can within small few =
-    is_told kind.LabelAbort id (tlv fec (written_fec pw) ∷ tlv request_id (four request) ∷ []) (message.LabelAbort id pw request) (omega arith, (omega arith, tt)) few ((refl, fec_told pw can within), ((refl, tt), tt)) (refl, (refl, tt))
+    is_told kind.LabelAbort id (tlv fec (written_fec pw) ∷ tlv request_id (four request) ∷ []) (message.LabelAbort id pw request) (omega arith, (omega arith, tt)) few
+    ((refl, fec_told pw can within), ((refl, tt), tt)) (refl, (refl, tt))
     (record { told = Some (Pw pw); is_told = pw_told pw can within; is = refl }) (refl, pw_told pw can within, number_back request small)
 
 record IsTold (m : Message) : Type 0 where
@@ -283,7 +316,8 @@ told (message.Other id u number) can fits size = absurd (cc)
 told (message.Unprocessed id number why) can fits size = absurd (cc)
 
 -- what is written is read
-read_back : (max : ℕ) (m : Message) (id : LdpId) → max ≤ 4096 → writable m ≡ true → Fits m → IsId id → 6 + length (message_octets m) ≤ max → Spells (written m id) max (record { id = id; messages = m ∷ [] })
+read_back : (max : ℕ) (m : Message) (id : LdpId) → max ≤ 4096 → writable m ≡ true → Fits m → IsId id → 6 + length (message_octets m) ≤ max
+    → Spells (written m id) max (record { id = id; messages = m ∷ [] })
 read_back max m id small can fits is size =
     let t = told m can fits (omega (arith, size, small)) in
     spelled_alone max m id small is size t.spelling t.stands

@@ -53,7 +53,8 @@ number_short : (kind : ℕ) (number : Option ℕ) → length (flat_map (spell Sw
 number_short kind None = omega arith
 number_short kind (Some n) = omega arith
 
-address_short : (kind : ℕ) (address : Option Addr) → IfSome address (λ (a : Addr). length a.0 ≡ 4) → length (flat_map (spell SwitchingPointPart) (told kind (option_map (λ (a : Addr). a.0) address))) ≤ 6
+address_short : (kind : ℕ) (address : Option Addr) → IfSome address (λ (a : Addr). length a.0 ≡ 4)
+    → length (flat_map (spell SwitchingPointPart) (told kind (option_map (λ (a : Addr). a.0) address))) ≤ 6
 address_short kind None four = omega arith
 address_short kind (Some a) four = omega (arith, four, length-append a.0 [])
 
@@ -105,7 +106,14 @@ written_is_short (Initialization id params) fits none few = omega (arith, fits.1
 written_is_short (KeepAlive id) fits none few = omega arith
 written_is_short (Address id family octets) fits none few = omega (arith, none, length-append octets [])
 written_is_short (AddressWithdraw id addresses pw macs) fits none few =
-    omega (arith, both_length (withdrawn_tlvs addresses) (fec_tlvs pw ++ mac_tlvs macs), both_length (fec_tlvs pw) (mac_tlvs macs), withdrawn_short addresses none, fecs_short pw fits.2, lists_short macs fits.3 few)
+    omega (
+      arith,
+      both_length (withdrawn_tlvs addresses) (fec_tlvs pw ++ mac_tlvs macs),
+      both_length (fec_tlvs pw) (mac_tlvs macs),
+      withdrawn_short addresses none,
+      fecs_short pw fits.2,
+      lists_short macs fits.3 few,
+    )
 written_is_short (LabelMapping id pw given state points) fits none few =
     let last = both_length (status_tlvs state) (point_tlvs points) in
     let second = first_length (tlv label (four given)) (status_tlvs state ++ point_tlvs points) in

@@ -112,7 +112,8 @@ fec_made row body ts v faultless is_listed e = let c = has_value row body ts fec
 
 fec_told : (k : MessageKind) (body : List ℕ) (ts : List Tlv) → IsFaultless (row_of k) body ts → OfFurther IsFecValue (fec_value (row_of k) ts)
 fec_told k body ts faultless = elim (fec_listed k) [
-  | inl is_listed ↦ subst (λ (o : Option Field). OfFurther IsFecValue (where_listed o (value_of fec ts))) (sym is_listed) (of_further IsFecValue (value_of fec ts) (λ v e. fec_made (row_of k) body ts v faultless is_listed e))
+  | inl is_listed ↦ subst (λ (o : Option Field). OfFurther IsFecValue (where_listed o (value_of fec ts))) (sym is_listed)
+      (of_further IsFecValue (value_of fec ts) (λ v e. fec_made (row_of k) body ts v faultless is_listed e))
   | inr is_none ↦ subst (λ (o : Option Field). OfFurther IsFecValue (where_listed o (value_of fec ts))) (sym is_none) (record { value = None; is = tt })
 ]
 
@@ -124,7 +125,8 @@ element_of k ts v (Foreign first) reason is_listed e is =
     let there : fec_value (row_of k) ts ≡ Some v = ap (λ (o : Option Field). where_listed o (value_of fec ts)) is_listed ∙ e in
     absurd (told_pw k (Some v) reason.told (Some (Foreign first)) none.fec (subst (λ (o : Option (List ℕ)). OfBoth o reason.told IsFecValue) there reason.is_told) is first refl)
 
-pw_made : (k : MessageKind) (body : List ℕ) (ts : List Tlv) (v : List ℕ) → IsFaultless (row_of k) body ts → IsReason k ts None → listed (row_of k) fec ≡ Some field.Fec → value_of fec ts ≡ Some v → Made IsPwFec v
+pw_made : (k : MessageKind) (body : List ℕ) (ts : List Tlv) (v : List ℕ) → IsFaultless (row_of k) body ts → IsReason k ts None → listed (row_of k) fec ≡ Some field.Fec
+    → value_of fec ts ≡ Some v → Made IsPwFec v
 pw_made k body ts v faultless reason is_listed e =
     let m = fec_made (row_of k) body ts v faultless is_listed e in
     element_of k ts v m.value reason is_listed e m.is
@@ -190,7 +192,8 @@ macs_told row body ts faultless is_listed =
 pw_told : (k : MessageKind) (body : List ℕ) (ts : List Tlv) → IsFaultless (row_of k) body ts → IsReason k ts None → listed (row_of k) fec ≡ Some field.Fec → OfFurther IsPwFec (value_of fec ts)
 pw_told k body ts faultless reason is_listed = of_further IsPwFec (value_of fec ts) (λ v e. pw_made k body ts v faultless reason is_listed e)
 
-pw_needed : (k : MessageKind) (body : List ℕ) (ts : List Tlv) → IsFaultless (row_of k) body ts → IsReason k ts None → listed (row_of k) fec ≡ Some field.Fec → (row_of k).instead ≡ [] → is_in fec (row_of k).needed ≡ true → OfNeeded IsPwFec (value_of fec ts)
+pw_needed : (k : MessageKind) (body : List ℕ) (ts : List Tlv) → IsFaultless (row_of k) body ts → IsReason k ts None → listed (row_of k) fec ≡ Some field.Fec → (row_of k).instead ≡ []
+    → is_in fec (row_of k).needed ≡ true → OfNeeded IsPwFec (value_of fec ts)
 pw_needed k body ts faultless reason is_listed alone is =
     of_needed IsPwFec (value_of fec ts) (needed k ts fec reason alone is) (λ v e. pw_made k body ts v faultless reason is_listed e)
 

@@ -61,7 +61,8 @@ same_field : (o : Option Field) (f g : Field) → o ≡ Some f → o ≡ Some g 
 same_field o f g is_f is_g = cc
 
 -- no TLV without fault is at fault
-no_fault : (row : Row) (body : List ℕ) (before further : List Tlv) (t : Tlv) (rest : List ℕ) → IsTlv t → IsFitting row body t → KeepsTo (listed row (type_in t.word)) (count_of (type_in t.word) (before ++ t ∷ further))
+no_fault : (row : Row) (body : List ℕ) (before further : List Tlv) (t : Tlv) (rest : List ℕ) → IsTlv t → IsFitting row body t
+    → KeepsTo (listed row (type_in t.word)) (count_of (type_in t.word) (before ++ t ∷ further))
     → (c : Cause) (place : ℕ) → TlvFault row before (spell_tlv t ++ rest) c place → ⊥
 no_fault row body before further t rest is fitting keeps cause.Version place names = names
 no_fault row body before further t rest is fitting keeps cause.PduLength place names = names
@@ -128,16 +129,19 @@ no_end_at row body before f (inr w) = omega (arith, size_of w.tlv w.more, ap len
 -- no fault is named in TLVs without fault
 pub tlvs_faultless : (row : Row) (body : List ℕ) (ts : List Tlv) → IsJoined body ts → IsFaultless row body ts → (f : Fault) → NamesTlvs row body f → ⊥
 tlvs_faultless row body ts joined faultless f names =
-    none_named spell_tlv IsTlv (IsTlvFault row body) tlvs_apart ts joined.fit (tlvs_clean row body ts joined.fit faultless) (λ before g w. no_end_at row body before g w) f (subst (λ (l : List ℕ). IsNamedIn spell_tlv IsTlv (IsTlvFault row body) l f) joined.spelled names)
+    none_named spell_tlv IsTlv (IsTlvFault row body) tlvs_apart ts joined.fit (tlvs_clean row body ts joined.fit faultless) (λ before g w. no_end_at row body before g w) f
+    (subst (λ (l : List ℕ). IsNamedIn spell_tlv IsTlv (IsTlvFault row body) l f) joined.spelled names)
 
 -- the fault behind TLVs without fault is the first of the message
-pub first_of_tlvs : (row : Row) (body front rest : List ℕ) (ts : List Tlv) (at : ℕ) (f : Fault) → body ≡ front ++ rest → at ≡ length front → IsJoined front ts → IsFaultless row body ts → IsFirstTlvFault row body ts rest f → IsFirst (NamesTlvs row body) (moved at f)
+pub first_of_tlvs : (row : Row) (body front rest : List ℕ) (ts : List Tlv) (at : ℕ) (f : Fault) → body ≡ front ++ rest → at ≡ length front → IsJoined front ts → IsFaultless row body ts
+    → IsFirstTlvFault row body ts rest f → IsFirst (NamesTlvs row body) (moved at f)
 first_of_tlvs row body front rest ts at f split place joined faultless here =
     let first : IsFirst (IsNamedIn spell_tlv IsTlv (IsTlvFault row body) (flat_map spell_tlv ts ++ rest)) (moved (length (flat_map spell_tlv ts)) f) =
     first_behind spell_tlv IsTlv (IsTlvFault row body) tlvs_apart ts rest f joined.fit (tlvs_clean row body ts joined.fit faultless) here in
     let whole : flat_map spell_tlv ts ++ rest ≡ body = sym (split ∙ ap (λ (l : List ℕ). l ++ rest) joined.spelled) in
     let size : length (flat_map spell_tlv ts) ≡ at = sym (place ∙ ap length joined.spelled) in
-    subst (λ (n : ℕ). IsFirst (NamesTlvs row body) (moved n f)) size (subst (λ (l : List ℕ). IsFirst (IsNamedIn spell_tlv IsTlv (IsTlvFault row body) l) (moved (length (flat_map spell_tlv ts)) f)) whole first)
+    subst (λ (n : ℕ). IsFirst (NamesTlvs row body) (moved n f)) size
+    (subst (λ (l : List ℕ). IsFirst (IsNamedIn spell_tlv IsTlv (IsTlvFault row body) l) (moved (length (flat_map spell_tlv ts)) f)) whole first)
 
 -- faults of a value come behind what is in front of it, and in their order
 pub late : (f : Field) (fault : FieldFault) → 2 ≤ (fault_in f fault).place
@@ -163,7 +167,8 @@ in_order f (Repeated at inner) (Repeated to next) (inl less) = inl (omega (arith
 in_order f (Repeated at inner) (Repeated to next) (inr same) = inr (omega (arith, same.0), omega (arith, same.1))
 
 -- one to three octets are left
-short_first : (row : Row) (ts : List Tlv) (rest : List ℕ) → length rest < 4 → (c : Cause) (place : ℕ) → TlvFault row ts rest c place → Precedes (record { place = 0; cause = cause.TlvLength }) (record { place = place; cause = c })
+short_first : (row : Row) (ts : List Tlv) (rest : List ℕ) → length rest < 4 → (c : Cause) (place : ℕ) → TlvFault row ts rest c place
+    → Precedes (record { place = 0; cause = cause.TlvLength }) (record { place = place; cause = c })
 short_first row ts rest few cause.Version place names = absurd names
 short_first row ts rest few cause.PduLength place names = absurd names
 short_first row ts rest few cause.MessageLength place names = absurd names
@@ -184,7 +189,8 @@ short_tlv row body ts rest some few = record {
 }
 
 -- the TLV stands as often as it may before
-repeated_first : (row : Row) (ts : List Tlv) (rest : List ℕ) (field : Field) → 4 ≤ length rest → listed row (type_in (two_at 0 rest)) ≡ Some field → (c : Cause) (place : ℕ) → TlvFault row ts rest c place
+repeated_first : (row : Row) (ts : List Tlv) (rest : List ℕ) (field : Field) → 4 ≤ length rest → listed row (type_in (two_at 0 rest)) ≡ Some field → (c : Cause) (place : ℕ)
+    → TlvFault row ts rest c place
     → Precedes (record { place = 0; cause = cause.Repeated field }) (record { place = place; cause = c })
 repeated_first row ts rest field whole is_listed cause.Version place names = absurd names
 repeated_first row ts rest field whole is_listed cause.PduLength place names = absurd names
@@ -196,11 +202,13 @@ repeated_first row ts rest field whole is_listed (cause.Repeated other) place na
     let same : field ≡ other = same_field _ field other is_listed names.1.is_listed in
     inr (sym names.0, omega (arith, ap (λ (f : Field). rank (cause.Repeated f)) same))
 
-repeated_before : (row : Row) (body : List ℕ) (ts : List Tlv) (rest : List ℕ) (field : Field) → 4 ≤ length rest → listed row (type_in (two_at 0 rest)) ≡ Some field → (g : Fault) → IsTlvFault row body ts rest g → Precedes (record { place = 0; cause = cause.Repeated field }) g
+repeated_before : (row : Row) (body : List ℕ) (ts : List Tlv) (rest : List ℕ) (field : Field) → 4 ≤ length rest → listed row (type_in (two_at 0 rest)) ≡ Some field → (g : Fault)
+    → IsTlvFault row body ts rest g → Precedes (record { place = 0; cause = cause.Repeated field }) g
 repeated_before row body ts rest field whole is_listed g (inl names) = repeated_first row ts rest field whole is_listed g.cause g.place names
 repeated_before row body ts rest field whole is_listed g (inr w) = inl (omega (arith, late w.field w.here, ap (λ (h : Fault). h.place) w.is))
 
-pub repeated_tlv : (row : Row) (body : List ℕ) (ts : List Tlv) (rest : List ℕ) (field : Field) → 4 ≤ length rest → listed row (type_in (two_at 0 rest)) ≡ Some field → most field ≤ count_of (type_in (two_at 0 rest)) ts
+pub repeated_tlv : (row : Row) (body : List ℕ) (ts : List Tlv) (rest : List ℕ) (field : Field) → 4 ≤ length rest → listed row (type_in (two_at 0 rest)) ≡ Some field
+    → most field ≤ count_of (type_in (two_at 0 rest)) ts
     → IsFirstTlvFault row body ts rest (record { place = 0; cause = cause.Repeated field })
 repeated_tlv row body ts rest field whole is_listed full = record {
   named = inl (refl, record { whole = whole; is_listed = is_listed; full = full });
@@ -215,7 +223,8 @@ no_repeat row ts rest field room names = omega (arith, has_room _ field _ names.
 pub uncut_at : (rest more : List ℕ) (t : Tlv) (place : ℕ) → IsTlv t → rest ≡ spell_tlv t ++ more → CutsTlv rest place → ⊥
 uncut_at rest more t place is e cuts = uncut t more place is (subst (λ (l : List ℕ). CutsTlv l place) e cuts)
 
-long_first : (row : Row) (ts : List Tlv) (rest : List ℕ) → 4 ≤ length rest → length rest < 4 + two_at 2 rest → MayComeAgain (listed row (type_in (two_at 0 rest))) (count_of (type_in (two_at 0 rest)) ts) → (c : Cause) (place : ℕ) → TlvFault row ts rest c place
+long_first : (row : Row) (ts : List Tlv) (rest : List ℕ) → 4 ≤ length rest → length rest < 4 + two_at 2 rest
+    → MayComeAgain (listed row (type_in (two_at 0 rest))) (count_of (type_in (two_at 0 rest)) ts) → (c : Cause) (place : ℕ) → TlvFault row ts rest c place
     → Precedes (record { place = 2; cause = cause.TlvLength }) (record { place = place; cause = c })
 long_first row ts rest whole past room cause.Version place names = absurd names
 long_first row ts rest whole past room cause.PduLength place names = absurd names
@@ -225,12 +234,14 @@ long_first row ts rest whole past room cause.TlvLength place (inr long) = inr (s
 long_first row ts rest whole past room (cause.TlvValue field) place names = absurd (uncut_at rest names.1.more names.1.tlv 2 names.1.is_tlv names.1.split (inr (whole, past, refl)))
 long_first row ts rest whole past room (cause.Repeated field) place names = absurd (no_repeat row ts rest field room names.1)
 
-long_before : (row : Row) (body : List ℕ) (ts : List Tlv) (rest : List ℕ) → 4 ≤ length rest → length rest < 4 + two_at 2 rest → MayComeAgain (listed row (type_in (two_at 0 rest))) (count_of (type_in (two_at 0 rest)) ts) → (g : Fault) → IsTlvFault row body ts rest g
+long_before : (row : Row) (body : List ℕ) (ts : List Tlv) (rest : List ℕ) → 4 ≤ length rest → length rest < 4 + two_at 2 rest
+    → MayComeAgain (listed row (type_in (two_at 0 rest))) (count_of (type_in (two_at 0 rest)) ts) → (g : Fault) → IsTlvFault row body ts rest g
     → Precedes (record { place = 2; cause = cause.TlvLength }) g
 long_before row body ts rest whole past room g (inl names) = long_first row ts rest whole past room g.cause g.place names
 long_before row body ts rest whole past room g (inr w) = absurd (uncut_at rest w.more w.tlv 2 w.is_tlv w.split (inr (whole, past, refl)))
 
-pub long_tlv : (row : Row) (body : List ℕ) (ts : List Tlv) (rest : List ℕ) → 4 ≤ length rest → length rest < 4 + two_at 2 rest → MayComeAgain (listed row (type_in (two_at 0 rest))) (count_of (type_in (two_at 0 rest)) ts) → IsFirstTlvFault row body ts rest (record { place = 2; cause = cause.TlvLength })
+pub long_tlv : (row : Row) (body : List ℕ) (ts : List Tlv) (rest : List ℕ) → 4 ≤ length rest → length rest < 4 + two_at 2 rest
+    → MayComeAgain (listed row (type_in (two_at 0 rest))) (count_of (type_in (two_at 0 rest)) ts) → IsFirstTlvFault row body ts rest (record { place = 2; cause = cause.TlvLength })
 long_tlv row body ts rest whole past room = record {
   named = inl (inr (whole, past, refl));
   first = λ g names. long_before row body ts rest whole past room g names;
@@ -238,7 +249,8 @@ long_tlv row body ts rest whole past room = record {
 }
 
 -- the value does not fit
-misfit_first : (row : Row) (ts : List Tlv) (rest more : List ℕ) (t : Tlv) (field : Field) → IsTlv t → rest ≡ spell_tlv t ++ more → listed row (type_in t.word) ≡ Some field → MayComeAgain (listed row (type_in (two_at 0 rest))) (count_of (type_in (two_at 0 rest)) ts) → (c : Cause) (place : ℕ) → TlvFault row ts rest c place
+misfit_first : (row : Row) (ts : List Tlv) (rest more : List ℕ) (t : Tlv) (field : Field) → IsTlv t → rest ≡ spell_tlv t ++ more → listed row (type_in t.word) ≡ Some field
+    → MayComeAgain (listed row (type_in (two_at 0 rest))) (count_of (type_in (two_at 0 rest)) ts) → (c : Cause) (place : ℕ) → TlvFault row ts rest c place
     → Precedes (record { place = 2; cause = cause.TlvValue field }) (record { place = place; cause = c })
 misfit_first row ts rest more t field is e is_listed room cause.Version place names = absurd names
 misfit_first row ts rest more t field is e is_listed room cause.PduLength place names = absurd names
@@ -270,7 +282,8 @@ record SpeaksOf (body : List ℕ) (field : Field) (value : List ℕ) (fault : Fa
   names : ContentFault body field value here
   is : fault ≡ fault_in field here
 
-speaks_of : (row : Row) (body rest more : List ℕ) (t : Tlv) (field : Field) → IsTlv t → rest ≡ spell_tlv t ++ more → listed row (type_in t.word) ≡ Some field → (g : Fault) → IsWrongContent row body rest g → SpeaksOf body field t.value g
+speaks_of : (row : Row) (body rest more : List ℕ) (t : Tlv) (field : Field) → IsTlv t → rest ≡ spell_tlv t ++ more → listed row (type_in t.word) ≡ Some field → (g : Fault)
+    → IsWrongContent row body rest g → SpeaksOf body field t.value g
 speaks_of row body rest more t field is e is_listed g w =
     let same_tlv : t ≡ w.tlv = (tlvs_apart t w.tlv more w.more is w.is_tlv (sym e ∙ w.split)).0 in
     let same : field ≡ w.field = same_field _ field w.field is_listed (ap (λ (x : Tlv). listed row (type_in x.word)) same_tlv ∙ w.is_listed) in
@@ -280,14 +293,16 @@ speaks_of row body rest more t field is e is_listed g w =
       is = w.is ∙ ap (λ (f : Field). fault_in f w.here) (sym same);
     }
 
-misfit_before : (row : Row) (body : List ℕ) (ts : List Tlv) (rest more : List ℕ) (t : Tlv) (field : Field) → IsTlv t → rest ≡ spell_tlv t ++ more → listed row (type_in t.word) ≡ Some field → MayComeAgain (listed row (type_in (two_at 0 rest))) (count_of (type_in (two_at 0 rest)) ts) → fits field t.value ≡ false
+misfit_before : (row : Row) (body : List ℕ) (ts : List Tlv) (rest more : List ℕ) (t : Tlv) (field : Field) → IsTlv t → rest ≡ spell_tlv t ++ more → listed row (type_in t.word)
+    ≡ Some field → MayComeAgain (listed row (type_in (two_at 0 rest))) (count_of (type_in (two_at 0 rest)) ts) → fits field t.value ≡ false
     → (g : Fault) → IsTlvFault row body ts rest g → Precedes (record { place = 2; cause = cause.TlvValue field }) g
 misfit_before row body ts rest more t field is e is_listed room misfits g (inl names) = misfit_first row ts rest more t field is e is_listed room g.cause g.place names
 misfit_before row body ts rest more t field is e is_listed room misfits g (inr w) =
     let s = speaks_of row body rest more t field is e is_listed g w in
     absurd (misfit_holds_nothing body field t.value s.here misfits s.names)
 
-pub misfit_tlv : (row : Row) (body : List ℕ) (ts : List Tlv) (rest more : List ℕ) (t : Tlv) (field : Field) → IsTlv t → rest ≡ spell_tlv t ++ more → listed row (type_in t.word) ≡ Some field → MayComeAgain (listed row (type_in (two_at 0 rest))) (count_of (type_in (two_at 0 rest)) ts) → fits field t.value ≡ false
+pub misfit_tlv : (row : Row) (body : List ℕ) (ts : List Tlv) (rest more : List ℕ) (t : Tlv) (field : Field) → IsTlv t → rest ≡ spell_tlv t ++ more → listed row (type_in t.word)
+    ≡ Some field → MayComeAgain (listed row (type_in (two_at 0 rest))) (count_of (type_in (two_at 0 rest)) ts) → fits field t.value ≡ false
     → IsFirstTlvFault row body ts rest (record { place = 2; cause = cause.TlvValue field })
 misfit_tlv row body ts rest more t field is e is_listed room misfits = record {
   named = inl (refl, record { tlv = t; more = more; split = e; is_tlv = is; is_listed = is_listed; misfits = misfits });
@@ -296,7 +311,8 @@ misfit_tlv row body ts rest more t field is e is_listed room misfits = record {
 }
 
 -- the value of the TLV here is at fault
-fitting_first : (row : Row) (ts : List Tlv) (rest more : List ℕ) (t : Tlv) (field : Field) → IsTlv t → rest ≡ spell_tlv t ++ more → listed row (type_in t.word) ≡ Some field → MayComeAgain (listed row (type_in (two_at 0 rest))) (count_of (type_in (two_at 0 rest)) ts) → fits field t.value ≡ true
+fitting_first : (row : Row) (ts : List Tlv) (rest more : List ℕ) (t : Tlv) (field : Field) → IsTlv t → rest ≡ spell_tlv t ++ more → listed row (type_in t.word) ≡ Some field
+    → MayComeAgain (listed row (type_in (two_at 0 rest))) (count_of (type_in (two_at 0 rest)) ts) → fits field t.value ≡ true
     → (c : Cause) (place : ℕ) → TlvFault row ts rest c place → ⊥
 fitting_first row ts rest more t field is e is_listed room fitting cause.Version place names = names
 fitting_first row ts rest more t field is e is_listed room fitting cause.PduLength place names = names
@@ -311,7 +327,8 @@ fitting_first row ts rest more t field is e is_listed room fitting (cause.TlvVal
     let good : fits other t.value ≡ true = ap (λ (f : Field). fits f t.value) (sym same) ∙ fitting in
     cc (sym good ∙ bad)
 
-content_before : (row : Row) (body : List ℕ) (ts : List Tlv) (rest more : List ℕ) (t : Tlv) (field : Field) (here : FieldFault) → IsTlv t → rest ≡ spell_tlv t ++ more → listed row (type_in t.word) ≡ Some field → MayComeAgain (listed row (type_in (two_at 0 rest))) (count_of (type_in (two_at 0 rest)) ts) → fits field t.value ≡ true
+content_before : (row : Row) (body : List ℕ) (ts : List Tlv) (rest more : List ℕ) (t : Tlv) (field : Field) (here : FieldFault) → IsTlv t → rest ≡ spell_tlv t ++ more
+    → listed row (type_in t.word) ≡ Some field → MayComeAgain (listed row (type_in (two_at 0 rest))) (count_of (type_in (two_at 0 rest)) ts) → fits field t.value ≡ true
     → IsFirstIn (ContentFault body field t.value) here → (g : Fault) → IsTlvFault row body ts rest g → Precedes (fault_in field here) g
 content_before row body ts rest more t field here is e is_listed room fitting first g (inl names) = absurd (fitting_first row ts rest more t field is e is_listed room fitting g.cause g.place names)
 content_before row body ts rest more t field here is e is_listed room fitting first g (inr w) =
@@ -338,7 +355,8 @@ near_of f value (Value at inner) (inr less) = omega (arith, less)
 near_of f value (Repeated at inner) (inl e) = absurd (cc)
 near_of f value (Repeated at inner) (inr less) = omega (arith, less)
 
-pub content_tlv : (row : Row) (body : List ℕ) (ts : List Tlv) (rest more : List ℕ) (t : Tlv) (field : Field) (here : FieldFault) → IsTlv t → rest ≡ spell_tlv t ++ more → listed row (type_in t.word) ≡ Some field → MayComeAgain (listed row (type_in (two_at 0 rest))) (count_of (type_in (two_at 0 rest)) ts) → fits field t.value ≡ true
+pub content_tlv : (row : Row) (body : List ℕ) (ts : List Tlv) (rest more : List ℕ) (t : Tlv) (field : Field) (here : FieldFault) → IsTlv t → rest ≡ spell_tlv t ++ more
+    → listed row (type_in t.word) ≡ Some field → MayComeAgain (listed row (type_in (two_at 0 rest))) (count_of (type_in (two_at 0 rest)) ts) → fits field t.value ≡ true
     → IsFirstIn (ContentFault body field t.value) here → IsFirstTlvFault row body ts rest (fault_in field here)
 content_tlv row body ts rest more t field here is e is_listed room fitting first = record {
   named = inr (record { tlv = t; more = more; split = e; is_tlv = is; field = field; is_listed = is_listed; here = here; names = first.named; is = refl });
@@ -353,7 +371,8 @@ keeps_more : (o : Option Field) (count more : ℕ) → more ≡ count + 1 → Ma
 keeps_more None count more e room = tt
 keeps_more (Some field) count more e room = omega (arith, e, room)
 
-pub faultless_more : (row : Row) (body : List ℕ) (ts : List Tlv) (t : Tlv) → IsFaultless row body ts → IsFitting row body t → MayComeAgain (listed row (type_in t.word)) (count_of (type_in t.word) ts) → IsFaultless row body (ts ++ t ∷ [])
+pub faultless_more : (row : Row) (body : List ℕ) (ts : List Tlv) (t : Tlv) → IsFaultless row body ts → IsFitting row body t
+    → MayComeAgain (listed row (type_in t.word)) (count_of (type_in t.word) ts) → IsFaultless row body (ts ++ t ∷ [])
 faultless_more row body ts t faultless fitting room = record {
   values = items_more (IsFitting row body) ts t faultless.values fitting;
   counts = λ kind. elim (cases_Bool (nat_eq (type_in t.word) kind)) [
@@ -389,7 +408,8 @@ pub joined_once : (body : List ℕ) (ts us : List Tlv) → IsJoined body ts → 
 joined_once body ts us one other = one_list spell_tlv IsTlv tlvs_apart (λ t. omega (arith, size_of t [])) ts us one.fit other.fit (sym one.spelled ∙ other.spelled)
 
 -- the value of a TLV that a row lists fits
-pub value_fits : (row : Row) (body : List ℕ) (ts : List Tlv) (kind : ℕ) (value : List ℕ) → AllByRecursion (IsFitting row body) ts → value_of kind ts ≡ Some value → HasValue body (listed row kind) value
+pub value_fits : (row : Row) (body : List ℕ) (ts : List Tlv) (kind : ℕ) (value : List ℕ) → AllByRecursion (IsFitting row body) ts → value_of kind ts ≡ Some value
+    → HasValue body (listed row kind) value
 value_fits row body [] kind value fitting e = absurd (cc)
 value_fits row body (t ∷ ts) kind value fitting e = elim (cases_Bool (nat_eq (type_in t.word) kind)) [
   | inl same ↦ (let here : value_of kind (t ∷ ts) ≡ Some t.value = rw same refl in

@@ -229,11 +229,13 @@ points_alone kind [] other = refl
 points_alone kind (p ∷ points) other = rw other (points_alone kind points other)
 
 -- TLVs of different types, and at most three switching points behind them
-pub keeps_points : (kind : ℕ) (front : List Tlv) (points : List Point) → AreDistinct front → count_of switching_point front ≡ 0 → length points ≤ 3 → KeepsTo (listed (row_of LabelMapping) kind) (count_of kind (front ++ point_tlvs points))
+pub keeps_points : (kind : ℕ) (front : List Tlv) (points : List Point) → AreDistinct front → count_of switching_point front ≡ 0 → length points ≤ 3
+    → KeepsTo (listed (row_of LabelMapping) kind) (count_of kind (front ++ point_tlvs points))
 keeps_points kind front points distinct none few =
     let sum = count-append kind front (point_tlvs points) in
     elim (cases_Bool (nat_eq 2413 kind)) [
-      | inl same ↦ subst (λ (k : ℕ). KeepsTo (listed (row_of LabelMapping) k) (count_of k (front ++ point_tlvs points))) (eqb-true _ _ same) (omega (arith, count-append switching_point front (point_tlvs points), none, points_count points, few))
+      | inl same ↦ subst (λ (k : ℕ). KeepsTo (listed (row_of LabelMapping) k) (count_of k (front ++ point_tlvs points))) (eqb-true _ _ same)
+          (omega (arith, count-append switching_point front (point_tlvs points), none, points_count points, few))
       | inr other ↦ keeps_one _ _ (omega (arith, sum, points_alone kind points other, count_distinct kind front distinct))
     ]
 
@@ -258,4 +260,5 @@ drop_some (y ∷ xs) (suc n) x e =
 pub points_more : (points : List Point) (index : ℕ) (point : Point) → slice_get points index ≡ Some point
     → length (flat_map spell_tlv (point_tlvs (drop index points))) ≡ (4 + length (written_point point)) + length (flat_map spell_tlv (point_tlvs (drop (index + 1) points)))
 points_more points index point e =
-    ap (λ (l : List Point). length (flat_map spell_tlv (point_tlvs l))) (drop_some points index point e) ∙ omega (arith, size_of (ignorable switching_point (written_point point)) (flat_map spell_tlv (point_tlvs (drop (index + 1) points))))
+    ap (λ (l : List Point). length (flat_map spell_tlv (point_tlvs l))) (drop_some points index point e)
+    ∙ omega (arith, size_of (ignorable switching_point (written_point point)) (flat_map spell_tlv (point_tlvs (drop (index + 1) points))))

@@ -47,7 +47,8 @@ passed_place old new pdu p few = ap (λ (s : StreamState). s.base) p.is ∙ with
 passed_parsed : (old new : StreamState) (pdu : Pdu) (more : List ℕ) (pdus : List PlacedPdu) (ending : Ending) → old.base + length old.held < 2 ^ 64 → Passes old new pdu
     → IsParsedFrom new.base old.max (new.held ++ more) pdus ending → IsParsedFrom old.base old.max (old.held ++ more) (record { base = old.base; pdu = pdu } ∷ pdus) ending
 passed_parsed old new pdu more pdus ending few p w =
-    let behind : IsParsedFrom (old.base + length p.piece) old.max (new.held ++ more) pdus ending = subst (λ (n : ℕ). IsParsedFrom n old.max (new.held ++ more) pdus ending) (passed_place old new pdu p few) w in
+    let behind : IsParsedFrom (old.base + length p.piece) old.max (new.held ++ more) pdus ending =
+    subst (λ (n : ℕ). IsParsedFrom n old.max (new.held ++ more) pdus ending) (passed_place old new pdu p few) w in
     let all = one_parsing.steps old.base old.max p.piece (new.held ++ more) pdu pdus ending p.spelled behind in
     let split : p.piece ++ (new.held ++ more) ≡ old.held ++ more = sym (append_assoc p.piece new.held more) ∙ ap (λ (l : List ℕ). l ++ more) (sym p.split) in
     subst (λ (l : List ℕ). IsParsedFrom old.base old.max l (record { base = old.base; pdu = pdu } ∷ pdus) ending) split all
@@ -73,7 +74,8 @@ peeked s seen going is = record { going = going; piece = take (size_of s.held) s
 -- where a PDU is seen, no fault stands in front
 pub seen_faultless : (max : ℕ) (held : List ℕ) (seen : SeenPdu) (f : Fault) → max ≤ 4096 → IsSeenIn max held seen → IsFrontFault max held f → ⊥
 seen_faultless max held seen f small s fault =
-    let front : HasFront max held s.viewed.pdu (drop (size_of held) held) = record { piece = take (size_of held) held; split = sym (take-append-drop (size_of held) held); spelled = s.viewed.spells } in
+    let front : HasFront max held s.viewed.pdu (drop (size_of held) held) =
+    record { piece = take (size_of held) held; split = sym (take-append-drop (size_of held) held); spelled = s.viewed.spells } in
     one_front.not_faulty max held s.viewed.pdu (drop (size_of held) held) f small front fault
 
 -- the PDU in front is there whole
@@ -83,7 +85,8 @@ next_whole s small n =
     record { header = at.header; whole = at.within }
 
 -- what is left is what stands behind the PDU that is passed
-pub passes_front : (s new : StreamState) (pdu : Pdu) (rest : List ℕ) → s.max ≤ 4096 → s.refused ≡ None → HasFront s.max s.held pdu rest → new ≡ record { held = drop (size_of s.held) s.held; max = s.max; base = place_behind s.base (size_of s.held); refused = s.refused } → Passes s new pdu
+pub passes_front : (s new : StreamState) (pdu : Pdu) (rest : List ℕ) → s.max ≤ 4096 → s.refused ≡ None → HasFront s.max s.held pdu rest → new
+    ≡ record { held = drop (size_of s.held) s.held; max = s.max; base = place_behind s.base (size_of s.held); refused = s.refused } → Passes s new pdu
 passes_front s new pdu rest small going front is =
     let at = in_front s.max s.held front.piece rest pdu small front.split front.spelled in
     let held : new.held ≡ drop (size_of s.held) s.held = ap (λ (n : StreamState). n.held) is in
@@ -97,4 +100,9 @@ passes_front s new pdu rest small going front is =
 
 -- a PDU that is seen can be passed
 pub ready : (s : StreamState) (seen : SeenPdu) → s.refused ≡ None → IsSeenIn s.max s.held seen → HasNext s
-ready s seen going is = record { going = going; pdu = is.viewed.pdu; rest = drop (size_of s.held) s.held; front = record { piece = take (size_of s.held) s.held; split = sym (take-append-drop (size_of s.held) s.held); spelled = is.viewed.spells } }
+ready s seen going is = record {
+  going = going;
+  pdu = is.viewed.pdu;
+  rest = drop (size_of s.held) s.held;
+  front = record { piece = take (size_of s.held) s.held; split = sym (take-append-drop (size_of s.held) s.held); spelled = is.viewed.spells };
+}

@@ -122,13 +122,14 @@ all-replaced P entry (x ∷ xs) all new = elim (is_of entry.address x) as (λ v.
 
 -- what holds of all entries, and of the one that came, holds of all afterwards
 pub all-learned : (P : MacEntry → Type 0) (table : AddressTable) (entry : MacEntry) → All P table.entries → P entry → All P (learned table entry)
-all-learned P table entry all new = elim (has_address table.entries entry.address) as (λ v. All P (cond v (replaced entry table.entries) (cond (has_room table) (table.entries ++ entry ∷ []) table.entries))) [
-  | true ↦ all-replaced P entry table.entries all new
-  | false ↦ elim (has_room table) as (λ v. All P (cond v (table.entries ++ entry ∷ []) table.entries)) [
-    | true ↦ All-push P table.entries entry all new
-    | false ↦ all
-  ]
-]
+all-learned P table entry all new = elim (has_address table.entries entry.address) as
+    (λ v. All P (cond v (replaced entry table.entries) (cond (has_room table) (table.entries ++ entry ∷ []) table.entries))) [
+      | true ↦ all-replaced P entry table.entries all new
+      | false ↦ elim (has_room table) as (λ v. All P (cond v (table.entries ++ entry ∷ []) table.entries)) [
+        | true ↦ All-push P table.entries entry all new
+        | false ↦ all
+      ]
+    ]
 
 -- an entry is the one that came, or stood there before
 pub learned_from : (table : AddressTable) (entry : MacEntry) → All (λ e. (e ≡ entry) ⊎ Contains table.entries e) (learned table entry)
@@ -183,7 +184,8 @@ entry_of-push_other (x ∷ xs) entry address other =
     ap (λ (o : Option MacEntry). cond (is_of address x) (Some x) o) (entry_of-push_other xs entry address other)
 
 -- after an address came it has the entry that came, but where it was new and the table full
-pub entry_of-learned_same : (table : AddressTable) (entry : MacEntry) → (has_address table.entries entry.address || has_room table) ≡ true → mac_entry_of (learned table entry) entry.address ≡ Some entry
+pub entry_of-learned_same : (table : AddressTable) (entry : MacEntry) → (has_address table.entries entry.address || has_room table) ≡ true
+    → mac_entry_of (learned table entry) entry.address ≡ Some entry
 entry_of-learned_same table entry took = elim (cases_Bool (has_address table.entries entry.address)) [
   | inl held ↦ rw held (entry_of-replaced_same entry table.entries held)
   | inr absent ↦
@@ -193,16 +195,19 @@ entry_of-learned_same table entry took = elim (cases_Bool (has_address table.ent
 
 -- every other address has the entry that it had
 pub entry_of-learned_other : (table : AddressTable) (entry : MacEntry) (address : Mac) → is_of address entry ≡ false → mac_entry_of (learned table entry) address ≡ mac_entry_of table.entries address
-entry_of-learned_other table entry address other = elim (has_address table.entries entry.address) as (λ v. mac_entry_of (cond v (replaced entry table.entries) (cond (has_room table) (table.entries ++ entry ∷ []) table.entries)) address ≡ mac_entry_of table.entries address) [
-  | true ↦ entry_of-replaced_other entry table.entries address other
-  | false ↦ elim (has_room table) as (λ v. mac_entry_of (cond v (table.entries ++ entry ∷ []) table.entries) address ≡ mac_entry_of table.entries address) [
-    | true ↦ entry_of-push_other table.entries entry address other
-    | false ↦ refl
-  ]
-]
+entry_of-learned_other table entry address other =
+    elim (has_address table.entries entry.address) as
+    (λ v. mac_entry_of (cond v (replaced entry table.entries) (cond (has_room table) (table.entries ++ entry ∷ []) table.entries)) address ≡ mac_entry_of table.entries address) [
+      | true ↦ entry_of-replaced_other entry table.entries address other
+      | false ↦ elim (has_room table) as (λ v. mac_entry_of (cond v (table.entries ++ entry ∷ []) table.entries) address ≡ mac_entry_of table.entries address) [
+        | true ↦ entry_of-push_other table.entries entry address other
+        | false ↦ refl
+      ]
+    ]
 
 -- the same of the ports
-pub port_of-learned_same : (table : AddressTable) (entry : MacEntry) → (has_address table.entries entry.address || has_room table) ≡ true → port_of (learned table entry) entry.address ≡ Some entry.port
+pub port_of-learned_same : (table : AddressTable) (entry : MacEntry) → (has_address table.entries entry.address || has_room table) ≡ true → port_of (learned table entry) entry.address
+    ≡ Some entry.port
 port_of-learned_same table entry took = ap (λ (o : Option MacEntry). option_map (λ e. e.port) o) (entry_of-learned_same table entry took)
 
 pub port_of-learned_other : (table : AddressTable) (entry : MacEntry) (address : Mac) → is_of address entry ≡ false → port_of (learned table entry) address ≡ port_of table.entries address
@@ -225,7 +230,8 @@ entry_of-filter p (x ∷ xs) address distinct = elim (cases_Bool (is_of address 
 ]
 
 -- the same of the ports
-pub port_of-filter : (p : MacEntry → Bool) (xs : List MacEntry) (address : Mac) → AreDistinctAddresses xs → port_of (filter p xs) address ≡ option_map (λ e. e.port) (option_filter p (mac_entry_of xs address))
+pub port_of-filter : (p : MacEntry → Bool) (xs : List MacEntry) (address : Mac) → AreDistinctAddresses xs → port_of (filter p xs) address
+    ≡ option_map (λ e. e.port) (option_filter p (mac_entry_of xs address))
 port_of-filter p xs address distinct = ap (λ (o : Option MacEntry). option_map (λ e. e.port) o) (entry_of-filter p xs address distinct)
 
 -- what one look at the place of an address says
@@ -253,16 +259,18 @@ length-replaced entry (x ∷ xs) = elim (is_of entry.address x) as (λ v. length
 
 -- an address that came leaves no more entries than are to be held
 length-learned : (table : AddressTable) (entry : MacEntry) → length table.entries ≤ table.capacity → length (learned table entry) ≤ table.capacity
-length-learned table entry within = elim (has_address table.entries entry.address) as (λ v. length (cond v (replaced entry table.entries) (cond (has_room table) (table.entries ++ entry ∷ []) table.entries)) ≤ table.capacity) [
-  | true ↦ rw (length-replaced entry table.entries) within
-  | false ↦ elim (cases_Bool (has_room table)) [
-    | inl room ↦ rw room (one_more table.entries entry table.capacity room)
-    | inr full ↦ rw full within
-  ]
-]
+length-learned table entry within = elim (has_address table.entries entry.address) as
+    (λ v. length (cond v (replaced entry table.entries) (cond (has_room table) (table.entries ++ entry ∷ []) table.entries)) ≤ table.capacity) [
+      | true ↦ rw (length-replaced entry table.entries) within
+      | false ↦ elim (cases_Bool (has_room table)) [
+        | inl room ↦ rw room (one_more table.entries entry table.capacity room)
+        | inr full ↦ rw full within
+      ]
+    ]
 
 -- the invariant holds after an address came
-pub held_learned : (capacity room now : ℕ) (xs ys : List MacEntry) (entry : MacEntry) → IsHeld capacity room xs → ys ≡ learned (record { entries = xs; capacity = capacity }) entry → now ≡ room → IsHeld capacity now ys
+pub held_learned : (capacity room now : ℕ) (xs ys : List MacEntry) (entry : MacEntry) → IsHeld capacity room xs → ys ≡ learned (record { entries = xs; capacity = capacity }) entry
+    → now ≡ room → IsHeld capacity now ys
 held_learned capacity room now xs ys entry held same equal = rw (same, equal) (record {
   reserved = held.reserved;
   within = length-learned (record { entries = xs; capacity = capacity }) entry held.within;
@@ -270,7 +278,8 @@ held_learned capacity room now xs ys entry held same equal = rw (same, equal) (r
 })
 
 -- and where an entry took the place of the one of its address
-pub held_written : (capacity room now : ℕ) (xs ys : List MacEntry) (entry : MacEntry) (place : ℕ) → IsHeld capacity room xs → place ≡ entry_place xs entry.address → place < length xs → ys ≡ set xs place entry → now ≡ room → IsHeld capacity now ys
+pub held_written : (capacity room now : ℕ) (xs ys : List MacEntry) (entry : MacEntry) (place : ℕ) → IsHeld capacity room xs → place ≡ entry_place xs entry.address → place < length xs
+    → ys ≡ set xs place entry → now ≡ room → IsHeld capacity now ys
 held_written capacity room now xs ys entry place held is within same equal =
     let table : AddressTable = record { entries = xs; capacity = capacity } in
     let kept : learned table entry ≡ replaced entry xs = rw (held_at xs entry.address place is within) refl in

@@ -39,7 +39,8 @@ aging_none limit now (suc n) xs address distinct none =
     aging_none limit (now + 1) n (filter (is_young (now + 1) limit) xs) address (distinct-filter (is_young (now + 1) limit) xs distinct)
     (none_comes (is_young (now + 1) limit) xs address distinct none)
 
-aging_stands : (limit now n : ℕ) (xs : List MacEntry) (address : Mac) (entry : MacEntry) → AreDistinctAddresses xs → mac_entry_of xs address ≡ Some entry → entry.tick ≤ now → now + n < entry.tick + limit
+aging_stands : (limit now n : ℕ) (xs : List MacEntry) (address : Mac) (entry : MacEntry) → AreDistinctAddresses xs → mac_entry_of xs address ≡ Some entry → entry.tick ≤ now
+    → now + n < entry.tick + limit
     → mac_entry_of (aging limit now n xs) address ≡ Some entry
 aging_stands limit now zero xs address entry distinct found after within = found
 aging_stands limit now (suc n) xs address entry distinct found after within =
@@ -48,7 +49,8 @@ aging_stands limit now (suc n) xs address entry distinct found after within =
     (omega (arith, after)) (omega (arith, within))
 
 -- it is not gone yet before as many ticks have passed as the limit says, and then it goes
-aging_goes : (limit now n : ℕ) (xs : List MacEntry) (address : Mac) (entry : MacEntry) → AreDistinctAddresses xs → mac_entry_of xs address ≡ Some entry → entry.tick ≤ now → now < entry.tick + limit → entry.tick + limit ≤ now + n
+aging_goes : (limit now n : ℕ) (xs : List MacEntry) (address : Mac) (entry : MacEntry) → AreDistinctAddresses xs → mac_entry_of xs address ≡ Some entry → entry.tick ≤ now
+    → now < entry.tick + limit → entry.tick + limit ≤ now + n
     → mac_entry_of (aging limit now n xs) address ≡ None
 aging_goes limit now zero xs address entry distinct found after young_yet past = absurd (omega (arith, young_yet, past))
 aging_goes limit now (suc n) xs address entry distinct found after young_yet past = elim (cases_Bool (nat_lt (now + 1) (entry.tick + limit))) [
@@ -68,5 +70,6 @@ lasts_its_age = record {
   stands = λ table entry limit n distinct took within.
       aging_stands limit entry.tick n (learned table entry) entry.address entry (distinct-learned table entry distinct) (entry_of-learned_same table entry took) (omega arith) (omega (arith, within));
   goes = λ table entry limit n distinct took some past.
-      aging_goes limit entry.tick n (learned table entry) entry.address entry (distinct-learned table entry distinct) (entry_of-learned_same table entry took) (omega arith) (omega (arith, some)) (omega (arith, past));
+      aging_goes limit entry.tick n (learned table entry) entry.address entry (distinct-learned table entry distinct) (entry_of-learned_same table entry took) (omega arith)
+      (omega (arith, some)) (omega (arith, past));
 }

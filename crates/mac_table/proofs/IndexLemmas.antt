@@ -47,7 +47,8 @@ found_none p n is = elim (cases_Bool (nat_lt p n)) [
     none-some : (p : ℕ) → None ≡ Some p → ⊥
     none-some p is = cc
 
-pub place_some : (address : Mac) (es : List MacEntry) (fs : List (Mac × (ℕ × ℕ))) (i : ℕ) → fs ≡ address_pairs es → Some i ≡ position (λ m. bytes_eq address.0 m.0) (keys_of fs) → i ≡ entry_place es address
+pub place_some : (address : Mac) (es : List MacEntry) (fs : List (Mac × (ℕ × ℕ))) (i : ℕ) → fs ≡ address_pairs es → Some i ≡ position (λ m. bytes_eq address.0 m.0) (keys_of fs) → i
+    ≡ entry_place es address
 place_some address es fs i same is =
     found_at _ _ i (subst (λ l. Some i ≡ position (λ m. bytes_eq address.0 m.0) (keys_of l)) same is) ∙ place_found address es
 
@@ -62,9 +63,11 @@ length-keys : (es : List MacEntry) → length (keys_of (address_pairs es)) ≡ l
 length-keys [] = refl
 length-keys (e ∷ es) = ap suc (length-keys es)
 
-pub place_none : (address : Mac) (es : List MacEntry) (fs : List (Mac × (ℕ × ℕ))) → fs ≡ address_pairs es → None ≡ position (λ m. bytes_eq address.0 m.0) (keys_of fs) → length es ≡ entry_place es address
+pub place_none : (address : Mac) (es : List MacEntry) (fs : List (Mac × (ℕ × ℕ))) → fs ≡ address_pairs es → None ≡ position (λ m. bytes_eq address.0 m.0) (keys_of fs) → length es
+    ≡ entry_place es address
 place_none address es fs same is =
-    let none : length (keys_of (address_pairs es)) ≤ position_or_len (λ m. bytes_eq address.0 m.0) (keys_of (address_pairs es)) = found_none _ _ (subst (λ l. None ≡ position (λ m. bytes_eq address.0 m.0) (keys_of l)) same is) in
+    let none : length (keys_of (address_pairs es)) ≤ position_or_len (λ m. bytes_eq address.0 m.0) (keys_of (address_pairs es)) =
+    found_none _ _ (subst (λ l. None ≡ position (λ m. bytes_eq address.0 m.0) (keys_of l)) same is) in
     omega (arith, rw (length-keys es, place_found address es) at none, place_within es address)
 
 pub port_some : (address : Mac) (es : List MacEntry) (fs : List (Mac × (ℕ × ℕ))) (v : ℕ × ℕ) → fs ≡ address_pairs es → Some v ≡ lookup (λ m. bytes_eq address.0 m.0) fs → Some v.0 ≡ port_of es address
@@ -81,7 +84,8 @@ set_past (f ∷ fs) zero v past = absurd (omega (arith, past))
 set_past (f ∷ fs) (suc i) v past = ap (λ (l : List (Mac × (ℕ × ℕ))). f ∷ l) (set_past fs i v (omega (arith, past)))
 
 -- a new address goes last
-inserted_last : (entry : MacEntry) (xs : List MacEntry) → has_address xs entry.address ≡ false → insert_entry (λ a b. bytes_eq a.0 b.0) (address_pairs xs) entry.address (entry.port, entry.tick) ≡ address_pairs (xs ++ entry ∷ [])
+inserted_last : (entry : MacEntry) (xs : List MacEntry) → has_address xs entry.address ≡ false
+    → insert_entry (λ a b. bytes_eq a.0 b.0) (address_pairs xs) entry.address (entry.port, entry.tick) ≡ address_pairs (xs ++ entry ∷ [])
 inserted_last entry [] absent = refl
 inserted_last entry (x ∷ xs) absent =
     let both = or_parts (is_of entry.address x) (has_address xs entry.address) absent in
@@ -93,11 +97,13 @@ index_whole fs xs (inl same) long = same
 index_whole fs [] (inr none) long = none
 index_whole fs (x ∷ xs) (inr none) long = absurd (omega (arith, rw none at long))
 
-pub index_added : (fs gs : List (Mac × (ℕ × ℕ))) (xs : List MacEntry) (entry : MacEntry) → IsAddressIndex fs xs → length fs ≡ length xs → has_address xs entry.address ≡ false → gs ≡ insert_entry (λ a b. bytes_eq a.0 b.0) fs entry.address (entry.port, entry.tick) → IsAddressIndex gs (xs ++ entry ∷ [])
+pub index_added : (fs gs : List (Mac × (ℕ × ℕ))) (xs : List MacEntry) (entry : MacEntry) → IsAddressIndex fs xs → length fs ≡ length xs → has_address xs entry.address ≡ false → gs
+    ≡ insert_entry (λ a b. bytes_eq a.0 b.0) fs entry.address (entry.port, entry.tick) → IsAddressIndex gs (xs ++ entry ∷ [])
 index_added fs gs xs entry index long absent same =
     inl (same ∙ ap (λ (l : List (Mac × (ℕ × ℕ))). insert_entry (λ a b. bytes_eq a.0 b.0) l entry.address (entry.port, entry.tick)) (index_whole fs xs index long) ∙ inserted_last entry xs absent)
 
-set_pairs : (xs : List MacEntry) (i : ℕ) (entry : MacEntry) → i ≡ entry_place xs entry.address → i < length xs → set_value_at (address_pairs xs) i (entry.port, entry.tick) ≡ address_pairs (set xs i entry)
+set_pairs : (xs : List MacEntry) (i : ℕ) (entry : MacEntry) → i ≡ entry_place xs entry.address → i < length xs → set_value_at (address_pairs xs) i (entry.port, entry.tick)
+    ≡ address_pairs (set xs i entry)
 set_pairs [] i entry at within = refl
 set_pairs (x ∷ xs) zero entry at within = elim (cases_Bool (is_of entry.address x)) [
   | inl found ↦ ap (λ (a : Mac). (a, (entry.port, entry.tick)) ∷ address_pairs xs) (address_of entry.address x found)
@@ -109,8 +115,10 @@ set_pairs (x ∷ xs) (suc i) entry at within = elim (cases_Bool (is_of entry.add
 ]
 
 -- the map has what the list has, after a write at a place
-pub index_written : (fs gs : List (Mac × (ℕ × ℕ))) (xs ys : List MacEntry) (i : ℕ) (entry : MacEntry) → IsAddressIndex fs xs → i ≡ entry_place xs entry.address → i < length xs → gs ≡ set_value_at fs i (entry.port, entry.tick) → ys ≡ set xs i entry → IsAddressIndex gs ys
-index_written fs gs xs ys i entry (inl whole) at within put same = inl (put ∙ ap (λ (l : List (Mac × (ℕ × ℕ))). set_value_at l i (entry.port, entry.tick)) whole ∙ set_pairs xs i entry at within ∙ sym (ap address_pairs same))
+pub index_written : (fs gs : List (Mac × (ℕ × ℕ))) (xs ys : List MacEntry) (i : ℕ) (entry : MacEntry) → IsAddressIndex fs xs → i ≡ entry_place xs entry.address → i < length xs → gs
+    ≡ set_value_at fs i (entry.port, entry.tick) → ys ≡ set xs i entry → IsAddressIndex gs ys
+index_written fs gs xs ys i entry (inl whole) at within put same =
+    inl (put ∙ ap (λ (l : List (Mac × (ℕ × ℕ))). set_value_at l i (entry.port, entry.tick)) whole ∙ set_pairs xs i entry at within ∙ sym (ap address_pairs same))
 index_written fs gs xs ys i entry (inr none) at within put same = inr (put ∙ ap (λ (l : List (Mac × (ℕ × ℕ))). set_value_at l i (entry.port, entry.tick)) none)
 
 removed_pairs : (xs : List MacEntry) (i : ℕ) → remove (address_pairs xs) i ≡ address_pairs (remove xs i)

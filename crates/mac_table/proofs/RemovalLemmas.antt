@@ -43,9 +43,11 @@ distinct_removed (x ∷ xs) zero distinct = distinct.1
 distinct_removed (x ∷ xs) (suc i) distinct = (absent_removed xs i x.address distinct.0, distinct_removed xs i distinct.1)
 
 -- one more entry stays
-pub front_stays : (p : MacEntry → Bool) (xs : List MacEntry) (i : ℕ) (d : MacEntry) → i < length xs → p (get_or xs i d) ≡ true → All (λ e. p e ≡ true) (take i xs) → All (λ e. p e ≡ true) (take (i + 1) xs)
+pub front_stays : (p : MacEntry → Bool) (xs : List MacEntry) (i : ℕ) (d : MacEntry) → i < length xs → p (get_or xs i d) ≡ true → All (λ e. p e ≡ true) (take i xs)
+    → All (λ e. p e ≡ true) (take (i + 1) xs)
 front_stays p xs i d within stays all =
-    subst (λ (n : ℕ). All (λ e. p e ≡ true) (take n xs)) (suc_is_add i) (subst (All (λ (e : MacEntry). p e ≡ true)) (take_next xs i d within) (All-push (λ (e : MacEntry). p e ≡ true) (take i xs) (get_or xs i d) all stays))
+    subst (λ (n : ℕ). All (λ e. p e ≡ true) (take n xs)) (suc_is_add i)
+    (subst (All (λ (e : MacEntry). p e ≡ true)) (take_next xs i d within) (All-push (λ (e : MacEntry). p e ≡ true) (take i xs) (get_or xs i d) all stays))
 
 take_all : (xs : List MacEntry) (i : ℕ) → length xs ≤ i → take i xs ≡ xs
 take_all [] zero past = refl

@@ -53,7 +53,8 @@ above : (first tick number : ℕ) (ps : List (ℕ × ℕ)) → All (λ q. first 
 above first tick number [] all less = All-cons (λ (q : ℕ × ℕ). first < q.0) (tick, number) [] less all
 above first tick number (p ∷ ps) all less = elim (nat_eq tick p.0) as (λ v. All (λ q. first < q.0) (cond v ((p.0, number) ∷ ps) (p ∷ insert_entry nat_eq ps tick number))) [
   | true ↦ All-cons (λ (q : ℕ × ℕ). first < q.0) (p.0, number) ps (All-head (λ (q : ℕ × ℕ). first < q.0) p ps all) (All-tail (λ (q : ℕ × ℕ). first < q.0) p ps all)
-  | false ↦ All-cons (λ (q : ℕ × ℕ). first < q.0) p (insert_entry nat_eq ps tick number) (All-head (λ (q : ℕ × ℕ). first < q.0) p ps all) (above first tick number ps (All-tail (λ (q : ℕ × ℕ). first < q.0) p ps all) less)
+  | false ↦ All-cons (λ (q : ℕ × ℕ). first < q.0) p (insert_entry nat_eq ps tick number) (All-head (λ (q : ℕ × ℕ). first < q.0) p ps all)
+      (above first tick number ps (All-tail (λ (q : ℕ × ℕ). first < q.0) p ps all) less)
 ]
 
 pub rising_put : (tick number : ℕ) (ps : List (ℕ × ℕ)) → AreRisingTicks ps → All (λ p. p.0 ≤ tick) ps → AreRisingTicks (insert_entry nat_eq ps tick number)
@@ -93,7 +94,8 @@ pub positive_put : (tick number : ℕ) (ps : List (ℕ × ℕ)) → All (λ p. 0
 positive_put tick number [] all some = All-cons (λ (q : ℕ × ℕ). 0 < q.1) (tick, number) [] some all
 positive_put tick number (p ∷ ps) all some = elim (nat_eq tick p.0) as (λ v. All (λ q. 0 < q.1) (cond v ((p.0, number) ∷ ps) (p ∷ insert_entry nat_eq ps tick number))) [
   | true ↦ All-cons (λ (q : ℕ × ℕ). 0 < q.1) (p.0, number) ps some (All-tail (λ (q : ℕ × ℕ). 0 < q.1) p ps all)
-  | false ↦ All-cons (λ (q : ℕ × ℕ). 0 < q.1) p (insert_entry nat_eq ps tick number) (All-head (λ (q : ℕ × ℕ). 0 < q.1) p ps all) (positive_put tick number ps (All-tail (λ (q : ℕ × ℕ). 0 < q.1) p ps all) some)
+  | false ↦ All-cons (λ (q : ℕ × ℕ). 0 < q.1) p (insert_entry nat_eq ps tick number) (All-head (λ (q : ℕ × ℕ). 0 < q.1) p ps all)
+      (positive_put tick number ps (All-tail (λ (q : ℕ × ℕ). 0 < q.1) p ps all) some)
 ]
 
 -- later ticks are other ones
@@ -133,7 +135,8 @@ above_taken : (first tick : ℕ) (ps : List (ℕ × ℕ)) → All (λ q. first <
 above_taken first tick [] all = all
 above_taken first tick (p ∷ ps) all = elim (nat_eq tick p.0) as (λ v. All (λ q. first < q.0) (cond v ps (p ∷ remove_entry (nat_eq tick) ps))) [
   | true ↦ All-tail (λ (q : ℕ × ℕ). first < q.0) p ps all
-  | false ↦ All-cons (λ (q : ℕ × ℕ). first < q.0) p (remove_entry (nat_eq tick) ps) (All-head (λ (q : ℕ × ℕ). first < q.0) p ps all) (above_taken first tick ps (All-tail (λ (q : ℕ × ℕ). first < q.0) p ps all))
+  | false ↦ All-cons (λ (q : ℕ × ℕ). first < q.0) p (remove_entry (nat_eq tick) ps) (All-head (λ (q : ℕ × ℕ). first < q.0) p ps all)
+      (above_taken first tick ps (All-tail (λ (q : ℕ × ℕ). first < q.0) p ps all))
 ]
 
 pub rising_taken : (tick : ℕ) (ps : List (ℕ × ℕ)) → AreRisingTicks ps → AreRisingTicks (remove_entry (nat_eq tick) ps)
@@ -151,7 +154,8 @@ positive_taken tick (p ∷ ps) all = elim (nat_eq tick p.0) as (λ v. All (λ q.
 ]
 
 -- one less beside the tick
-pub number_less : (at tick n number : ℕ) (ps : List (ℕ × ℕ)) → lookup (nat_eq tick) ps ≡ Some n → number ≡ n - 1 → (if nat_eq at tick then number else tick_number at ps) ≡ tick_number at ps - (if nat_eq at tick then 1 else 0)
+pub number_less : (at tick n number : ℕ) (ps : List (ℕ × ℕ)) → lookup (nat_eq tick) ps ≡ Some n → number ≡ n - 1 → (if nat_eq at tick then number else tick_number at ps)
+    ≡ tick_number at ps - (if nat_eq at tick then 1 else 0)
 number_less at tick n number ps found less = elim (cases_Bool (nat_eq at tick)) [
   | inl here ↦
       (let is : tick_number at ps ≡ n = subst (λ (k : ℕ). tick_number k ps ≡ n) (sym (eqb-true at tick here)) (number_found tick ps n found) in
@@ -243,7 +247,8 @@ number_from first tick (p ∷ ps) all more = elim (cases_Bool (nat_eq p.0 tick))
   | inr past ↦ number_from first tick ps (All-tail (λ (q : ℕ × ℕ). first < q.0) p ps all) (rw past at more)
 ]
 
-pub young_all : (ps : List (ℕ × ℕ)) (es : List MacEntry) (first n now limit : ℕ) → IsTickIndex ps es → slice_get ps 0 ≡ Some (first, n) → nat_lt (now - first) limit ≡ true → filter (is_young now limit) es ≡ es
+pub young_all : (ps : List (ℕ × ℕ)) (es : List MacEntry) (first n now limit : ℕ) → IsTickIndex ps es → slice_get ps 0 ≡ Some (first, n) → nat_lt (now - first) limit ≡ true
+    → filter (is_young now limit) es ≡ es
 young_all [] es first n now limit ticks at young = absurd (none (first, n) (sym at))
   where
     none : (a : ℕ × ℕ) → Some a ≡ None → ⊥
@@ -286,7 +291,8 @@ ticks_same ps es i e d within is (inl ticks) = inl (record { numbers = λ tick. 
 
 -- an entry takes the place of another one: one more at the end, and one less of the old tick
 pub ticks_moved : (ps qs : List (ℕ × ℕ)) (es : List MacEntry) (i : ℕ) (e d : MacEntry) → i < length es → IsTickIndex ps (es ++ e ∷ [])
-    → (AreRisingTicks ps → (at : ℕ) → tick_number at qs ≡ tick_number at ps - (if nat_eq at (get_or es i d).tick then 1 else 0)) → (AreRisingTicks ps → AreRisingTicks qs) → (All (λ p. 0 < p.1) ps → All (λ p. 0 < p.1) qs) → (ps ≡ [] → qs ≡ []) → IsTickIndex qs (set es i e)
+    → (AreRisingTicks ps → (at : ℕ) → tick_number at qs ≡ tick_number at ps - (if nat_eq at (get_or es i d).tick then 1 else 0)) → (AreRisingTicks ps → AreRisingTicks qs)
+    → (All (λ p. 0 < p.1) ps → All (λ p. 0 < p.1) qs) → (ps ≡ [] → qs ≡ []) → IsTickIndex qs (set es i e)
 ticks_moved ps qs es i e d within (inr none) less rising positive empty = inr (empty none)
 ticks_moved ps qs es i e d within (inl ticks) less rising positive empty = inl (record { numbers = numbers; rising = rising ticks.rising; some = positive ticks.some })
   where
@@ -306,7 +312,8 @@ count_removed tick (suc i) (x ∷ xs) d within = omega (arith, count_removed tic
 
 -- an entry is taken out
 pub ticks_removed : (ps qs : List (ℕ × ℕ)) (es : List MacEntry) (i : ℕ) (d : MacEntry) → i < length es → IsTickIndex ps es
-    → (AreRisingTicks ps → (at : ℕ) → tick_number at qs ≡ tick_number at ps - (if nat_eq at (get_or es i d).tick then 1 else 0)) → (AreRisingTicks ps → AreRisingTicks qs) → (All (λ p. 0 < p.1) ps → All (λ p. 0 < p.1) qs) → (ps ≡ [] → qs ≡ []) → IsTickIndex qs (remove es i)
+    → (AreRisingTicks ps → (at : ℕ) → tick_number at qs ≡ tick_number at ps - (if nat_eq at (get_or es i d).tick then 1 else 0)) → (AreRisingTicks ps → AreRisingTicks qs)
+    → (All (λ p. 0 < p.1) ps → All (λ p. 0 < p.1) qs) → (ps ≡ [] → qs ≡ []) → IsTickIndex qs (remove es i)
 ticks_removed ps qs es i d within (inr none) less rising positive empty = inr (empty none)
 ticks_removed ps qs es i d within (inl ticks) less rising positive empty = inl (record { numbers = numbers; rising = rising ticks.rising; some = positive ticks.some })
   where
@@ -336,7 +343,8 @@ leaving_stays p ps es rest e stays (inl leaving) = inl (λ tick. leaving.0 tick 
 leaving_stays p ps es rest e stays (inr none) = inr none
 
 pub leaving_goes : (p : MacEntry → Bool) (ps qs : List (ℕ × ℕ)) (es rest : List MacEntry) (e : MacEntry) → p e ≡ false
-    → ((at : ℕ) → tick_number at qs ≡ tick_number at ps - (if nat_eq at e.tick then 1 else 0)) → (AreRisingTicks ps → AreRisingTicks qs) → (ps ≡ [] → qs ≡ []) → IsLeaving p ps es (e ∷ rest) → IsLeaving p qs es rest
+    → ((at : ℕ) → tick_number at qs ≡ tick_number at ps - (if nat_eq at e.tick then 1 else 0)) → (AreRisingTicks ps → AreRisingTicks qs) → (ps ≡ [] → qs ≡ [])
+    → IsLeaving p ps es (e ∷ rest) → IsLeaving p qs es rest
 leaving_goes p ps qs es rest e goes less rising empty (inr none) = inr (empty none)
 leaving_goes p ps qs es rest e goes less rising empty (inl leaving) = inl (numbers, rising leaving.1)
   where
@@ -383,7 +391,8 @@ number_used tick (p ∷ ps) rising = elim (cases_Bool (nat_lt 0 p.1)) [
   ])
 ]
 
-pub ticks_used : (ps qs : List (ℕ × ℕ)) (es : List MacEntry) → (((at : ℕ) → tick_number at ps ≡ tick_count at es) × AreRisingTicks ps) ⊎ (ps ≡ []) → qs ≡ filter (λ p. nat_lt 0 p.1) ps → IsTickIndex qs es
+pub ticks_used : (ps qs : List (ℕ × ℕ)) (es : List MacEntry) → (((at : ℕ) → tick_number at ps ≡ tick_count at es) × AreRisingTicks ps) ⊎ (ps ≡ []) → qs ≡ filter (λ p. nat_lt 0 p.1) ps
+    → IsTickIndex qs es
 ticks_used ps qs es (inl counted) left = rw left (inl (record {
   numbers = λ tick. number_used tick ps counted.1 ∙ counted.0 tick;
   rising = above_filtered (λ p. nat_lt 0 p.1) ps counted.1;

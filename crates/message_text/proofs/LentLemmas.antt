@@ -8,7 +8,8 @@ use Rattle.message_text.specs.Lent.{AddsLine, AddsLines}
 use Rattle.message_text.specs.Line.{decoded_line, decoded_lines}
 
 -- the line of a KeepAlive, and of a message that was read
-pub keep_alive_line : (base : ℕ) (s : Spelling) (id : ℕ) (before after : List ℕ) → StandsFor s (message.KeepAlive s.id) → id ≡ s.id → after ≡ before ++ decoded_line base (message.KeepAlive id) → AddsLine base s before after
+pub keep_alive_line : (base : ℕ) (s : Spelling) (id : ℕ) (before after : List ℕ) → StandsFor s (message.KeepAlive s.id) → id ≡ s.id → after
+    ≡ before ++ decoded_line base (message.KeepAlive id) → AddsLine base s before after
 keep_alive_line base s id before after stands is line = record { message = message.KeepAlive s.id; stands = stands; line = line ∙ ap (λ (n : ℕ). before ++ decoded_line base (message.KeepAlive n)) is }
 
 pub read_line : (base : ℕ) (s : Spelling) (m : Message) (before after : List ℕ) → StandsFor s m → after ≡ before ++ decoded_line base m → AddsLine base s before after
@@ -33,7 +34,8 @@ adds_none base spellings before = record {
   added = record { messages = []; stand = tt; lines = sym (append-nil before) };
 }
 
-pub adds_more : (base : ℕ) (spellings old new : List Spelling) (spelling : Spelling) (before now after : List ℕ) → AddsSoFar base spellings old before now → old ≡ spelling ∷ new → AddsLine base spelling now after → AddsSoFar base spellings new before after
+pub adds_more : (base : ℕ) (spellings old new : List Spelling) (spelling : Spelling) (before now after : List ℕ) → AddsSoFar base spellings old before now → old ≡ spelling ∷ new
+    → AddsLine base spelling now after → AddsSoFar base spellings new before after
 adds_more base spellings old new spelling before now after so is line =
     let first = so.added in
     record {

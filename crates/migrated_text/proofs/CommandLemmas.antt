@@ -36,7 +36,8 @@ file_said : (file : List ℕ) → 1 ≤ length file → some_word file ≡ Some 
 file_said file some = rw (lt-ltb 0 (length file) (omega (arith, some))) refl
 
 -- one command
-pub command_read : (plan : Plan) (command : Command) (number plays : ℕ) → HasNames plan → IsSaidCommand plan plays command → command_in (names_of plan) number plays (command_text plan command) ≡ Ok command
+pub command_read : (plan : Plan) (command : Command) (number plays : ℕ) → HasNames plan → IsSaidCommand plan plays command
+    → command_in (names_of plan) number plays (command_text plan command) ≡ Ok command
 unfolding command_text command_of packet_command part_command many_of play_in
 command_read plan (One event) number plays names said = reads plan event number plays names said.0 said.1
 command_read plan (Settle count) number plays names said =
@@ -53,7 +54,8 @@ command_read plan (Play circuit file) number plays names said =
     let word : List ℕ = codes "play" in
     let rest : List (List ℕ) = circuit_name plan circuit ∷ file ∷ [] in
     let whole : AreWhole (word ∷ rest) = (literal word refl, (row_whole (λ row. row.name) plan.circuits circuit.0 names.circuits said.0, (whole_file file said.3, tt))) in
-    let said2 = said_is (place_in (circuit_names plan.circuits)) number 2 (joined_words (word ∷ rest)) (circuit_name plan circuit) circuit.0 (word_is 2 word rest whole) (row_said (λ row. row.name) plan.circuits circuit.0 names.circuits said.0) in
+    let said2 = said_is (place_in (circuit_names plan.circuits)) number 2 (joined_words (word ∷ rest)) (circuit_name plan circuit) circuit.0 (word_is 2 word rest whole)
+    (row_said (λ row. row.name) plan.circuits circuit.0 names.circuits said.0) in
     let said3 = said_is some_word number 3 (joined_words (word ∷ rest)) file file (word_is 3 word rest whole) (file_said file said.2) in
     let ends4 = ends_is number 4 (joined_words (word ∷ rest)) (word_is 4 word rest whole) in
     by_word (names_of plan) number plays word rest (Play circuit file) whole.0 (rw (lt-ltb plays 4 said.1, said2, said3, ends4) refl)

@@ -73,4 +73,5 @@ plan_depth plan =
 pub is_shallow : (plan : Plan) (commands : List Command) → members_depth (migrated plan commands) ≤ 80
 unfolding top_table
 is_shallow plan commands =
-    put_depth 80 _ _ _ (omega arith) (put_depth 80 _ (array (items_of (event_items plan commands))) _ (omega (arith, texts_depth (λ command. command_text plan command) commands)) (omega (arith, plan_depth plan)))
+    put_depth 80 _ _ _ (omega arith) (put_depth 80 _ (array (items_of (event_items plan commands))) _ (omega (arith, texts_depth (λ command. command_text plan command) commands))
+    (omega (arith, plan_depth plan)))

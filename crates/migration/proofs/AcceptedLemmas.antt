@@ -80,7 +80,8 @@ arrays_few ms =
     if_ok _ (few_in arrays) _ (few_in_ok arrays) (λ few is. is))))
 
 -- as many rows as items
-rows_length : {A : Type 0} (table : Table) (read : RowPlace → Members → Result A ScenarioFault) (index : ℕ) (items : Items) → IfOk (rows_in table read index items) (λ xs. length xs ≡ items_length items)
+rows_length : {A : Type 0} (table : Table) (read : RowPlace → Members → Result A ScenarioFault) (index : ℕ) (items : Items)
+    → IfOk (rows_in table read index items) (λ xs. length xs ≡ items_length items)
 rows_length table read index no_items = refl
 rows_length table read index (item value rest) =
     if_any _ (row_members (record { table = table; index = index }) value) _ (λ ms.
@@ -93,7 +94,8 @@ circuits_length edges services index (row ∷ rows) =
     if_any _ (circuit_in edges services (record { table = kind.Circuit; index = index }) row) _ (λ x.
     if_ok _ (circuit_plans edges services (index + 1) rows) _ (circuits_length edges services (index + 1) rows) (λ xs e. ap (λ n. suc n) e))
 
-wires_length : (edges : List (List ℕ)) (services : List ServicePlan) (groups : List GroupRow) (index : ℕ) (rows : List WireRow) → IfOk (wires_in edges services groups index rows) (λ xs. length xs ≡ length rows)
+wires_length : (edges : List (List ℕ)) (services : List ServicePlan) (groups : List GroupRow) (index : ℕ) (rows : List WireRow)
+    → IfOk (wires_in edges services groups index rows) (λ xs. length xs ≡ length rows)
 wires_length edges services groups index [] = refl
 wires_length edges services groups index (row ∷ rows) =
     if_any _ (wire_in edges services groups (record { table = kind.Wire; index = index }) row) _ (λ x.

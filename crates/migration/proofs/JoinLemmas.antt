@@ -44,7 +44,8 @@ pub text_read : ReadsWhatIsMigrated
 text_read scenario text was utf8 table =
     document_text text utf8 ∙ ap scenario_or table ∙ table_read scenario (read_scenario_is was.bytes scenario was.is)
 
-pub text_again : (scenario : Scenario) (text : String Global) → WasRead scenario → parse_document (string_bytes text) ≡ Some (migrated scenario.plan scenario.commands) → document (string_bytes text) ≡ Ok scenario
+pub text_again : (scenario : Scenario) (text : String Global) → WasRead scenario → parse_document (string_bytes text) ≡ Some (migrated scenario.plan scenario.commands)
+    → document (string_bytes text) ≡ Ok scenario
 text_again scenario text was table = text_read scenario (string_bytes text) was (IsUtf8-string_bytes text) table
 
 -- what was read can be written
@@ -78,7 +79,8 @@ pub migrated_is : {E : Type 0} (scenario : Scenario) (commands : List Command) (
     → IfOk result (λ t. IsDocumentText false (migrated scenario.plan commands) (string_bytes t)) → IfOk result (λ t. parse_document (string_bytes t) ≡ Some (migrated scenario.plan commands))
     → IfOk result (λ t. IsMigrated scenario (string_bytes t))
 migrated_is scenario commands (Ok t) was same text table =
-    let all : parse_document (string_bytes t) ≡ Some (migrated scenario.plan scenario.commands) = subst (λ (cs : List Command). parse_document (string_bytes t) ≡ Some (migrated scenario.plan cs)) same table in
+    let all : parse_document (string_bytes t) ≡ Some (migrated scenario.plan scenario.commands) =
+    subst (λ (cs : List Command). parse_document (string_bytes t) ≡ Some (migrated scenario.plan cs)) same table in
     record {
       text = subst (λ (cs : List Command). IsDocumentText false (migrated scenario.plan cs) (string_bytes t)) same text;
       table = all;

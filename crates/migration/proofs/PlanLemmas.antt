@@ -65,7 +65,8 @@ path_named plan (edge ∷ path) names all =
     let both = and_parts (is_edge_of plan edge) (list_all (is_edge_of plan) path) all in
     (row_named (λ row. row.name) plan.edges edge.0 names ((Decides-ltb edge.0 (length plan.edges)).0 both.0), path_named plan path names both.1)
 
-pub circuits_read : (plan : Plan) (index : ℕ) (circuits : List CircuitPlan) → All IsName (edge_names plan.edges) → All IsName (service_names plan.services) → All IsName (circuit_names circuits) → All (IsCircuitOf plan) circuits
+pub circuits_read : (plan : Plan) (index : ℕ) (circuits : List CircuitPlan) → All IsName (edge_names plan.edges) → All IsName (service_names plan.services)
+    → All IsName (circuit_names circuits) → All (IsCircuitOf plan) circuits
     → rows_in kind.Circuit (circuit_row_in Two) index (items_of (map (λ circuit. table (circuit_table plan circuit)) circuits)) ≡ Ok (map (circuit_of plan) circuits)
 circuits_read plan index [] edges services names rows = refl
 circuits_read plan index (circuit ∷ circuits) edges services names rows =
@@ -76,7 +77,8 @@ circuits_read plan index (circuit ∷ circuits) edges services names rows =
       circuits_read plan (index + 1) circuits edges services (λ i d lt. names (suc i) d (omega (arith, lt))) (λ i d lt. rows (suc i) d (omega (arith, lt))),
     ) refl
 
-pub wires_read : (plan : Plan) (index : ℕ) (wires : List WirePlan) → All IsName (edge_names plan.edges) → All IsName (service_names plan.services) → All IsName (wire_names wires) → All (IsWireOf plan) wires
+pub wires_read : (plan : Plan) (index : ℕ) (wires : List WirePlan) → All IsName (edge_names plan.edges) → All IsName (service_names plan.services) → All IsName (wire_names wires)
+    → All (IsWireOf plan) wires
     → All (λ (wire : WirePlan). wire.priority ≤ 255) wires → All (λ (wire : WirePlan). IsSaid wire.near) wires → All (λ (wire : WirePlan). IsSaid wire.far) wires
     → rows_in kind.Wire (wire_row_in Two) index (items_of (map (λ wire. table (wire_table plan wire)) wires)) ≡ Ok (map (wire_of plan) wires)
 wires_read plan index [] edges services names rows priorities near far = refl
@@ -108,7 +110,10 @@ module _ (plan : Plan) (edges_once : NonePair bytes_eq (edge_names plan.edges)) 
       → circuit_plans (edge_names plan.edges) (service_names plan.services) index (map (circuit_of plan) circuits) ≡ Ok circuits
   circuits_placed index [] rows = refl
   circuits_placed index (circuit ∷ circuits) rows =
-      rw (circuit_placed (record { table = kind.Circuit; index = index }) circuit (rows 0 circuit (omega arith)), circuits_placed (index + 1) circuits (λ i d lt. rows (suc i) d (omega (arith, lt)))) refl
+      rw (
+        circuit_placed (record { table = kind.Circuit; index = index }) circuit (rows 0 circuit (omega arith)),
+        circuits_placed (index + 1) circuits (λ i d lt. rows (suc i) d (omega (arith, lt))),
+      ) refl
 
   path_placed : (row : RowPlace) (path : List EdgeId) → list_all (is_edge_of plan) path ≡ true → path_in (edge_names plan.edges) row (path_names plan path) ≡ Ok path
   path_placed row [] all = refl
@@ -116,7 +121,8 @@ module _ (plan : Plan) (edges_once : NonePair bytes_eq (edge_names plan.edges)) 
       let both = and_parts (is_edge_of plan edge) (list_all (is_edge_of plan) path) all in
       rw (row_found (λ r. r.name) plan.edges edge.0 edges_once ((Decides-ltb edge.0 (length plan.edges)).0 both.0), path_placed row path both.1) refl
 
-  wire_placed : (used : List ℕ) (row : RowPlace) (wire : WirePlan) → IsWireOf plan wire → AreNumbers used → IsSaid wire.near → IsSaid wire.far → is_used used wire.near.group ≡ true → is_used used wire.far.group ≡ true
+  wire_placed : (used : List ℕ) (row : RowPlace) (wire : WirePlan) → IsWireOf plan wire → AreNumbers used → IsSaid wire.near → IsSaid wire.far → is_used used wire.near.group ≡ true
+      → is_used used wire.far.group ≡ true
       → wire_in (edge_names plan.edges) plan.services (map group_of used) row (wire_of plan wire) ≡ Ok wire
   unfolding wire_in
   wire_placed used row wire is are near far near_used far_used =
@@ -129,7 +135,8 @@ module _ (plan : Plan) (edges_once : NonePair bytes_eq (edge_names plan.edges)) 
         offer_back wire.far (mtu_at plan.services wire.service.0) far,
       ) refl
 
-  wires_placed : (used : List ℕ) (index : ℕ) (wires : List WirePlan) → All (IsWireOf plan) wires → AreNumbers used → All (λ (wire : WirePlan). IsSaid wire.near) wires → All (λ (wire : WirePlan). IsSaid wire.far) wires → AreUsed used wires
+  wires_placed : (used : List ℕ) (index : ℕ) (wires : List WirePlan) → All (IsWireOf plan) wires → AreNumbers used → All (λ (wire : WirePlan). IsSaid wire.near) wires
+      → All (λ (wire : WirePlan). IsSaid wire.far) wires → AreUsed used wires
       → wires_in (edge_names plan.edges) plan.services (map group_of used) index (map (wire_of plan) wires) ≡ Ok wires
   wires_placed used index [] rows are near far in_use = refl
   wires_placed used index (wire ∷ wires) rows are near far in_use =
@@ -144,7 +151,8 @@ are_small (wire ∷ wires) near far =
     (((near 0 wire (omega arith)).group, (far 0 wire (omega arith)).group), are_small wires (λ i d lt. near (suc i) d (omega (arith, lt))) (λ i d lt. far (suc i) d (omega (arith, lt))))
 
 -- the plan of the rows
-pub plan_placed : (plan : Plan) → IsReadPlan plan → plan_of plan.edges plan.services (map group_of (used_groups plan.wires)) (map (circuit_of plan) plan.circuits) (map (wire_of plan) plan.wires) ≡ Ok plan
+pub plan_placed : (plan : Plan) → IsReadPlan plan → plan_of plan.edges plan.services (map group_of (used_groups plan.wires)) (map (circuit_of plan) plan.circuits)
+    (map (wire_of plan) plan.wires) ≡ Ok plan
 unfolding plan_of placed_rows
 plan_placed plan is =
     let names = is.checked.names in

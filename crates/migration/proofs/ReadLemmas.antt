@@ -70,7 +70,8 @@ description_is place text is = rw (is_utf8-from_IsUtf8 text is.1, le-leb (length
 quad_is : (place : Place) (a b c d : ℕ) → (a < 256) × (b < 256) × (c < 256) × (d < 256) → is_unspecified (record { 0 = a ∷ b ∷ c ∷ d ∷ [] }) ≡ false
     → an_address place (string (ipv4_text (a ∷ b ∷ c ∷ d ∷ []))) ≡ Ok (record { 0 = a ∷ b ∷ c ∷ d ∷ [] })
 quad_is place a b c d fit told =
-    let read : Some (a ∷ b ∷ c ∷ d ∷ []) ≡ quad_of (dotted_text a b c d) = quad_read (dotted_text a b c d) (a ∷ b ∷ c ∷ d ∷ []) (record { a = a; b = b; c = c; d = d; fit = fit; value = refl; spelled = refl }) in
+    let read : Some (a ∷ b ∷ c ∷ d ∷ []) ≡ quad_of (dotted_text a b c d) =
+    quad_read (dotted_text a b c d) (a ∷ b ∷ c ∷ d ∷ []) (record { a = a; b = b; c = c; d = d; fit = fit; value = refl; spelled = refl }) in
     rw (← read) (rw told refl)
 
 pub address_is : (place : Place) (address : Addr) → IsQuad address.0 → is_unspecified address ≡ false → an_address place (string (ipv4_text address.0)) ≡ Ok address

@@ -88,7 +88,8 @@ number_ok low high place value = if_any _ (found _ (as_integer value)) (number_f
     of_integer (negsuc n) = tt
 
 description_ok : (place : Place) (value : Data) → IfOk (a_description place value) IsDescription
-description_ok place value = if_any _ (a_text place value) (λ text. in_range place (is_utf8 text && nat_le (length text) 80) text) (λ text. if_in _ place (is_utf8 text && nat_le (length text) 80) text (λ is.
+description_ok place value = if_any _ (a_text place value) (λ text. in_range place (is_utf8 text && nat_le (length text) 80) text)
+    (λ text. if_in _ place (is_utf8 text && nat_le (length text) 80) text (λ is.
     let both = and_parts (is_utf8 text) (nat_le (length text) 80) is in
     (leb-true (length text) 80 both.1, IsUtf8-from_is_utf8 text both.0)))
 
@@ -103,7 +104,8 @@ quad_ok text = of_read (read_ipv4 text) refl
         record { a = dotted.a; b = dotted.b; c = dotted.c; d = dotted.d; is = dotted.value; fit = dotted.fit }
 
 address_ok : (place : Place) (value : Data) → IfOk (an_address place value) (λ address. IsQuad address.0)
-address_ok place value = if_any _ (a_text place value) (address_in place) (λ text. if_ok _ (meant place (quad_of text)) _ (of_meant (quad_of text) (quad_ok text)) (λ octets quad. if_in _ place (not (is_unspecified_quad octets)) _ (λ told. quad)))
+address_ok place value = if_any _ (a_text place value) (address_in place)
+    (λ text. if_ok _ (meant place (quad_of text)) _ (of_meant (quad_of text) (quad_ok text)) (λ octets quad. if_in _ place (not (is_unspecified_quad octets)) _ (λ told. quad)))
   where
     of_meant : (o : Option (List ℕ)) → IfSome o IsQuad → IfOk (meant place o) IsQuad
     of_meant None is = tt
@@ -250,7 +252,8 @@ abbrev pub Each : {A : Type 0} → (A → Type 0) → List A → Type 0
 Each P [] = Unit {0}
 Each P (x ∷ xs) = P x × Each P xs
 
-pub rows_ok : {A : Type 0} (P : A → Type 0) (table : Table) (read : RowPlace → Members → Result A ScenarioFault) → ((row : RowPlace) (ms : Members) → IfOk (read row ms) P) → (index : ℕ) (items : Items)
+pub rows_ok : {A : Type 0} (P : A → Type 0) (table : Table) (read : RowPlace → Members → Result A ScenarioFault) → ((row : RowPlace) (ms : Members) → IfOk (read row ms) P)
+    → (index : ℕ) (items : Items)
     → IfOk (rows_in table read index items) (Each P)
 rows_ok P table read each index no_items = tt
 rows_ok P table read each index (item value rest) =
@@ -289,7 +292,8 @@ number_fits [] each place = omega arith
 number_fits (group ∷ groups) each zero = omega (arith, each.0.1)
 number_fits (group ∷ groups) each (suc place) = number_fits groups each.1 place
 
-use_fits : (groups : List GroupRow) → Each (λ (group : GroupRow). IsFrom 1 4294967295 group.number) groups → (row : RowPlace) (use_ : GroupUse) → IsUseSaid use_ → IfOk (group_in groups row use_) (λ group. group < 2 ^ 32)
+use_fits : (groups : List GroupRow) → Each (λ (group : GroupRow). IsFrom 1 4294967295 group.number) groups → (row : RowPlace) (use_ : GroupUse) → IsUseSaid use_
+    → IfOk (group_in groups row use_) (λ group. group < 2 ^ 32)
 use_fits groups each row (Number number) said = omega (arith, said)
 use_fits groups each row (Named name) said = if_any _ (named row (codes "group") (group_names groups) name) _ (λ place. number_fits groups each place)
 
@@ -304,8 +308,10 @@ unfolding wire_in
 plan_wire_ok edges services groups are_services are_groups row wire said =
     if_any _ (named row (codes "service") (service_names services) wire.service) _ (λ service.
     if_any _ (path_in edges row wire.path) _ (λ path.
-    if_ok _ (group_in groups (record { table = kind.Near; index = row.index }) wire.near.group) _ (use_fits groups are_groups (record { table = kind.Near; index = row.index }) wire.near.group said.near.group) (λ near_group is_near.
-    if_ok _ (group_in groups (record { table = kind.Far; index = row.index }) wire.far.group) _ (use_fits groups are_groups (record { table = kind.Far; index = row.index }) wire.far.group said.far.group) (λ far_group is_far.
+    if_ok _ (group_in groups (record { table = kind.Near; index = row.index }) wire.near.group) _
+    (use_fits groups are_groups (record { table = kind.Near; index = row.index }) wire.near.group said.near.group) (λ near_group is_near.
+    if_ok _ (group_in groups (record { table = kind.Far; index = row.index }) wire.far.group) _
+    (use_fits groups are_groups (record { table = kind.Far; index = row.index }) wire.far.group said.far.group) (λ far_group is_far.
     record {
       name = said.name;
       priority = said.priority;
@@ -317,14 +323,16 @@ plan_wires_ok : (edges : List (List ℕ)) (services : List ServicePlan) (groups 
     → (index : ℕ) (rows : List WireRow) → Each IsWireSaid rows → IfOk (wires_in edges services groups index rows) (Each IsPlanWireSaid)
 plan_wires_ok edges services groups are_services are_groups index [] each = tt
 plan_wires_ok edges services groups are_services are_groups index (row ∷ rows) each =
-    if_ok _ (wire_in edges services groups (record { table = kind.Wire; index = index }) row) _ (plan_wire_ok edges services groups are_services are_groups (record { table = kind.Wire; index = index }) row each.0) (λ x p.
+    if_ok _ (wire_in edges services groups (record { table = kind.Wire; index = index }) row) _
+    (plan_wire_ok edges services groups are_services are_groups (record { table = kind.Wire; index = index }) row each.0) (λ x p.
     if_ok _ (wires_in edges services groups (index + 1) rows) _ (plan_wires_ok edges services groups are_services are_groups (index + 1) rows each.1) (λ xs ps. (p, ps)))
 
 plan_circuit_ok : (edges services : List (List ℕ)) (row : RowPlace) (circuit : CircuitRow) → IsName circuit.name → IfOk (circuit_in edges services row circuit) (λ (c : CircuitPlan). IsName c.name)
 unfolding circuit_in
 plan_circuit_ok edges services row circuit is = if_any _ (named row (codes "edge") edges circuit.edge) _ (λ edge. if_any _ (named row (codes "service") services circuit.service) _ (λ service. is))
 
-plan_circuits_ok : (edges services : List (List ℕ)) (index : ℕ) (rows : List CircuitRow) → Each (λ (c : CircuitRow). IsName c.name) rows → IfOk (circuit_plans edges services index rows) (Each (λ (c : CircuitPlan). IsName c.name))
+plan_circuits_ok : (edges services : List (List ℕ)) (index : ℕ) (rows : List CircuitRow) → Each (λ (c : CircuitRow). IsName c.name) rows
+    → IfOk (circuit_plans edges services index rows) (Each (λ (c : CircuitPlan). IsName c.name))
 plan_circuits_ok edges services index [] each = tt
 plan_circuits_ok edges services index (row ∷ rows) each =
     if_ok _ (circuit_in edges services (record { table = kind.Circuit; index = index }) row) _ (plan_circuit_ok edges services (record { table = kind.Circuit; index = index }) row each.0) (λ x p.
@@ -358,7 +366,8 @@ of_plan plan (Ok p) is said = subst IsSaidPlan (sym is.0) (said is.1)
 of_plan plan (Err e) is said = tt
 
 plan_of_ok : (edges : List EdgePlan) (services : List ServicePlan) (groups : List GroupRow) (circuits : List CircuitRow) (wires : List WireRow)
-    → Each IsEdgeSaid edges → Each IsServiceSaid services → Each (λ (group : GroupRow). IsFrom 1 4294967295 group.number) groups → Each (λ (c : CircuitRow). IsName c.name) circuits → Each IsWireSaid wires
+    → Each IsEdgeSaid edges → Each IsServiceSaid services → Each (λ (group : GroupRow). IsFrom 1 4294967295 group.number) groups → Each (λ (c : CircuitRow). IsName c.name) circuits
+    → Each IsWireSaid wires
     → IfOk (plan_of edges services groups circuits wires) IsSaidPlan
 unfolding plan_of
 plan_of_ok edges services groups circuits wires are_edges are_services are_groups are_circuits are_wires =
@@ -376,8 +385,10 @@ pub plan_in_ok : (arrays : Arrays) → IfOk (plan_in arrays) IsSaidPlan
 unfolding plan_in
 plan_in_ok arrays =
     if_ok _ (rows_in kind.Edge (edge_in arrays.version) 1 arrays.edges) _ (rows_ok _ kind.Edge (edge_in arrays.version) (edge_ok arrays.version) 1 arrays.edges) (λ edges are_edges.
-    if_ok _ (rows_in kind.Service (service_in arrays.version) 1 arrays.services) _ (rows_ok _ kind.Service (service_in arrays.version) (service_ok arrays.version) 1 arrays.services) (λ services are_services.
+    if_ok _ (rows_in kind.Service (service_in arrays.version) 1 arrays.services) _ (rows_ok _ kind.Service (service_in arrays.version) (service_ok arrays.version) 1 arrays.services)
+    (λ services are_services.
     if_ok _ (rows_in kind.Group (group_row_in arrays.version) 1 arrays.groups) _ (rows_ok _ kind.Group (group_row_in arrays.version) (group_ok arrays.version) 1 arrays.groups) (λ groups are_groups.
-    if_ok _ (rows_in kind.Circuit (circuit_row_in arrays.version) 1 arrays.circuits) _ (rows_ok _ kind.Circuit (circuit_row_in arrays.version) (circuit_ok arrays.version) 1 arrays.circuits) (λ circuits are_circuits.
+    if_ok _ (rows_in kind.Circuit (circuit_row_in arrays.version) 1 arrays.circuits) _
+    (rows_ok _ kind.Circuit (circuit_row_in arrays.version) (circuit_ok arrays.version) 1 arrays.circuits) (λ circuits are_circuits.
     if_ok _ (rows_in kind.Wire (wire_row_in arrays.version) 1 arrays.wires) _ (rows_ok _ kind.Wire (wire_row_in arrays.version) (wire_ok arrays.version) 1 arrays.wires) (λ wires are_wires.
     plan_of_ok edges services groups circuits wires are_edges are_services are_groups are_circuits are_wires)))))

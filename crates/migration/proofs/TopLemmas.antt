@@ -46,7 +46,8 @@ module _ {A : Type 0} (f : A → Members) where
       → defaulted no_items (an_array is_table) top_row key ms ≡ Ok (items_of (map (λ row. table (f row)) rows))
   array_read key ms [] at = defaulted_none (an_array is_table) top_row key ms no_items at
   array_read key ms (row ∷ rows) at =
-      defaulted_is (an_array is_table) top_row key ms no_items (array (items_of (map (λ r. table (f r)) (row ∷ rows)))) (items_of (map (λ r. table (f r)) (row ∷ rows))) at (rw (are_tables (row ∷ rows)) refl)
+      defaulted_is (an_array is_table) top_row key ms no_items (array (items_of (map (λ r. table (f r)) (row ∷ rows)))) (items_of (map (λ r. table (f r)) (row ∷ rows))) at
+      (rw (are_tables (row ∷ rows)) refl)
 
   few_rows : (limit : ℕ) (kind : Table) (rows : List A) → length rows ≤ limit → few limit kind (items_of (map (λ row. table (f row)) rows)) ≡ Ok true
   few_rows limit kind rows within = rw (rows_length rows, le-leb (length rows) limit within) refl

@@ -160,7 +160,8 @@ module _ (plan : Plan) (wire : WirePlan) where
         far_read wire.far row.index far said_far,
       ) refl
 
-  pub wire_read : (row : RowPlace) → IsName wire.name → IsName (service_name plan wire.service) → AreNamed plan wire.path → IsWireOf plan wire → wire.priority ≤ 255 → IsSaid wire.near → IsSaid wire.far
+  pub wire_read : (row : RowPlace) → IsName wire.name → IsName (service_name plan wire.service) → AreNamed plan wire.path → IsWireOf plan wire → wire.priority ≤ 255 → IsSaid wire.near
+      → IsSaid wire.far
       → wire_row_in Two row (wire_table plan wire) ≡ Ok (wire_of plan wire)
   unfolding wire_row_in
   wire_read row name service path is priority near far =

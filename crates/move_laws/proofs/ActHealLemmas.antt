@@ -61,13 +61,16 @@ pub record ChangesBeside (peer : ℕ) (old new : EdgeState) : Type 0 where
   pub ends : (wire k : ℕ) → nat_eq k peer ≡ false → new.ends wire k ≡ old.ends wire k
 
 -- what is told of the mesh wires goes on to be told
-pub mesh_beside : (plan : Plan) (service : ServiceId) (me peer : ℕ) (old new : EdgeState) → new.wire_on ≡ old.wire_on → new.bits ≡ old.bits → ((wire k : ℕ) → nat_eq k peer ≡ false → new.ends wire k ≡ old.ends wire k)
-    → ((wire : WireId) (row : WirePlan) → wire_row plan wire ≡ Some row → is_mesh_of service row ≡ true → joins me peer row.path ≡ true → is_advertising (old.ends wire.0 peer).local ≡ true → is_advertising (new.ends wire.0 peer).local ≡ true)
+pub mesh_beside : (plan : Plan) (service : ServiceId) (me peer : ℕ) (old new : EdgeState) → new.wire_on ≡ old.wire_on → new.bits ≡ old.bits
+    → ((wire k : ℕ) → nat_eq k peer ≡ false → new.ends wire k ≡ old.ends wire k)
+    → ((wire : WireId) (row : WirePlan) → wire_row plan wire ≡ Some row → is_mesh_of service row ≡ true → joins me peer row.path ≡ true → is_advertising (old.ends wire.0 peer).local
+    ≡ true → is_advertising (new.ends wire.0 peer).local ≡ true)
     → KeepsMesh plan service me old → KeepsMesh plan service me new
 mesh_beside plan service me peer old new wires bits ends here mesh = record {
   told = λ wire row k is of_mesh joined. split {P = is_advertising (new.ends wire.0 k).local ≡ true} (nat_eq k peer)
       (λ same. subst (λ (n : ℕ). is_advertising (new.ends wire.0 n).local ≡ true) (sym (eqb-true k peer same))
-      (here wire row is of_mesh (subst (λ (n : ℕ). joins me n row.path ≡ true) (eqb-true k peer same) joined) (subst (λ (n : ℕ). is_advertising (old.ends wire.0 n).local ≡ true) (eqb-true k peer same) (mesh.told wire row k is of_mesh joined))))
+      (here wire row is of_mesh (subst (λ (n : ℕ). joins me n row.path ≡ true) (eqb-true k peer same) joined)
+      (subst (λ (n : ℕ). is_advertising (old.ends wire.0 n).local ≡ true) (eqb-true k peer same) (mesh.told wire row k is of_mesh joined))))
       (λ away. ap (λ (e : EndState). is_advertising e.local) (ends wire.0 k away) ∙ mesh.told wire row k is of_mesh joined);
   on = λ wire row k is of_mesh joined. ap (λ (f : ℕ → Bool). f wire.0) wires ∙ mesh.on wire row k is of_mesh joined;
   whole = λ wire row k is of_mesh joined. ap (λ (f : ℕ → ℕ). f wire.0) bits ∙ mesh.whole wire row k is of_mesh joined;
@@ -97,7 +100,8 @@ end_locals place end edge same = record {
 }
 
 -- an end of another wire
-other_end : (place : EndPlace) (end : EndState) (edge : EdgeState) (wire k : ℕ) → (place.wire.0 == wire) ≡ false → is_advertising (edge.ends wire k).local ≡ true → is_advertising ((with_end place end edge).ends wire k).local ≡ true
+other_end : (place : EndPlace) (end : EndState) (edge : EdgeState) (wire k : ℕ) → (place.wire.0 == wire) ≡ false → is_advertising (edge.ends wire k).local ≡ true
+    → is_advertising ((with_end place end edge).ends wire k).local ≡ true
 unfolding with_end
 other_end place end edge wire k other told = end_fact (λ w p e. w ≡ wire → p ≡ k → is_advertising e.local ≡ true) place end edge wire k
     (λ same also. clash (sym other ∙ (ap (λ (w : ℕ). w == wire) same ∙ same_number wire))) (λ same also. told) refl refl
@@ -111,7 +115,8 @@ releasing_beside label place edge =
     let one : ChangesBeside place.peer.0 edge (with_end place (released label (end_at edge place)) edge) = end_beside place (released label (end_at edge place)) edge in
     record { me = one.me; peering = one.peering; wires = one.wires; bits = one.bits; chosen = one.chosen; ends = one.ends }
 
-changed_locals : (peer : EdgeId) (change : EndState → EndState) (place : Option EndPlace) (edge : EdgeState) → ((end : EndState) → (change end).local ≡ end.local) → ((p : EndPlace) → place ≡ Some p → p.peer ≡ peer) → KeepsLocals peer.0 edge (with_end_changed change place edge)
+changed_locals : (peer : EdgeId) (change : EndState → EndState) (place : Option EndPlace) (edge : EdgeState) → ((end : EndState) → (change end).local ≡ end.local)
+    → ((p : EndPlace) → place ≡ Some p → p.peer ≡ peer) → KeepsLocals peer.0 edge (with_end_changed change place edge)
 changed_locals peer change None edge same beside = same_beside peer.0 edge
 changed_locals peer change (Some place) edge same beside =
     subst (λ (k : EdgeId). KeepsLocals k.0 edge (with_end place (change (end_at edge place)) edge)) (beside place refl) (end_locals place (change (end_at edge place)) edge (same (end_at edge place)))
@@ -136,7 +141,8 @@ fec_beside plan edge peer fec p is = by fec.pw_id is where
   by None is = absurd (cc (is))
   by (Some n) is = named_beside plan edge.me peer n p is
 
-named_locals : (plan : Plan) (peer : EdgeId) (fec : PwFec) (one all : EndState → EndState) (pw_id : Option ℕ) (edge : EdgeState) → ((end : EndState) → (one end).local ≡ end.local) → ((end : EndState) → (all end).local ≡ end.local)
+named_locals : (plan : Plan) (peer : EdgeId) (fec : PwFec) (one all : EndState → EndState) (pw_id : Option ℕ) (edge : EdgeState) → ((end : EndState) → (one end).local ≡ end.local)
+    → ((end : EndState) → (all end).local ≡ end.local)
     → KeepsLocals peer.0 edge (with_named plan peer fec one all pw_id edge)
 named_locals plan peer fec one all None edge same also = all_locals peer all edge also
 named_locals plan peer fec one all (Some n) edge same also = changed_locals peer one (end_named plan edge.me peer n) edge same (λ p is. named_beside plan edge.me peer n p is)
@@ -169,7 +175,8 @@ module _ (limit : ℕ → ℕ) (edge : EdgeState) (sound : TellsSoundly limit ed
   place_sound : (label : Option ℕ) (o : Option EndPlace) → TellsSoundly limit (with_end_changed (unbound label) o edge)
   place_sound label None = sound
   place_sound label (Some place) =
-      sound_with_end place (unbound label (end_at edge place)) edge (unbound_sound (limit place.wire.0) (is_up_with (edge.peering place.peer.0)) label (end_at edge place) (sound.ends place.wire.0 place.peer.0)) sound
+      sound_with_end place (unbound label (end_at edge place)) edge
+      (unbound_sound (limit place.wire.0) (is_up_with (edge.peering place.peer.0)) label (end_at edge place) (sound.ends place.wire.0 place.peer.0)) sound
 
   named_sound : (plan : Plan) (peer : EdgeId) (fec : PwFec) (label pw_id : Option ℕ) → TellsSoundly limit (with_named plan peer fec (unbound label) (group_unbound fec.group) pw_id edge)
   named_sound plan peer fec label None = sound_beside peer (group_unbound fec.group) edge (λ most end is. group_sound most (is_up_with (edge.peering peer.0)) fec.group end is) sound
@@ -190,11 +197,13 @@ module _ (plan : Plan) (service : ServiceId) (network : NetworkState) (me peer :
   abbrev At : Work → Work → Type 0
   At base work = Speaks plan service network me peer.0 base work
 
-  acted_locals : (base : Work) (change : EdgeState → EdgeState) (work : Work) → KeepsLocals peer.0 work.edge (change work.edge) → TellsSoundly (point_limit plan me.0) (change work.edge) → At base work → Acted base work (changes change work)
+  acted_locals : (base : Work) (change : EdgeState → EdgeState) (work : Work) → KeepsLocals peer.0 work.edge (change work.edge)
+      → TellsSoundly (point_limit plan me.0) (change work.edge) → At base work → Acted base work (changes change work)
   unfolding changes
   acted_locals base change work keeps sound speaks = record {
     speaks = changed_speaks plan service network me peer.0 base change work keeps.changes.peering keeps.changes.me sound
-        (mesh_beside plan service me.0 peer.0 work.edge (change work.edge) keeps.changes.wires keeps.changes.bits keeps.changes.ends (λ wire row is of_mesh joined told. ap is_advertising (keeps.locals wire.0 peer.0) ∙ told) speaks.mesh) speaks;
+        (mesh_beside plan service me.0 peer.0 work.edge (change work.edge) keeps.changes.wires keeps.changes.bits keeps.changes.ends
+        (λ wire row is of_mesh joined told. ap is_advertising (keeps.locals wire.0 peer.0) ∙ told) speaks.mesh) speaks;
     chosen = keeps.changes.chosen;
   }
 
@@ -202,7 +211,8 @@ module _ (plan : Plan) (service : ServiceId) (network : NetworkState) (me peer :
   unfolding changes
   changed_sound change work sound = sound
 
-  says_acted : (base old work : Work) (message : ℕ → Message) → IsOfWires message → (are_joined_by plan service me.0 peer.0 ≡ true → stands network me.0 peer.0 ≡ true → (id : ℕ) → IsMild plan service me.0 peer.0 (message id)) → Acted base old work
+  says_acted : (base old work : Work) (message : ℕ → Message) → IsOfWires message
+      → (are_joined_by plan service me.0 peer.0 ≡ true → stands network me.0 peer.0 ≡ true → (id : ℕ) → IsMild plan service me.0 peer.0 (message id)) → Acted base old work
       → Acted base old (says taken_all peer message work).work
   says_acted base old work message of_wires mild acted = record {
     speaks = says_speaks plan service network me peer.0 base peer message work of_wires mild acted.speaks;
@@ -216,17 +226,20 @@ module _ (plan : Plan) (service : ServiceId) (network : NetworkState) (me peer :
       low n more can = grind (arith, nat_tests)
 
   -- a release of what came with this FEC
-  mild_release : (fec : PwFec) (label : Option ℕ) → ((wire : WireId) (row : WirePlan) → wire_row plan wire ≡ Some row → is_mesh_of service row ≡ true → joins me.0 peer.0 row.path ≡ true → names_wire row.pw_id fec.pw_id ≡ false)
+  mild_release : (fec : PwFec) (label : Option ℕ) → ((wire : WireId) (row : WirePlan) → wire_row plan wire ≡ Some row → is_mesh_of service row ≡ true → joins me.0 peer.0 row.path
+      ≡ true → names_wire row.pw_id fec.pw_id ≡ false)
       → (id : ℕ) → IsMild plan service me.0 peer.0 (release fec label id)
   mild_release fec label others id = record { plain = refl; labels = λ wire row is of_mesh joined. ap not (others wire row is of_mesh joined) }
 
-  pub withdraw_acts : (base : Work) (id : ℕ) (fec : PwFec) (label : Option ℕ) (work : Work) → IsSound (LabelWithdraw id fec label) → LeavesMesh plan service me.0 peer.0 (LabelWithdraw id fec label) → At base work
+  pub withdraw_acts : (base : Work) (id : ℕ) (fec : PwFec) (label : Option ℕ) (work : Work) → IsSound (LabelWithdraw id fec label)
+      → LeavesMesh plan service me.0 peer.0 (LabelWithdraw id fec label) → At base work
       → Acted base work (hears_withdraw plan taken_all peer fec label work)
   withdraw_acts base id fec label work said leaves speaks =
       let change : EdgeState → EdgeState = with_named plan peer fec (unbound label) (group_unbound fec.group) fec.pw_id in
       says_acted base work (changes change work) (release fec label) (release_is fec label (kind_fits fec said.1) said.0.1.group said.0.1.pw_id said.0.2)
       (λ joined there. mild_release fec label (λ wire row is of_mesh joins. not-true (names_wire row.pw_id fec.pw_id) (leaves wire row is of_mesh joins)))
-      (acted_locals base change work (named_locals plan peer fec (unbound label) (group_unbound fec.group) fec.pw_id work.edge (λ end. refl) (group_unbound_local fec.group)) (named_sound (point_limit plan me.0) work.edge speaks.sound plan peer fec label fec.pw_id) speaks)
+      (acted_locals base change work (named_locals plan peer fec (unbound label) (group_unbound fec.group) fec.pw_id work.edge (λ end. refl) (group_unbound_local fec.group))
+      (named_sound (point_limit plan me.0) work.edge speaks.sound plan peer fec label fec.pw_id) speaks)
 
   -- an end that does not take what it is told is none of a mesh wire
   not_refused : (place : EndPlace) (content : Told) (pw_id : Option ℕ) → option_and_then (end_named plan me peer) pw_id ≡ Some place → takes_content plan me place content ≡ false
@@ -247,29 +260,37 @@ module _ (plan : Plan) (service : ServiceId) (network : NetworkState) (me peer :
     by false away = refl
 
   pub mapping_acts : (base : Work) (id : ℕ) (fec : PwFec) (label : ℕ) (status : Option PwStatus) (points : List Point) (work : Work) → IsSound (LabelMapping id fec label status points)
-      → TellsSoundly (point_limit plan me.0) (hears_mapping plan taken_all peer fec label status points work).edge → At base work → Acted base work (hears_mapping plan taken_all peer fec label status points work)
+      → TellsSoundly (point_limit plan me.0) (hears_mapping plan taken_all peer fec label status points work).edge → At base work
+      → Acted base work (hears_mapping plan taken_all peer fec label status points work)
   mapping_acts base id fec label status points work said sound speaks = by (end_of_fec plan work.edge peer fec) refl sound where
     binding : Binding
     binding = binding_in fec label status points
 
-    released_acts : (now : Work) → Acted base work now → ((wire : WireId) (row : WirePlan) → wire_row plan wire ≡ Some row → is_mesh_of service row ≡ true → joins me.0 peer.0 row.path ≡ true → names_wire row.pw_id fec.pw_id ≡ false)
+    released_acts : (now : Work) → Acted base work now
+        → ((wire : WireId) (row : WirePlan) → wire_row plan wire ≡ Some row → is_mesh_of service row ≡ true → joins me.0 peer.0 row.path ≡ true → names_wire row.pw_id fec.pw_id ≡ false)
         → Acted base work (releases_label taken_all peer fec (Some label) now)
     released_acts now acted others =
-        says_acted base work now (release fec (Some label)) (release_is fec (Some label) (kind_fits fec (second_holds (is_some fec.pw_id) (writable_fec fec) said.1)) said.0.1.group said.0.1.pw_id said.0.2)
+        says_acted base work now (release fec (Some label))
+        (release_is fec (Some label) (kind_fits fec (second_holds (is_some fec.pw_id) (writable_fec fec) said.1)) said.0.1.group said.0.1.pw_id said.0.2)
         (λ joined there. mild_release fec (Some label) others) acted
 
-    changed : (change : EndState → EndState) (place : EndPlace) → end_of_fec plan work.edge peer fec ≡ Some place → ((end : EndState) → (change end).local ≡ end.local) → TellsSoundly (point_limit plan me.0) (with_end_changed change (Some place) work.edge)
+    changed : (change : EndState → EndState) (place : EndPlace) → end_of_fec plan work.edge peer fec ≡ Some place → ((end : EndState) → (change end).local ≡ end.local)
+        → TellsSoundly (point_limit plan me.0) (with_end_changed change (Some place) work.edge)
         → Acted base work (changes (with_end_changed change (Some place)) work)
     changed change place is local sound =
-        acted_locals base (with_end_changed change (Some place)) work (changed_locals peer change (Some place) work.edge local (λ p same. fec_beside plan work.edge peer fec p (is ∙ same))) sound speaks
+        acted_locals base (with_end_changed change (Some place)) work
+        (changed_locals peer change (Some place) work.edge local (λ p same. fec_beside plan work.edge peer fec p (is ∙ same))) sound speaks
 
-    unknown : (o : Option ℕ) → option_and_then (end_named plan work.edge.me peer) o ≡ None → (wire : WireId) (row : WirePlan) → wire_row plan wire ≡ Some row → joins me.0 peer.0 row.path ≡ true → names_wire row.pw_id o ≡ false
+    unknown : (o : Option ℕ) → option_and_then (end_named plan work.edge.me peer) o ≡ None → (wire : WireId) (row : WirePlan) → wire_row plan wire ≡ Some row
+        → joins me.0 peer.0 row.path ≡ true → names_wire row.pw_id o ≡ false
     unknown None none wire row at joins = refl
     unknown (Some n) none wire row at joins = not_named plan me peer n wire row checked at joins (ap (λ (k : EdgeId). end_named plan k peer n) (sym speaks.place) ∙ none)
 
     takes : (place : EndPlace) → end_of_fec plan work.edge peer fec ≡ Some place → (b : Bool) → takes_content plan work.edge.me place binding.told ≡ b
-        → TellsSoundly (point_limit plan me.0) (cond b (changes (with_end_changed (bound binding) (Some place)) work) (releases_label taken_all peer fec (Some label) (changes (with_end_changed (unbound None) (Some place)) work))).edge
-        → Acted base work (cond b (changes (with_end_changed (bound binding) (Some place)) work) (releases_label taken_all peer fec (Some label) (changes (with_end_changed (unbound None) (Some place)) work)))
+        → TellsSoundly (point_limit plan me.0) (cond b (changes (with_end_changed (bound binding) (Some place)) work)
+        (releases_label taken_all peer fec (Some label) (changes (with_end_changed (unbound None) (Some place)) work))).edge
+        → Acted base work (cond b (changes (with_end_changed (bound binding) (Some place)) work)
+        (releases_label taken_all peer fec (Some label) (changes (with_end_changed (unbound None) (Some place)) work)))
     takes place is true taken sound = changed (bound binding) place is (λ end. refl) (changed_sound (with_end_changed (bound binding) (Some place)) work sound)
     takes place is false refused sound =
         released_acts (changes (with_end_changed (unbound None) (Some place)) work)
@@ -277,11 +298,13 @@ module _ (plan : Plan) (service : ServiceId) (network : NetworkState) (me peer :
         (not_refused place binding.told fec.pw_id (ap (λ (k : EdgeId). option_and_then (end_named plan k peer) fec.pw_id) (sym speaks.place) ∙ is)
         (ap (λ (k : EdgeId). takes_content plan k place binding.told) (sym speaks.place) ∙ refused))
 
-    by : (o : Option EndPlace) → end_of_fec plan work.edge peer fec ≡ o → TellsSoundly (point_limit plan me.0) (maps_to plan taken_all peer fec binding o work).edge → Acted base work (maps_to plan taken_all peer fec binding o work)
+    by : (o : Option EndPlace) → end_of_fec plan work.edge peer fec ≡ o → TellsSoundly (point_limit plan me.0) (maps_to plan taken_all peer fec binding o work).edge
+        → Acted base work (maps_to plan taken_all peer fec binding o work)
     by None is sound = released_acts work (record { speaks = speaks; chosen = refl }) (λ wire row at of_mesh joins. unknown fec.pw_id is wire row at joins)
     by (Some place) is sound = takes place is (takes_content plan work.edge.me place binding.told) refl sound
 
-  pub status_acts : (base : Work) (code : StatusCode) (status : Option PwStatus) (fec : Option PwFec) (work : Work) → TellsSoundly (point_limit plan me.0) (hears_status plan peer code status fec work).edge → At base work → Acted base work (hears_status plan peer code status fec work)
+  pub status_acts : (base : Work) (code : StatusCode) (status : Option PwStatus) (fec : Option PwFec) (work : Work)
+      → TellsSoundly (point_limit plan me.0) (hears_status plan peer code status fec work).edge → At base work → Acted base work (hears_status plan peer code status fec work)
   status_acts base code None fec work sound speaks = record { speaks = speaks; chosen = refl }
   status_acts base code (Some status) None work sound speaks = record { speaks = speaks; chosen = refl }
   status_acts base code (Some status) (Some fec) work sound speaks = by (code.code == pw_status_code) sound where
@@ -295,11 +318,13 @@ module _ (plan : Plan) (service : ServiceId) (network : NetworkState) (me peer :
         (changed_sound (with_named plan peer fec (stated status) (group_stated fec.group status) fec.pw_id) work sound) speaks
     by false sound = record { speaks = speaks; chosen = refl }
 
-  pub release_acts : (base : Work) (id : ℕ) (fec : PwFec) (label : Option ℕ) (work : Work) → LeavesMesh plan service me.0 peer.0 (LabelRelease id fec label) → TellsSoundly (point_limit plan me.0) (hears_release plan peer fec label work).edge → At base work
+  pub release_acts : (base : Work) (id : ℕ) (fec : PwFec) (label : Option ℕ) (work : Work) → LeavesMesh plan service me.0 peer.0 (LabelRelease id fec label)
+      → TellsSoundly (point_limit plan me.0) (hears_release plan peer fec label work).edge → At base work
       → Acted base work (hears_release plan peer fec label work)
   unfolding changes with_kept
   release_acts base id fec label work leaves sound speaks = by (end_of_fec plan work.edge peer fec) refl sound where
-    by : (o : Option EndPlace) → end_of_fec plan work.edge peer fec ≡ o → TellsSoundly (point_limit plan me.0) (with_released label o work.edge) → Acted base work (changes (λ edge. with_released label o edge) work)
+    by : (o : Option EndPlace) → end_of_fec plan work.edge peer fec ≡ o → TellsSoundly (point_limit plan me.0) (with_released label o work.edge)
+        → Acted base work (changes (λ edge. with_released label o edge) work)
     by None is sound = acted_locals base (λ edge. edge) work (same_beside peer.0 work.edge) speaks.sound speaks
     by (Some place) is sound = record {
       speaks = changed_speaks plan service network me peer.0 base (releasing label place) work beside.peering beside.me sound

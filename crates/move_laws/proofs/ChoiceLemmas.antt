@@ -88,7 +88,8 @@ says_choice to message work = record {
   told = λ wire k is. by_end (work.edge.peering to.0) refl wire k is;
 }
   where
-    by_end : (near : Option Peering) → work.edge.peering to.0 ≡ near → (wire k : ℕ) → is_advertising (work.edge.ends wire k).local ≡ true → is_advertising ((says taken_all to message work).work.edge.ends wire k).local ≡ true
+    by_end : (near : Option Peering) → work.edge.peering to.0 ≡ near → (wire k : ℕ) → is_advertising (work.edge.ends wire k).local ≡ true
+        → is_advertising ((says taken_all to message work).work.edge.ends wire k).local ≡ true
     by_end None at wire k is = ap (λ (w : Work). is_advertising (w.edge.ends wire k).local) (says_none to message work at) ∙ is
     by_end (Some kept) at wire k is = ap (λ (f : ℕ → ℕ → EndState). is_advertising (f wire k).local) (says_spoken to kept message work at).ends ∙ is
 
@@ -98,7 +99,8 @@ telling_choice place status work = record {
   me = refl;
   chosen = refl;
   told = λ wire k is. end_fact (λ w p e. w ≡ wire → p ≡ k → is_advertising e.local ≡ true) place (telling status (end_at work.edge place)) work.edge wire k
-      (λ same also. tells (end_at work.edge place).local (subst (λ (p : ℕ). is_advertising (work.edge.ends place.wire.0 p).local ≡ true) (sym also) (subst (λ (w : ℕ). is_advertising (work.edge.ends w k).local ≡ true) (sym same) is)))
+      (λ same also. tells (end_at work.edge place).local
+      (subst (λ (p : ℕ). is_advertising (work.edge.ends place.wire.0 p).local ≡ true) (sym also) (subst (λ (w : ℕ). is_advertising (work.edge.ends w k).local ≡ true) (sym same) is)))
       (λ same also. is) refl refl;
 }
   where
@@ -135,9 +137,11 @@ mends_choice_keeps plan before place work = by (is_new_choice before work.edge.c
   by true = piece_choice place [] work
   by false = choice_same work
 
-each_choice : (mend : EndPlace → Work → Spoken) → ((place : EndPlace) (work : Work) → KeepsChoice work (mend place work).work) → (places : List EndPlace) (m : Spoken) → KeepsChoice m.work (each_end mend places m).work
+each_choice : (mend : EndPlace → Work → Spoken) → ((place : EndPlace) (work : Work) → KeepsChoice work (mend place work).work) → (places : List EndPlace) (m : Spoken)
+    → KeepsChoice m.work (each_end mend places m).work
 each_choice mend one [] m = choice_same m.work
-each_choice mend one (place ∷ places) m = choice_then m.work (mend place m.work).work (each_end mend places (and_says m (mend place))).work (one place m.work) (each_choice mend one places (and_says m (mend place)))
+each_choice mend one (place ∷ places) m = choice_then m.work (mend place m.work).work (each_end mend places (and_says m (mend place))).work (one place m.work)
+    (each_choice mend one places (and_says m (mend place)))
 
 forgetting_choice : (plan : Plan) (wire : WireId) (row : Option WirePlan) (work : Work) → KeepsChoice work (changes (forgetting_wire plan wire row) work)
 unfolding changes with_addresses
@@ -201,7 +205,8 @@ module _ (plan : Plan) (service : ServiceId) (network : NetworkState) (me : Edge
   }
 
   -- where a session is up, it stood from the first
-  stood : (base work : Work) → Speaks plan service network me peer base work → (place : ℕ) → are_joined_by plan service me.0 place ≡ true → is_up_with (work.edge.peering place) ≡ true → stands network me.0 place ≡ true
+  stood : (base work : Work) → Speaks plan service network me peer base work → (place : ℕ) → are_joined_by plan service me.0 place ≡ true → is_up_with (work.edge.peering place) ≡ true
+      → stands network me.0 place ≡ true
   stood base work speaks place joined up = by (stands network me.0 place) refl where
     by : (b : Bool) → stands network me.0 place ≡ b → b ≡ true
     by true is = refl
@@ -217,10 +222,12 @@ module _ (plan : Plan) (service : ServiceId) (network : NetworkState) (me : Edge
   joined_all xs ys m = append_assoc xs ys (m ∷ [])
 
   -- by an end that advertises
-  pub piece_tells : (base : Work) (place : EndPlace) (label : ℕ) (content : Told) (work : Work) → IsEndOf plan me place → are_joined_by plan service me.0 place.peer.0 ≡ true → (end_at work.edge place).local ≡ Advertised label content
+  pub piece_tells : (base : Work) (place : EndPlace) (label : ℕ) (content : Told) (work : Work) → IsEndOf plan me place → are_joined_by plan service me.0 place.peer.0 ≡ true
+      → (end_at work.edge place).local ≡ Advertised label content
       → Speaks plan service network me peer base work → WillTell plan service network me.0 place.peer.0 place.pw_id (says taken_all place.peer (mac_withdrawal place.pw_id [] content) work).work
   piece_tells base place label content work end joined at speaks =
-      let can = advertised_up (point_limit plan me.0 place.wire.0) (is_up_with (work.edge.peering place.peer.0)) (end_at work.edge place) label content (speaks.sound.ends place.wire.0 place.peer.0) at in
+      let can = advertised_up (point_limit plan me.0 place.wire.0) (is_up_with (work.edge.peering place.peer.0)) (end_at work.edge place) label content
+      (speaks.sound.ends place.wire.0 place.peer.0) at in
       let there : stands network me.0 place.peer.0 ≡ true = stood base work speaks place.peer.0 joined can.0 in
       let mildly = speaks.speaks place.peer.0 joined there in
       let way = ways place.peer.0 joined there in
@@ -252,25 +259,30 @@ module _ (plan : Plan) (service : ServiceId) (network : NetworkState) (me : Edge
     grown before n place places all m speaks tells =
         let after : Work = (each_end (mends_choice plan taken_all before) places m).work in
         let more : Speaks plan service network me peer m.work after =
-        each_keeps plan me (Speaks plan service network me peer m.work) (speaks_rows m.work) (mends_choice plan taken_all before) (choice_keeps plan me (Speaks plan service network me peer m.work) (speaks_rows m.work) before) places all m speaks in
+        each_keeps plan me (Speaks plan service network me peer m.work) (speaks_rows m.work) (mends_choice plan taken_all before)
+        (choice_keeps plan me (Speaks plan service network me peer m.work) (speaks_rows m.work) before) places all m speaks in
         tells_on plan service network me.0 place n m.work after (more.more place tells.joined tells.there) tells
 
     module _ (before : ℕ → Option WireId) (place : EndPlace) (end : IsEndOf plan me place) (joined : are_joined_by plan service me.0 place.peer.0 ≡ true) where
       here_tells : (work : Work) → At work → is_advertising (end_at work.edge place).local ≡ true → is_new_choice before work.edge.chosen place.wire (wire_row plan place.wire) ≡ true
           → WillTell plan service network me.0 place.peer.0 place.pw_id (mends_choice plan taken_all before place work).work
       here_tells work speaks told new = subst (λ (b : Bool). WillTell plan service network me.0 place.peer.0 place.pw_id (cond b (tells_piece taken_all place [] work) (stays work)).work) (sym new) (by_local (end_at work.edge place).local refl told) where
-        by_local : (local : LocalPart) → (end_at work.edge place).local ≡ local → is_advertising local ≡ true → WillTell plan service network me.0 place.peer.0 place.pw_id (tells_piece_by taken_all place [] local work).work
+        by_local : (local : LocalPart) → (end_at work.edge place).local ≡ local → is_advertising local ≡ true
+            → WillTell plan service network me.0 place.peer.0 place.pw_id (tells_piece_by taken_all place [] local work).work
         by_local (Idle declined) at told = clash told
         by_local (Advertised label content) at told = piece_tells work place label content work end joined at speaks
         by_local (Withdrawing label) at told = clash told
 
-      each_tells : (places : List EndPlace) → AllByRecursion (IsEndOf plan me) places → (k : ℕ) → slice_get places k ≡ Some place → (m : Spoken) → At m.work → is_advertising (end_at m.work.edge place).local ≡ true
-          → is_new_choice before m.work.edge.chosen place.wire (wire_row plan place.wire) ≡ true → WillTell plan service network me.0 place.peer.0 place.pw_id (each_end (mends_choice plan taken_all before) places m).work
+      each_tells : (places : List EndPlace) → AllByRecursion (IsEndOf plan me) places → (k : ℕ) → slice_get places k ≡ Some place → (m : Spoken) → At m.work
+          → is_advertising (end_at m.work.edge place).local ≡ true
+          → is_new_choice before m.work.edge.chosen place.wire (wire_row plan place.wire) ≡ true
+          → WillTell plan service network me.0 place.peer.0 place.pw_id (each_end (mends_choice plan taken_all before) places m).work
       each_tells [] all k is m speaks told new = absurd (cc (is))
       each_tells (x ∷ xs) all zero is m speaks told new =
           let same : x ≡ place = cc (is) in
           let next : Work = (mends_choice plan taken_all before x m.work).work in
-          let first : WillTell plan service network me.0 place.peer.0 place.pw_id next = subst (λ (p : EndPlace). WillTell plan service network me.0 place.peer.0 place.pw_id (mends_choice plan taken_all before p m.work).work) (sym same) (here_tells m.work speaks told new) in
+          let first : WillTell plan service network me.0 place.peer.0 place.pw_id next =
+          subst (λ (p : EndPlace). WillTell plan service network me.0 place.peer.0 place.pw_id (mends_choice plan taken_all before p m.work).work) (sym same) (here_tells m.work speaks told new) in
           grown before place.pw_id place.peer.0 xs all.1 (and_says m (mends_choice plan taken_all before x))
           (again m.work next (choice_keeps plan me (Speaks plan service network me peer m.work) (speaks_rows m.work) before x all.0 m.work speaks)) first
       each_tells (x ∷ xs) all (suc k) is m speaks told new =
@@ -306,11 +318,13 @@ module _ (plan : Plan) (service : ServiceId) (network : NetworkState) (me : Edge
       last = tells_downs plan places (forgets_downs plan places moved.work)
 
       speaks_advertised : Speaks plan service network me peer work advertised.work
-      speaks_advertised = each_keeps plan me (Speaks plan service network me peer work) (speaks_rows work) (mends_end plan taken_all) (end_keeps plan me (Speaks plan service network me peer work) (speaks_rows work)) places all (stays work)
+      speaks_advertised = each_keeps plan me (Speaks plan service network me peer work) (speaks_rows work) (mends_end plan taken_all)
+          (end_keeps plan me (Speaks plan service network me peer work) (speaks_rows work)) places all (stays work)
           (speaks_first plan service network me peer work begun)
 
       speaks_statuses : Speaks plan service network me peer work statuses.work
-      speaks_statuses = each_keeps plan me (Speaks plan service network me peer work) (speaks_rows work) (mends_status plan taken_all) (status_keeps plan me (Speaks plan service network me peer work) (speaks_rows work)) places all chosen_now
+      speaks_statuses = each_keeps plan me (Speaks plan service network me peer work) (speaks_rows work) (mends_status plan taken_all)
+          (status_keeps plan me (Speaks plan service network me peer work) (speaks_rows work)) places all chosen_now
           (chooses_keep plan me (Speaks plan service network me peer work) (speaks_rows work) advertised.work speaks_advertised)
 
       speaks_moved : At moved.work
@@ -363,7 +377,8 @@ module _ (plan : Plan) (service : ServiceId) (network : NetworkState) (me : Edge
 
           home_is : place.peer.0 ≡ home
           home_is = ap (λ (k : EdgeId). k.0)
-              (two_peers me.0 home place.peer (subst (λ (p : List EdgeId). joins me.0 place.peer.0 p ≡ true) link.path (ap (λ (r : WirePlan). joins me.0 place.peer.0 r.path) (sym row_is) ∙ end.joined)))
+              (two_peers me.0 home place.peer (subst (λ (p : List EdgeId). joins me.0 place.peer.0 p ≡ true) link.path
+              (ap (λ (r : WirePlan). joins me.0 place.peer.0 r.path) (sym row_is) ∙ end.joined)))
             where
               here : (a h p : ℕ) → ((a == a && p == h) || (p == a && a == h)) || false ≡ true → p ≡ h
               here a h p is = grind (arith, nat_tests)
@@ -390,13 +405,15 @@ module _ (plan : Plan) (service : ServiceId) (network : NetworkState) (me : Edge
               ∙ now_and_not_was (is_chosen statuses.work.edge.chosen wire spoke.row) (is_chosen work.edge.chosen wire spoke.row) (rw now (same_number wire.0)) new) in
               let first : WillTell plan service network me.0 place.peer.0 place.pw_id moved.work =
               each_tells work.edge.chosen place end joined places all choose.k at statuses (again work statuses.work speaks_statuses) told fresh in
-              let more : WillTell plan service network me.0 place.peer.0 place.pw_id last = tells_on plan service network me.0 place.peer.0 place.pw_id moved.work last (speaks_last.more place.peer.0 first.joined first.there) first in
+              let more : WillTell plan service network me.0 place.peer.0 place.pw_id last =
+              tells_on plan service network me.0 place.peer.0 place.pw_id moved.work last (speaks_last.more place.peer.0 first.joined first.there) first in
               subst (λ (n : ℕ). WillTell plan service network me.0 n spoke.row.pw_id last) home_is
               (subst (λ (n : ℕ). WillTell plan service network me.0 place.peer.0 n last) (end.pw_id ∙ ap (λ (r : WirePlan). r.pw_id) row_is) more)
 
       pub mends_tell_here : TellsChoice plan service network me work (mends plan taken_all work)
       mends_tell_here = subst (TellsChoice plan service network me work) (sym (mends_takes plan taken_all (λ k. refl) work)) (record { told = tell })
 
-pub mends_tell : (plan : Plan) (service : ServiceId) (network : NetworkState) (me : EdgeId) (peer : ℕ) (work : Work) → IsChecked plan → HasTypes plan → has_short_paths plan service ≡ true → HasWays plan service network me
+pub mends_tell : (plan : Plan) (service : ServiceId) (network : NetworkState) (me : EdgeId) (peer : ℕ) (work : Work) → IsChecked plan → HasTypes plan → has_short_paths plan service
+    ≡ true → HasWays plan service network me
     → Stays plan service network me peer work → TellsChoice plan service network me work (mends plan taken_all work)
 mends_tell plan service network me peer work checked types short ways begun = mends_tell_here plan service network me peer checked types ways short work begun

@@ -89,7 +89,8 @@ piece_only place addresses work = by_local (end_at work.edge place).local where
 
 pieces_only : (place : EndPlace) (pieces : List (List Mac)) (work : Work) → SaysOnly work (tells_pieces taken_all place pieces work)
 pieces_only place [] work = only_same work
-pieces_only place (piece ∷ pieces) work = only_then work (tells_piece taken_all place piece work).work _ (piece_only place piece work) (pieces_only place pieces (tells_piece taken_all place piece work).work)
+pieces_only place (piece ∷ pieces) work = only_then work (tells_piece taken_all place piece work).work _ (piece_only place piece work)
+    (pieces_only place pieces (tells_piece taken_all place piece work).work)
 
 by_only : (addresses : List Mac) (place : Option EndPlace) (work : Work) → SaysOnly work (tells_by taken_all addresses place work)
 by_only addresses None work = only_same work
@@ -103,7 +104,8 @@ at_only plan addresses (port.Spoke wire) work = by_only addresses (wire_end plan
 ports_only : (plan : Plan) (addresses : List Mac) (targets : ℕ → Bool) (p : ℕ) (ports : List Port) (work : Work) → SaysOnly work (copies targets (tells_at plan taken_all addresses) p ports work)
 ports_only plan addresses targets p [] work = only_same work
 ports_only plan addresses targets p (x ∷ xs) work =
-    only_then work (cond (targets p) (tells_at plan taken_all addresses x work) work) _ (by (targets p)) (ports_only plan addresses targets (p + 1) xs (cond (targets p) (tells_at plan taken_all addresses x work) work))
+    only_then work (cond (targets p) (tells_at plan taken_all addresses x work) work) _ (by (targets p))
+    (ports_only plan addresses targets (p + 1) xs (cond (targets p) (tells_at plan taken_all addresses x work) work))
   where
     by : (b : Bool) → SaysOnly work (cond b (tells_at plan taken_all addresses x work) work)
     by true = at_only plan addresses x work
@@ -129,7 +131,8 @@ withdraw_chosen plan peer fec macs work = by_end (end_of_fec plan work.edge peer
   by_row place None = refl
   by_row place (Some row) = at_port row.service (port_of_wire plan work.edge place.wire row)
 
-  by_side : (place : EndPlace) (terminal : Bool) → (cond terminal (clears_wire plan taken_all macs place (wire_row plan place.wire) work) (tells_by taken_all macs (end_beyond plan work.edge.me place) work)).edge.chosen ≡ work.edge.chosen
+  by_side : (place : EndPlace) (terminal : Bool) → (cond terminal (clears_wire plan taken_all macs place (wire_row plan place.wire) work)
+      (tells_by taken_all macs (end_beyond plan work.edge.me place) work)).edge.chosen ≡ work.edge.chosen
   by_side place true = by_row place (wire_row plan place.wire)
   by_side place false = (by_only macs (end_beyond plan work.edge.me place) work).chosen
 
@@ -137,11 +140,13 @@ withdraw_chosen plan peer fec macs work = by_end (end_of_fec plan work.edge peer
   by_end None = refl
   by_end (Some place) = by_side place place.terminal
 
-pub withdraw_stays : (plan : Plan) (service : ServiceId) (network : NetworkState) (me : EdgeId) (k : ℕ) (peer : EdgeId) (fec : PwFec) (macs : List Mac) (work : Work) → IsChecked plan → HasTypes plan → has_short_paths plan service ≡ true → AreSixOctetsEach macs
+pub withdraw_stays : (plan : Plan) (service : ServiceId) (network : NetworkState) (me : EdgeId) (k : ℕ) (peer : EdgeId) (fec : PwFec) (macs : List Mac) (work : Work) → IsChecked plan
+    → HasTypes plan → has_short_paths plan service ≡ true → AreSixOctetsEach macs
     → Stays plan service network me k work → StaysOn plan service network me k work (hears_mac_withdraw plan taken_all peer (Some fec) (Some macs) work)
 withdraw_stays plan service network me k peer fec macs work checked types short are begun =
     speaks_on plan service network me k work (hears_mac_withdraw plan taken_all peer (Some fec) (Some macs) work) begun
-    (withdraw_keeps plan me (Speaks plan service network me k work) (rows_speak plan service me checked types short network k work) peer fec macs are work (speaks_first plan service network me k work begun))
+    (withdraw_keeps plan me (Speaks plan service network me k work) (rows_speak plan service me checked types short network k work) peer fec macs are work
+    (speaks_first plan service network me k work begun))
     (hears_mac_withdraw_holds plan taken_all (Forgets service) (hear_steps_forget service plan) peer (Some fec) (Some macs) work)
 
 -- ---- all addresses are withdrawn
@@ -182,7 +187,8 @@ module _ (plan : Plan) (service : ServiceId) (me peer : EdgeId) (wire : WireId) 
       found_end = ap (λ (o : Option ℕ). option_and_then (end_named plan work.edge.me peer) o) named ∙ (ap (λ (k : EdgeId). end_named plan k peer row.pw_id) placed ∙ end.named)
 
       port_is : position (is_wire_port end.place.wire) (ports_of plan service work.edge.me) ≡ Some found_port.p
-      port_is = ap (λ (w : WireId). position (is_wire_port w) (ports_of plan service work.edge.me)) end.wire_is ∙ (ap (λ (k : EdgeId). position (is_wire_port wire) (ports_of plan service k)) placed ∙ found_port.found)
+      port_is = ap (λ (w : WireId). position (is_wire_port w) (ports_of plan service work.edge.me)) end.wire_is
+          ∙ (ap (λ (k : EdgeId). position (is_wire_port wire) (ports_of plan service k)) placed ∙ found_port.found)
 
   cleared_learned : Cleared.edge.learned service.0 ≡ filter (entry_stays found_port.p []) (work.edge.learned service.0)
   unfolding changes with_addresses
@@ -191,13 +197,15 @@ module _ (plan : Plan) (service : ServiceId) (me peer : EdgeId) (wire : WireId) 
   left_pass : (test : MacEntry → Bool) (xs : List MacEntry) → AllByRecursion (λ (entry : MacEntry). test entry ≡ true) (filter test xs)
   left_pass test [] = tt
   left_pass test (x ∷ xs) = by (test x) refl (left_pass test xs) where
-    by : (b : Bool) → test x ≡ b → AllByRecursion (λ (entry : MacEntry). test entry ≡ true) (filter test xs) → AllByRecursion (λ (entry : MacEntry). test entry ≡ true) (cond b (x ∷ filter test xs) (filter test xs))
+    by : (b : Bool) → test x ≡ b → AllByRecursion (λ (entry : MacEntry). test entry ≡ true) (filter test xs)
+        → AllByRecursion (λ (entry : MacEntry). test entry ≡ true) (cond b (x ∷ filter test xs) (filter test xs))
     by true passes rest = (passes, rest)
     by false fails rest = rest
 
   pub withdraw_port : AreAtPort plan service me (wire_port wire.0 row) ((hears_mac_withdraw plan taken_all peer (Some fec) (Some []) work).edge.learned service.0)
   withdraw_port = subst (AreAtPort plan service me (wire_port wire.0 row)) (sym learned)
-      (all_weaker (λ (entry : MacEntry). entry_stays found_port.p [] entry ≡ true) (λ (entry : MacEntry). slice_get (ports_of plan service me) entry.port ≡ Some (wire_port wire.0 row)) (filter (entry_stays found_port.p []) (work.edge.learned service.0))
+      (all_weaker (λ (entry : MacEntry). entry_stays found_port.p [] entry ≡ true) (λ (entry : MacEntry). slice_get (ports_of plan service me) entry.port ≡ Some (wire_port wire.0 row))
+      (filter (entry_stays found_port.p []) (work.edge.learned service.0))
       (λ entry at. ap (slice_get (ports_of plan service me)) (eqb-true entry.port found_port.p at) ∙ found_port.leads) (left_pass (entry_stays found_port.p []) (work.edge.learned service.0)))
     where
       learned : (hears_mac_withdraw plan taken_all peer (Some fec) (Some []) work).edge.learned service.0 ≡ filter (entry_stays found_port.p []) (work.edge.learned service.0)
@@ -222,7 +230,8 @@ module _ (plan : Plan) (service : ServiceId) (network : NetworkState) (me : Edge
     by_wire : (wire : WireId) (o : Option EndPlace) → wire_end plan work.edge.me wire ≡ o → Speaks plan service network me k base (tells_by taken_all [] o work)
     by_wire wire None is = speaks
     by_wire wire (Some place) is =
-        piece_keeps plan me (Speaks plan service network me k base) (rows base) place (subst (λ (e : EdgeId). IsEndOf plan e place) speaks.place (wire_end_is plan work.edge.me wire place is)) [] none_are_piece work speaks
+        piece_keeps plan me (Speaks plan service network me k base) (rows base) place
+        (subst (λ (e : EdgeId). IsEndOf plan e place) speaks.place (wire_end_is plan work.edge.me wire place is)) [] none_are_piece work speaks
 
     by : (x : Port) → Speaks plan service network me k base (tells_at plan taken_all [] x work)
     by (port.Circuit circuit) = speaks
@@ -233,7 +242,8 @@ module _ (plan : Plan) (service : ServiceId) (network : NetworkState) (me : Edge
   port_or_not base true x work speaks = port_speaks base x work speaks
   port_or_not base false x work speaks = speaks
 
-  ports_speak : (base : Work) (targets : ℕ → Bool) (p : ℕ) (ports : List Port) (work : Work) → Speaks plan service network me k base work → Speaks plan service network me k base (copies targets (tells_at plan taken_all []) p ports work)
+  ports_speak : (base : Work) (targets : ℕ → Bool) (p : ℕ) (ports : List Port) (work : Work) → Speaks plan service network me k base work
+      → Speaks plan service network me k base (copies targets (tells_at plan taken_all []) p ports work)
   ports_speak base targets p [] work speaks = speaks
   ports_speak base targets p (x ∷ xs) work speaks = ports_speak base targets (p + 1) xs (cond (targets p) (tells_at plan taken_all [] x work) work) (port_or_not base (targets p) x work speaks)
 
@@ -253,12 +263,14 @@ module _ (plan : Plan) (service : ServiceId) (network : NetworkState) (me : Edge
       found = ap (λ (e : EdgeId). wire_end plan e mesh) speaks.place ∙ end_there.found
 
       told : is_advertising (end_at work.edge place).local ≡ true
-      told = ap (λ (w : WireId). is_advertising (work.edge.ends w.0 place.peer.0).local) end_there.wire_is ∙ (ap (λ (e : EdgeId). is_advertising (work.edge.ends mesh.0 e.0).local) end_there.peer_is ∙ speaks.mesh.told mesh row core.0 is of_mesh joined)
+      told = ap (λ (w : WireId). is_advertising (work.edge.ends w.0 place.peer.0).local) end_there.wire_is
+          ∙ (ap (λ (e : EdgeId). is_advertising (work.edge.ends mesh.0 e.0).local) end_there.peer_is ∙ speaks.mesh.told mesh row core.0 is of_mesh joined)
 
       by_service : are_joined_by plan service me.0 place.peer.0 ≡ true
       by_service = ap (λ (e : EdgeId). are_joined_by plan service me.0 e.0) end_there.peer_is ∙ link.by_service
 
-      by_local : (local : LocalPart) → (end_at work.edge place).local ≡ local → is_advertising local ≡ true → WillTell plan service network me.0 core.0 row.pw_id (tells_piece_by taken_all place [] local work).work
+      by_local : (local : LocalPart) → (end_at work.edge place).local ≡ local → is_advertising local ≡ true
+          → WillTell plan service network me.0 core.0 row.pw_id (tells_piece_by taken_all place [] local work).work
       by_local (Idle declined) at told = clash told
       by_local (Advertised label content) at told =
           subst (λ (e : EdgeId). WillTell plan service network me.0 e.0 row.pw_id (says taken_all place.peer (mac_withdrawal place.pw_id [] content) work).work) end_there.peer_is
@@ -273,15 +285,18 @@ module _ (plan : Plan) (service : ServiceId) (network : NetworkState) (me : Edge
         let same : x ≡ port.Mesh mesh = cc (at) in
         let target : targets p ≡ true = ap targets (sym (at_start p)) ∙ goes in
         let next : Work = tells_at plan taken_all [] x work in
-        let first : WillTell plan service network me.0 core.0 row.pw_id next = subst (λ (y : Port). WillTell plan service network me.0 core.0 row.pw_id (tells_at plan taken_all [] y work)) (sym same) (here_tells work speaks) in
-        let then : Speaks plan service network me k next (copies targets (tells_at plan taken_all []) (p + 1) xs next) = ports_speak next targets (p + 1) xs next (renew work next (port_speaks work x work speaks)) in
+        let first : WillTell plan service network me.0 core.0 row.pw_id next =
+        subst (λ (y : Port). WillTell plan service network me.0 core.0 row.pw_id (tells_at plan taken_all [] y work)) (sym same) (here_tells work speaks) in
+        let then : Speaks plan service network me k next (copies targets (tells_at plan taken_all []) (p + 1) xs next) =
+        ports_speak next targets (p + 1) xs next (renew work next (port_speaks work x work speaks)) in
         subst (λ (b : Bool). WillTell plan service network me.0 core.0 row.pw_id (copies targets (tells_at plan taken_all []) (p + 1) xs (cond b next work))) (sym target)
         (tells_on plan service network me.0 core.0 row.pw_id next (copies targets (tells_at plan taken_all []) (p + 1) xs next) (then.more core.0 first.joined first.there) first)
     ports_tell targets p (suc i) (x ∷ xs) work at goes speaks =
         ports_tell targets (p + 1) i xs (cond (targets p) (tells_at plan taken_all [] x work) work) at (ap targets (next_place p i) ∙ goes) (renew work _ (port_or_not work (targets p) x work speaks))
 
     -- from a spoke
-    pub withdraw_passes : (peer : EdgeId) (wire : WireId) (fec : PwFec) (work : Work) → (begun : Stays plan service network me k work) → (spoke : IsSpokeTo plan service peer.0 wire me.0) → fec.pw_id ≡ Some spoke.row.pw_id
+    pub withdraw_passes : (peer : EdgeId) (wire : WireId) (fec : PwFec) (work : Work) → (begun : Stays plan service network me k work)
+        → (spoke : IsSpokeTo plan service peer.0 wire me.0) → fec.pw_id ≡ Some spoke.row.pw_id
         → WillTell plan service network me.0 core.0 row.pw_id (hears_mac_withdraw plan taken_all peer (Some fec) (Some []) work)
     withdraw_passes peer wire fec work begun spoke named =
         subst (WillTell plan service network me.0 core.0 row.pw_id) (sym (heard_is plan service me peer wire spoke.row fec work checked short begun.place spoke.is ours back named))
@@ -317,7 +332,8 @@ module _ (plan : Plan) (service : ServiceId) (network : NetworkState) (me : Edge
                 no_spoke false s is = clash is
 
         at_cleared : At cleared
-        at_cleared = renew work cleared ((rows work).others (withdrawing_at service [] from.p) work (forgetting_rest service [] from.p work.edge).0 (forgetting_rest service [] from.p work.edge).1 (speaks_first plan service network me k work begun))
+        at_cleared = renew work cleared ((rows work).others (withdrawing_at service [] from.p) work (forgetting_rest service [] from.p work.edge).0
+            (forgetting_rest service [] from.p work.edge).1 (speaks_first plan service network me k work begun))
 
         cleared_me : cleared.edge.me ≡ me
         cleared_me = at_cleared.place
@@ -339,5 +355,6 @@ module _ (plan : Plan) (service : ServiceId) (network : NetworkState) (me : Edge
         goes = rw (mesh_leads, spoke_leads, not_same to.p from.p mesh_leads spoke_leads (to.p == from.p) refl) refl
 
         passed : WillTell plan service network me.0 core.0 row.pw_id (passes_on plan taken_all [] service from.p (Some role.Core) cleared)
-        passed = subst (λ (e : EdgeId). WillTell plan service network me.0 core.0 row.pw_id (copies (is_passed_to role.Core (ports_of plan service e) from.p) (tells_at plan taken_all []) 0 (ports_of plan service e) cleared)) (sym cleared_me)
+        passed = subst (λ (e : EdgeId). WillTell plan service network me.0 core.0 row.pw_id
+            (copies (is_passed_to role.Core (ports_of plan service e) from.p) (tells_at plan taken_all []) 0 (ports_of plan service e) cleared)) (sym cleared_me)
             (ports_tell (is_passed_to role.Core ports from.p) 0 to.p ports cleared mesh_leads (ap (is_passed_to role.Core ports from.p) (from_none to.p) ∙ goes) at_cleared)

@@ -63,7 +63,8 @@ module _ (plan : Plan) (service : ServiceId) (site : Sites) (calm network : Netw
       ended = happens_with_ends taken_all peer (Closed reason.Closed) (begin_at network me)
 
       after : IsHealing plan service site network me peer.0 [] ended
-      after = event_heals plan service site network me peer checked types short (ways me) (Closed reason.Closed) [] (begin_at network me) apart (happens_sound taken_all peer (Closed reason.Closed) (begin_at network me) began.stays.sound) began
+      after = event_heals plan service site network me peer checked types short (ways me) (Closed reason.Closed) [] (begin_at network me) apart
+          (happens_sound taken_all peer (Closed reason.Closed) (begin_at network me) began.stays.sound) began
 
       healed : IsHealing plan service site network me peer.0 [] (mends plan taken_all ended)
       healed = mends_heal plan service site network me peer.0 [] ended checked types short (ways me) after
@@ -74,9 +75,11 @@ module _ (plan : Plan) (service : ServiceId) (site : Sites) (calm network : Netw
   delivering_heals : (from to : EdgeId) (count : ℕ) → nat_eq from.0 to.0 ≡ false → stands network to.0 from.0 ≡ true → Heals plan service site calm (delivering plan from to count network).state
   delivering_heals from to count away there =
       let healed = octets_heal plan service site calm network to from count checked types short ordered heals away there (λ core is other here. meshed.meshes to.0 core here is other) in
-      settle_heals plan service site calm network (with_pipe from to (drop count (network.pipes from.0 to.0)) network) to from.0 healed.later (hearing_work plan network from to (take count (network.pipes from.0 to.0))) checked drawn heals
+      settle_heals plan service site calm network (with_pipe from to (drop count (network.pipes from.0 to.0)) network) to from.0 healed.later
+      (hearing_work plan network from to (take count (network.pipes from.0 to.0))) checked drawn heals
       healed.heals healed.live
-      (λ joined stood. subst (λ (l : List ℕ). LeavesToHear plan service network to.0 from.0 healed.later (held_by ((hearing_work plan network from to (take count (network.pipes from.0 to.0))).edge.peering from.0) ++ l))
+      (λ joined stood. subst (λ (l : List ℕ). LeavesToHear plan service network to.0 from.0 healed.later
+      (held_by ((hearing_work plan network from to (take count (network.pipes from.0 to.0))).edge.peering from.0) ++ l))
       (sym (pipe_there from to (drop count (network.pipes from.0 to.0)) network)) (healed.left joined stood))
     where
       drawn : IsDrawn network (with_pipe from to (drop count (network.pipes from.0 to.0)) network) from.0 to.0
@@ -102,6 +105,7 @@ module _ (plan : Plan) (service : ServiceId) (site : Sites) (calm network : Netw
     by_drained there false far is stood = delivering_heals from to count (away_of there) there
 
     by : (b : Bool) → stands network to.0 from.0 ≡ b
-        → Heals plan service site calm (cond (b && (not (is_drained_pipe network from.0 to.0) || not (stands network from.0 to.0))) (cond (is_drained_pipe network from.0 to.0) (losing plan to from network) (delivering plan from to count network)) (idle network)).state
+        → Heals plan service site calm (cond (b && (not (is_drained_pipe network from.0 to.0) || not (stands network from.0 to.0)))
+        (cond (is_drained_pipe network from.0 to.0) (losing plan to from network) (delivering plan from to count network)) (idle network)).state
     by true there = by_drained there (is_drained_pipe network from.0 to.0) (stands network from.0 to.0) refl refl
     by false gone = heals

@@ -49,18 +49,27 @@ pub record IsBeside (plan : Plan) (service : ServiceId) (network : NetworkState)
   pub of_service : is_circuit_of plan service circuit ≡ true
   pub where_is : row.edge.0 == core || (is_spoke_edge plan service row.edge.0 && is_home core (home_of plan network service row.edge.0)) ≡ true
 
-pub beside_is : (plan : Plan) (service : ServiceId) (network : NetworkState) (core : ℕ) (circuit : CircuitId) → is_beside plan network service core circuit ≡ true → IsBeside plan service network core circuit
+pub beside_is : (plan : Plan) (service : ServiceId) (network : NetworkState) (core : ℕ) (circuit : CircuitId) → is_beside plan network service core circuit ≡ true
+    → IsBeside plan service network core circuit
 beside_is plan service network core circuit beside = by (circuit_row plan circuit) refl (second_holds (is_circuit_of plan service circuit) (is_row_beside plan network service core (circuit_row plan circuit)) beside) where
   by : (o : Option CircuitPlan) → circuit_row plan circuit ≡ o → is_row_beside plan network service core o ≡ true → IsBeside plan service network core circuit
   by None is there = clash there
-  by (Some row) is there = record { row = row; is = is; of_service = first_holds (is_circuit_of plan service circuit) (is_row_beside plan network service core (circuit_row plan circuit)) beside; where_is = there }
+  by (Some row) is there = record {
+    row = row;
+    is = is;
+    of_service = first_holds (is_circuit_of plan service circuit) (is_row_beside plan network service core (circuit_row plan circuit)) beside;
+    where_is = there;
+  }
 
-pub is_beside_by : (plan : Plan) (service : ServiceId) (network : NetworkState) (core : ℕ) (circuit : CircuitId) (row : CircuitPlan) → circuit_row plan circuit ≡ Some row → is_circuit_of plan service circuit ≡ true
+pub is_beside_by : (plan : Plan) (service : ServiceId) (network : NetworkState) (core : ℕ) (circuit : CircuitId) (row : CircuitPlan) → circuit_row plan circuit ≡ Some row
+    → is_circuit_of plan service circuit ≡ true
     → row.edge.0 == core || (is_spoke_edge plan service row.edge.0 && is_home core (home_of plan network service row.edge.0)) ≡ true → is_beside plan network service core circuit ≡ true
-is_beside_by plan service network core circuit row is ours there = and_from (is_circuit_of plan service circuit) (is_row_beside plan network service core (circuit_row plan circuit)) ours (ap (is_row_beside plan network service core) is ∙ there)
+is_beside_by plan service network core circuit row is ours there =
+    and_from (is_circuit_of plan service circuit) (is_row_beside plan network service core (circuit_row plan circuit)) ours (ap (is_row_beside plan network service core) is ∙ there)
 
 -- it is at its edge
-pub at_own_edge : (plan : Plan) (service : ServiceId) (circuit : CircuitId) (row : CircuitPlan) → circuit_row plan circuit ≡ Some row → is_circuit_of plan service circuit ≡ true → at_edge_of plan service row.edge.0 circuit ≡ true
+pub at_own_edge : (plan : Plan) (service : ServiceId) (circuit : CircuitId) (row : CircuitPlan) → circuit_row plan circuit ≡ Some row → is_circuit_of plan service circuit ≡ true
+    → at_edge_of plan service row.edge.0 circuit ≡ true
 at_own_edge plan service circuit row is ours = and_from (is_circuit_of plan service circuit) (circuit_is_at plan row.edge.0 circuit) ours (ap (is_row_at row.edge.0) is ∙ same_number row.edge.0)
 
 -- ---- spokes and mesh wires behind ports
@@ -71,12 +80,14 @@ pub record IsBehindSpoke (plan : Plan) (service : ServiceId) (network : NetworkS
   pub live : carries plan network wire.0 row ≡ true
   pub behind : cond (edge == link.near.0) (elsewhere_of plan service edge circuit) (at_edge_of plan service link.near.0 circuit) ≡ true
 
-pub spoke_reach : (plan : Plan) (service : ServiceId) (network : NetworkState) (edge : ℕ) (wire : WireId) (row : WirePlan) (link : IsShortLink plan row) (circuit : CircuitId) → wire_row plan wire ≡ Some row
+pub spoke_reach : (plan : Plan) (service : ServiceId) (network : NetworkState) (edge : ℕ) (wire : WireId) (row : WirePlan) (link : IsShortLink plan row) (circuit : CircuitId)
+    → wire_row plan wire ≡ Some row
     → reach plan network service edge (port.Spoke wire) circuit
     ≡ (is_live_spoke plan network service link.near.0 wire.0 row && cond (edge == link.near.0) (elsewhere_of plan service edge circuit) (at_edge_of plan service link.near.0 circuit))
 spoke_reach plan service network edge wire row link circuit is = rw (is, link.path) refl
 
-pub behind_is : (plan : Plan) (service : ServiceId) (network : NetworkState) (edge : ℕ) (wire : WireId) (row : WirePlan) (link : IsShortLink plan row) (circuit : CircuitId) → wire_row plan wire ≡ Some row → reach plan network service edge (port.Spoke wire) circuit ≡ true
+pub behind_is : (plan : Plan) (service : ServiceId) (network : NetworkState) (edge : ℕ) (wire : WireId) (row : WirePlan) (link : IsShortLink plan row) (circuit : CircuitId)
+    → wire_row plan wire ≡ Some row → reach plan network service edge (port.Spoke wire) circuit ≡ true
     → IsBehindSpoke plan service network edge wire row link circuit
 behind_is plan service network edge wire row link circuit is reached =
     let both = sym (spoke_reach plan service network edge wire row link circuit is) ∙ reached in
@@ -87,14 +98,17 @@ behind_is plan service network edge wire row link circuit is reached =
       behind = second_holds (is_live_spoke plan network service link.near.0 wire.0 row) _ both;
     }
 
-pub reach_spoke : (plan : Plan) (service : ServiceId) (network : NetworkState) (edge : ℕ) (wire : WireId) (row : WirePlan) (link : IsShortLink plan row) (circuit : CircuitId) → wire_row plan wire ≡ Some row → IsBehindSpoke plan service network edge wire row link circuit
+pub reach_spoke : (plan : Plan) (service : ServiceId) (network : NetworkState) (edge : ℕ) (wire : WireId) (row : WirePlan) (link : IsShortLink plan row) (circuit : CircuitId)
+    → wire_row plan wire ≡ Some row → IsBehindSpoke plan service network edge wire row link circuit
     → reach plan network service edge (port.Spoke wire) circuit ≡ true
 reach_spoke plan service network edge wire row link circuit is behind = spoke_reach plan service network edge wire row link circuit is
     ∙ and_from (is_live_spoke plan network service link.near.0 wire.0 row) _ (and_from (is_spoke_from service link.near.0 row) (carries plan network wire.0 row) behind.from behind.live) behind.behind
 
-pub mesh_reach : (plan : Plan) (service : ServiceId) (network : NetworkState) (edge peer : ℕ) (wire : WireId) (row : WirePlan) (circuit : CircuitId) → wire_row plan wire ≡ Some row → far_of edge row.path ≡ Some peer
+pub mesh_reach : (plan : Plan) (service : ServiceId) (network : NetworkState) (edge peer : ℕ) (wire : WireId) (row : WirePlan) (circuit : CircuitId) → wire_row plan wire ≡ Some row
+    → far_of edge row.path ≡ Some peer
     → reach plan network service edge (port.Mesh wire) circuit ≡ is_beside plan network service peer circuit
-mesh_reach plan service network edge peer wire row circuit is far = ap (λ (o : Option WirePlan). behind_wire plan network service edge wire.0 true o circuit) is ∙ ap (λ (o : Option ℕ). beside_far plan network service o circuit) far
+mesh_reach plan service network edge peer wire row circuit is far =
+    ap (λ (o : Option WirePlan). behind_wire plan network service edge wire.0 true o circuit) is ∙ ap (λ (o : Option ℕ). beside_far plan network service o circuit) far
 
 -- ---- what is behind a port
 
@@ -108,23 +122,29 @@ pub record IsPortWire (plan : Plan) (service : ServiceId) (edge : ℕ) (mesh : B
   pub peer : EdgeId
   pub joined : joins edge peer.0 row.path ≡ true
 
-port_wire : (plan : Plan) (service : ServiceId) (edge : ℕ) (mesh : Bool) (wire : WireId) → IsChecked plan → has_short_paths plan service ≡ true → IsWired plan.wires service (record { 0 = edge }) mesh wire.0 → IsPortWire plan service edge mesh wire
+port_wire : (plan : Plan) (service : ServiceId) (edge : ℕ) (mesh : Bool) (wire : WireId) → IsChecked plan → has_short_paths plan service ≡ true
+    → IsWired plan.wires service (record { 0 = edge }) mesh wire.0 → IsPortWire plan service edge mesh wire
 port_wire plan service edge mesh wire checked short wired =
-    let link : IsShortLink plan wired.row = short_link plan service wire.0 wired.row checked short (first_holds (is_wire_of service wired.row) (is_first edge wired.row.path || is_last edge wired.row.path) wired.ends) wired.is in
+    let link : IsShortLink plan wired.row = short_link plan service wire.0 wired.row checked short
+    (first_holds (is_wire_of service wired.row) (is_first edge wired.row.path || is_last edge wired.row.path) wired.ends) wired.is in
     let other = other_of plan service (record { 0 = edge }) wired.row link wired.ends in
     record { row = wired.row; is = wired.is; ends = wired.ends; class = wired.class; link = link; peer = other.peer; joined = other.joined }
 
-pub mesh_port : (plan : Plan) (service : ServiceId) (edge p : ℕ) (wire : WireId) → IsChecked plan → has_short_paths plan service ≡ true → slice_get (ports_of plan service (record { 0 = edge })) p ≡ Some (port.Mesh wire) → IsPortWire plan service edge true wire
+pub mesh_port : (plan : Plan) (service : ServiceId) (edge p : ℕ) (wire : WireId) → IsChecked plan → has_short_paths plan service ≡ true
+    → slice_get (ports_of plan service (record { 0 = edge })) p ≡ Some (port.Mesh wire) → IsPortWire plan service edge true wire
 mesh_port plan service edge p wire checked short at = port_wire plan service edge true wire checked short (served_at plan service (record { 0 = edge }) p (port.Mesh wire) at)
 
-pub spoke_port : (plan : Plan) (service : ServiceId) (edge p : ℕ) (wire : WireId) → IsChecked plan → has_short_paths plan service ≡ true → slice_get (ports_of plan service (record { 0 = edge })) p ≡ Some (port.Spoke wire) → IsPortWire plan service edge false wire
+pub spoke_port : (plan : Plan) (service : ServiceId) (edge p : ℕ) (wire : WireId) → IsChecked plan → has_short_paths plan service ≡ true
+    → slice_get (ports_of plan service (record { 0 = edge })) p ≡ Some (port.Spoke wire) → IsPortWire plan service edge false wire
 spoke_port plan service edge p wire checked short at = port_wire plan service edge false wire checked short (served_at plan service (record { 0 = edge }) p (port.Spoke wire) at)
 
 pub of_mesh : (plan : Plan) (service : ServiceId) (edge : ℕ) (wire : WireId) (at : IsPortWire plan service edge true wire) → is_mesh_of service at.row ≡ true
-of_mesh plan service edge wire at = and_from (is_wire_of service at.row) (is_mesh_class at.row.class) (first_holds (is_wire_of service at.row) (is_first edge at.row.path || is_last edge at.row.path) at.ends) at.class
+of_mesh plan service edge wire at = and_from (is_wire_of service at.row) (is_mesh_class at.row.class)
+    (first_holds (is_wire_of service at.row) (is_first edge at.row.path || is_last edge at.row.path) at.ends) at.class
 
 -- of two ends the other one
-pub at_far : (plan : Plan) (service : ServiceId) (edge : ℕ) (row : WirePlan) (link : IsShortLink plan row) → Rattle.net_base.specs.plan.Roles.wire_ends_at service edge row ≡ true → (edge == link.near.0) ≡ false → edge ≡ link.far.0
+pub at_far : (plan : Plan) (service : ServiceId) (edge : ℕ) (row : WirePlan) (link : IsShortLink plan row) → Rattle.net_base.specs.plan.Roles.wire_ends_at service edge row ≡ true
+    → (edge == link.near.0) ≡ false → edge ≡ link.far.0
 at_far plan service edge row link ends away = eqb-true edge link.far.0 (rw away at (rw link.path at (second_holds (is_wire_of service row) (is_first edge row.path || is_last edge row.path) ends)))
 
 -- ---- a calm state
@@ -132,10 +152,12 @@ at_far plan service edge row link ends away = eqb-true edge link.far.0 (rw away 
 module _ (plan : Plan) (service : ServiceId) (site : Sites) (calm network : NetworkState) (checked : IsChecked plan) (short : has_short_paths plan service ≡ true) (ordered : IsOrdered plan network) (is_calm_now : is_calm plan network service ≡ true)
     (heals : Heals plan service site calm network) where
   quiet : is_quiet plan network service ≡ true
-  quiet = first_holds (is_quiet plan network service) (is_full plan network service) (first_holds (is_quiet plan network service && is_full plan network service) (has_live_spokes plan network service) is_calm_now)
+  quiet = first_holds (is_quiet plan network service) (is_full plan network service)
+      (first_holds (is_quiet plan network service && is_full plan network service) (has_live_spokes plan network service) is_calm_now)
 
   -- nothing is on its way
-  none_pending : {P : Type 0} (a b n : ℕ) (wire : WireId) (row : WirePlan) → wire_row plan wire ≡ Some row → is_wire_of service row ≡ true → joins a b row.path ≡ true → IsWithdrawalPending plan service network a b n → P
+  none_pending : {P : Type 0} (a b n : ℕ) (wire : WireId) (row : WirePlan) → wire_row plan wire ≡ Some row → is_wire_of service row ≡ true → joins a b row.path ≡ true
+      → IsWithdrawalPending plan service network a b n → P
   none_pending a b n wire row is ours joined pending =
       let way = quiet_way network a b (are_settled plan network service a b wire row checked is ours joined quiet) pending.there in
       let none : pending.cleared.messages ≡ [] = none_said (ends_at plan a b).me pending.cleared.messages (sym way.out ∙ pending.cleared.is) in
@@ -145,15 +167,18 @@ module _ (plan : Plan) (service : ServiceId) (site : Sites) (calm network : Netw
   lives x within starts = live_at plan service network x checked short ordered is_calm_now within starts
 
   -- so each entry of a core edge is right
-  right_now : (core k : ℕ) (entry : MacEntry) → is_core_edge plan service core ≡ true → slice_get (learned_in service network core) k ≡ Some entry → (x : ℕ) (live : IsLiveAt plan service network x) → at_edge_of plan service x (site entry.address.0) ≡ true
+  right_now : (core k : ℕ) (entry : MacEntry) → is_core_edge plan service core ≡ true → slice_get (learned_in service network core) k ≡ Some entry
+      → (x : ℕ) (live : IsLiveAt plan service network x) → at_edge_of plan service x (site entry.address.0) ≡ true
       → LeadsHome plan core live.home live.wire (slice_get (ports_of plan service (record { 0 = core })) entry.port)
   right_now core k entry is at x live there = by (all_get (EntryHeals plan service site (chosen_in service network) (IsWithdrawalPending plan service network) core) (learned_in service network core) k entry (heals.right core is) at x live.wire live.home live.spoke live.chosen there) where
     link : IsSpokeLink plan service x live.home live.spoke.row
     link = spoke_link plan service x live.wire live.home checked short live.spoke
 
-    by : WillBeRight plan service (IsWithdrawalPending plan service network) x live.wire live.spoke.row.pw_id live.home core entry.port → LeadsHome plan core live.home live.wire (slice_get (ports_of plan service (record { 0 = core })) entry.port)
+    by : WillBeRight plan service (IsWithdrawalPending plan service network) x live.wire live.spoke.row.pw_id live.home core entry.port
+        → LeadsHome plan core live.home live.wire (slice_get (ports_of plan service (record { 0 = core })) entry.port)
     by (IsRight leads) = leads
-    by (BySpoke pending) = none_pending x live.home live.spoke.row.pw_id live.wire live.spoke.row live.spoke.is (ap (λ (s : ServiceId). s.0 == service.0) link.of_service ∙ same_number service.0) link.joined pending
+    by (BySpoke pending) = none_pending x live.home live.spoke.row.pw_id live.wire live.spoke.row live.spoke.is
+        (ap (λ (s : ServiceId). s.0 == service.0) link.of_service ∙ same_number service.0) link.joined pending
     by (ByMesh mesh row at_mesh its joined pending) = none_pending live.home core row.pw_id mesh row at_mesh (first_holds (is_wire_of service row) (is_mesh_class row.class) its) joined pending
 
   module _ (e k : ℕ) (entry : MacEntry) (at : slice_get (learned_in service network e) k ≡ Some entry) where
@@ -184,10 +209,13 @@ module _ (plan : Plan) (service : ServiceId) (site : Sites) (calm network : Netw
           let right : LeadsHome plan e live.home live.wire (Some (port.Mesh wire)) =
           subst (LeadsHome plan e live.home live.wire) leads (right_now e k entry link.one_core at x live (at_own_edge plan service circuit beside.row beside.is beside.of_service)) in
           let rows : right.row ≡ wired.row = some_same (sym right.is ∙ wired.is) in
-          let homes : live.home ≡ wired.peer.0 = some_same (sym (far_is right.row.path e live.home (has_two plan service wire right.row short (subst (λ (r : WirePlan). is_wire_of service r ≡ true) (sym rows) link.ours) right.is) right.joined) ∙ (ap (λ (r : WirePlan). far_of e r.path) rows ∙ link.far)) in
+          let homes : live.home ≡ wired.peer.0 = some_same
+          (sym (far_is right.row.path e live.home (has_two plan service wire right.row short
+          (subst (λ (r : WirePlan). is_wire_of service r ≡ true) (sym rows) link.ours) right.is) right.joined) ∙ (ap (λ (r : WirePlan). far_of e r.path) rows ∙ link.far)) in
           ap (is_home wired.peer.0) live.home_is ∙ (ap (λ (n : ℕ). n == wired.peer.0) homes ∙ same_number wired.peer.0)
 
-      by_case : (here starts home : Bool) → (starts ≡ true → is_home wired.peer.0 (home_of plan network service x) ≡ true) → here || (starts && home) ≡ true → here || (starts && is_home wired.peer.0 (home_of plan network service x)) ≡ true
+      by_case : (here starts home : Bool) → (starts ≡ true → is_home wired.peer.0 (home_of plan network service x) ≡ true) → here || (starts && home) ≡ true
+          → here || (starts && is_home wired.peer.0 (home_of plan network service x)) ≡ true
       by_case true starts home now was = refl
       by_case false true home now was = now refl
       by_case false false home now was = clash was
@@ -220,7 +248,8 @@ module _ (plan : Plan) (service : ServiceId) (site : Sites) (calm network : Netw
           let rows : wired.row ≡ live.spoke.row = some_same (sym wired.is ∙ (ap (wire_row plan) same ∙ live.spoke.is)) in
           ap (λ (r : WirePlan). carries plan network wire.0 r) rows ∙ (ap (λ (w : WireId). carries plan network w.0 live.spoke.row) same ∙ live.live)
 
-      by_side : (b : Bool) → (e == wired.link.near.0) ≡ b → cond b (elsewhere_of plan service e circuit) (at_edge_of plan service wired.link.near.0 circuit) ≡ true → carries plan network wire.0 wired.row ≡ true
+      by_side : (b : Bool) → (e == wired.link.near.0) ≡ b → cond b (elsewhere_of plan service e circuit) (at_edge_of plan service wired.link.near.0 circuit) ≡ true
+          → carries plan network wire.0 wired.row ≡ true
       by_side true here behind =
           let same : e ≡ wired.link.near.0 = eqb-true e wired.link.near.0 here in
           let up : end_forwards plan (network.edges e) wire ≡ true = all_get (IsAtLive plan service e (network.edges e)) (learned_in service network e) k entry (heals.live e) at wire leads in

@@ -51,7 +51,8 @@ heard_within = refl
 -- ---- before the move
 
 others_before : (k : ℕ) → 3 ≤ k → AllByRecursion (PointsToSite triangle (reached heard) one_service site k) (((reached heard).edges k).learned one_service.0)
-others_before k beyond = subst (λ (e : EdgeState). AllByRecursion (PointsToSite triangle (reached heard) one_service site k) (e.learned one_service.0)) (sym (stays_away triangle 3 k beyond heard (empty_network triangle) heard_within)) tt
+others_before k beyond = subst (λ (e : EdgeState). AllByRecursion (PointsToSite triangle (reached heard) one_service site k) (e.learned one_service.0))
+    (sym (stays_away triangle 3 k beyond heard (empty_network triangle) heard_within)) tt
 
 -- the stations were heard at their circuits and on the wires that lead to them
 points_before : (edge : ℕ) → AllByRecursion (PointsToSite triangle (reached heard) one_service site edge) (((reached heard).edges edge).learned one_service.0)

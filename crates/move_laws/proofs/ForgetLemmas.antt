@@ -101,9 +101,11 @@ module _ (service : ServiceId) where
   says_forgets : (to : EdgeId) (message : ℕ → Message) (work : Work) → Forgets work (says taken_all to message work).work
   says_forgets to message work = forgets_none work (says taken_all to message work).work (says_works taken_all any to message work refl).edge.learned
 
-  changed_says : (change : EdgeState → EdgeState) (to : EdgeId) (message : ℕ → Message) (work : Work) → (change work.edge).learned ≡ work.edge.learned → Forgets work (says taken_all to message (changes change work)).work
+  changed_says : (change : EdgeState → EdgeState) (to : EdgeId) (message : ℕ → Message) (work : Work) → (change work.edge).learned ≡ work.edge.learned
+      → Forgets work (says taken_all to message (changes change work)).work
   unfolding changes
-  changed_says change to message work same = forgets_none work (says taken_all to message (changes change work)).work ((says_works taken_all any to message (changes change work) refl).edge.learned ∙ same)
+  changed_says change to message work same = forgets_none work (says taken_all to message (changes change work)).work
+      ((says_works taken_all any to message (changes change work) refl).edge.learned ∙ same)
 
   pub changed_forgets : (change : EdgeState → EdgeState) (work : Work) → (change work.edge).learned ≡ work.edge.learned → Forgets work (changes change work)
   unfolding changes
@@ -150,10 +152,13 @@ module _ (service : ServiceId) where
   mend_steps_forget plan = record {
     same = λ work. forgets_none work work refl;
     joined = forgets_then;
-    advertises = λ place label content work here at wished given. changed_says (advertising place label content) place.peer (mapping place.pw_id label content) work (advertising_learned place label content work.edge);
-    withdraws = λ place label content work here at wished. changed_says (withdrawing place) place.peer (withdrawal place.pw_id label content) work (end_learned place (withdrawn (end_at work.edge place)) work.edge);
+    advertises = λ place label content work here at wished given. changed_says (advertising place label content) place.peer (mapping place.pw_id label content) work
+        (advertising_learned place label content work.edge);
+    withdraws = λ place label content work here at wished. changed_says (withdrawing place) place.peer (withdrawal place.pw_id label content) work
+        (end_learned place (withdrawn (end_at work.edge place)) work.edge);
     chooses = λ work. changed_forgets (choosing plan) work (choosing_learned plan work.edge);
-    tells_status = λ place label content last work here at told other. changed_says (telling_status place (status_to_tell plan work.edge place)) place.peer (status_notification place.pw_id (status_to_tell plan work.edge place) content) work
+    tells_status = λ place label content last work here at told other. changed_says (telling_status place (status_to_tell plan work.edge place)) place.peer
+        (status_notification place.pw_id (status_to_tell plan work.edge place) content) work
         (end_learned place (telling (status_to_tell plan work.edge place) (end_at work.edge place)) work.edge);
     tells_piece = λ place label content addresses work at. says_forgets place.peer (mac_withdrawal place.pw_id addresses content) work;
     tells_down = λ place work here terminal other. told_forgets place (down_at plan work.edge place) work;
@@ -168,9 +173,11 @@ module _ (service : ServiceId) where
     holds = λ to kept octets work at. kept_forgets to kept octets work;
     releases = λ to fec label work. says_forgets to (release fec label) work;
     binds = λ to fec place binding work there is taken. changed_forgets (with_end_changed (bound binding) (Some place)) work (changed_learned (bound binding) (Some place) work.edge);
-    unbinds = λ to fec label work there. changed_forgets (with_named plan to fec (unbound label) (group_unbound fec.group) fec.pw_id) work (named_learned plan to fec (unbound label) (group_unbound fec.group) fec.pw_id work.edge);
+    unbinds = λ to fec label work there. changed_forgets (with_named plan to fec (unbound label) (group_unbound fec.group) fec.pw_id) work
+        (named_learned plan to fec (unbound label) (group_unbound fec.group) fec.pw_id work.edge);
     released = λ to fec label work there. changed_forgets (λ edge. with_released label (end_of_fec plan edge to fec) edge) work (released_learned label (end_of_fec plan work.edge to fec) work.edge);
-    states = λ to fec status work there. changed_forgets (with_named plan to fec (stated status) (group_stated fec.group status) fec.pw_id) work (named_learned plan to fec (stated status) (group_stated fec.group status) fec.pw_id work.edge);
+    states = λ to fec status work there. changed_forgets (with_named plan to fec (stated status) (group_stated fec.group status) fec.pw_id) work
+        (named_learned plan to fec (stated status) (group_stated fec.group status) fec.pw_id work.edge);
     clears = λ of addresses from work. clears_forgets of addresses from work;
   }
 

@@ -98,11 +98,13 @@ choice_is plan service edge wire is = by_number (Rattle.spoke_redundancy.specs.C
   wire_of : (place : EndPlace) → Some place.wire ≡ Some wire → place.wire ≡ wire
   wire_of place e = cc
 
-  by_place : (i : ℕ) → Rattle.spoke_redundancy.specs.Choice.chosen spokes ≡ Some i → (p : Option EndPlace) → slice_get places i ≡ p → option_map (λ (place : EndPlace). place.wire) p ≡ Some wire → IsChoice plan service edge wire
+  by_place : (i : ℕ) → Rattle.spoke_redundancy.specs.Choice.chosen spokes ≡ Some i → (p : Option EndPlace) → slice_get places i ≡ p → option_map (λ (place : EndPlace). place.wire) p
+      ≡ Some wire → IsChoice plan service edge wire
   by_place i first None at is = absurd (cc (is))
   by_place i first (Some place) at is = found i place first at (wire_of place is)
 
-  by_number : (o : Option ℕ) → Rattle.spoke_redundancy.specs.Choice.chosen spokes ≡ o → option_map (λ (place : EndPlace). place.wire) (option_and_then (slice_get places) o) ≡ Some wire → IsChoice plan service edge wire
+  by_number : (o : Option ℕ) → Rattle.spoke_redundancy.specs.Choice.chosen spokes ≡ o → option_map (λ (place : EndPlace). place.wire) (option_and_then (slice_get places) o) ≡ Some wire
+      → IsChoice plan service edge wire
   by_number None first is = absurd (cc (is))
   by_number (Some i) first is = by_place i first (slice_get places i) refl is
 

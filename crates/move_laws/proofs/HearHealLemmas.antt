@@ -85,10 +85,12 @@ module _ (plan : Plan) (service : ServiceId) (site : Sites) (network : NetworkSt
   tables_of work = put_at (learned_in service network) me.0 (work.edge.learned service.0)
 
   -- a message that clears nothing was heard
-  pub popped : (m : Message) (messages : List Message) (work : Work) → ((n : ℕ) → are_joined_by plan service peer.0 me.0 ≡ true → clears n m ≡ false) → Healing (m ∷ messages) work → Healing messages work
+  pub popped : (m : Message) (messages : List Message) (work : Work) → ((n : ℕ) → are_joined_by plan service peer.0 me.0 ≡ true → clears n m ≡ false) → Healing (m ∷ messages) work
+      → Healing messages work
   popped m messages work plain heals = record {
     stays = heals.stays;
-    right = λ core is. all_weaker (EntryHeals plan service site (choices_of work) (WaysOf (m ∷ messages) work) core) (EntryHeals plan service site (choices_of work) (WaysOf messages work) core) (tables_of work core)
+    right = λ core is. all_weaker (EntryHeals plan service site (choices_of work) (WaysOf (m ∷ messages) work) core)
+        (EntryHeals plan service site (choices_of work) (WaysOf messages work) core) (tables_of work core)
         (λ entry. entry_heals_on plan service site (choices_of work) (choices_of work) (WaysOf (m ∷ messages) work) (WaysOf messages work) core entry pop (λ edge wire home spoke chosen. inl chosen))
         (heals.right core is);
   }
@@ -117,7 +119,8 @@ module _ (plan : Plan) (service : ServiceId) (site : Sites) (network : NetworkSt
     abbrev Goal : ℕ → ℕ → WireId → ℕ → ℕ → ℕ → Type 0
     Goal core edge wire pw_id home p = WillBeRight plan service (WaysOf messages New) edge wire pw_id home core p
 
-    grown : (a b n : ℕ) → a ≡ me.0 → are_joined_by plan service me.0 b ≡ true → stands network me.0 b ≡ true → IsCleared plan me.0 b n (flight network me.0 b ++ said_to b work.effects) → WaysOf messages New a b n
+    grown : (a b n : ℕ) → a ≡ me.0 → are_joined_by plan service me.0 b ≡ true → stands network me.0 b ≡ true → IsCleared plan me.0 b n (flight network me.0 b ++ said_to b work.effects)
+        → WaysOf messages New a b n
     grown a b n from joined there cleared =
         WasSaid from joined there (tells_on plan service network me.0 b n work New (on.says b joined there) (record { joined = joined; there = there; cleared = cleared })).cleared
 
@@ -132,7 +135,8 @@ module _ (plan : Plan) (service : ServiceId) (site : Sites) (network : NetworkSt
           left_part false is = clash is
 
     -- what the message cleared, or one behind it clears
-    either : {P : Type 0} (n : ℕ) → some_message (clears n) (AddressWithdraw id None (Some fec) (Some []) ∷ messages) ≡ true → (fec.pw_id ≡ Some n → P) → (some_message (clears n) messages ≡ true → P) → P
+    either : {P : Type 0} (n : ℕ) → some_message (clears n) (AddressWithdraw id None (Some fec) (Some []) ∷ messages) ≡ true → (fec.pw_id ≡ Some n → P)
+        → (some_message (clears n) messages ≡ true → P) → P
     either {P} n among here later = by (names_by_fec n (Some fec) && true) refl among where
       by : (b : Bool) → names_by_fec n (Some fec) && true ≡ b → b || some_message (clears n) messages ≡ true → P
       by true is among = here (named_is n is)
@@ -145,21 +149,25 @@ module _ (plan : Plan) (service : ServiceId) (site : Sites) (network : NetworkSt
     on_spoke : (wire : WireId) (spoke : IsSpokeTo plan service peer.0 wire me.0) → fec.pw_id ≡ Some spoke.row.pw_id → AreAtPort plan service me (port.Spoke wire) (New.edge.learned service.0)
     on_spoke wire spoke named =
         subst (λ (x : Port). AreAtPort plan service me x (New.edge.learned service.0)) (ap (λ (m : Bool). cond m (port.Mesh (record { 0 = wire.0 })) (port.Spoke (record { 0 = wire.0 }))) link.class)
-        (withdraw_port plan service me peer wire spoke.row fec work checked short heals.stays.place spoke.is (ap (λ (s : ServiceId). s.0 == service.0) link.of_service ∙ same_number service.0) (sym (joins_turned spoke.row.path peer.0 me.0) ∙ link.joined) named)
+        (withdraw_port plan service me peer wire spoke.row fec work checked short heals.stays.place spoke.is
+        (ap (λ (s : ServiceId). s.0 == service.0) link.of_service ∙ same_number service.0) (sym (joins_turned spoke.row.path peer.0 me.0) ∙ link.joined) named)
       where
         link : IsSpokeLink plan service peer.0 me.0 spoke.row
         link = spoke_link plan service peer.0 wire me.0 checked short spoke
 
-    on_mesh : (mesh : WireId) (row : WirePlan) → wire_row plan mesh ≡ Some row → is_mesh_of service row ≡ true → joins peer.0 me.0 row.path ≡ true → fec.pw_id ≡ Some row.pw_id → AreAtPort plan service me (port.Mesh mesh) (New.edge.learned service.0)
+    on_mesh : (mesh : WireId) (row : WirePlan) → wire_row plan mesh ≡ Some row → is_mesh_of service row ≡ true → joins peer.0 me.0 row.path ≡ true → fec.pw_id ≡ Some row.pw_id
+        → AreAtPort plan service me (port.Mesh mesh) (New.edge.learned service.0)
     on_mesh mesh row is of_mesh joined named =
         subst (λ (x : Port). AreAtPort plan service me x (New.edge.learned service.0)) (ap (λ (m : Bool). cond m (port.Mesh (record { 0 = mesh.0 })) (port.Spoke (record { 0 = mesh.0 }))) link.class)
-        (withdraw_port plan service me peer mesh row fec work checked short heals.stays.place is (ap (λ (s : ServiceId). s.0 == service.0) link.of_service ∙ same_number service.0) (sym (joins_turned row.path peer.0 me.0) ∙ joined) named)
+        (withdraw_port plan service me peer mesh row fec work checked short heals.stays.place is (ap (λ (s : ServiceId). s.0 == service.0) link.of_service ∙ same_number service.0)
+        (sym (joins_turned row.path peer.0 me.0) ∙ joined) named)
       where
         link : IsMeshLink plan service peer.0 me.0 row
         link = mesh_link plan service peer.0 me.0 mesh row checked short is of_mesh joined
 
     -- it goes on from the home to another core edge
-    goes_on : (core : ℕ) (wire : WireId) (spoke : IsSpokeTo plan service peer.0 wire me.0) (p : ℕ) → is_core_edge plan service core ≡ true → nat_eq core me.0 ≡ false → fec.pw_id ≡ Some spoke.row.pw_id → Goal core peer.0 wire spoke.row.pw_id me.0 p
+    goes_on : (core : ℕ) (wire : WireId) (spoke : IsSpokeTo plan service peer.0 wire me.0) (p : ℕ) → is_core_edge plan service core ≡ true → nat_eq core me.0 ≡ false → fec.pw_id
+        ≡ Some spoke.row.pw_id → Goal core peer.0 wire spoke.row.pw_id me.0 p
     goes_on core wire spoke p is away named =
         let mesh : MeshesTo plan service me.0 core = stand core is away (core_is wire peer.0 me.0 spoke refl) in
         let tells : WillTell plan service network me.0 core mesh.row.pw_id New =
@@ -174,10 +182,12 @@ module _ (plan : Plan) (service : ServiceId) (site : Sites) (network : NetworkSt
     away_heals core is away edge wire home spoke p (BySpoke (ToHear from to joined there among)) =
         either {P = Goal core edge wire spoke.row.pw_id home p} spoke.row.pw_id among
         (λ named. subst (λ (e : ℕ). (s : IsSpokeTo plan service e wire home) → fec.pw_id ≡ Some s.row.pw_id → Goal core e wire s.row.pw_id home p) (sym from)
-        (subst (λ (h : ℕ). (s : IsSpokeTo plan service peer.0 wire h) → fec.pw_id ≡ Some s.row.pw_id → Goal core peer.0 wire s.row.pw_id h p) (sym to) (λ s n. goes_on core wire s p is away n)) spoke named)
+        (subst (λ (h : ℕ). (s : IsSpokeTo plan service peer.0 wire h) → fec.pw_id ≡ Some s.row.pw_id → Goal core peer.0 wire s.row.pw_id h p) (sym to)
+        (λ s n. goes_on core wire s p is away n)) spoke named)
         (λ later. BySpoke (ToHear from to joined there later))
     away_heals core is away edge wire home spoke p (BySpoke (Waits gone other pending)) = BySpoke (Waits gone other pending)
-    away_heals core is away edge wire home spoke p (ByMesh mesh row at of_mesh joins (WasSaid from joined there cleared)) = ByMesh mesh row at of_mesh joins (grown home core row.pw_id from joined there cleared)
+    away_heals core is away edge wire home spoke p (ByMesh mesh row at of_mesh joins (WasSaid from joined there cleared)) =
+        ByMesh mesh row at of_mesh joins (grown home core row.pw_id from joined there cleared)
     away_heals core is away edge wire home spoke p (ByMesh mesh row at of_mesh joins (ToHear from to joined there among)) = clash (sym away ∙ (ap (λ (n : ℕ). n == me.0) to ∙ same_number me.0))
     away_heals core is away edge wire home spoke p (ByMesh mesh row at of_mesh joins (Waits gone other pending)) = ByMesh mesh row at of_mesh joins (Waits gone other pending)
 
@@ -186,7 +196,8 @@ module _ (plan : Plan) (service : ServiceId) (site : Sites) (network : NetworkSt
     AtMe p = slice_get (ports_of plan service me) p
 
     here_heals : (k p : ℕ) (entry : MacEntry) → slice_get (New.edge.learned service.0) k ≡ Some entry → (edge : ℕ) (wire : WireId) (home : ℕ) (spoke : IsSpokeTo plan service edge wire home)
-        → WillBeRight plan service (WaysOf (AddressWithdraw id None (Some fec) (Some []) ∷ messages) work) edge wire spoke.row.pw_id home me.0 entry.port → Goal me.0 edge wire spoke.row.pw_id home entry.port
+        → WillBeRight plan service (WaysOf (AddressWithdraw id None (Some fec) (Some []) ∷ messages) work) edge wire spoke.row.pw_id home me.0 entry.port
+        → Goal me.0 edge wire spoke.row.pw_id home entry.port
     here_heals k p entry stays_there edge wire home spoke (IsRight at) = IsRight at
     here_heals k p entry stays_there edge wire home spoke (BySpoke (WasSaid from joined there cleared)) = BySpoke (grown edge home spoke.row.pw_id from joined there cleared)
     here_heals k p entry stays_there edge wire home spoke (BySpoke (ToHear from to joined there among)) =
@@ -197,7 +208,8 @@ module _ (plan : Plan) (service : ServiceId) (site : Sites) (network : NetworkSt
         (sym (all_get (λ (e : MacEntry). AtMe e.port ≡ Some (port.Spoke wire)) (New.edge.learned service.0) k entry (on_spoke wire s n) stays_there)) (refl, refl)))) spoke named)
         (λ later. BySpoke (ToHear from to joined there later))
     here_heals k p entry stays_there edge wire home spoke (BySpoke (Waits gone other pending)) = BySpoke (Waits gone other pending)
-    here_heals k p entry stays_there edge wire home spoke (ByMesh mesh row at of_mesh joins (WasSaid from joined there cleared)) = ByMesh mesh row at of_mesh joins (grown home me.0 row.pw_id from joined there cleared)
+    here_heals k p entry stays_there edge wire home spoke (ByMesh mesh row at of_mesh joins (WasSaid from joined there cleared)) =
+        ByMesh mesh row at of_mesh joins (grown home me.0 row.pw_id from joined there cleared)
     here_heals k p entry stays_there edge wire home spoke (ByMesh mesh row at of_mesh joins (ToHear from to joined there among)) =
         either {P = Goal me.0 edge wire spoke.row.pw_id home entry.port} row.pw_id among
         (λ named. IsRight (subst (LeadsHome plan me.0 home wire)
@@ -215,12 +227,15 @@ module _ (plan : Plan) (service : ServiceId) (site : Sites) (network : NetworkSt
     -- the entries of the edge itself
     own_right : is_core_edge plan service me.0 ≡ true → AllByRecursion (EntryHeals plan service site (choices_of New) (WaysOf messages New) me.0) (New.edge.learned service.0)
     own_right is =
-        let before : AllByRecursion (EntryHeals plan service site (choices_of work) (WaysOf (AddressWithdraw id None (Some fec) (Some []) ∷ messages) work) me.0) (work.edge.learned service.0) = own_table (heals.right me.0 is) in
+        let before : AllByRecursion (EntryHeals plan service site (choices_of work) (WaysOf (AddressWithdraw id None (Some fec) (Some []) ∷ messages) work) me.0)
+        (work.edge.learned service.0) = own_table (heals.right me.0 is) in
         let left : AllByRecursion (EntryHeals plan service site (choices_of work) (WaysOf (AddressWithdraw id None (Some fec) (Some []) ∷ messages) work) me.0) (New.edge.learned service.0) =
-        all_left (EntryHeals plan service site (choices_of work) (WaysOf (AddressWithdraw id None (Some fec) (Some []) ∷ messages) work) me.0) (work.edge.learned service.0) (New.edge.learned service.0) on.forgot before in
+        all_left (EntryHeals plan service site (choices_of work) (WaysOf (AddressWithdraw id None (Some fec) (Some []) ∷ messages) work) me.0) (work.edge.learned service.0)
+        (New.edge.learned service.0) on.forgot before in
         all_by_place (EntryHeals plan service site (choices_of New) (WaysOf messages New) me.0) (New.edge.learned service.0)
         (λ k entry at edge wire home spoke chose there. here_heals k 0 entry at edge wire home spoke
-        (all_get (EntryHeals plan service site (choices_of work) (WaysOf (AddressWithdraw id None (Some fec) (Some []) ∷ messages) work) me.0) (New.edge.learned service.0) k entry left at edge wire home spoke (choice_was edge wire chose) there))
+        (all_get (EntryHeals plan service site (choices_of work) (WaysOf (AddressWithdraw id None (Some fec) (Some []) ∷ messages) work) me.0)
+        (New.edge.learned service.0) k entry left at edge wire home spoke (choice_was edge wire chose) there))
       where
         own_table : AllByRecursion (EntryHeals plan service site (choices_of work) (WaysOf (AddressWithdraw id None (Some fec) (Some []) ∷ messages) work) me.0) (tables_of work me.0)
             → AllByRecursion (EntryHeals plan service site (choices_of work) (WaysOf (AddressWithdraw id None (Some fec) (Some []) ∷ messages) work) me.0) (work.edge.learned service.0)
@@ -235,10 +250,12 @@ module _ (plan : Plan) (service : ServiceId) (site : Sites) (network : NetworkSt
       right = λ core is. split {P = AllByRecursion (EntryHeals plan service site (choices_of New) (WaysOf messages New) core) (tables_of New core)} (nat_eq core me.0)
           (λ same. (let here : core ≡ me.0 = eqb-true core me.0 same in
           subst (λ (n : ℕ). AllByRecursion (EntryHeals plan service site (choices_of New) (WaysOf messages New) n) (tables_of New n)) (sym here)
-          (subst (AllByRecursion (EntryHeals plan service site (choices_of New) (WaysOf messages New) me.0)) (sym (ap (λ (b : Bool). cond b (New.edge.learned service.0) (learned_in service network me.0)) (same_number me.0)))
+          (subst (AllByRecursion (EntryHeals plan service site (choices_of New) (WaysOf messages New) me.0))
+          (sym (ap (λ (b : Bool). cond b (New.edge.learned service.0) (learned_in service network me.0)) (same_number me.0)))
           (own_right (subst (λ (n : ℕ). is_core_edge plan service n ≡ true) here is)))))
           (λ away. subst (AllByRecursion (EntryHeals plan service site (choices_of New) (WaysOf messages New) core)) (same_table core away)
-          (all_weaker (EntryHeals plan service site (choices_of work) (WaysOf (AddressWithdraw id None (Some fec) (Some []) ∷ messages) work) core) (EntryHeals plan service site (choices_of New) (WaysOf messages New) core) (tables_of work core)
+          (all_weaker (EntryHeals plan service site (choices_of work) (WaysOf (AddressWithdraw id None (Some fec) (Some []) ∷ messages) work) core)
+          (EntryHeals plan service site (choices_of New) (WaysOf messages New) core) (tables_of work core)
           (λ entry was edge wire home spoke chose there. away_heals core is away edge wire home spoke entry.port (was edge wire home spoke (choice_was edge wire chose) there))
           (heals.right core is)));
     }
@@ -251,9 +268,11 @@ module _ (plan : Plan) (service : ServiceId) (site : Sites) (network : NetworkSt
   -- a session that is up acts on a message
   acts_heal : (m : Message) (messages : List Message) (work : Work) → IsSaid (ends_at plan peer.0 me.0) m → LeavesMesh plan service me.0 peer.0 m
       → ((core : ℕ) → is_core_edge plan service core ≡ true → nat_eq core me.0 ≡ false → is_core_edge plan service me.0 ≡ true → MeshesTo plan service me.0 core)
-      → has_end work.edge peer ≡ true → TellsSoundly (point_limit plan me.0) (acts_on plan taken_all peer m work).edge → Healing (m ∷ messages) work → Healing messages (acts_on plan taken_all peer m work)
+      → has_end work.edge peer ≡ true → TellsSoundly (point_limit plan me.0) (acts_on plan taken_all peer m work).edge → Healing (m ∷ messages) work
+      → Healing messages (acts_on plan taken_all peer m work)
   acts_heal m messages work said leaves stand there sound heals = by m said leaves sound heals where
-    done : (m : Message) → ((n : ℕ) → clears n m ≡ false) → has_end work.edge peer ≡ true → Acted plan service network me peer checked short work work (acts_on plan taken_all peer m work) → Healing (m ∷ messages) work → Healing messages (acts_on plan taken_all peer m work)
+    done : (m : Message) → ((n : ℕ) → clears n m ≡ false) → has_end work.edge peer ≡ true
+        → Acted plan service network me peer checked short work work (acts_on plan taken_all peer m work) → Healing (m ∷ messages) work → Healing messages (acts_on plan taken_all peer m work)
     done m plain there acted heals =
         heals_on plan service site network me peer.0 messages work (acts_on plan taken_all peer m work)
         (speaks_on plan service network me peer.0 work (acts_on plan taken_all peer m work) heals.stays acted.speaks (acts_forget service plan peer m work there))
@@ -262,25 +281,32 @@ module _ (plan : Plan) (service : ServiceId) (site : Sites) (network : NetworkSt
     first : {m : Message} → Healing (m ∷ messages) work → Speaks plan service network me peer.0 work work
     first heals = speaks_first plan service network me peer.0 work heals.stays
 
-    by : (m : Message) → IsSaid (ends_at plan peer.0 me.0) m → LeavesMesh plan service me.0 peer.0 m → TellsSoundly (point_limit plan me.0) (acts_on plan taken_all peer m work).edge → Healing (m ∷ messages) work → Healing messages (acts_on plan taken_all peer m work)
+    by : (m : Message) → IsSaid (ends_at plan peer.0 me.0) m → LeavesMesh plan service me.0 peer.0 m → TellsSoundly (point_limit plan me.0) (acts_on plan taken_all peer m work).edge
+        → Healing (m ∷ messages) work → Healing messages (acts_on plan taken_all peer m work)
     by (Initialization id params) said leaves sound heals = popped (Initialization id params) messages work (λ n joined. refl) heals
     by (KeepAlive id) said leaves sound heals = popped (KeepAlive id) messages work (λ n joined. refl) heals
-    by (Notification id code status fec) said leaves sound heals = done (Notification id code status fec) (λ n. refl) there (status_acts plan service network me peer checked short work code status fec work sound (first heals)) heals
-    by (LabelMapping id fec label status points) said leaves sound heals = done (LabelMapping id fec label status points) (λ n. refl) there (mapping_acts plan service network me peer checked short work id fec label status points work said sound (first heals)) heals
-    by (LabelWithdraw id fec label) said leaves sound heals = done (LabelWithdraw id fec label) (λ n. refl) there (withdraw_acts plan service network me peer checked short work id fec label work said leaves (first heals)) heals
-    by (LabelRelease id fec label) said leaves sound heals = done (LabelRelease id fec label) (λ n. refl) there (release_acts plan service network me peer checked short work id fec label work leaves sound (first heals)) heals
+    by (Notification id code status fec) said leaves sound heals =
+        done (Notification id code status fec) (λ n. refl) there (status_acts plan service network me peer checked short work code status fec work sound (first heals)) heals
+    by (LabelMapping id fec label status points) said leaves sound heals =
+        done (LabelMapping id fec label status points) (λ n. refl) there (mapping_acts plan service network me peer checked short work id fec label status points work said sound (first heals)) heals
+    by (LabelWithdraw id fec label) said leaves sound heals =
+        done (LabelWithdraw id fec label) (λ n. refl) there (withdraw_acts plan service network me peer checked short work id fec label work said leaves (first heals)) heals
+    by (LabelRelease id fec label) said leaves sound heals =
+        done (LabelRelease id fec label) (λ n. refl) there (release_acts plan service network me peer checked short work id fec label work leaves sound (first heals)) heals
     by (AddressWithdraw id None (Some fec) (Some [])) said leaves sound heals = cleared_heals fec id messages work heals stand
     by (AddressWithdraw id None (Some fec) (Some (mac ∷ macs))) said leaves sound heals =
         heals_on plan service site network me peer.0 messages work (hears_mac_withdraw plan taken_all peer (Some fec) (Some (mac ∷ macs)) work)
         (withdraw_stays plan service network me peer.0 peer fec (mac ∷ macs) work checked types short (heard_are id fec (mac ∷ macs) said.0) heals.stays)
-        (chosen_same work _ (withdraw_chosen plan peer fec (mac ∷ macs) work)) (popped (AddressWithdraw id None (Some fec) (Some (mac ∷ macs))) messages work (λ n joined. and_false (names_by_fec n (Some fec))) heals)
+        (chosen_same work _ (withdraw_chosen plan peer fec (mac ∷ macs) work))
+        (popped (AddressWithdraw id None (Some fec) (Some (mac ∷ macs))) messages work (λ n joined. and_false (names_by_fec n (Some fec))) heals)
     by (AddressWithdraw id addresses fec macs) said leaves sound heals = absurd said.1
     by m said leaves sound heals = absurd said
 
   -- ---- sessions of peers that the service does not join to the edge
 
   -- an event of such a session
-  pub event_heals : (event : SessionEvent) (messages : List Message) (work : Work) → are_joined_by plan service me.0 peer.0 ≡ false → TellsSoundly (point_limit plan me.0) (happens_with_ends taken_all peer event work).edge → Healing messages work
+  pub event_heals : (event : SessionEvent) (messages : List Message) (work : Work) → are_joined_by plan service me.0 peer.0 ≡ false
+      → TellsSoundly (point_limit plan me.0) (happens_with_ends taken_all peer event work).edge → Healing messages work
       → Healing messages (happens_with_ends taken_all peer event work)
   event_heals event messages work apart sound heals =
       let new : Work = happens_with_ends taken_all peer event work in
@@ -309,9 +335,11 @@ module _ (plan : Plan) (service : ServiceId) (site : Sites) (network : NetworkSt
 
   -- ---- a message is heard
 
-  pub message_heals : (m : Message) (messages : List Message) (work : Work) → ((core : ℕ) → is_core_edge plan service core ≡ true → nat_eq core me.0 ≡ false → is_core_edge plan service me.0 ≡ true → MeshesTo plan service me.0 core)
+  pub message_heals : (m : Message) (messages : List Message) (work : Work)
+      → ((core : ℕ) → is_core_edge plan service core ≡ true → nat_eq core me.0 ≡ false → is_core_edge plan service me.0 ≡ true → MeshesTo plan service me.0 core)
       → (are_joined_by plan service me.0 peer.0 ≡ true → stands network peer.0 me.0 ≡ true) → stands network me.0 peer.0 ≡ true
-      → IsSaid (ends_at plan peer.0 me.0) m → TellsSoundly (point_limit plan me.0) (happens_with_ends taken_all peer (Received m) work).edge → TellsSoundly (point_limit plan me.0) (hears_one plan taken_all peer m work).edge
+      → IsSaid (ends_at plan peer.0 me.0) m → TellsSoundly (point_limit plan me.0) (happens_with_ends taken_all peer (Received m) work).edge
+      → TellsSoundly (point_limit plan me.0) (hears_one plan taken_all peer m work).edge
       → HearsHealing plan service site network me peer.0 (m ∷ messages) work → HearsHealing plan service site network me peer.0 messages (hears_message plan taken_all peer m work)
   message_heals m messages work stand back there said sound_event sound hears = record {
     heals = by_joined (are_joined_by plan service me.0 peer.0) refl;
@@ -324,7 +352,8 @@ module _ (plan : Plan) (service : ServiceId) (site : Sites) (network : NetworkSt
       -- the service joins them
       where_joined : are_joined_by plan service me.0 peer.0 ≡ true → Healing messages (hears_message plan taken_all peer m work)
       where_joined joined = subst (λ (b : Bool). Healing messages (cond b (mends plan taken_all (hears_one plan taken_all peer m work)) work)) (sym stood)
-          (mends_on (subst (Healing messages) (sym acted) (acts_heal m messages work said leaves stand stood (subst (λ (w : Work). TellsSoundly (point_limit plan me.0) w.edge) acted sound) hears.heals)))
+          (mends_on (subst (Healing messages) (sym acted)
+          (acts_heal m messages work said leaves stand stood (subst (λ (w : Work). TellsSoundly (point_limit plan me.0) w.edge) acted sound) hears.heals)))
         where
           mildly : SpeaksMildly plan service network me.0 peer.0 peer.0 work
           mildly = hears.heals.stays.speaks peer.0 joined there
@@ -353,11 +382,13 @@ module _ (plan : Plan) (service : ServiceId) (site : Sites) (network : NetworkSt
         leaves : LeavesMesh plan service me.0 peer.0 m
         leaves wire row is of_mesh joins = clash (sym apart ∙ (mesh_link plan service me.0 peer.0 wire row checked short is of_mesh joins).by_service)
 
-        by_act : (up : Bool) → TellsSoundly (point_limit plan me.0) (acts plan taken_all peer m up (happens_with_ends taken_all peer (Received m) work)).edge → Healing messages (acts plan taken_all peer m up (happens_with_ends taken_all peer (Received m) work))
+        by_act : (up : Bool) → TellsSoundly (point_limit plan me.0) (acts plan taken_all peer m up (happens_with_ends taken_all peer (Received m) work)).edge
+            → Healing messages (acts plan taken_all peer m up (happens_with_ends taken_all peer (Received m) work))
         by_act false sound = popped m messages (happens_with_ends taken_all peer (Received m) work) (λ n joined. clash (no_joined joined)) event
         by_act true sound = by_there (has_end (happens_with_ends taken_all peer (Received m) work).edge peer) refl sound where
           by_there : (b : Bool) → has_end (happens_with_ends taken_all peer (Received m) work).edge peer ≡ b
-              → TellsSoundly (point_limit plan me.0) (cond b (acts_on plan taken_all peer m (happens_with_ends taken_all peer (Received m) work)) (happens_with_ends taken_all peer (Received m) work)).edge
+              → TellsSoundly (point_limit plan me.0)
+              (cond b (acts_on plan taken_all peer m (happens_with_ends taken_all peer (Received m) work)) (happens_with_ends taken_all peer (Received m) work)).edge
               → Healing messages (cond b (acts_on plan taken_all peer m (happens_with_ends taken_all peer (Received m) work)) (happens_with_ends taken_all peer (Received m) work))
           by_there true is sound = acts_heal m messages (happens_with_ends taken_all peer (Received m) work) said leaves stand is sound event
           by_there false is sound = popped m messages (happens_with_ends taken_all peer (Received m) work) (λ n joined. clash (no_joined joined)) event

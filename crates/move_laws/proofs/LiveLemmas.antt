@@ -77,7 +77,8 @@ mends_live plan service me work checked short placed = all_by_place (IsAtLive pl
   not_clash true is wrong = clash wrong
   not_clash false is wrong = clash is
 
-  live : (k : ℕ) (entry : MacEntry) → slice_get (edge.learned service.0) k ≡ Some entry → (wire : WireId) → slice_get (ports_of plan service me) entry.port ≡ Some (port.Spoke wire) → end_forwards plan edge wire ≡ true
+  live : (k : ℕ) (entry : MacEntry) → slice_get (edge.learned service.0) k ≡ Some entry → (wire : WireId) → slice_get (ports_of plan service me) entry.port ≡ Some (port.Spoke wire)
+      → end_forwards plan edge wire ≡ true
   live k entry at wire leads = subst (λ (o : Option EndPlace). forwards_at plan edge o ≡ true) (sym found) (by (down_at plan edge place) refl) where
     to_wire : LeadsToWire (ports_of plan service me) entry.port wire.0
     to_wire = leads_by_spoke (ports_of plan service me) entry.port wire leads

@@ -41,12 +41,14 @@ use Rattle.net_values.proofs.NumberLemmas.{same_number, apart_back, from_none}
 -- ---- an end that forwards
 
 -- the end of an edge at a wire that forwards there
-pub forwards_end : (plan : Plan) (edge : EdgeState) (me peer : EdgeId) (wire : WireId) (row : WirePlan) (end : IsLinkEnd plan me peer wire row) → edge.me ≡ me → end_forwards plan edge wire ≡ true → down_at plan edge end.place ≡ None
+pub forwards_end : (plan : Plan) (edge : EdgeState) (me peer : EdgeId) (wire : WireId) (row : WirePlan) (end : IsLinkEnd plan me peer wire row) → edge.me ≡ me
+    → end_forwards plan edge wire ≡ true → down_at plan edge end.place ≡ None
 forwards_end plan edge me peer wire row end placed up =
     up_is_none (down_at plan edge end.place) (ap (forwards_at plan edge) (sym (ap (λ (e : EdgeId). wire_end plan e wire) placed ∙ end.found)) ∙ up)
 
 -- a spoke edge forwards only by the spoke that it has chosen
-pub chosen_forwards : (plan : Plan) (service : ServiceId) (edge : EdgeState) (x : ℕ) (wire : WireId) (home : ℕ) → IsChecked plan → has_short_paths plan service ≡ true → edge.me ≡ record { 0 = x } → (spoke : IsSpokeTo plan service x wire home)
+pub chosen_forwards : (plan : Plan) (service : ServiceId) (edge : EdgeState) (x : ℕ) (wire : WireId) (home : ℕ) → IsChecked plan → has_short_paths plan service ≡ true → edge.me
+    ≡ record { 0 = x } → (spoke : IsSpokeTo plan service x wire home)
     → end_forwards plan edge wire ≡ true → edge.chosen service.0 ≡ Some wire
 chosen_forwards plan service edge x wire home checked short placed spoke up = by (is_chosen edge.chosen wire spoke.row) refl where
   link : IsSpokeLink plan service x home spoke.row
@@ -101,13 +103,15 @@ pub record IsLiveAt (plan : Plan) (service : ServiceId) (network : NetworkState)
   pub chosen : (network.edges x).chosen service.0 ≡ Some wire
 
 -- a spoke from an edge leads to the far edge of its path
-pub spoke_at_link : (plan : Plan) (service : ServiceId) (x k : ℕ) (row : WirePlan) (link : IsShortLink plan row) → slice_get plan.wires k ≡ Some row → is_spoke_from service x row ≡ true → IsSpokeTo plan service x (record { 0 = k }) link.far.0
+pub spoke_at_link : (plan : Plan) (service : ServiceId) (x k : ℕ) (row : WirePlan) (link : IsShortLink plan row) → slice_get plan.wires k ≡ Some row → is_spoke_from service x row
+    ≡ true → IsSpokeTo plan service x (record { 0 = k }) link.far.0
 spoke_at_link plan service x k row link is from = record { row = row; is = is; from = from; to = ap (is_last link.far.0) link.path ∙ same_number link.far.0 }
 
 pub near_of : (plan : Plan) (service : ServiceId) (x : ℕ) (row : WirePlan) (link : IsShortLink plan row) → is_spoke_from service x row ≡ true → x ≡ link.near.0
 near_of plan service x row link from = eqb-true x link.near.0 (ap (is_first x) (sym link.path) ∙ second_holds (is_wire_of service row && not (is_mesh_class row.class)) (is_first x row.path) from)
 
-pub live_at : (plan : Plan) (service : ServiceId) (network : NetworkState) (x : ℕ) → IsChecked plan → has_short_paths plan service ≡ true → IsOrdered plan network → is_calm plan network service ≡ true → x < length plan.edges → is_spoke_edge plan service x ≡ true
+pub live_at : (plan : Plan) (service : ServiceId) (network : NetworkState) (x : ℕ) → IsChecked plan → has_short_paths plan service ≡ true → IsOrdered plan network
+    → is_calm plan network service ≡ true → x < length plan.edges → is_spoke_edge plan service x ≡ true
     → IsLiveAt plan service network x
 unfolding spoke_at_link
 live_at plan service network x checked short ordered calm within starts = from (live_found plan network service x 0 plan.wires (live_count plan network service x calm within starts)) where
@@ -115,12 +119,15 @@ live_at plan service network x checked short ordered calm within starts = from (
   from found =
       let live : is_live_spoke plan network service x found.k found.row ≡ true = subst (λ (n : ℕ). is_live_spoke plan network service x n found.row ≡ true) (from_none found.k) found.live in
       let starts_here : is_spoke_from service x found.row ≡ true = first_holds (is_spoke_from service x found.row) (carries plan network found.k found.row) live in
-      let ours : is_wire_of service found.row ≡ true = first_holds (is_wire_of service found.row) (not (is_mesh_class found.row.class)) (first_holds (is_wire_of service found.row && not (is_mesh_class found.row.class)) (is_first x found.row.path) starts_here) in
+      let ours : is_wire_of service found.row ≡ true =
+      first_holds (is_wire_of service found.row) (not (is_mesh_class found.row.class))
+      (first_holds (is_wire_of service found.row && not (is_mesh_class found.row.class)) (is_first x found.row.path) starts_here) in
       let link : IsShortLink plan found.row = short_link plan service found.k found.row checked short ours found.is in
       let carried : carries plan network found.k found.row ≡ true = second_holds (is_spoke_from service x found.row) (carries plan network found.k found.row) live in
       let spoke : IsSpokeTo plan service x (record { 0 = found.k }) link.far.0 = spoke_at_link plan service x found.k found.row link found.is starts_here in
       let up : end_forwards plan (network.edges x) (record { 0 = found.k }) ≡ true =
-      subst (λ (n : ℕ). end_forwards plan (network.edges n) (record { 0 = found.k }) ≡ true) (sym (near_of plan service x found.row link starts_here)) (carries_ends plan network found.k found.row link carried).0 in
+      subst (λ (n : ℕ). end_forwards plan (network.edges n) (record { 0 = found.k }) ≡ true) (sym (near_of plan service x found.row link starts_here))
+      (carries_ends plan network found.k found.row link carried).0 in
       record {
         wire = record { 0 = found.k };
         home = link.far.0;
@@ -131,15 +138,18 @@ live_at plan service network x checked short ordered calm within starts = from (
       }
 
 -- where the edge forwards by a spoke, that one is it
-pub live_same : (plan : Plan) (service : ServiceId) (network : NetworkState) (x : ℕ) (wire : WireId) (home : ℕ) → IsChecked plan → has_short_paths plan service ≡ true → IsOrdered plan network → (at : IsLiveAt plan service network x) → (spoke : IsSpokeTo plan service x wire home)
+pub live_same : (plan : Plan) (service : ServiceId) (network : NetworkState) (x : ℕ) (wire : WireId) (home : ℕ) → IsChecked plan → has_short_paths plan service ≡ true
+    → IsOrdered plan network → (at : IsLiveAt plan service network x) → (spoke : IsSpokeTo plan service x wire home)
     → end_forwards plan (network.edges x) wire ≡ true → wire ≡ at.wire
-live_same plan service network x wire home checked short ordered at spoke up = one (sym (chosen_forwards plan service (network.edges x) x wire home checked short (ordered.placed x) spoke up) ∙ at.chosen)
+live_same plan service network x wire home checked short ordered at spoke up =
+    one (sym (chosen_forwards plan service (network.edges x) x wire home checked short (ordered.placed x) spoke up) ∙ at.chosen)
   where
     one : {a b : WireId} → Some a ≡ Some b → a ≡ b
     one e = cc
 
 -- one wire leads to one home
-pub home_same : (plan : Plan) (service : ServiceId) (x : ℕ) (wire : WireId) (a b : ℕ) → IsChecked plan → has_short_paths plan service ≡ true → IsSpokeTo plan service x wire a → IsSpokeTo plan service x wire b → a ≡ b
+pub home_same : (plan : Plan) (service : ServiceId) (x : ℕ) (wire : WireId) (a b : ℕ) → IsChecked plan → has_short_paths plan service ≡ true → IsSpokeTo plan service x wire a
+    → IsSpokeTo plan service x wire b → a ≡ b
 home_same plan service x wire a b checked short one other =
     let rows : one.row ≡ other.row = same_row (sym one.is ∙ other.is) in
     let first = (spoke_link plan service x wire a checked short one).path in
@@ -178,7 +188,8 @@ quiet_way network a b settled there = by (stands network a b) (stands network b 
 
 -- ---- each two core edges have a mesh wire
 
-pub has_meshes : (plan : Plan) (network : NetworkState) (service : ServiceId) → IsChecked plan → has_short_paths plan service ≡ true → is_calm plan network service ≡ true → (a b : ℕ) → a < length plan.edges → b < length plan.edges
+pub has_meshes : (plan : Plan) (network : NetworkState) (service : ServiceId) → IsChecked plan → has_short_paths plan service ≡ true → is_calm plan network service ≡ true → (a b : ℕ)
+    → a < length plan.edges → b < length plan.edges
     → is_core_edge plan service a ≡ true → is_core_edge plan service b ≡ true → nat_eq b a ≡ false → MeshesTo plan service a b
 has_meshes plan network service checked short calm a b within also one other apart =
     let found = mesh_wire plan network service a b calm within also one other (apart_back b a apart) in

@@ -42,15 +42,18 @@ module _ (plan : Plan) (service : ServiceId) (site : Sites) (network : NetworkSt
   choice_here : (work : Work) → choices work me.0 ≡ work.edge.chosen service.0
   choice_here work = rw (same_number me.0) refl
 
-  told_here : (wire : WireId) (home : ℕ) (spoke : IsSpokeTo plan service me.0 wire home) → choices new me.0 ≡ Some wire → (choices old me.0 ≡ Some wire) ⊎ WorkWays plan service network me.0 peer messages new me.0 home spoke.row.pw_id
+  told_here : (wire : WireId) (home : ℕ) (spoke : IsSpokeTo plan service me.0 wire home) → choices new me.0 ≡ Some wire → (choices old me.0 ≡ Some wire)
+      ⊎ WorkWays plan service network me.0 peer messages new me.0 home spoke.row.pw_id
   told_here wire home spoke chosen = ⊎_elim
       (λ (was : old.edge.chosen service.0 ≡ Some wire). inl (choice_here old ∙ was))
       (λ (tells : WillTell plan service network me.0 home spoke.row.pw_id new). inr (WasSaid refl tells.joined tells.there tells.cleared))
       (told.told wire home spoke (sym (choice_here new) ∙ chosen))
 
-  told_at : (edge : ℕ) (wire : WireId) (home : ℕ) (spoke : IsSpokeTo plan service edge wire home) → choices new edge ≡ Some wire → (choices old edge ≡ Some wire) ⊎ WorkWays plan service network me.0 peer messages new edge home spoke.row.pw_id
+  told_at : (edge : ℕ) (wire : WireId) (home : ℕ) (spoke : IsSpokeTo plan service edge wire home) → choices new edge ≡ Some wire → (choices old edge ≡ Some wire)
+      ⊎ WorkWays plan service network me.0 peer messages new edge home spoke.row.pw_id
   told_at edge wire home spoke chosen = split {P = (choices old edge ≡ Some wire) ⊎ WorkWays plan service network me.0 peer messages new edge home spoke.row.pw_id} (nat_eq edge me.0)
-      (λ is. subst (λ (k : ℕ). (spoke : IsSpokeTo plan service k wire home) → choices new k ≡ Some wire → (choices old k ≡ Some wire) ⊎ WorkWays plan service network me.0 peer messages new k home spoke.row.pw_id)
+      (λ is. subst (λ (k : ℕ). (spoke : IsSpokeTo plan service k wire home) → choices new k ≡ Some wire → (choices old k ≡ Some wire)
+      ⊎ WorkWays plan service network me.0 peer messages new k home spoke.row.pw_id)
       (sym (eqb-true edge me.0 is)) (told_here wire home) spoke chosen)
       (λ away. inl (rw away (rw away at chosen)))
 
@@ -66,11 +69,14 @@ module _ (plan : Plan) (service : ServiceId) (site : Sites) (network : NetworkSt
       Right core = EntryHeals plan service site (choices new) (WorkWays plan service network me.0 peer messages new) core
 
       on_old : (core : ℕ) → is_core_edge plan service core ≡ true → AllByRecursion (Right core) (put_at (learned_in service network) me.0 (old.edge.learned service.0) core)
-      on_old core is = all_weaker (EntryHeals plan service site (choices old) (WorkWays plan service network me.0 peer messages old) core) (Right core) (put_at (learned_in service network) me.0 (old.edge.learned service.0) core)
-          (λ entry. entry_heals_on plan service site (choices old) (choices new) (WorkWays plan service network me.0 peer messages old) (WorkWays plan service network me.0 peer messages new) core entry ways_on told_at)
+      on_old core is = all_weaker (EntryHeals plan service site (choices old) (WorkWays plan service network me.0 peer messages old) core) (Right core)
+          (put_at (learned_in service network) me.0 (old.edge.learned service.0) core)
+          (λ entry. entry_heals_on plan service site (choices old) (choices new) (WorkWays plan service network me.0 peer messages old)
+          (WorkWays plan service network me.0 peer messages new) core entry ways_on told_at)
           (heals.right core is)
 
-pub mends_heal : (plan : Plan) (service : ServiceId) (site : Sites) (network : NetworkState) (me : EdgeId) (peer : ℕ) (messages : List Message) (work : Work) → IsChecked plan → HasTypes plan → has_short_paths plan service ≡ true → HasWays plan service network me
+pub mends_heal : (plan : Plan) (service : ServiceId) (site : Sites) (network : NetworkState) (me : EdgeId) (peer : ℕ) (messages : List Message) (work : Work) → IsChecked plan
+    → HasTypes plan → has_short_paths plan service ≡ true → HasWays plan service network me
     → IsHealing plan service site network me peer messages work → IsHealing plan service site network me peer messages (mends plan taken_all work)
 mends_heal plan service site network me peer messages work checked types short ways heals =
     heals_on plan service site network me peer messages work (mends plan taken_all work)

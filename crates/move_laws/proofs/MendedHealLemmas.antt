@@ -28,7 +28,8 @@ wish_on plan edge place (Some row) some = by (edge.wire_on place.wire.0) refl so
   by true is some = refl
   by false is some = clash some
 
-mended_wish : (plan : Plan) (edge : EdgeState) (place : EndPlace) (local : LocalPart) → (end_at edge place).local ≡ local → is_advertising local ≡ true → is_mended plan edge place ≡ true → is_some (wish plan edge place) ≡ true
+mended_wish : (plan : Plan) (edge : EdgeState) (place : EndPlace) (local : LocalPart) → (end_at edge place).local ≡ local → is_advertising local ≡ true → is_mended plan edge place
+    ≡ true → is_some (wish plan edge place) ≡ true
 mended_wish plan edge place (Idle declined) at told mended = clash told
 mended_wish plan edge place (Advertised label content) at told mended = stood (wish plan edge place) (rw at at mended)
   where
@@ -37,12 +38,14 @@ mended_wish plan edge place (Advertised label content) at told mended = stood (w
     stood (Some wished) still = refl
 mended_wish plan edge place (Withdrawing label) at told mended = clash told
 
-mended_on : (plan : Plan) (k : ℕ) (edge : EdgeState) → IsChecked plan → IsMendedAt plan k edge → (place : EndPlace) → IsEndOf plan (record { 0 = k }) place → is_advertising (end_at edge place).local ≡ true → edge.wire_on place.wire.0 ≡ true
+mended_on : (plan : Plan) (k : ℕ) (edge : EdgeState) → IsChecked plan → IsMendedAt plan k edge → (place : EndPlace) → IsEndOf plan (record { 0 = k }) place
+    → is_advertising (end_at edge place).local ≡ true → edge.wire_on place.wire.0 ≡ true
 mended_on plan k edge checked mended place end told =
     let near : NamedEnd plan (record { 0 = k }) place.peer place.wire end.row = end_of plan (record { 0 = k }) place.peer place.wire end.row checked end.is end.joined in
     let here : is_mended plan edge near.place ≡ true =
     (find_holds (λ (p : EndPlace). is_mended plan edge p ≡ true) (is_named place.peer end.row.pw_id) (end_places plan (record { 0 = k })) near.place mended.ends near.named).holds in
-    let same : (end_at edge near.place).local ≡ (end_at edge place).local = ap (λ (w : WireId). (edge.ends w.0 near.place.peer.0).local) near.wire_is ∙ ap (λ (p : EdgeId). (edge.ends place.wire.0 p.0).local) near.peer_is in
+    let same : (end_at edge near.place).local ≡ (end_at edge place).local =
+    ap (λ (w : WireId). (edge.ends w.0 near.place.peer.0).local) near.wire_is ∙ ap (λ (p : EdgeId). (edge.ends place.wire.0 p.0).local) near.peer_is in
     let wished = mended_wish plan edge near.place (end_at edge near.place).local refl (ap is_advertising same ∙ told) here in
     ap (λ (w : WireId). edge.wire_on w.0) (sym near.wire_is) ∙ wish_on plan edge near.place (wire_row plan near.place.wire) wished
 

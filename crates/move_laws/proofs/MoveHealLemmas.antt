@@ -53,8 +53,10 @@ module _ (plan : Plan) (service : ServiceId) (site : Sites) (calm network : Netw
   began = begin_heals plan service site calm network me me.0 [] checked ordered heals (λ joined stood. clash (sym (joined_away plan service me.0 me.0 checked joined) ∙ same_number me.0))
 
   -- a change that leaves mesh wires, choice and tables as they are, after which the edge mends
-  changed_heals : (change : EdgeState → EdgeState) → (change Begun.edge).peering ≡ Begun.edge.peering → (change Begun.edge).me ≡ Begun.edge.me → (change Begun.edge).chosen ≡ Begun.edge.chosen → (change Begun.edge).learned ≡ Begun.edge.learned
-      → TellsSoundly (point_limit plan me.0) (change Begun.edge) → KeepsMesh plan service me.0 (change Begun.edge) → Heals plan service site calm (absorb me 0 0 (mends plan taken_all (changes change Begun)) network).state
+  changed_heals : (change : EdgeState → EdgeState) → (change Begun.edge).peering ≡ Begun.edge.peering → (change Begun.edge).me ≡ Begun.edge.me → (change Begun.edge).chosen
+      ≡ Begun.edge.chosen → (change Begun.edge).learned ≡ Begun.edge.learned
+      → TellsSoundly (point_limit plan me.0) (change Begun.edge) → KeepsMesh plan service me.0 (change Begun.edge)
+      → Heals plan service site calm (absorb me 0 0 (mends plan taken_all (changes change Begun)) network).state
   changed_heals change peering same chosen learned sound mesh =
       settle_heals plan service site calm network network me me.0 [] (mends plan taken_all (changes change Begun)) checked (record { edges = refl; pipes = λ a b other. refl }) heals
       (mends_heal plan service site network me me.0 [] (changes change Begun) checked types short ways changed)
@@ -71,12 +73,16 @@ module _ (plan : Plan) (service : ServiceId) (site : Sites) (calm network : Netw
           (changed_forgets service change Begun learned))
           (record { told = λ wire home spoke chose. inl (ap (λ (f : ℕ → Option WireId). f service.0) (sym chosen_is) ∙ chose) }) began
 
-  priority_rest : (wire : WireId) (priority : ℕ) (edge : EdgeState) → ((with_priority wire priority edge).peering ≡ edge.peering) × ((with_priority wire priority edge).me ≡ edge.me) × ((with_priority wire priority edge).chosen ≡ edge.chosen)
-      × ((with_priority wire priority edge).learned ≡ edge.learned) × (TellsSoundly (point_limit plan me.0) edge → TellsSoundly (point_limit plan me.0) (with_priority wire priority edge)) × (KeepsMesh plan service me.0 edge → KeepsMesh plan service me.0 (with_priority wire priority edge))
+  priority_rest : (wire : WireId) (priority : ℕ) (edge : EdgeState) → ((with_priority wire priority edge).peering ≡ edge.peering) × ((with_priority wire priority edge).me ≡ edge.me)
+      × ((with_priority wire priority edge).chosen ≡ edge.chosen)
+      × ((with_priority wire priority edge).learned ≡ edge.learned)
+      × (TellsSoundly (point_limit plan me.0) edge → TellsSoundly (point_limit plan me.0) (with_priority wire priority edge))
+      × (KeepsMesh plan service me.0 edge → KeepsMesh plan service me.0 (with_priority wire priority edge))
   unfolding with_priority
   priority_rest wire priority edge = (refl, refl, refl, refl, λ sound. sound_same edge _ refl refl refl refl refl sound, λ mesh. record { told = mesh.told; on = mesh.on; whole = mesh.whole })
 
-  bits_rest : (wire : WireId) (bits : ℕ) (edge : EdgeState) → ((with_bits wire bits edge).peering ≡ edge.peering) × ((with_bits wire bits edge).me ≡ edge.me) × ((with_bits wire bits edge).chosen ≡ edge.chosen) × ((with_bits wire bits edge).learned ≡ edge.learned)
+  bits_rest : (wire : WireId) (bits : ℕ) (edge : EdgeState) → ((with_bits wire bits edge).peering ≡ edge.peering) × ((with_bits wire bits edge).me ≡ edge.me)
+      × ((with_bits wire bits edge).chosen ≡ edge.chosen) × ((with_bits wire bits edge).learned ≡ edge.learned)
   unfolding with_bits
   bits_rest wire bits edge = (refl, refl, refl, refl)
 
@@ -88,7 +94,8 @@ module _ (plan : Plan) (service : ServiceId) (site : Sites) (calm network : Netw
     either false other is = is
 
   -- the bits of a spoke are none of a mesh wire
-  bits_mesh : (wire : WireId) (bits : ℕ) (row : WirePlan) (edge : EdgeState) → wire_row plan wire ≡ Some row → is_mesh_class row.class ≡ false → KeepsMesh plan service me.0 edge → KeepsMesh plan service me.0 (with_bits wire bits edge)
+  bits_mesh : (wire : WireId) (bits : ℕ) (row : WirePlan) (edge : EdgeState) → wire_row plan wire ≡ Some row → is_mesh_class row.class ≡ false → KeepsMesh plan service me.0 edge
+      → KeepsMesh plan service me.0 (with_bits wire bits edge)
   unfolding with_bits
   bits_mesh wire bits row edge is class mesh = record {
     told = mesh.told;
@@ -96,7 +103,8 @@ module _ (plan : Plan) (service : ServiceId) (site : Sites) (calm network : Netw
     whole = λ other its peer at of_mesh joined. by other its peer at of_mesh joined (nat_eq other.0 wire.0) refl;
   }
     where
-      by : (other : WireId) (its : WirePlan) (peer : ℕ) → wire_row plan other ≡ Some its → is_mesh_of service its ≡ true → joins me.0 peer its.path ≡ true → (b : Bool) → nat_eq other.0 wire.0 ≡ b → cond b bits (edge.bits other.0) ≡ 0
+      by : (other : WireId) (its : WirePlan) (peer : ℕ) → wire_row plan other ≡ Some its → is_mesh_of service its ≡ true → joins me.0 peer its.path ≡ true → (b : Bool)
+          → nat_eq other.0 wire.0 ≡ b → cond b bits (edge.bits other.0) ≡ 0
       by other its peer at of_mesh joined true same =
           let rows : its ≡ row = same_row its row (sym at ∙ (ap (slice_get plan.wires) (eqb-true other.0 wire.0 same) ∙ is)) in
           clash (sym class ∙ (ap (λ (r : WirePlan). is_mesh_class r.class) (sym rows) ∙ second_holds (is_wire_of service its) (is_mesh_class its.class) of_mesh))
@@ -118,7 +126,8 @@ module _ (plan : Plan) (service : ServiceId) (site : Sites) (calm network : Netw
       (changed_heals (with_priority wire priority) rest.0 rest.1 rest.2 rest.3 (rest.4 began.stays.sound) (rest.5 began.stays.mesh))
       (is_own_spoke Begun.edge.me (wire_row plan wire) && not (priority == Begun.edge.priority wire.0))
 
-  pub status_heals : (wire : WireId) (bits : ℕ) (row : WirePlan) → bits ≤ 31 → wire_row plan wire ≡ Some row → is_mesh_class row.class ≡ false → Heals plan service site calm (status_event plan me wire bits network).state
+  pub status_heals : (wire : WireId) (bits : ℕ) (row : WirePlan) → bits ≤ 31 → wire_row plan wire ≡ Some row → is_mesh_class row.class ≡ false
+      → Heals plan service site calm (status_event plan me wire bits network).state
   status_heals wire bits row few is class =
       let rest = bits_rest wire bits Begun.edge in
       answered (mends plan taken_all (changes (with_bits wire bits) Begun))
@@ -130,11 +139,14 @@ spoke_class true true b is = clash is
 spoke_class true false b is = refl
 spoke_class false mesh b is = clash is
 
-pub move_heals : (plan : Plan) (service : ServiceId) (site : Sites) (calm network : NetworkState) (event : Event) → IsChecked plan → HasTypes plan → has_short_paths plan service ≡ true → IsEventOf plan event → IsOrdered plan network
+pub move_heals : (plan : Plan) (service : ServiceId) (site : Sites) (calm network : NetworkState) (event : Event) → IsChecked plan → HasTypes plan → has_short_paths plan service ≡ true
+    → IsEventOf plan event → IsOrdered plan network
     → Heals plan service site calm network → is_move plan service event ≡ true → Heals plan service site calm (step plan network event).state
-move_heals plan service site calm network (Priority me wire priority) checked types short planned ordered heals moves = priority_heals plan service site calm network me checked types short ordered heals wire priority
+move_heals plan service site calm network (Priority me wire priority) checked types short planned ordered heals moves =
+    priority_heals plan service site calm network me checked types short ordered heals wire priority
 move_heals plan service site calm network (Status me wire bits) checked types short planned ordered heals moves = by (wire_row plan wire) refl moves where
   by : (o : Option WirePlan) → wire_row plan wire ≡ o → is_spoke_row service me o ≡ true → Heals plan service site calm (step plan network (Status me wire bits)).state
   by None is moves = clash moves
-  by (Some row) is moves = status_heals plan service site calm network me checked types short ordered heals wire bits row planned.2 is (spoke_class (is_wire_of service row) (is_mesh_class row.class) (is_first me.0 row.path) moves)
+  by (Some row) is moves = status_heals plan service site calm network me checked types short ordered heals wire bits row planned.2 is
+      (spoke_class (is_wire_of service row) (is_mesh_class row.class) (is_first me.0 row.path) moves)
 move_heals plan service site calm network event checked types short planned ordered heals moves = clash moves

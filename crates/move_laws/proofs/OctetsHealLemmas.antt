@@ -63,14 +63,16 @@ module _ (plan : Plan) (service : ServiceId) (network : NetworkState) (me peer :
     pub peers : now.session.peers ≡ kept.session.peers
     pub number : now.next_id ≡ kept.next_id
 
-  pub kept_speaks : (base : Work) (kept now : Peering) (work : Work) → work.edge.peering peer.0 ≡ Some kept → IsStill kept now → TellsSoundly (point_limit plan me.0) (changes (with_peering peer (Some now)) work).edge → Speaks plan service network me peer.0 base work
+  pub kept_speaks : (base : Work) (kept now : Peering) (work : Work) → work.edge.peering peer.0 ≡ Some kept → IsStill kept now
+      → TellsSoundly (point_limit plan me.0) (changes (with_peering peer (Some now)) work).edge → Speaks plan service network me peer.0 base work
       → Speaks plan service network me peer.0 base (changes (with_peering peer (Some now)) work)
   unfolding changes with_peering
   kept_speaks base kept now work at still sound speaks = record {
     place = speaks.place;
     sound = sound;
     speaks = λ place joined stood. split {P = SpeaksMildly plan service network me.0 peer.0 place new} (nat_eq place peer.0)
-        (λ is. subst (λ (k : ℕ). SpeaksMildly plan service network me.0 peer.0 k new) (sym (eqb-true place peer.0 is)) (here (subst (λ (k : ℕ). SpeaksMildly plan service network me.0 peer.0 k work) (eqb-true place peer.0 is) (speaks.speaks place joined stood))))
+        (λ is. subst (λ (k : ℕ). SpeaksMildly plan service network me.0 peer.0 k new) (sym (eqb-true place peer.0 is))
+        (here (subst (λ (k : ℕ). SpeaksMildly plan service network me.0 peer.0 k work) (eqb-true place peer.0 is) (speaks.speaks place joined stood))))
         (λ away. mildly_spared plan service network me peer.0 place work new (with_peering_spares place peer (Some now) work away) (speaks.speaks place joined stood));
     apart = λ place joined gone. split {P = new.edge.peering place ≡ None} (nat_eq place peer.0)
         (λ is. clash (sym (ap (λ (k : ℕ). stands network me.0 k) (sym (eqb-true place peer.0 is)) ∙ gone) ∙ there))
@@ -104,7 +106,8 @@ module _ (plan : Plan) (service : ServiceId) (network : NetworkState) (me peer :
       more_again place more = record { more = more.more; is = more.is; said = more.said }
 
 -- the choice and what was learned are as they were
-kept_chosen : (peer : EdgeId) (now : Option Peering) (work : Work) → ((changes (with_peering peer now) work).edge.chosen ≡ work.edge.chosen) × ((changes (with_peering peer now) work).edge.learned ≡ work.edge.learned)
+kept_chosen : (peer : EdgeId) (now : Option Peering) (work : Work) → ((changes (with_peering peer now) work).edge.chosen ≡ work.edge.chosen)
+    × ((changes (with_peering peer now) work).edge.learned ≡ work.edge.learned)
 unfolding changes with_peering
 kept_chosen peer now work = (refl, refl)
 
@@ -113,10 +116,12 @@ unfolding changes with_peering
 kept_here peer now work = rw (same_number peer.0) refl
 
 -- the sender of a PDU is known, in a session that is up
-heard_is : (peer : EdgeId) (sender : LdpId) (kept : Peering) (work : Work) → work.edge.peering peer.0 ≡ Some kept → kept.session.phase ≡ phase.Operational → outcome_of kept.session (Heard sender) ≡ Goes (record kept.session { wait = 0 }) []
+heard_is : (peer : EdgeId) (sender : LdpId) (kept : Peering) (work : Work) → work.edge.peering peer.0 ≡ Some kept → kept.session.phase ≡ phase.Operational
+    → outcome_of kept.session (Heard sender) ≡ Goes (record kept.session { wait = 0 }) []
     → happens_with_ends taken_all peer (Heard sender) work ≡ changes (with_peering peer (Some (with_session (record kept.session { wait = 0 }) kept))) work
 heard_is peer sender kept work at up goes =
-    ap (clears_ends peer) (ap (λ (o : Option Peering). happens_to taken_all peer (Heard sender) o work) at ∙ (ap (λ (o : Outcome). comes_of taken_all peer kept o work) goes ∙ ap (λ (b : Bool). cond b new (gives (Session peer (phase_name kept.session.phase)) new)) same))
+    ap (clears_ends peer) (ap (λ (o : Option Peering). happens_to taken_all peer (Heard sender) o work) at
+    ∙ (ap (λ (o : Outcome). comes_of taken_all peer kept o work) goes ∙ ap (λ (b : Bool). cond b new (gives (Session peer (phase_name kept.session.phase)) new)) same))
     ∙ clears_not peer new (ap is_there (kept_here peer (with_session (record kept.session { wait = 0 }) kept) work))
   where
     new : Work
@@ -125,7 +130,8 @@ heard_is peer sender kept work at up goes =
     same : is_same_phase kept.session.phase kept.session.phase ≡ true
     same = rw up refl
 
-held_sound : (limit : ℕ → ℕ) (peer : EdgeId) (rest : List ℕ) (kept : Peering) (work : Work) → work.edge.peering peer.0 ≡ Some kept → TellsSoundly limit work.edge → TellsSoundly limit (changes (with_peering peer (Some (record kept { held = rest }))) work).edge
+held_sound : (limit : ℕ → ℕ) (peer : EdgeId) (rest : List ℕ) (kept : Peering) (work : Work) → work.edge.peering peer.0 ≡ Some kept → TellsSoundly limit work.edge
+    → TellsSoundly limit (changes (with_peering peer (Some (record kept { held = rest }))) work).edge
 unfolding changes with_peering
 held_sound limit peer rest kept work at sound = record {
   least = sound.least;
@@ -175,40 +181,49 @@ module _ (plan : Plan) (service : ServiceId) (site : Sites) (calm network : Netw
   chosen_same old new same = record { told = λ wire home spoke chosen. inl (ap (λ (f : ℕ → Option WireId). f service.0) (sym same) ∙ chosen) }
 
   -- something else is kept for the peer
-  kept_heals : (messages : List Message) (kept now : Peering) (work : Work) → work.edge.peering peer.0 ≡ Some kept → IsStill plan service network me peer there kept now → TellsSoundly (point_limit plan me.0) (changes (with_peering peer (Some now)) work).edge
+  kept_heals : (messages : List Message) (kept now : Peering) (work : Work) → work.edge.peering peer.0 ≡ Some kept → IsStill plan service network me peer there kept now
+      → TellsSoundly (point_limit plan me.0) (changes (with_peering peer (Some now)) work).edge
       → IsHealing plan service site network me peer.0 messages work → IsHealing plan service site network me peer.0 messages (changes (with_peering peer (Some now)) work)
   kept_heals messages kept now work at still sound healing =
       let new : Work = changes (with_peering peer (Some now)) work in
       let same = kept_chosen peer (Some now) work in
       heals_on plan service site network me peer.0 messages work new
-      (speaks_on plan service network me peer.0 work new healing.stays (kept_speaks plan service network me peer there work kept now work at still sound (speaks_first plan service network me peer.0 work healing.stays)) (forgets_none service work new same.1))
+      (speaks_on plan service network me peer.0 work new healing.stays
+      (kept_speaks plan service network me peer there work kept now work at still sound (speaks_first plan service network me peer.0 work healing.stays)) (forgets_none service work new same.1))
       (chosen_same work new same.0) healing
 
-  sender_heals : (messages : List Message) (work : Work) → Both messages work → HearsHealing plan service site network me peer.0 messages (happens_with_ends taken_all peer (Heard (platform_of (ends_at plan peer.0 me.0).me)) work)
+  sender_heals : (messages : List Message) (work : Work) → Both messages work
+      → HearsHealing plan service site network me peer.0 messages (happens_with_ends taken_all peer (Heard (platform_of (ends_at plan peer.0 me.0).me)) work)
   sender_heals messages work both = record { heals = by (are_joined_by plan service me.0 peer.0) refl; mild = both.1.mild } where
     event : SessionEvent
     event = Heard (platform_of (ends_at plan peer.0 me.0).me)
 
-    up_here : are_joined_by plan service me.0 peer.0 ≡ true → IsHealing plan service site network me peer.0 messages (happens_with_ends taken_all peer (Heard (platform_of (ends_at plan peer.0 me.0).me)) work)
+    up_here : are_joined_by plan service me.0 peer.0 ≡ true
+        → IsHealing plan service site network me peer.0 messages (happens_with_ends taken_all peer (Heard (platform_of (ends_at plan peer.0 me.0).me)) work)
     up_here joined =
         let mildly = both.1.heals.stays.speaks peer.0 joined there in
-        let talk : AreTalking (ends_at plan me.0 peer.0) (ends_at plan peer.0 me.0) (Some mildly.kept) ((later_network.edges peer.0).peering me.0) both.0.meets.messages messages = rw (mildly.at) at both.0.meets.talk in
+        let talk : AreTalking (ends_at plan me.0 peer.0) (ends_at plan peer.0 me.0) (Some mildly.kept) ((later_network.edges peer.0).peering me.0) both.0.meets.messages messages =
+        rw (mildly.at) at both.0.meets.talk in
         let goes : outcome_of mildly.kept.session (Heard (platform_of (ends_at plan peer.0 me.0).me)) ≡ Goes (record mildly.kept.session { wait = 0 }) [] =
         said_sender mildly.kept.session (ends_at plan peer.0 me.0).me (platform_is (ends_at plan me.0 peer.0) (ends_at plan peer.0 me.0) mildly.kept talk.here) in
         let is = heard_is peer (platform_of (ends_at plan peer.0 me.0).me) mildly.kept work mildly.at mildly.up goes in
         subst (IsHealing plan service site network me peer.0 messages) (sym is)
         (kept_heals messages mildly.kept (with_session (record mildly.kept.session { wait = 0 }) mildly.kept) work mildly.at (record { phase = refl; peers = refl; number = refl })
-        (subst (λ (w : Work). TellsSoundly (point_limit plan me.0) w.edge) is (happens_sound taken_all peer (Heard (platform_of (ends_at plan peer.0 me.0).me)) work both.1.heals.stays.sound)) both.1.heals)
+        (subst (λ (w : Work). TellsSoundly (point_limit plan me.0) w.edge) is
+        (happens_sound taken_all peer (Heard (platform_of (ends_at plan peer.0 me.0).me)) work both.1.heals.stays.sound)) both.1.heals)
 
-    by : (b : Bool) → are_joined_by plan service me.0 peer.0 ≡ b → IsHealing plan service site network me peer.0 messages (happens_with_ends taken_all peer (Heard (platform_of (ends_at plan peer.0 me.0).me)) work)
+    by : (b : Bool) → are_joined_by plan service me.0 peer.0 ≡ b
+        → IsHealing plan service site network me peer.0 messages (happens_with_ends taken_all peer (Heard (platform_of (ends_at plan peer.0 me.0).me)) work)
     by true joined = up_here joined
     by false apart = event_heals plan service site network me peer checked types short ways (Heard (platform_of (ends_at plan peer.0 me.0).me)) messages work apart
         (happens_sound taken_all peer (Heard (platform_of (ends_at plan peer.0 me.0).me)) work both.1.heals.stays.sound) both.1.heals
 
-  hears_sound : (m : Message) (messages : List Message) (work : Work) → IsSaid (ends_at plan peer.0 me.0) m → Hearing (m ∷ messages) work → TellsSoundly (point_limit plan me.0) (hears_one plan taken_all peer m work).edge
+  hears_sound : (m : Message) (messages : List Message) (work : Work) → IsSaid (ends_at plan peer.0 me.0) m → Hearing (m ∷ messages) work
+      → TellsSoundly (point_limit plan me.0) (hears_one plan taken_all peer m work).edge
   hears_sound m messages work said hears = by (work.edge.peering peer.0) refl where
     by : (near : Option Peering) → work.edge.peering peer.0 ≡ near → TellsSoundly (point_limit plan me.0) (hears_one plan taken_all peer m work).edge
-    by None at = subst (λ (b : Bool). TellsSoundly (point_limit plan me.0) (acts plan taken_all peer m b (happens_with_ends taken_all peer (Received m) work)).edge) (sym (ap was_up at)) (happens_sound taken_all peer (Received m) work hears.sound)
+    by None at = subst (λ (b : Bool). TellsSoundly (point_limit plan me.0) (acts plan taken_all peer m b (happens_with_ends taken_all peer (Received m) work)).edge)
+        (sym (ap was_up at)) (happens_sound taken_all peer (Received m) work hears.sound)
     by (Some kept) at = (one_heard plan me peer (ends_at plan peer.0 me.0) Hearing hearing m messages kept work at said hears).sound
 
   both_kept : KeptByMessages plan peer (ends_at plan peer.0 me.0) Both
@@ -219,7 +234,8 @@ module _ (plan : Plan) (service : ServiceId) (site : Sites) (calm network : Netw
         sender = λ messages work both. (base.sender messages work both.0, sender_heals messages work both);
         message = λ m messages work said others both. (
           base.message m messages work said others both.0,
-          message_heals plan service site network me peer checked types short ways m messages work stand back there said (happens_sound taken_all peer (Received m) work both.0.sound) (hears_sound m messages work said both.0) both.1,
+          message_heals plan service site network me peer checked types short ways m messages work stand back there said (happens_sound taken_all peer (Received m) work both.0.sound)
+              (hears_sound m messages work said both.0) both.1,
         );
       }
 
@@ -229,7 +245,8 @@ module _ (plan : Plan) (service : ServiceId) (site : Sites) (calm network : Netw
   holds_heal messages rest work both behind = by (work.edge.peering peer.0) refl where
     by : (near : Option Peering) → work.edge.peering peer.0 ≡ near → IsHealing plan service site network me peer.0 messages (holds peer rest near work)
     by None at = both.1.heals
-    by (Some kept) at = kept_heals messages kept (record kept { held = rest }) work at (record { phase = refl; peers = refl; number = refl }) (held_sound (point_limit plan me.0) peer rest kept work at both.0.sound) both.1.heals
+    by (Some kept) at = kept_heals messages kept (record kept { held = rest }) work at (record { phase = refl; peers = refl; number = refl })
+        (held_sound (point_limit plan me.0) peer rest kept work at both.0.sound) both.1.heals
 
   held_times : (n : ℕ) (kept : Peering) → (having_spoken_times n kept).held ≡ kept.held
   held_times zero kept = refl
@@ -255,7 +272,8 @@ module _ (plan : Plan) (service : ServiceId) (site : Sites) (calm network : Netw
       held_is joined =
           let mildly = heard.keeps.1.heals.stays.speaks peer.0 (joined_back plan service peer.0 me.0 joined) there in
           let now : Peering = record mildly.kept { held = heard.rest } in
-          let result_is : result.edge.peering peer.0 ≡ Some now = ap (λ (w : Work). w.edge.peering peer.0) (heard.is ∙ ap (λ (o : Option Peering). holds peer heard.rest o heard.last) mildly.at) ∙ kept_here peer now heard.last in
+          let result_is : result.edge.peering peer.0 ≡ Some now =
+          ap (λ (w : Work). w.edge.peering peer.0) (heard.is ∙ ap (λ (o : Option Peering). holds peer heard.rest o heard.last) mildly.at) ∙ kept_here peer now heard.last in
           let speaks : SpeaksOn (result.edge.peering peer.0) ((mends plan taken_all result).edge.peering peer.0) = mends_speaks plan taken_all peer.0 result (λ k. refl) in
           ap held_by (speaks.is ∙ ap (option_map (having_spoken_times speaks.times)) result_is) ∙ held_times speaks.times now
 

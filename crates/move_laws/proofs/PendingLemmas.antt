@@ -49,7 +49,8 @@ some_more test (x ∷ xs) ys some = by (test x) refl (some_more test xs ys) wher
   by true here more = rw here refl
   by false away more = or_right (test x) (some_message test (xs ++ ys)) (more (rw away at some))
 
-pub cleared_more : (plan : Plan) (a b n : ℕ) (old new : List ℕ) (more : List Message) → new ≡ old ++ octets_of_all (ends_at plan a b).me more → AreSaid (ends_at plan a b) more → IsCleared plan a b n old → IsCleared plan a b n new
+pub cleared_more : (plan : Plan) (a b n : ℕ) (old new : List ℕ) (more : List Message) → new ≡ old ++ octets_of_all (ends_at plan a b).me more → AreSaid (ends_at plan a b) more
+    → IsCleared plan a b n old → IsCleared plan a b n new
 cleared_more plan a b n old new more is said cleared = record {
   messages = cleared.messages ++ more;
   is = is ∙ (ap (λ (l : List ℕ). l ++ octets_of_all (ends_at plan a b).me more) cleared.is ∙ sym (all_joined (ends_at plan a b).me cleared.messages more));
@@ -57,10 +58,12 @@ cleared_more plan a b n old new more is said cleared = record {
   among = some_more (clears n) cleared.messages more cleared.among;
 }
 
-pub tells_on : (plan : Plan) (service : ServiceId) (network : NetworkState) (me place n : ℕ) (old new : Work) → SaysMore plan me place old new → WillTell plan service network me place n old → WillTell plan service network me place n new
+pub tells_on : (plan : Plan) (service : ServiceId) (network : NetworkState) (me place n : ℕ) (old new : Work) → SaysMore plan me place old new
+    → WillTell plan service network me place n old → WillTell plan service network me place n new
 tells_on plan service network me place n old new more tells = record {
   joined = tells.joined;
   there = tells.there;
   cleared = cleared_more plan me place n (flight network me place ++ said_to place old.effects) (flight network me place ++ said_to place new.effects) more.more
-      (ap (λ (l : List ℕ). flight network me place ++ l) more.is ∙ sym (append_assoc (flight network me place) (said_to place old.effects) (octets_of_all (ends_at plan me place).me more.more))) more.said tells.cleared;
+      (ap (λ (l : List ℕ). flight network me place ++ l) more.is
+      ∙ sym (append_assoc (flight network me place) (said_to place old.effects) (octets_of_all (ends_at plan me place).me more.more))) more.said tells.cleared;
 }

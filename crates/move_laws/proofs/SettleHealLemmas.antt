@@ -54,7 +54,8 @@ joined_back plan service a b joined = any_weaker (λ (r : WirePlan). is_wire_of 
 
 pub joined_away : (plan : Plan) (service : ServiceId) (a b : ℕ) → IsChecked plan → are_joined_by plan service a b ≡ true → nat_eq a b ≡ false
 joined_away plan service a b checked joined = joined_apart plan a b checked
-    (any_weaker (λ (r : WirePlan). is_wire_of service r && joins a b r.path) (λ (r : WirePlan). joins a b r.path) plan.wires (λ r is. (and_parts (is_wire_of service r) (joins a b r.path) is).1) joined)
+    (any_weaker (λ (r : WirePlan). is_wire_of service r && joins a b r.path) (λ (r : WirePlan). joins a b r.path) plan.wires
+    (λ r is. (and_parts (is_wire_of service r) (joins a b r.path) is).1) joined)
 
 pub none_there : {A : Type 0} (x : Option A) → is_there x ≡ false → x ≡ None
 none_there None is = refl
@@ -81,7 +82,8 @@ module _ (plan : Plan) (service : ServiceId) (site : Sites) (calm network : Netw
       there_up ((network.edges me.0).peering place) (SpeaksMildly plan service network me.0 peer place Begun) (heals.steady me.0 place joined there).0.up
       (λ kept at up.
       let apart = joined_away plan service me.0 place checked joined in
-      let standing : IsStanding (ends_at plan me.0 place) (ends_at plan place me.0) kept = subst (StandsIf (ends_at plan me.0 place) (ends_at plan place me.0)) at (ordered.two me.0 place apart).talk.here in
+      let standing : IsStanding (ends_at plan me.0 place) (ends_at plan place me.0) kept =
+      subst (StandsIf (ends_at plan me.0 place) (ends_at plan place me.0)) at (ordered.two me.0 place apart).talk.here in
       record {
         kept = kept;
         at = at;
@@ -121,7 +123,8 @@ module _ (plan : Plan) (service : ServiceId) (site : Sites) (calm network : Netw
     where
       hear : a ≡ peer → b ≡ me.0 → WorkWays plan service network me.0 peer messages Begun a b n
       hear from to =
-          let here : IsWithdrawalPending plan service network peer me.0 n = subst (λ (k : ℕ). IsWithdrawalPending plan service network peer k n) to (subst (λ (k : ℕ). IsWithdrawalPending plan service network k b n) from pending) in
+          let here : IsWithdrawalPending plan service network peer me.0 n =
+          subst (λ (k : ℕ). IsWithdrawalPending plan service network peer k n) to (subst (λ (k : ℕ). IsWithdrawalPending plan service network k b n) from pending) in
           let rest = left here.joined here.there in
           let fit : AreFit (ends_at plan peer me.0) = fit_at plan network peer me.0 ordered (joined_away plan service peer me.0 checked here.joined) here.there in
           let same : here.cleared.messages ≡ messages = said_once (ends_at plan peer me.0) here.cleared.messages messages fit here.cleared.said rest.said (sym here.cleared.is ∙ rest.is) in
@@ -132,10 +135,13 @@ module _ (plan : Plan) (service : ServiceId) (site : Sites) (calm network : Netw
   begin_heals left = record {
     stays = begin_stays;
     right = λ core is.
-        subst (AllByRecursion (EntryHeals plan service site (put_at (chosen_in service network) me.0 (Begun.edge.chosen service.0)) (WorkWays plan service network me.0 peer messages Begun) core)) (sym (put_same (learned_in service network) me.0 core))
-        (all_weaker (EntryHeals plan service site (chosen_in service network) (IsWithdrawalPending plan service network) core) (EntryHeals plan service site (put_at (chosen_in service network) me.0 (Begun.edge.chosen service.0)) (WorkWays plan service network me.0 peer messages Begun) core)
+        subst (AllByRecursion (EntryHeals plan service site (put_at (chosen_in service network) me.0 (Begun.edge.chosen service.0))
+        (WorkWays plan service network me.0 peer messages Begun) core)) (sym (put_same (learned_in service network) me.0 core))
+        (all_weaker (EntryHeals plan service site (chosen_in service network) (IsWithdrawalPending plan service network) core)
+        (EntryHeals plan service site (put_at (chosen_in service network) me.0 (Begun.edge.chosen service.0)) (WorkWays plan service network me.0 peer messages Begun) core)
         (learned_in service network core)
-        (λ entry. entry_heals_on plan service site (chosen_in service network) (put_at (chosen_in service network) me.0 (Begun.edge.chosen service.0)) (IsWithdrawalPending plan service network) (WorkWays plan service network me.0 peer messages Begun) core entry
+        (λ entry. entry_heals_on plan service site (chosen_in service network) (put_at (chosen_in service network) me.0 (Begun.edge.chosen service.0))
+        (IsWithdrawalPending plan service network) (WorkWays plan service network me.0 peer messages Begun) core entry
         (begin_ways left) (λ edge wire home spoke chosen. inl (sym (put_same (chosen_in service network) me.0 edge) ∙ chosen)))
         (heals.right core is));
   }
@@ -170,7 +176,12 @@ module _ (plan : Plan) (service : ServiceId) (site : Sites) (calm network drawn 
   other_edge a away = ap (λ (f : ℕ → EdgeState). f a) edges ∙ (edge_else me work.edge drawn a away ∙ ap (λ (f : ℕ → EdgeState). f a) same.edges)
 
   other_flight : (a b : ℕ) → nat_eq a me.0 ≡ false → nat_eq b me.0 ≡ false → flight After a b ≡ flight network a b
-  other_flight a b away gone = rw (other_edge b gone, all_apart me 0 0 a b work.effects Begin away gone, edge_pipes me work.edge drawn, same.pipes a b (and_right (nat_eq a peer) (nat_eq b me.0) gone)) refl
+  other_flight a b away gone = rw (
+    other_edge b gone,
+    all_apart me 0 0 a b work.effects Begin away gone,
+    edge_pipes me work.edge drawn,
+    same.pipes a b (and_right (nat_eq a peer) (nat_eq b me.0) gone),
+  ) refl
 
   out_flight : (place : ℕ) → nat_eq place me.0 ≡ false → stands network place me.0 ≡ true → flight After me.0 place ≡ flight network me.0 place ++ said_to place work.effects
   out_flight place away there =
@@ -225,7 +236,9 @@ module _ (plan : Plan) (service : ServiceId) (site : Sites) (calm network drawn 
     way = record {
       messages = at.steady.way.messages ++ at.mildly.messages;
       is = out_flight place at.away (back_there place at)
-          ∙ (ap (λ (l : List ℕ). l ++ said_to place work.effects) at.steady.way.is ∙ (ap (λ (l : List ℕ). octets_of_all (ends_at plan me.0 place).me at.steady.way.messages ++ l) at.mildly.is ∙ sym (all_joined (ends_at plan me.0 place).me at.steady.way.messages at.mildly.messages)));
+          ∙ (ap (λ (l : List ℕ). l ++ said_to place work.effects) at.steady.way.is
+          ∙ (ap (λ (l : List ℕ). octets_of_all (ends_at plan me.0 place).me at.steady.way.messages ++ l) at.mildly.is
+          ∙ sym (all_joined (ends_at plan me.0 place).me at.steady.way.messages at.mildly.messages)));
       said = said-append (ends_at plan me.0 place) at.steady.way.messages at.mildly.messages at.steady.way.said at.mildly.said;
       mild = all_more (IsMild plan service me.0 place) at.steady.way.messages at.mildly.messages at.steady.way.mild at.mildly.mild;
     };
@@ -269,7 +282,8 @@ module _ (plan : Plan) (service : ServiceId) (site : Sites) (calm network drawn 
           let at : IsNear place = near place joined (stood place joined (rw own_edge at there)) in
           (steady_out place at, steady_back place at)
 
-      to_me : (place : ℕ) → nat_eq place me.0 ≡ false → are_joined_by plan service place me.0 ≡ true → stands After place me.0 ≡ true → IsSteady plan service After place me.0 × IsSteady plan service After me.0 place
+      to_me : (place : ℕ) → nat_eq place me.0 ≡ false → are_joined_by plan service place me.0 ≡ true → stands After place me.0 ≡ true → IsSteady plan service After place me.0
+          × IsSteady plan service After me.0 place
       to_me place away joined there =
           let both = heals.steady place me.0 joined (rw (other_edge place away) at there) in
           let at : IsNear place = near place (joined_back plan service place me.0 joined) (has_end ((network.edges me.0).peering place) both.1.up) in
@@ -303,8 +317,13 @@ module _ (plan : Plan) (service : ServiceId) (site : Sites) (calm network drawn 
         cleared = record { messages = later; is = back_flight peer at.away at.mildly.unclosed ∙ rest.is; said = rest.said; among = among };
       }))
   ways_after a b n (Waits away other pending) = split {P = IsWithdrawalPending plan service After a b n} (nat_eq b me.0)
-      (λ is. subst (λ (k : ℕ). IsWithdrawalPending plan service After a k n) (sym (eqb-true b me.0 is)) (to_me (subst (λ (k : ℕ). IsWithdrawalPending plan service network a k n) (eqb-true b me.0 is) pending) (rw is at other)))
-      (λ gone. record { joined = pending.joined; there = rw (other_edge a away) pending.there; cleared = moved_clear a b n (flight network a b) (flight After a b) (other_flight a b away gone) pending.cleared })
+      (λ is. subst (λ (k : ℕ). IsWithdrawalPending plan service After a k n) (sym (eqb-true b me.0 is))
+      (to_me (subst (λ (k : ℕ). IsWithdrawalPending plan service network a k n) (eqb-true b me.0 is) pending) (rw is at other)))
+      (λ gone. record {
+        joined = pending.joined;
+        there = rw (other_edge a away) pending.there;
+        cleared = moved_clear a b n (flight network a b) (flight After a b) (other_flight a b away gone) pending.cleared;
+      })
     where
       not_peer : (x : Bool) → x && true ≡ false → x ≡ false
       not_peer true e = clash (sym e)
@@ -342,9 +361,11 @@ module _ (plan : Plan) (service : ServiceId) (site : Sites) (calm network drawn 
     mesh = by_place (λ a edge. KeepsMesh plan service a edge) done.stays.mesh heals.mesh;
     right = λ core is.
         subst (AllByRecursion (EntryHeals plan service site (chosen_in service After) (IsWithdrawalPending plan service After) core)) (learned_after core)
-        (all_weaker (EntryHeals plan service site (put_at (chosen_in service network) me.0 (work.edge.chosen service.0)) (WorkWays plan service network me.0 peer later work) core) (EntryHeals plan service site (chosen_in service After) (IsWithdrawalPending plan service After) core)
+        (all_weaker (EntryHeals plan service site (put_at (chosen_in service network) me.0 (work.edge.chosen service.0)) (WorkWays plan service network me.0 peer later work) core)
+        (EntryHeals plan service site (chosen_in service After) (IsWithdrawalPending plan service After) core)
         (put_at (learned_in service network) me.0 (work.edge.learned service.0) core)
-        (λ entry. entry_heals_on plan service site (put_at (chosen_in service network) me.0 (work.edge.chosen service.0)) (chosen_in service After) (WorkWays plan service network me.0 peer later work) (IsWithdrawalPending plan service After) core entry
+        (λ entry. entry_heals_on plan service site (put_at (chosen_in service network) me.0 (work.edge.chosen service.0)) (chosen_in service After)
+        (WorkWays plan service network me.0 peer later work) (IsWithdrawalPending plan service After) core entry
         ways_after (λ edge wire home spoke chosen. inl (chosen_after edge ∙ chosen)))
         (done.right core is));
     table = by_place (λ a edge. AllByRecursion (PointsToSite plan calm service site a) (edge.learned service.0))

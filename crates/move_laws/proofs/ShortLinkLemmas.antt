@@ -26,7 +26,8 @@ all_hold test (y ∷ ys) zero x all is =
 all_hold test (y ∷ ys) (suc i) x all is = all_hold test ys i x (second_holds (test y) (list_all test ys) all) is
 
 -- the path of a wire of the service has two edges
-pub has_two : (plan : Plan) (service : ServiceId) (wire : WireId) (row : WirePlan) → has_short_paths plan service ≡ true → is_wire_of service row ≡ true → wire_row plan wire ≡ Some row → nat_eq (length row.path) 2 ≡ true
+pub has_two : (plan : Plan) (service : ServiceId) (wire : WireId) (row : WirePlan) → has_short_paths plan service ≡ true → is_wire_of service row ≡ true → wire_row plan wire ≡ Some row
+    → nat_eq (length row.path) 2 ≡ true
 has_two plan service wire row short ours is = rw ours at (all_hold (λ (r : WirePlan). not (is_wire_of service r) || nat_eq (length r.path) 2) plan.wires wire.0 row short is)
 
 -- the path of a wire is its two terminal edges
@@ -53,7 +54,8 @@ whole plan row link = record {
 }
 
 -- so it is with each wire of a service with short paths
-pub short_link : (plan : Plan) (service : ServiceId) (k : ℕ) (row : WirePlan) → IsChecked plan → has_short_paths plan service ≡ true → is_wire_of service row ≡ true → slice_get plan.wires k ≡ Some row → IsShortLink plan row
+pub short_link : (plan : Plan) (service : ServiceId) (k : ℕ) (row : WirePlan) → IsChecked plan → has_short_paths plan service ≡ true → is_wire_of service row ≡ true
+    → slice_get plan.wires k ≡ Some row → IsShortLink plan row
 short_link plan service k row checked short ours is = by link.rest link.path link.ends (ap (λ (path : List EdgeId). nat_eq (length path) 2) (sym link.path) ∙ has_two plan service (record { 0 = k }) row short ours is) where
   link : IsLink plan row
   link = link_at plan k row checked is

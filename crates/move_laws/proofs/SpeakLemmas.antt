@@ -42,7 +42,8 @@ pub record Speaks (plan : Plan) (service : ServiceId) (network : NetworkState) (
   pub mesh : KeepsMesh plan service me.0 work.edge
   pub more : (place : ℕ) → are_joined_by plan service me.0 place ≡ true → stands network me.0 place ≡ true → SaysMore plan me.0 place base work
 
-pub mesh_same : (plan : Plan) (service : ServiceId) (me : ℕ) (old new : EdgeState) → new.ends ≡ old.ends → new.wire_on ≡ old.wire_on → new.bits ≡ old.bits → KeepsMesh plan service me old → KeepsMesh plan service me new
+pub mesh_same : (plan : Plan) (service : ServiceId) (me : ℕ) (old new : EdgeState) → new.ends ≡ old.ends → new.wire_on ≡ old.wire_on → new.bits ≡ old.bits
+    → KeepsMesh plan service me old → KeepsMesh plan service me new
 mesh_same plan service me old new ends on bits mesh = record {
   told = λ wire row peer is of joined. ap (λ (f : ℕ → ℕ → EndState). is_advertising (f wire.0 peer).local) ends ∙ mesh.told wire row peer is of joined;
   on = λ wire row peer is of joined. ap (λ (f : ℕ → Bool). f wire.0) on ∙ mesh.on wire row peer is of joined;
@@ -92,14 +93,17 @@ module _ (plan : Plan) (service : ServiceId) (network : NetworkState) (me : Edge
   }
 
   -- the edge is changed, but not what is kept for neighbours
-  pub changed_speaks : (base : Work) (change : EdgeState → EdgeState) (work : Work) → (change work.edge).peering ≡ work.edge.peering → (change work.edge).me ≡ work.edge.me → TellsSoundly (point_limit plan me.0) (change work.edge) → KeepsMesh plan service me.0 (change work.edge)
+  pub changed_speaks : (base : Work) (change : EdgeState → EdgeState) (work : Work) → (change work.edge).peering ≡ work.edge.peering → (change work.edge).me ≡ work.edge.me
+      → TellsSoundly (point_limit plan me.0) (change work.edge) → KeepsMesh plan service me.0 (change work.edge)
       → Speaks plan service network me peer base work → Speaks plan service network me peer base (changes change work)
   changed_speaks base change work kept same sound mesh speaks =
-      spared_speaks base work (changes change work) (λ place. change_spares place change work kept) (rw (changed_edge change work) same) (rw (changed_edge change work) sound) (rw (changed_edge change work) mesh) speaks
+      spared_speaks base work (changes change work) (λ place. change_spares place change work kept) (rw (changed_edge change work) same) (rw (changed_edge change work) sound)
+      (rw (changed_edge change work) mesh) speaks
 
   pub gives_speaks : (base : Work) (e : Effect) (work : Work) → IsSilent e → Speaks plan service network me peer base work → Speaks plan service network me peer base (gives e work)
   gives_speaks base e work silent speaks =
-      spared_speaks base work (gives e work) (λ place. gives_spares place e work silent) (ap (λ (x : EdgeState). x.me) (given_edge e work)) (rw (given_edge e work) speaks.sound) (rw (given_edge e work) speaks.mesh) speaks
+      spared_speaks base work (gives e work) (λ place. gives_spares place e work silent) (ap (λ (x : EdgeState). x.me) (given_edge e work)) (rw (given_edge e work) speaks.sound)
+      (rw (given_edge e work) speaks.mesh) speaks
 
   -- a message is said more
   pub said_more : (own : Peers) (before said : List ℕ) (kept : Peering) (message : ℕ → Message) (ms : List Message) → kept.session.peers ≡ own → said ≡ octets_of_all own.me ms
@@ -113,7 +117,8 @@ module _ (plan : Plan) (service : ServiceId) (network : NetworkState) (me : Edge
     abbrev After : Work
     After = (says taken_all to message work).work
 
-    here_mildly : are_joined_by plan service me.0 to.0 ≡ true → stands network me.0 to.0 ≡ true → SpeaksMildly plan service network me.0 peer to.0 work → SpeaksMildly plan service network me.0 peer to.0 After
+    here_mildly : are_joined_by plan service me.0 to.0 ≡ true → stands network me.0 to.0 ≡ true → SpeaksMildly plan service network me.0 peer to.0 work
+        → SpeaksMildly plan service network me.0 peer to.0 After
     here_mildly joined there old =
         let spoken = says_spoken to old.kept message work old.at in
         let own : Peers = ends_at plan me.0 to.0 in
@@ -139,7 +144,8 @@ module _ (plan : Plan) (service : ServiceId) (network : NetworkState) (me : Edge
         let m : Message = message old.kept.next_id in
         record {
           more = more.more ++ m ∷ [];
-          is = spoken.said ∙ (ap (λ (l : List ℕ). l ++ message_octets_of old.kept message) more.is ∙ said_more own (said_to to.0 base.effects) (octets_of_all own.me more.more) old.kept message more.more old.peers refl);
+          is = spoken.said ∙ (ap (λ (l : List ℕ). l ++ message_octets_of old.kept message) more.is
+              ∙ said_more own (said_to to.0 base.effects) (octets_of_all own.me more.more) old.kept message more.more old.peers refl);
           said = said-append own more.more (m ∷ []) more.said (of_wires.said own old.kept.next_id old.numbered, tt);
         }
 
@@ -160,7 +166,8 @@ module _ (plan : Plan) (service : ServiceId) (network : NetworkState) (me : Edge
             sound = says_sound to message work speaks.sound;
             speaks = λ place joined there. split {P = SpeaksMildly plan service network me.0 peer place After} (nat_eq place to.0)
                 (λ is. subst (λ (k : ℕ). SpeaksMildly plan service network me.0 peer k After) (sym (eqb-true place to.0 is))
-                (here_mildly (subst (λ (k : ℕ). are_joined_by plan service me.0 k ≡ true) (eqb-true place to.0 is) joined) (subst (λ (k : ℕ). stands network me.0 k ≡ true) (eqb-true place to.0 is) there)
+                (here_mildly (subst (λ (k : ℕ). are_joined_by plan service me.0 k ≡ true) (eqb-true place to.0 is) joined)
+                (subst (λ (k : ℕ). stands network me.0 k ≡ true) (eqb-true place to.0 is) there)
                 (subst (λ (k : ℕ). SpeaksMildly plan service network me.0 peer k work) (eqb-true place to.0 is) (speaks.speaks place joined there))))
                 (λ away. mildly_spared place work After (says_spares place to message work away) (speaks.speaks place joined there));
             apart = λ place joined gone. split {P = After.edge.peering place ≡ None} (nat_eq place to.0)

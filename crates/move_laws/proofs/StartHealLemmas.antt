@@ -104,7 +104,8 @@ all_meshes plan network service checked short calm = record {
 module _ (plan : Plan) (service : ServiceId) (site : Sites) (network : NetworkState) (checked : IsChecked plan) (short : has_short_paths plan service ≡ true) (ordered : IsOrdered plan network)
     (settle : (a b : ℕ) → are_joined_by plan service a b ≡ true → AreSettled plan network a b) (mended : HasMended plan network) (starts : StartsRight plan network service site) where
   quiet : is_quiet plan network service ≡ true
-  quiet = first_holds (is_quiet plan network service) (is_full plan network service) (first_holds (is_quiet plan network service && is_full plan network service) (has_live_spokes plan network service) starts.calm)
+  quiet = first_holds (is_quiet plan network service) (is_full plan network service)
+      (first_holds (is_quiet plan network service && is_full plan network service) (has_live_spokes plan network service) starts.calm)
 
   settled_here : (a b : ℕ) → are_joined_by plan service a b ≡ true → is_settled network a b ≡ true
   settled_here a b joined =
@@ -137,7 +138,8 @@ module _ (plan : Plan) (service : ServiceId) (site : Sites) (network : NetworkSt
     ends_of : (b n f c : ℕ) → ((b == n && c == f) || (c == n && b == f)) || false ≡ true → (b == n) ≡ false → b ≡ f
     ends_of b n f c is away = grind (arith, nat_tests)
 
-    forward : (wire : WireId) (row : WirePlan) (peer : ℕ) → wire_row plan wire ≡ Some row → is_mesh_of service row ≡ true → joins a peer row.path ≡ true → end_forwards plan (network.edges a) wire ≡ true
+    forward : (wire : WireId) (row : WirePlan) (peer : ℕ) → wire_row plan wire ≡ Some row → is_mesh_of service row ≡ true → joins a peer row.path ≡ true
+        → end_forwards plan (network.edges a) wire ≡ true
     forward wire row peer is mesh joined = elim (cases_Bool (a == link.near.0)) [
       | inl here ↦ subst (λ (n : ℕ). end_forwards plan (network.edges n) wire ≡ true) (sym (eqb-true a link.near.0 here)) both.0
       | inr away ↦ subst (λ (n : ℕ). end_forwards plan (network.edges n) wire ≡ true) (sym (ends_of a link.near.0 link.far.0 peer (rw link.path at joined) away)) both.1
@@ -149,32 +151,40 @@ module _ (plan : Plan) (service : ServiceId) (site : Sites) (network : NetworkSt
         both : (end_forwards plan (network.edges link.near.0) wire ≡ true) × (end_forwards plan (network.edges link.far.0) wire ≡ true)
         both = carries_ends plan network wire.0 row link (mesh_carries plan network service wire.0 row checked starts.calm is mesh)
 
-    end_is : (wire : WireId) (row : WirePlan) (peer : ℕ) → wire_row plan wire ≡ Some row → is_mesh_of service row ≡ true → joins a peer row.path ≡ true → IsLinkEnd plan (record { 0 = a }) (record { 0 = peer }) wire row
+    end_is : (wire : WireId) (row : WirePlan) (peer : ℕ) → wire_row plan wire ≡ Some row → is_mesh_of service row ≡ true → joins a peer row.path ≡ true
+        → IsLinkEnd plan (record { 0 = a }) (record { 0 = peer }) wire row
     end_is wire row peer is mesh joined = link_end plan service (record { 0 = a }) (record { 0 = peer }) wire row checked short (ours row mesh) is joined
 
-    down_is : (wire : WireId) (row : WirePlan) (peer : ℕ) (is : wire_row plan wire ≡ Some row) (mesh : is_mesh_of service row ≡ true) → (joined : joins a peer row.path ≡ true) → down_at plan (network.edges a) (end_is wire row peer is mesh joined).place ≡ None
+    down_is : (wire : WireId) (row : WirePlan) (peer : ℕ) (is : wire_row plan wire ≡ Some row) (mesh : is_mesh_of service row ≡ true) → (joined : joins a peer row.path ≡ true)
+        → down_at plan (network.edges a) (end_is wire row peer is mesh joined).place ≡ None
     down_is wire row peer is mesh joined =
         forwards_end plan (network.edges a) (record { 0 = a }) (record { 0 = peer }) wire row (end_is wire row peer is mesh joined) (ordered.placed a) (forward wire row peer is mesh joined)
 
-    told_at : (wire : WireId) (row : WirePlan) (peer : ℕ) (is : wire_row plan wire ≡ Some row) (mesh : is_mesh_of service row ≡ true) → (joined : joins a peer row.path ≡ true) → is_advertising (end_at (network.edges a) (end_is wire row peer is mesh joined).place).local ≡ true
+    told_at : (wire : WireId) (row : WirePlan) (peer : ℕ) (is : wire_row plan wire ≡ Some row) (mesh : is_mesh_of service row ≡ true) → (joined : joins a peer row.path ≡ true)
+        → is_advertising (end_at (network.edges a) (end_is wire row peer is mesh joined).place).local ≡ true
     told_at wire row peer is mesh joined =
-        let agree = forwards_where_both_agree (role_at plan (network.edges a) (end_is wire row peer is mesh joined).place) ((network.edges a).bits (end_is wire row peer is mesh joined).place.wire.0) (end_at (network.edges a) (end_is wire row peer is mesh joined).place) (down_is wire row peer is mesh joined) in
+        let agree = forwards_where_both_agree (role_at plan (network.edges a) (end_is wire row peer is mesh joined).place)
+        ((network.edges a).bits (end_is wire row peer is mesh joined).place.wire.0) (end_at (network.edges a) (end_is wire row peer is mesh joined).place) (down_is wire row peer is mesh joined) in
         advertises_it agree.label agree.own _ agree.advertises
 
-    told : (wire : WireId) (row : WirePlan) (peer : ℕ) → wire_row plan wire ≡ Some row → is_mesh_of service row ≡ true → joins a peer row.path ≡ true → is_advertising ((network.edges a).ends wire.0 peer).local ≡ true
+    told : (wire : WireId) (row : WirePlan) (peer : ℕ) → wire_row plan wire ≡ Some row → is_mesh_of service row ≡ true → joins a peer row.path ≡ true
+        → is_advertising ((network.edges a).ends wire.0 peer).local ≡ true
     told wire row peer is mesh joined =
         ap (λ (w : WireId). is_advertising ((network.edges a).ends w.0 peer).local) (sym (end_is wire row peer is mesh joined).wire_is)
-        ∙ (ap (λ (e : EdgeId). is_advertising ((network.edges a).ends (end_is wire row peer is mesh joined).place.wire.0 e.0).local) (sym (end_is wire row peer is mesh joined).peer_is) ∙ told_at wire row peer is mesh joined)
+        ∙ (ap (λ (e : EdgeId). is_advertising ((network.edges a).ends (end_is wire row peer is mesh joined).place.wire.0 e.0).local) (sym (end_is wire row peer is mesh joined).peer_is)
+        ∙ told_at wire row peer is mesh joined)
 
     whole : (wire : WireId) (row : WirePlan) (peer : ℕ) → wire_row plan wire ≡ Some row → is_mesh_of service row ≡ true → joins a peer row.path ≡ true → (network.edges a).bits wire.0 ≡ 0
     whole wire row peer is mesh joined =
         ap (λ (w : WireId). (network.edges a).bits w.0) (sym (end_is wire row peer is mesh joined).wire_is)
-        ∙ forwards_whole (role_at plan (network.edges a) (end_is wire row peer is mesh joined).place) ((network.edges a).bits (end_is wire row peer is mesh joined).place.wire.0) (end_at (network.edges a) (end_is wire row peer is mesh joined).place) (down_is wire row peer is mesh joined)
+        ∙ forwards_whole (role_at plan (network.edges a) (end_is wire row peer is mesh joined).place) ((network.edges a).bits (end_is wire row peer is mesh joined).place.wire.0)
+        (end_at (network.edges a) (end_is wire row peer is mesh joined).place) (down_is wire row peer is mesh joined)
 
     on : (wire : WireId) (row : WirePlan) (peer : ℕ) → wire_row plan wire ≡ Some row → is_mesh_of service row ≡ true → joins a peer row.path ≡ true → (network.edges a).wire_on wire.0 ≡ true
     on wire row peer is mesh joined =
         ap (λ (w : WireId). (network.edges a).wire_on w.0) (sym (end_is wire row peer is mesh joined).wire_is)
-        ∙ mended.on a (end_is wire row peer is mesh joined).place (wire_end_is plan (record { 0 = a }) wire (end_is wire row peer is mesh joined).place (end_is wire row peer is mesh joined).found) (told_at wire row peer is mesh joined)
+        ∙ mended.on a (end_is wire row peer is mesh joined).place
+        (wire_end_is plan (record { 0 = a }) wire (end_is wire row peer is mesh joined).place (end_is wire row peer is mesh joined).found) (told_at wire row peer is mesh joined)
 
   -- ---- entries
 
@@ -254,12 +264,14 @@ module _ (plan : Plan) (service : ServiceId) (site : Sites) (network : NetworkSt
       its_link : IsSpokeLink plan service wired.link.near.0 wired.link.far.0 its.row
       its_link = spoke_link plan service wired.link.near.0 other wired.link.far.0 checked short its
 
-      by_side : (b : Bool) → (core == wired.link.near.0) ≡ b → cond b (elsewhere_of plan service core circuit) (at_edge_of plan service wired.link.near.0 circuit) ≡ true → (core ≡ home) × (other ≡ wire)
+      by_side : (b : Bool) → (core == wired.link.near.0) ≡ b → cond b (elsewhere_of plan service core circuit) (at_edge_of plan service wired.link.near.0 circuit) ≡ true
+          → (core ≡ home) × (other ≡ wire)
       by_side true here at = no_both core core_is (subst (λ (n : ℕ). is_spoke_edge plan service n ≡ true) (sym (eqb-true core wired.link.near.0 here)) its_link.starts)
       by_side false away at =
           let far : core ≡ wired.link.far.0 = at_far plan service core wired.row wired.link wired.ends away in
           let same : wired.link.near.0 ≡ x = own_edge_is circuit wired.link.near.0 x at there in
-          let up : end_forwards plan (network.edges x) other ≡ true = subst (λ (n : ℕ). end_forwards plan (network.edges n) other ≡ true) same (carries_ends plan network other.0 wired.row wired.link behind.live).0 in
+          let up : end_forwards plan (network.edges x) other ≡ true =
+          subst (λ (n : ℕ). end_forwards plan (network.edges n) other ≡ true) same (carries_ends plan network other.0 wired.row wired.link behind.live).0 in
           let moved : IsSpokeTo plan service x other wired.link.far.0 = subst (λ (n : ℕ). IsSpokeTo plan service n other wired.link.far.0) same its in
           let one : other ≡ wire = live_same plan service network x other wired.link.far.0 checked short ordered live moved up ∙ wire_is in
           (far ∙ home_same plan service x wire wired.link.far.0 home checked short (subst (λ (w : WireId). IsSpokeTo plan service x w wired.link.far.0) one moved) spoke, one)
@@ -271,7 +283,8 @@ module _ (plan : Plan) (service : ServiceId) (site : Sites) (network : NetworkSt
   live_entry e entry points wire leads =
       let same : points.port ≡ port.Spoke wire = some_same (sym points.at ∙ leads) in
       let wired : IsPortWire plan service e false wire = spoke_port plan service e entry.port wire checked short leads in
-      let behind = behind_is plan service network e wire wired.row wired.link (site entry.address.0) wired.is (subst (λ (p : Port). reach plan network service e p (site entry.address.0) ≡ true) same points.reaches) in
+      let behind = behind_is plan service network e wire wired.row wired.link (site entry.address.0) wired.is
+      (subst (λ (p : Port). reach plan network service e p (site entry.address.0) ≡ true) same points.reaches) in
       let both = carries_ends plan network wire.0 wired.row wired.link behind.live in
       split {P = end_forwards plan (network.edges e) wire ≡ true} (e == wired.link.near.0)
       (λ here. subst (λ (n : ℕ). end_forwards plan (network.edges n) wire ≡ true) (sym (eqb-true e wired.link.near.0 here)) both.0)
@@ -281,13 +294,15 @@ module _ (plan : Plan) (service : ServiceId) (site : Sites) (network : NetworkSt
   starts_heal = record {
     steady = steady_here;
     mesh = mesh_here;
-    right = λ core is. all_weaker (PointsToSite plan network service site core) (EntryHeals plan service site (chosen_in service network) (IsWithdrawalPending plan service network) core) (learned_in service network core)
+    right = λ core is. all_weaker (PointsToSite plan network service site core)
+        (EntryHeals plan service site (chosen_in service network) (IsWithdrawalPending plan service network) core) (learned_in service network core)
         (λ entry points x wire home spoke chosen there. IsRight (right_here core is entry points x wire home spoke chosen there)) (starts.points core);
     table = starts.points;
     live = λ e. all_weaker (PointsToSite plan network service site e) (IsAtLive plan service e (network.edges e)) (learned_in service network e) (live_entry e) (starts.points e);
   }
 
-pub start_heals : (plan : Plan) (events : List Event) (service : ServiceId) (site : Sites) → IsRun plan events → has_short_paths plan service ≡ true → StartsRight plan (network_after plan events) service site
+pub start_heals : (plan : Plan) (events : List Event) (service : ServiceId) (site : Sites) → IsRun plan events → has_short_paths plan service ≡ true
+    → StartsRight plan (network_after plan events) service site
     → Heals plan service site (network_after plan events) (network_after plan events)
 start_heals plan events service site run short starts =
     starts_heal plan service site (network_after plan events) run.checked short (run_ordered plan events run)

@@ -78,7 +78,8 @@ module _ (plan : Plan) (service : ServiceId) (me : EdgeId) (checked : IsChecked 
       either false = refl
 
   -- what an end of a mesh wire of the service tells goes on to stand
-  pub mesh_stands : (edge : EdgeState) (place : EndPlace) (label : ℕ) (content : Told) (row : WirePlan) → edge.me ≡ me → TellsSoundly (point_limit plan me.0) edge → KeepsMesh plan service me.0 edge → IsEndOf plan me place
+  pub mesh_stands : (edge : EdgeState) (place : EndPlace) (label : ℕ) (content : Told) (row : WirePlan) → edge.me ≡ me → TellsSoundly (point_limit plan me.0) edge
+      → KeepsMesh plan service me.0 edge → IsEndOf plan me place
       → (end_at edge place).local ≡ Advertised label content → wire_row plan place.wire ≡ Some row → is_mesh_of service row ≡ true → stands place content (wish plan edge place) ≡ true
   mesh_stands edge place label content row placed sound mesh end at is of_mesh = stands_terminal place content (wish plan edge place) terminal wished
     where
@@ -108,16 +109,21 @@ module _ (plan : Plan) (service : ServiceId) (me : EdgeId) (checked : IsChecked 
           ap (λ (r : Option WirePlan). is_some (wish_of plan edge place r)) is
           ∙ (ap (λ (b : Bool). is_some (cond b (wish_by plan edge place row) None)) (and_from (edge.wire_on place.wire.0) (is_up_with (edge.peering place.peer.0)) on up)
           ∙ (ap (λ (b : Bool). is_some (cond b (terminal_wish plan edge place (offer_of row edge.me.0)) (passed_wish plan edge place row))) terminal
-          ∙ by_bits (tells_status (method_by (offer_of row edge.me.0).status (status_held (end_at edge place).remote))) (edge.bits place.wire.0) (content_of (offer_of row edge.me.0) (status_offered plan edge place (offer_of row edge.me.0))) whole))
+          ∙ by_bits (tells_status (method_by (offer_of row edge.me.0).status (status_held (end_at edge place).remote))) (edge.bits place.wire.0)
+          (content_of (offer_of row edge.me.0) (status_offered plan edge place (offer_of row edge.me.0))) whole))
 
   -- an end whose content does not stand is none of such a wire
-  not_mesh : {P : Type 0} (edge : EdgeState) (place : EndPlace) (label : ℕ) (content : Told) (wire : WireId) (row : WirePlan) → edge.me ≡ me → TellsSoundly (point_limit plan me.0) edge → KeepsMesh plan service me.0 edge → IsEndOf plan me place
-      → (end_at edge place).local ≡ Advertised label content → stands place content (wish plan edge place) ≡ false → wire_row plan wire ≡ Some row → is_mesh_of service row ≡ true → place.wire.0 ≡ wire.0 → P
+  not_mesh : {P : Type 0} (edge : EdgeState) (place : EndPlace) (label : ℕ) (content : Told) (wire : WireId) (row : WirePlan) → edge.me ≡ me → TellsSoundly (point_limit plan me.0) edge
+      → KeepsMesh plan service me.0 edge → IsEndOf plan me place
+      → (end_at edge place).local ≡ Advertised label content → stands place content (wish plan edge place) ≡ false → wire_row plan wire ≡ Some row → is_mesh_of service row ≡ true
+      → place.wire.0 ≡ wire.0 → P
   not_mesh edge place label content wire row placed sound mesh end at changed is of_mesh same =
       clash (sym changed ∙ mesh_stands edge place label content row placed sound mesh end at (ap (λ (n : ℕ). slice_get plan.wires n) same ∙ is) of_mesh)
 
-  mild_withdrawal : (edge : EdgeState) (place : EndPlace) (label : ℕ) (content : Told) → edge.me ≡ me → TellsSoundly (point_limit plan me.0) edge → KeepsMesh plan service me.0 edge → IsEndOf plan me place
-      → (end_at edge place).local ≡ Advertised label content → stands place content (wish plan edge place) ≡ false → (id : ℕ) → IsMild plan service me.0 place.peer.0 (withdrawal place.pw_id label content id)
+  mild_withdrawal : (edge : EdgeState) (place : EndPlace) (label : ℕ) (content : Told) → edge.me ≡ me → TellsSoundly (point_limit plan me.0) edge → KeepsMesh plan service me.0 edge
+      → IsEndOf plan me place
+      → (end_at edge place).local ≡ Advertised label content → stands place content (wish plan edge place) ≡ false → (id : ℕ)
+      → IsMild plan service me.0 place.peer.0 (withdrawal place.pw_id label content id)
   mild_withdrawal edge place label content placed sound mesh end at changed id = record {
     plain = refl;
     labels = λ wire row is of_mesh joined. split {P = not (place.pw_id == row.pw_id) ≡ true} (place.wire.0 == wire.0)
@@ -125,7 +131,8 @@ module _ (plan : Plan) (service : ServiceId) (me : EdgeId) (checked : IsChecked 
         (λ other. ap not (member_by_pw_id plan me place wire row checked is joined end ∙ other));
   }
 
-  withdrawing_mesh : (edge : EdgeState) (place : EndPlace) (label : ℕ) (content : Told) → edge.me ≡ me → TellsSoundly (point_limit plan me.0) edge → KeepsMesh plan service me.0 edge → IsEndOf plan me place
+  withdrawing_mesh : (edge : EdgeState) (place : EndPlace) (label : ℕ) (content : Told) → edge.me ≡ me → TellsSoundly (point_limit plan me.0) edge → KeepsMesh plan service me.0 edge
+      → IsEndOf plan me place
       → (end_at edge place).local ≡ Advertised label content → stands place content (wish plan edge place) ≡ false → KeepsMesh plan service me.0 (withdrawing place edge)
   unfolding with_end
   withdrawing_mesh edge place label content placed sound mesh end at changed = record {
@@ -149,15 +156,20 @@ module _ (plan : Plan) (service : ServiceId) (me : EdgeId) (checked : IsChecked 
   unfolding with_next_label with_kept
   mesh_label label edge mesh = record { told = mesh.told; on = mesh.on; whole = mesh.whole }
 
-  advertising_sound : (place : EndPlace) (label : ℕ) (content : Told) (edge : EdgeState) → is_up_with (edge.peering place.peer.0) ≡ true → (end_at edge place).local ≡ Idle false → CanBeTold label content
+  advertising_sound : (place : EndPlace) (label : ℕ) (content : Told) (edge : EdgeState) → is_up_with (edge.peering place.peer.0) ≡ true → (end_at edge place).local ≡ Idle false
+      → CanBeTold label content
       → TellsSoundly (point_limit plan me.0) edge → TellsSoundly (point_limit plan me.0) (advertising place label content edge)
   unfolding with_end
   advertising_sound place label content edge up at can sound =
       sound_giving label (with_end place (advertised label content (end_at edge place)) edge)
-      (sound_with_end place (advertised label content (end_at edge place)) edge (local_sound (point_limit plan me.0 place.wire.0) (is_up_with (edge.peering place.peer.0)) (end_at edge place) (advertised label content (end_at edge place)).local up (rw at can) (sound.ends place.wire.0 place.peer.0)) sound)
+      (sound_with_end place (advertised label content (end_at edge place)) edge
+      (local_sound (point_limit plan me.0 place.wire.0) (is_up_with (edge.peering place.peer.0)) (end_at edge place) (advertised label content (end_at edge place)).local up (rw at can)
+      (sound.ends place.wire.0 place.peer.0)) sound)
 
   down_rest : (place : EndPlace) (down : Option Down) (edge : EdgeState)
-      → ((with_told_down place.wire down edge).peering ≡ edge.peering) × ((with_told_down place.wire down edge).me ≡ edge.me) × (TellsSoundly (point_limit plan me.0) edge → TellsSoundly (point_limit plan me.0) (with_told_down place.wire down edge)) × (KeepsMesh plan service me.0 edge → KeepsMesh plan service me.0 (with_told_down place.wire down edge))
+      → ((with_told_down place.wire down edge).peering ≡ edge.peering) × ((with_told_down place.wire down edge).me ≡ edge.me)
+      × (TellsSoundly (point_limit plan me.0) edge → TellsSoundly (point_limit plan me.0) (with_told_down place.wire down edge))
+      × (KeepsMesh plan service me.0 edge → KeepsMesh plan service me.0 (with_told_down place.wire down edge))
   unfolding with_told_down
   down_rest place down edge = (refl, refl, λ sound. sound_same edge _ refl refl refl refl refl sound, λ mesh. record { told = mesh.told; on = mesh.on; whole = mesh.whole })
 
@@ -182,18 +194,23 @@ module _ (plan : Plan) (service : ServiceId) (me : EdgeId) (checked : IsChecked 
         (mesh_label label _ (mesh_end work.edge place (advertised label content (end_at work.edge place))
         (advertises_it label content _ (advertised_end_is (end_at work.edge place) label content at)) i.mesh)) i)
 
-    row_withdraws : (place : EndPlace) (label : ℕ) (content : Told) (work : Work) → IsEndOf plan me place → (end_at work.edge place).local ≡ Advertised label content → stands place content (wish plan work.edge place) ≡ false
+    row_withdraws : (place : EndPlace) (label : ℕ) (content : Told) (work : Work) → IsEndOf plan me place → (end_at work.edge place).local ≡ Advertised label content
+        → stands place content (wish plan work.edge place) ≡ false
         → At work → At (withdraws taken_all place label content work).work
     row_withdraws place label content work is at changed i =
         let can = advertised_up (point_limit plan me.0 place.wire.0) (is_up_with (work.edge.peering place.peer.0)) (end_at work.edge place) label content (i.sound.ends place.wire.0 place.peer.0) at in
         let rest = with_end_rest place (withdrawn (end_at work.edge place)) work.edge in
-        says_speaks plan service network me peer base place.peer (withdrawal place.pw_id label content) (changes (withdrawing place) work) (withdrawal_is place.pw_id label content (end_small plan me place checked is) can.1)
+        says_speaks plan service network me peer base place.peer (withdrawal place.pw_id label content) (changes (withdrawing place) work)
+        (withdrawal_is place.pw_id label content (end_small plan me place checked is) can.1)
         (λ joined there id. mild_withdrawal work.edge place label content i.place i.sound i.mesh is at changed id)
         (changed_speaks plan service network me peer base (withdrawing place) work rest.0 rest.1
-        (sound_with_end place (withdrawn (end_at work.edge place)) work.edge (local_sound (point_limit plan me.0 place.wire.0) (is_up_with (work.edge.peering place.peer.0)) (end_at work.edge place) (withdrawn (end_at work.edge place)).local can.0 (rw at can.1.is_label) (i.sound.ends place.wire.0 place.peer.0)) i.sound)
+        (sound_with_end place (withdrawn (end_at work.edge place)) work.edge
+        (local_sound (point_limit plan me.0 place.wire.0) (is_up_with (work.edge.peering place.peer.0)) (end_at work.edge place) (withdrawn (end_at work.edge place)).local can.0
+        (rw at can.1.is_label) (i.sound.ends place.wire.0 place.peer.0)) i.sound)
         (withdrawing_mesh work.edge place label content i.place i.sound i.mesh is at changed) i)
 
-    row_tells : (place : EndPlace) (label : ℕ) (content : Told) (last : PwStatus) (work : Work) → IsEndOf plan me place → (end_at work.edge place).local ≡ Advertised label content → content.status ≡ Some last
+    row_tells : (place : EndPlace) (label : ℕ) (content : Told) (last : PwStatus) (work : Work) → IsEndOf plan me place → (end_at work.edge place).local ≡ Advertised label content
+        → content.status ≡ Some last
         → last.0 == (status_to_tell plan work.edge place).0 ≡ false → At work → At (tells_new_status taken_all place content (status_to_tell plan work.edge place) work).work
     row_tells place label content last work is at told other i =
         let status : PwStatus = status_to_tell plan work.edge place in
@@ -204,17 +221,21 @@ module _ (plan : Plan) (service : ServiceId) (me : EdgeId) (checked : IsChecked 
         (status_is place.pw_id label status content (end_small plan me place checked is) (status_small plan work.edge place i.sound) can.1)
         (λ joined there id. mild_message plan service me.0 place.peer.0 (status_notification place.pw_id status content id) refl (λ pw_id. refl))
         (changed_speaks plan service network me peer base (telling_status place status) work rest.0 rest.1
-        (sound_with_end place (telling status (end_at work.edge place)) work.edge (local_sound (point_limit plan me.0 place.wire.0) (is_up_with (work.edge.peering place.peer.0)) (end_at work.edge place) (telling status (end_at work.edge place)).local can.0 (rw at (told_on label content status can.1)) (i.sound.ends place.wire.0 place.peer.0)) i.sound)
+        (sound_with_end place (telling status (end_at work.edge place)) work.edge
+        (local_sound (point_limit plan me.0 place.wire.0) (is_up_with (work.edge.peering place.peer.0)) (end_at work.edge place) (telling status (end_at work.edge place)).local can.0
+        (rw at (told_on label content status can.1)) (i.sound.ends place.wire.0 place.peer.0)) i.sound)
         (mesh_end work.edge place (telling status (end_at work.edge place)) (advertises_it label (with_status status content) _ local) i.mesh) i)
       where
         told_on : (label : ℕ) (content : Told) (status : PwStatus) → CanBeTold label content → CanBeTold label (with_status status content)
         told_on label content status can = record { is_label = can.is_label; kind = can.kind; group = can.group }
 
-    row_clears : (place : EndPlace) (label : ℕ) (content : Told) (addresses : List Mac) (work : Work) → IsEndOf plan me place → (end_at work.edge place).local ≡ Advertised label content → IsPiece addresses
+    row_clears : (place : EndPlace) (label : ℕ) (content : Told) (addresses : List Mac) (work : Work) → IsEndOf plan me place → (end_at work.edge place).local
+        ≡ Advertised label content → IsPiece addresses
         → At work → At (says taken_all place.peer (mac_withdrawal place.pw_id addresses content) work).work
     row_clears place label content addresses work is at piece i =
         let can = advertised_up (point_limit plan me.0 place.wire.0) (is_up_with (work.edge.peering place.peer.0)) (end_at work.edge place) label content (i.sound.ends place.wire.0 place.peer.0) at in
-        says_speaks plan service network me peer base place.peer (mac_withdrawal place.pw_id addresses content) work (clearance_is place.pw_id label addresses content (end_small plan me place checked is) piece can.1)
+        says_speaks plan service network me peer base place.peer (mac_withdrawal place.pw_id addresses content) work
+        (clearance_is place.pw_id label addresses content (end_small plan me place checked is) piece can.1)
         (λ joined there id. mild_message plan service me.0 place.peer.0 (mac_withdrawal place.pw_id addresses content id) refl (λ pw_id. refl)) i
 
     pub rows_speak : KeptByRows plan me At
@@ -250,7 +271,8 @@ module _ (plan : Plan) (service : ServiceId) (network : NetworkState) (me : Edge
     forgot = forgets.left;
   }
 
-  pub mends_stay : (work : Work) → IsChecked plan → HasTypes plan → has_short_paths plan service ≡ true → Stays plan service network me peer work → StaysOn plan service network me peer work (mends plan taken_all work)
+  pub mends_stay : (work : Work) → IsChecked plan → HasTypes plan → has_short_paths plan service ≡ true → Stays plan service network me peer work
+      → StaysOn plan service network me peer work (mends plan taken_all work)
   mends_stay work checked types short stays =
       speaks_on work (mends plan taken_all work) stays
       (mends_keep plan me (Speaks plan service network me peer work) (rows_speak plan service me checked types short network peer work) work (speaks_first plan service network me peer work stays))

@@ -47,14 +47,17 @@ pub record IsSpokeLink (plan : Plan) (service : ServiceId) (edge home : ℕ) (ro
 two_joined : (a b : ℕ) → ((a == a && b == b) || (b == a && a == b)) || false ≡ true
 two_joined a b = grind (arith, nat_tests)
 
-pub spoke_link : (plan : Plan) (service : ServiceId) (edge : ℕ) (wire : WireId) (home : ℕ) → IsChecked plan → has_short_paths plan service ≡ true → (spoke : IsSpokeTo plan service edge wire home) → IsSpokeLink plan service edge home spoke.row
+pub spoke_link : (plan : Plan) (service : ServiceId) (edge : ℕ) (wire : WireId) (home : ℕ) → IsChecked plan → has_short_paths plan service ≡ true
+    → (spoke : IsSpokeTo plan service edge wire home) → IsSpokeLink plan service edge home spoke.row
 spoke_link plan service edge wire home checked short spoke = record {
   of_service = service_is row service ours;
   ours = ours;
-  class = not-true (is_mesh_class row.class) (second_holds (is_wire_of service row) (not (is_mesh_class row.class)) (first_holds (is_wire_of service row && not (is_mesh_class row.class)) (is_first edge row.path) spoke.from));
+  class = not-true (is_mesh_class row.class) (second_holds (is_wire_of service row) (not (is_mesh_class row.class))
+      (first_holds (is_wire_of service row && not (is_mesh_class row.class)) (is_first edge row.path) spoke.from));
   path = path;
   joined = joined;
-  by_service = any_passes_from_place (λ (r : WirePlan). is_wire_of service r && joins edge home r.path) plan.wires wire.0 row spoke.is (and_from (is_wire_of service row) (joins edge home row.path) ours joined);
+  by_service = any_passes_from_place (λ (r : WirePlan). is_wire_of service r && joins edge home r.path) plan.wires wire.0 row spoke.is
+      (and_from (is_wire_of service row) (joins edge home row.path) ours joined);
   starts = any_passes_from_place (is_spoke_from service edge) plan.wires wire.0 row spoke.is spoke.from;
   core = subst (λ (n : ℕ). is_core_edge plan service n ≡ true) (sym last)
       (core_edge plan service link.far.0 (far_port plan service wire.0 row (whole plan row link) spoke.is ours) (far_core plan service wire.0 row (whole plan row link) checked spoke.is ours));
@@ -96,7 +99,8 @@ pub record IsMeshLink (plan : Plan) (service : ServiceId) (a b : ℕ) (row : Wir
   pub ends : wire_ends_at service a row ≡ true
   pub far : far_of a row.path ≡ Some b
 
-pub mesh_link : (plan : Plan) (service : ServiceId) (a b : ℕ) (wire : WireId) (row : WirePlan) → IsChecked plan → has_short_paths plan service ≡ true → wire_row plan wire ≡ Some row → is_mesh_of service row ≡ true → joins a b row.path ≡ true
+pub mesh_link : (plan : Plan) (service : ServiceId) (a b : ℕ) (wire : WireId) (row : WirePlan) → IsChecked plan → has_short_paths plan service ≡ true → wire_row plan wire ≡ Some row
+    → is_mesh_of service row ≡ true → joins a b row.path ≡ true
     → IsMeshLink plan service a b row
 mesh_link plan service a b wire row checked short is mesh joined = record {
   of_service = service_is row service ours;
@@ -155,7 +159,8 @@ pub known_ends : (plan : Plan) (me : EdgeId) → IsChecked plan → AllByRecursi
 known_ends plan me checked = both_all (IsEndOf plan me) (λ (place : EndPlace). end_named plan me place.peer place.pw_id ≡ Some place) (IsKnownEnd plan me) (end_places plan me)
     (λ place end named. record { end = end; named = named }) (places_are plan me) (places_named plan me checked)
 
-pub link_end : (plan : Plan) (service : ServiceId) (me peer : EdgeId) (wire : WireId) (row : WirePlan) → IsChecked plan → has_short_paths plan service ≡ true → is_wire_of service row ≡ true → wire_row plan wire ≡ Some row → joins me.0 peer.0 row.path ≡ true → IsLinkEnd plan me peer wire row
+pub link_end : (plan : Plan) (service : ServiceId) (me peer : EdgeId) (wire : WireId) (row : WirePlan) → IsChecked plan → has_short_paths plan service ≡ true → is_wire_of service row
+    ≡ true → wire_row plan wire ≡ Some row → joins me.0 peer.0 row.path ≡ true → IsLinkEnd plan me peer wire row
 link_end plan service me peer wire row checked short ours is joined = record {
   place = place;
   found = found.is;
@@ -213,7 +218,8 @@ pub record HasPortAt (plan : Plan) (service : ServiceId) (me : EdgeId) (wire : W
   pub found : position (is_wire_port wire) (ports_of plan service me) ≡ Some p
   pub leads : slice_get (ports_of plan service me) p ≡ Some (wire_port wire.0 row)
 
-pub port_found : (plan : Plan) (service : ServiceId) (me : EdgeId) (wire : WireId) (row : WirePlan) → wire_row plan wire ≡ Some row → wire_ends_at service me.0 row ≡ true → HasPortAt plan service me wire row
+pub port_found : (plan : Plan) (service : ServiceId) (me : EdgeId) (wire : WireId) (row : WirePlan) → wire_row plan wire ≡ Some row → wire_ends_at service me.0 row ≡ true
+    → HasPortAt plan service me wire row
 port_found plan service me wire row is ends =
     let has = has_wire_port plan service me wire.0 row is ends in
     let (p, at) = finds_wire_port wire (ports_of plan service me) has in

@@ -106,7 +106,8 @@ asks_end : (marks : List Bool) (service start end first last : ℕ) (mesh p q : 
     → get_or marks (end_mark service end) false ≡ true → (p ≡ true → first ≡ end) → (q ≡ true → first ≡ start)
     → p || (mesh && q) ≡ true → get_or marks (end_mark service first) false || get_or marks (start_mark service last) false ≡ true
 asks_end marks service start end first last true p q left left_end at_end at_start e =
-    by_either p q e (λ h. or_left _ _ (ap (λ n. get_or marks (end_mark service n) false) (at_end h) ∙ left_end)) (λ h. or_left _ _ (ap (λ n. get_or marks (end_mark service n) false) (at_start h) ∙ left))
+    by_either p q e (λ h. or_left _ _ (ap (λ n. get_or marks (end_mark service n) false) (at_end h) ∙ left_end))
+    (λ h. or_left _ _ (ap (λ n. get_or marks (end_mark service n) false) (at_start h) ∙ left))
 asks_end marks service start end first last false p q left left_end at_end at_start e =
     by_either p false e (λ h. or_left _ _ (ap (λ n. get_or marks (end_mark service n) false) (at_end h) ∙ left_end)) (λ h. absurd (cc))
 

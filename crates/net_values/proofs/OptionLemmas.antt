@@ -23,7 +23,8 @@ of_choice true u x y a h f g = f refl (cc)
 of_choice false true x y a h f g = g refl (cc)
 of_choice false false x y a h f g = absurd (cc)
 
-pub placed : (passes : Bool) (i n len : ℕ) → cond passes (Some i) (cond (nat_lt n len) (Some (i + 1 + n)) None) ≡ cond (nat_lt (cond (not passes) (1 + n) 0) (suc len)) (Some (i + cond (not passes) (1 + n) 0)) None
+pub placed : (passes : Bool) (i n len : ℕ) → cond passes (Some i) (cond (nat_lt n len) (Some (i + 1 + n)) None)
+    ≡ cond (nat_lt (cond (not passes) (1 + n) 0) (suc len)) (Some (i + cond (not passes) (1 + n) 0)) None
 placed true i n len = grind (arith, nat_tests)
 placed false i n len = grind (arith, nat_tests)
 

@@ -46,7 +46,8 @@ one_keeps me origin hops e network = record { edges = refl; entered = refl }
 pub all_keep : (me : EdgeId) (origin hops : ℕ) (es : List Effect) (network : NetworkState) → IsKept network (absorb_all me origin hops es network)
 all_keep me origin hops [] network = record { edges = refl; entered = refl }
 all_keep me origin hops (e ∷ es) network =
-    kept_then network (absorb_one me origin hops e network) (absorb_all me origin hops es (absorb_one me origin hops e network)) (one_keeps me origin hops e network) (all_keep me origin hops es (absorb_one me origin hops e network))
+    kept_then network (absorb_one me origin hops e network) (absorb_all me origin hops es (absorb_one me origin hops e network)) (one_keeps me origin hops e network)
+    (all_keep me origin hops es (absorb_one me origin hops e network))
 
 -- the packets under way that carry copies of a frame
 abbrev pub of_origin : ℕ → List Packet → List Packet
@@ -57,29 +58,34 @@ pub of_origin-other : (origin : ℕ) (p : Packet) (ps : List Packet) → nat_eq 
 of_origin-other origin p [] apart = rw apart refl
 of_origin-other origin p (q ∷ ps) apart = ap (λ (l : List Packet). cond (nat_eq q.origin origin) (q ∷ l) l) (of_origin-other origin p ps apart)
 
-pub pipe_leaves : (origin : ℕ) (from to : EdgeId) (octets : List ℕ) (network : NetworkState) (b : Bool) → of_origin origin (cond b (with_pipe from to octets network) network).under_way ≡ of_origin origin network.under_way
+pub pipe_leaves : (origin : ℕ) (from to : EdgeId) (octets : List ℕ) (network : NetworkState) (b : Bool) → of_origin origin (cond b (with_pipe from to octets network) network).under_way
+    ≡ of_origin origin network.under_way
 unfolding with_pipe
 pipe_leaves origin from to octets network true = refl
 pipe_leaves origin from to octets network false = refl
 
 -- effects of another frame leave them
-one_leaves : (origin : ℕ) (me : EdgeId) (other hops : ℕ) (e : Effect) (network : NetworkState) → nat_eq other origin ≡ false → of_origin origin (absorb_one me other hops e network).under_way ≡ of_origin origin network.under_way
+one_leaves : (origin : ℕ) (me : EdgeId) (other hops : ℕ) (e : Effect) (network : NetworkState) → nat_eq other origin ≡ false
+    → of_origin origin (absorb_one me other hops e network).under_way ≡ of_origin origin network.under_way
 unfolding with_packet
 one_leaves origin me other hops (effect.Said peer octets) network apart = pipe_leaves origin me peer _ network (stands network peer.0 me.0)
 one_leaves origin me other hops (effect.Sent peer wire came octets) network apart = of_origin-other origin _ network.under_way apart
 one_leaves origin me other hops (effect.Closed peer) network apart = pipe_leaves origin peer me [] network true
 one_leaves origin me other hops e network apart = refl
 
-pub all_leave : (origin : ℕ) (me : EdgeId) (other hops : ℕ) (es : List Effect) (network : NetworkState) → nat_eq other origin ≡ false → of_origin origin (absorb_all me other hops es network).under_way ≡ of_origin origin network.under_way
+pub all_leave : (origin : ℕ) (me : EdgeId) (other hops : ℕ) (es : List Effect) (network : NetworkState) → nat_eq other origin ≡ false
+    → of_origin origin (absorb_all me other hops es network).under_way ≡ of_origin origin network.under_way
 all_leave origin me other hops [] network apart = refl
 all_leave origin me other hops (e ∷ es) network apart = all_leave origin me other hops es (absorb_one me other hops e network) apart ∙ one_leaves origin me other hops e network apart
 
 -- and tell nothing of it
-pub others_tell : (origin : ℕ) (circuit : CircuitId) (me : EdgeId) (other hops : ℕ) (es : List Effect) (network : NetworkState) → nat_eq other origin ≡ false → times_left origin circuit (all_entries_of me other hops es network) ≡ 0
+pub others_tell : (origin : ℕ) (circuit : CircuitId) (me : EdgeId) (other hops : ℕ) (es : List Effect) (network : NetworkState) → nat_eq other origin ≡ false
+    → times_left origin circuit (all_entries_of me other hops es network) ≡ 0
 others_tell origin circuit me other hops [] network apart = refl
 others_tell origin circuit me other hops (effect.Left at octets ∷ es) network apart = rw apart (omega (arith, others_tell origin circuit me other hops es network apart))
 others_tell origin circuit me other hops (effect.Said peer octets ∷ es) network apart = others_tell origin circuit me other hops es (absorb_one me other hops (effect.Said peer octets) network) apart
-others_tell origin circuit me other hops (effect.Sent peer wire came octets ∷ es) network apart = others_tell origin circuit me other hops es (absorb_one me other hops (effect.Sent peer wire came octets) network) apart
+others_tell origin circuit me other hops (effect.Sent peer wire came octets ∷ es) network apart =
+    others_tell origin circuit me other hops es (absorb_one me other hops (effect.Sent peer wire came octets) network) apart
 others_tell origin circuit me other hops (effect.Closed peer ∷ es) network apart = others_tell origin circuit me other hops es (absorb_one me other hops (effect.Closed peer) network) apart
 others_tell origin circuit me other hops (e ∷ es) network apart = others_tell origin circuit me other hops es network apart
 

@@ -61,7 +61,8 @@ entered_young : (network : NetworkState) → AreYoung network → AreYoung (with
 unfolding with_frame
 entered_young network young = record { each = young.each }
 
-frame_young : (plan : Plan) (network : NetworkState) (circuit : CircuitId) (octets : List ℕ) (row : Option CircuitPlan) → AreYoung network → AreYoung (frame_event plan circuit octets row network).state
+frame_young : (plan : Plan) (network : NetworkState) (circuit : CircuitId) (octets : List ℕ) (row : Option CircuitPlan) → AreYoung network
+    → AreYoung (frame_event plan circuit octets row network).state
 frame_young plan network circuit octets None young = young
 frame_young plan network circuit octets (Some row) young = by (frame_work plan network circuit octets row).idle where
   by : (idles : Bool) → AreYoung (cond idles (idle network) (entering network circuit octets row (frame_work plan network circuit octets row))).state
@@ -74,7 +75,8 @@ without_young number network young = record { each = without_hold IsYoung number
 
 arrive_young : (plan : Plan) (network : NetworkState) (found : Option Packet) → AreYoung network → AreYoung (arrive_event plan found network).state
 arrive_young plan network None young = young
-arrive_young plan network (Some packet) young = absorb_young packet.to packet.origin packet.hops (packet_work plan network packet) (without_packet packet.number network) (without_young packet.number network young)
+arrive_young plan network (Some packet) young = absorb_young packet.to packet.origin packet.hops (packet_work plan network packet) (without_packet packet.number network)
+    (without_young packet.number network young)
 
 discard_young : (network : NetworkState) (found : Option Packet) → AreYoung network → AreYoung (discard_event found network).state
 discard_young network None young = young

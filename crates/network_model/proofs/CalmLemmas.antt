@@ -23,19 +23,22 @@ below_holds (suc n) i test all below = elim (cases_order i n) [
   ]
 ]
 
-no_mesh : (plan : Plan) (network : NetworkState) (service : ServiceId) (a b place : ℕ) (rows : List WirePlan) → list_any (is_wire_of service) rows ≡ false → any_wire (meshes plan network service a b) place rows ≡ false
+no_mesh : (plan : Plan) (network : NetworkState) (service : ServiceId) (a b place : ℕ) (rows : List WirePlan) → list_any (is_wire_of service) rows ≡ false
+    → any_wire (meshes plan network service a b) place rows ≡ false
 no_mesh plan network service a b place [] none = refl
 no_mesh plan network service a b place (row ∷ rows) none =
     let here : is_wire_of service row ≡ false = first_fails (is_wire_of service row) (list_any (is_wire_of service) rows) none in
     rw here (no_mesh plan network service a b (place + 1) rows (second_fails (is_wire_of service row) (list_any (is_wire_of service) rows) none))
 
-no_live : (plan : Plan) (network : NetworkState) (service : ServiceId) (edge place : ℕ) (rows : List WirePlan) → list_any (is_wire_of service) rows ≡ false → count_wires (is_live_spoke plan network service edge) place rows ≡ 0
+no_live : (plan : Plan) (network : NetworkState) (service : ServiceId) (edge place : ℕ) (rows : List WirePlan) → list_any (is_wire_of service) rows ≡ false
+    → count_wires (is_live_spoke plan network service edge) place rows ≡ 0
 no_live plan network service edge place [] none = refl
 no_live plan network service edge place (row ∷ rows) none =
     let here : is_wire_of service row ≡ false = first_fails (is_wire_of service row) (list_any (is_wire_of service) rows) none in
     rw here (omega (arith, no_live plan network service edge (place + 1) rows (second_fails (is_wire_of service row) (list_any (is_wire_of service) rows) none)))
 
-no_spoke_edge : (plan : Plan) (network : NetworkState) (service : ServiceId) (edge : ℕ) → list_any (is_wire_of service) plan.wires ≡ false → has_live_spokes plan network service ≡ true → edge < length plan.edges → is_spoke_edge plan service edge ≡ false
+no_spoke_edge : (plan : Plan) (network : NetworkState) (service : ServiceId) (edge : ℕ) → list_any (is_wire_of service) plan.wires ≡ false → has_live_spokes plan network service ≡ true
+    → edge < length plan.edges → is_spoke_edge plan service edge ≡ false
 no_spoke_edge plan network service edge none live within =
     fails (is_spoke_edge plan service edge) (count_wires (is_live_spoke plan network service edge) 0 plan.wires) (no_live plan network service edge 0 plan.wires none)
     (below_holds (length plan.edges) edge (λ e. not (is_spoke_edge plan service e) || count_wires (is_live_spoke plan network service e) 0 plan.wires == 1) live within) where
@@ -46,7 +49,8 @@ no_spoke_edge plan network service edge none live within =
           absurd (cc (one))
 
 core_of : (plan : Plan) (network : NetworkState) (service : ServiceId) (circuit : ℕ) (row : CircuitPlan)
-    → list_any (is_wire_of service) plan.wires ≡ false → has_live_spokes plan network service ≡ true → slice_get plan.circuits circuit ≡ Some row → nat_eq row.service.0 service.0 ≡ true → row.edge.0 < length plan.edges
+    → list_any (is_wire_of service) plan.wires ≡ false → has_live_spokes plan network service ≡ true → slice_get plan.circuits circuit ≡ Some row → nat_eq row.service.0 service.0
+    ≡ true → row.edge.0 < length plan.edges
     → is_core_edge plan service row.edge.0 ≡ true
 core_of plan network service circuit row none live is of_service within =
     let here : is_circuit_at service row.edge.0 row ≡ true = rw (of_service, eq-eqb row.edge.0 row.edge.0 refl) refl in
@@ -62,7 +66,8 @@ pub at_one_edge : (plan : Plan) (network : NetworkState) (service : ServiceId) (
     → row.edge.0 ≡ other.edge.0
 at_one_edge plan network service c d row other none calm is of_service within is_too of_service_too within_too =
     let live = second_holds (is_quiet plan network service && is_full plan network service) (has_live_spokes plan network service) calm in
-    let full = second_holds (is_quiet plan network service) (is_full plan network service) (first_holds (is_quiet plan network service && is_full plan network service) (has_live_spokes plan network service) calm) in
+    let full = second_holds (is_quiet plan network service) (is_full plan network service)
+    (first_holds (is_quiet plan network service && is_full plan network service) (has_live_spokes plan network service) calm) in
     let met : (a : ℕ) → (b : ℕ) → Bool = λ a b. not (is_core_edge plan service a && is_core_edge plan service b) || (a == b || any_wire (meshes plan network service a b) 0 plan.wires) in
     let first = below_holds (length plan.edges) row.edge.0 (λ a. all_below (length plan.edges) (met a)) full within in
     let both = below_holds (length plan.edges) other.edge.0 (met row.edge.0) first within_too in

@@ -64,7 +64,8 @@ module _ (plan : Plan) (P : ℕ → EdgeState → Type 0) (R : Work → Work →
 
   -- ---- connections
 
-  connecting_holds : (from to : EdgeId) (network : NetworkState) → HoldsOfEach P network → HoldsOfEach P (connecting from (connected_work plan network from to) to (connected_work plan network to from) network).state
+  connecting_holds : (from to : EdgeId) (network : NetworkState) → HoldsOfEach P network
+      → HoldsOfEach P (connecting from (connected_work plan network from to) to (connected_work plan network to from) network).state
   connecting_holds from to network holds =
       let first : Work = connected_work plan network from to in
       let second : Work = connected_work plan network to from in

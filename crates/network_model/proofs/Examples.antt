@@ -179,12 +179,14 @@ taught_meanwhile : is_flooded_frame one_edge (empty_network one_edge) (service 0
 unfolding changes gives idles with_addresses with_chosen with_circuit with_edge with_ends_beside with_frame with_learned with_ticks with_kept
 taught_meanwhile = refl
 
-own_source : is_flooded_frame one_edge (empty_network one_edge) (service 0) (2 ∷ 0 ∷ 0 ∷ 0 ∷ 0 ∷ 2 ∷ 2 ∷ 0 ∷ 0 ∷ 0 ∷ 0 ∷ 2 ∷ 8 ∷ 0 ∷ []) (Frame (circuit 0) (2 ∷ 0 ∷ 0 ∷ 0 ∷ 0 ∷ 2 ∷ 2 ∷ 0 ∷ 0 ∷ 0 ∷ 0 ∷ 2 ∷ 8 ∷ 0 ∷ []) ∷ []) ≡ false
+own_source : is_flooded_frame one_edge (empty_network one_edge) (service 0) (2 ∷ 0 ∷ 0 ∷ 0 ∷ 0 ∷ 2 ∷ 2 ∷ 0 ∷ 0 ∷ 0 ∷ 0 ∷ 2 ∷ 8 ∷ 0 ∷ [])
+    (Frame (circuit 0) (2 ∷ 0 ∷ 0 ∷ 0 ∷ 0 ∷ 2 ∷ 2 ∷ 0 ∷ 0 ∷ 0 ∷ 0 ∷ 2 ∷ 8 ∷ 0 ∷ []) ∷ []) ≡ false
 unfolding changes gives idles with_addresses with_chosen with_circuit with_edge with_ends_beside with_frame with_learned with_ticks with_kept
 own_source = refl
 
 -- a frame at a circuit that is off teaches nothing
-off_teaches_nothing : is_flooded_frame one_edge (state_after one_edge (empty_network one_edge) (Circuit (circuit 2) false ∷ [])) (service 0) answer (Frame (circuit 0) answer ∷ Frame (circuit 2) broadcast ∷ []) ≡ true
+off_teaches_nothing : is_flooded_frame one_edge (state_after one_edge (empty_network one_edge) (Circuit (circuit 2) false ∷ [])) (service 0) answer
+    (Frame (circuit 0) answer ∷ Frame (circuit 2) broadcast ∷ []) ≡ true
 unfolding changes gives idles with_addresses with_chosen with_circuit with_edge with_ends_beside with_frame with_learned with_ticks with_kept
 off_teaches_nothing = refl
 

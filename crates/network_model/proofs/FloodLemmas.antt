@@ -37,7 +37,8 @@ unknown_absent entries station absent = elim (cases_Bool (is_group_address stati
   | inr single ↦ rw single (ap (λ o. option_map (λ (e : MacEntry). e.port) o) (entry_of-absent entries station absent))
 ]
 
-unknown_still : (entries : List MacEntry) (from station : Mac) (arrival now : ℕ) → has_address entries station ≡ false → bytes_eq from.0 station.0 ≡ false → known_port (heard entries from arrival now) station ≡ None
+unknown_still : (entries : List MacEntry) (from station : Mac) (arrival now : ℕ) → has_address entries station ≡ false → bytes_eq from.0 station.0 ≡ false
+    → known_port (heard entries from arrival now) station ≡ None
 unknown_still entries from station arrival now absent other = elim (cases_Bool (is_group_address from.0)) [
   | inl group ↦ rw group (unknown_absent entries station absent)
   | inr single ↦ rw single (elim (cases_Bool (is_group_address station.0)) [
@@ -73,8 +74,10 @@ unknown_heard plan network at octets frame row during checked is on formed flood
       let taught : Bool = some_teach plan network row.service (destination_of frame) (Frame at octets ∷ during) in
       let both : (unlearned && packets) && not taught ≡ true = rw single at floods in
       let none = first_holds unlearned packets (first_holds (unlearned && packets) (not taught) both) in
-      let here = below_holds (length plan.edges) row.edge.0 (λ edge. not (has_address ((network.edges edge).learned row.service.0) (destination frame))) none (circuit_of plan at row checked is).edge in
-      let first : teaches plan network row.service (destination_of frame) (Frame at octets) ≡ false = first_of (teaches plan network row.service (destination_of frame) (Frame at octets)) _ (second_holds (unlearned && packets) (not taught) both) in
+      let here = below_holds (length plan.edges) row.edge.0 (λ edge. not (has_address ((network.edges edge).learned row.service.0) (destination frame))) none
+      (circuit_of plan at row checked is).edge in
+      let first : teaches plan network row.service (destination_of frame) (Frame at octets) ≡ false =
+      first_of (teaches plan network row.service (destination_of frame) (Frame at octets)) _ (second_holds (unlearned && packets) (not taught) both) in
       let own : is_circuit_of plan row.service at ≡ true = ap (λ (r : Option CircuitPlan). is_row_of row.service r) is ∙ eq-eqb row.service.0 row.service.0 refl in
       let here_on : is_circuit_on plan network at ≡ true = ap (λ (r : Option CircuitPlan). is_row_on network at r) is ∙ on in
       let other : bytes_eq (source_of frame) (destination_of frame) ≡ false =

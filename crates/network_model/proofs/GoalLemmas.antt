@@ -15,7 +15,8 @@ pub one_last : (one other : EdgeId) (first : EdgeId) (rest : List EdgeId) → la
 one_last one other first [] = refl
 one_last one other first (next ∷ rest) = one_last one other next rest
 
-same_ends : (path : List EdgeId) (a b : ℕ) (one other : EdgeId) → follows path a b || follows path b a ≡ true → (t : Bool) → (if t then last_or one path else first_or one path) ≡ (if t then last_or other path else first_or other path)
+same_ends : (path : List EdgeId) (a b : ℕ) (one other : EdgeId) → follows path a b || follows path b a ≡ true → (t : Bool) → (if t then last_or one path else first_or one path)
+    ≡ (if t then last_or other path else first_or other path)
 same_ends [] a b one other h t = clash h
 same_ends (first ∷ rest) a b one other h true = one_last one other first rest
 same_ends (first ∷ rest) a b one other h false = refl
@@ -100,12 +101,14 @@ follows_some (first ∷ next ∷ rest) a there not_first = by (a == next.0) refl
   rest_there : (f : ℕ) {r : Bool} → (a == f) ≡ false → (f == a) || r ≡ true → r ≡ true
   rest_there f apart h = grind (arith, nat_tests)
 
-  by : (t : Bool) → (a == next.0) ≡ t → (stands_on a (next ∷ rest) ≡ true → is_first a (next ∷ rest) ≡ false → (b : EdgeId) × (follows (next ∷ rest) b.0 a ≡ true)) → (b : EdgeId) × (follows (first ∷ next ∷ rest) b.0 a ≡ true)
+  by : (t : Bool) → (a == next.0) ≡ t → (stands_on a (next ∷ rest) ≡ true → is_first a (next ∷ rest) ≡ false → (b : EdgeId) × (follows (next ∷ rest) b.0 a ≡ true)) → (b : EdgeId)
+      × (follows (first ∷ next ∷ rest) b.0 a ≡ true)
   by true is more = (first, here is)
   by false is more = let found = more (rest_there first.0 not_first there) is in (found.0, or_later (found.0.0 == first.0 && a == next.0) found.1)
 
 -- so it has a mate towards which it passes on what it has from a neighbour
-pub has_mate : (path : List EdgeId) (from me : EdgeId) → has_repeat path ≡ false → joins from.0 me.0 path ≡ true → is_first me.0 path ≡ false → is_last me.0 path ≡ false → (to : EdgeId) × (mate_on path me.0 from.0 ≡ Some to)
+pub has_mate : (path : List EdgeId) (from me : EdgeId) → has_repeat path ≡ false → joins from.0 me.0 path ≡ true → is_first me.0 path ≡ false → is_last me.0 path ≡ false
+    → (to : EdgeId) × (mate_on path me.0 from.0 ≡ Some to)
 has_mate path from me once joined not_first not_last = by (follows path from.0 me.0) refl where
   turned_mate : (b : EdgeId) → follows path b.0 me.0 ≡ true → follows path me.0 from.0 ≡ true → mate_on path me.0 from.0 ≡ Some b
   turned_mate b one two = back (mate_of_way path b.0 me.0 from.0 once one two)

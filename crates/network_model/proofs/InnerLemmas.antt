@@ -16,7 +16,8 @@ use Rattle.edge_model.specs.Local.{LeavesBeside}
 use Rattle.network_model.proofs.PlanLemmas.{circuit_of, vlan_of}
 
 -- a frame has the same inner frame at each circuit of its service
-pub inner_by_again : (row receiver : CircuitPlan) (mtu : Option ℕ) (octets frame : List ℕ) → IsVlanId receiver.tag → inner_by (Some row) mtu octets ≡ Ok frame → inner_by (Some receiver) mtu (dress receiver.tag frame) ≡ Ok frame
+pub inner_by_again : (row receiver : CircuitPlan) (mtu : Option ℕ) (octets frame : List ℕ) → IsVlanId receiver.tag → inner_by (Some row) mtu octets ≡ Ok frame
+    → inner_by (Some receiver) mtu (dress receiver.tag frame) ≡ Ok frame
 inner_by_again row receiver None octets frame vlan e = absurd (cc)
 inner_by_again row receiver (Some mtu) octets frame vlan e = inner-dress receiver.tag mtu frame vlan (inner_size row.tag mtu octets frame e)
 
@@ -61,5 +62,6 @@ came_in plan sender at origin octets bytes earlier checked before beside =
       receiver_service = beside.same_service;
       frame = beside.frame;
       as_entered = beside.formed;
-      as_left = ap (inner_at plan at) beside.dressed ∙ inner_there plan sender at beside.service from.row to.row octets beside.frame checked from.is beside.of_service beside.formed to.is beside.same_service;
+      as_left = ap (inner_at plan at) beside.dressed
+          ∙ inner_there plan sender at beside.service from.row to.row octets beside.frame checked from.is beside.of_service beside.formed to.is beside.same_service;
     }

@@ -116,14 +116,16 @@ sends_out : (plan : Plan) (told : Answers) (came : Arrival) (frame : List ℕ) (
 sends_out plan told came frame None work = omega arith
 sends_out plan told came frame (Some place) work = sends_under_out told came frame work.edge.me place (wire_row plan place.wire) (end_at work.edge place).remote work
 
-one_copy : (plan : Plan) (told : Answers) (came : Arrival) (frame : List ℕ) (x : Port) (b : Bool) (work : Work) → outs (cond b (copy_by plan told came frame x work) work).effects ≤ outs work.effects + cond {A = ℕ} b 1 0
+one_copy : (plan : Plan) (told : Answers) (came : Arrival) (frame : List ℕ) (x : Port) (b : Bool) (work : Work)
+    → outs (cond b (copy_by plan told came frame x work) work).effects ≤ outs work.effects + cond {A = ℕ} b 1 0
 one_copy plan told came frame x false work = omega arith
 one_copy plan told came frame (port.Circuit at) true work = gives_out (effect.Left at (dress (tag_of plan at) frame)) work
 one_copy plan told came frame (port.Mesh wire) true work = sends_out plan told came frame (wire_end plan work.edge.me wire) work
 one_copy plan told came frame (port.Spoke wire) true work = sends_out plan told came frame (wire_end plan work.edge.me wire) work
 
 -- of the ports from a number on, one at most is the known one
-at_most_one : (flooded known after : Bool) → (old n rest : ℕ) → n ≤ old + cond {A = ℕ} (flooded && known) 1 0 → rest ≤ n + cond {A = ℕ} after 1 0 → (known && after ≡ false) → rest ≤ old + cond {A = ℕ} (known || after) 1 0
+at_most_one : (flooded known after : Bool) → (old n rest : ℕ) → n ≤ old + cond {A = ℕ} (flooded && known) 1 0 → rest ≤ n + cond {A = ℕ} after 1 0 → (known && after ≡ false)
+    → rest ≤ old + cond {A = ℕ} (known || after) 1 0
 at_most_one true true true old n rest here later apart = absurd (cc)
 at_most_one true true false old n rest here later apart = omega (arith, here, later)
 at_most_one true false after old n rest here later apart = omega (arith, here, later)
@@ -173,10 +175,12 @@ known_work plan network circuit row octets frame q formed known = taken (is_own 
   edge = edge_at network row.edge
 
   taken : (b : Bool)
-      → outs (cond b (received plan taken_all (arrival.Circuit circuit) row.service (port_at plan edge circuit row) (inner_at plan circuit octets) (begin_at network row.edge)) (idles (begin_at network row.edge))).effects ≤ 1
+      → outs (cond b (received plan taken_all (arrival.Circuit circuit) row.service (port_at plan edge circuit row) (inner_at plan circuit octets) (begin_at network row.edge))
+      (idles (begin_at network row.edge))).effects ≤ 1
   taken false = omega arith
   taken true =
-      subst (λ (r : Result (List ℕ) DropCause). outs (received plan taken_all (arrival.Circuit circuit) row.service (port_at plan edge circuit row) r (begin_at network row.edge)).effects ≤ 1) (sym formed)
+      subst (λ (r : Result (List ℕ) DropCause). outs
+      (received plan taken_all (arrival.Circuit circuit) row.service (port_at plan edge circuit row) r (begin_at network row.edge)).effects ≤ 1) (sym formed)
       (known_forwarded plan taken_all (arrival.Circuit circuit) row.service frame q (port_at plan edge circuit row) (begin_at network row.edge) known)
 
 known_event : (plan : Plan) (network : NetworkState) (circuit : CircuitId) (row : CircuitPlan) (octets frame : List ℕ) (q : ℕ)
@@ -184,7 +188,12 @@ known_event : (plan : Plan) (network : NetworkState) (circuit : CircuitId) (row 
 known_event plan network circuit row octets frame q formed known = taken (frame_work plan network circuit octets row).idle where
   taken : (idles : Bool) → times_out (next_origin network) (cond idles (idle network) (entering network circuit octets row (frame_work plan network circuit octets row))).entries ≤ 1
   taken true = omega arith
-  taken false = omega (arith, told_out (next_origin network) row.edge 0 (frame_work plan network circuit octets row).effects (with_edge row.edge (frame_work plan network circuit octets row).edge (with_frame network)), known_work plan network circuit row octets frame q formed known)
+  taken false = omega (
+    arith,
+    told_out (next_origin network) row.edge 0 (frame_work plan network circuit octets row).effects
+        (with_edge row.edge (frame_work plan network circuit octets row).edge (with_frame network)),
+    known_work plan network circuit row octets frame q formed known,
+  )
 
 -- ---- packets
 
@@ -194,14 +203,16 @@ unfolding outs
 drop_out why work none = omega (arith, gives_out (effect.Dropped why) work, ap outs none)
 
 -- what comes of an echo packet is one packet at most
-echoes_out : (place : EndPlace) (kind : Cc) (binding : Binding) (ip : List ℕ) (read : Result Echo VccvFault) (work : Work) → work.effects ≡ [] → outs (echoes taken_all place kind binding ip read work).effects ≤ 1
+echoes_out : (place : EndPlace) (kind : Cc) (binding : Binding) (ip : List ℕ) (read : Result Echo VccvFault) (work : Work) → work.effects ≡ []
+    → outs (echoes taken_all place kind binding ip read work).effects ≤ 1
 unfolding outs
 echoes_out place kind binding ip (Err why) work none = drop_out (vccv_cause_of why) work none
 echoes_out place kind binding ip (Ok (Answer sequence)) work none = omega (arith, gives_out (effect.Pong place.wire sequence) work, ap outs none)
 echoes_out place kind binding ip (Ok (Request from to sequence long)) work none =
     omega (arith, had_posted_out place arrival.Own (channel_octets kind binding (answer_packet ip)) (next_answer taken_all work) work, ap outs none)
 
-verifies_out : (place : EndPlace) (row : WirePlan) (kind : Cc) (binding : Binding) (payload : List ℕ) (work : Work) → work.effects ≡ [] → outs (verifies taken_all place row kind binding payload work).effects ≤ 1
+verifies_out : (place : EndPlace) (row : WirePlan) (kind : Cc) (binding : Binding) (payload : List ℕ) (work : Work) → work.effects ≡ []
+    → outs (verifies taken_all place row kind binding payload work).effects ≤ 1
 verifies_out place row kind binding payload work none =
     echoes_out place kind binding (ip_packet_of (has_header kind) payload) (reading (has_header kind) (ping_number row) payload) work none
 
@@ -229,7 +240,8 @@ module _ (plan : Plan) (work : Work) (place : EndPlace) (row : WirePlan) (payloa
 
   by_offer_out : (binding : Binding) (ttl : ℕ) (cword : Bool) → outs (by_offer plan taken_all row place binding ttl cword payload work).effects ≤ 1
   by_offer_out binding ttl true = by (nat_eq (length payload) 0) (is_channel payload) where
-    by : (empty channel : Bool) → outs (cond empty (drops cause.Short work) (cond channel (verifies_in taken_all place row Header binding payload work) (enters plan taken_all row place payload work))).effects ≤ 1
+    by : (empty channel : Bool) → outs (cond empty (drops cause.Short work)
+        (cond channel (verifies_in taken_all place row Header binding payload work) (enters plan taken_all row place payload work))).effects ≤ 1
     by true channel = drop_out cause.Short work none
     by false true = verifies_in_out place row Header binding payload work none
     by false false = enters_out
@@ -243,7 +255,8 @@ module _ (plan : Plan) (work : Work) (place : EndPlace) (row : WirePlan) (payloa
   terminated_out ttl (Some binding) = by_offer_out binding ttl (offer_of row work.edge.me.0).cword
 
 -- behind a router alert there is no frame
-alerts_by_out : (place : EndPlace) (row : Option WirePlan) (remote : Option Binding) (payload : List ℕ) (work : Work) → work.effects ≡ [] → outs (alerts_by taken_all place row remote payload work).effects ≤ 1
+alerts_by_out : (place : EndPlace) (row : Option WirePlan) (remote : Option Binding) (payload : List ℕ) (work : Work) → work.effects ≡ []
+    → outs (alerts_by taken_all place row remote payload work).effects ≤ 1
 alerts_by_out place None remote payload work none = drop_out cause.NotOffered work none
 alerts_by_out place (Some row) None payload work none = drop_out cause.NotOffered work none
 alerts_by_out place (Some row) (Some binding) payload work none = verifies_in_out place row Alert binding payload work none
@@ -274,10 +287,12 @@ module _ (plan : Plan) (network : NetworkState) (packet : Packet) (place : EndPl
     here = ap (λ (e : EdgeId). unpacked_at plan row e (behind_entry packet.bytes)) me ∙ formed
 
     by : (terminal : Bool) → terminal ≡ true → (found : Option WirePlan) → found ≡ Some row
-        → outs (cond terminal (terminated plan taken_all place comes.entry.ttl found (end_at (edge_at network packet.to) place).remote (behind_entry packet.bytes) start) (switched plan taken_all packet.bytes comes.entry place start)).effects ≤ 1
+        → outs (cond terminal (terminated plan taken_all place comes.entry.ttl found (end_at (edge_at network packet.to) place).remote (behind_entry packet.bytes) start)
+        (switched plan taken_all packet.bytes comes.entry place start)).effects ≤ 1
     by false is found same = absurd (cc (is))
     by true is found same =
-        subst (λ (r : Option WirePlan). outs (terminated plan taken_all place comes.entry.ttl r (end_at (edge_at network packet.to) place).remote (behind_entry packet.bytes) start).effects ≤ 1) (sym same)
+        subst (λ (r : Option WirePlan). outs (terminated plan taken_all place comes.entry.ttl r (end_at (edge_at network packet.to) place).remote
+        (behind_entry packet.bytes) start).effects ≤ 1) (sym same)
         (terminated_out plan start place row (behind_entry packet.bytes) frame q refl here known comes.entry.ttl (end_at (edge_at network packet.to) place).remote)
 
   packet_out : outs (packet_work plan network packet).effects ≤ 1
@@ -289,7 +304,8 @@ module _ (plan : Plan) (network : NetworkState) (packet : Packet) (place : EndPl
 
         by : (alert reserved bottom : Bool)
             → outs (cond alert (alerted plan taken_all (behind_entry packet.bytes) (entry_of (behind_entry packet.bytes)) start)
-            (cond reserved (drops cause.NoLabel start) (cond bottom (owned plan taken_all packet.bytes comes.entry (advertiser plan (edge_at network packet.to) comes.entry.label) start) (drops cause.NotBottom start)))).effects ≤ 1
+            (cond reserved (drops cause.NoLabel start)
+            (cond bottom (owned plan taken_all packet.bytes comes.entry (advertiser plan (edge_at network packet.to) comes.entry.label) start) (drops cause.NotBottom start)))).effects ≤ 1
         by true reserved bottom = alerted_out plan (behind_entry packet.bytes) (entry_of (behind_entry packet.bytes)) start refl
         by false true bottom = drop_out cause.NoLabel start refl
         by false false true = by_owner (advertiser plan (edge_at network packet.to) comes.entry.label) comes.owner

@@ -75,14 +75,16 @@ signals_apart origin circuit network stepped signals = record {
 
 -- ---- the work of an edge on another frame
 
-absorb_apart : (origin : ℕ) (circuit : CircuitId) (me : EdgeId) (other hops : ℕ) (work : Work) (network : NetworkState) → nat_eq other origin ≡ false → IsApart origin circuit network (absorb me other hops work network)
+absorb_apart : (origin : ℕ) (circuit : CircuitId) (me : EdgeId) (other hops : ℕ) (work : Work) (network : NetworkState) → nat_eq other origin ≡ false
+    → IsApart origin circuit network (absorb me other hops work network)
 unfolding with_edge
 absorb_apart origin circuit me other hops work network apart = record {
   left = others_tell origin circuit me other hops work.effects (with_edge me work.edge network) apart;
   under_way = all_leave origin me other hops work.effects (with_edge me work.edge network) apart;
 }
 
-entering_apart : (origin : ℕ) (circuit at : CircuitId) (octets : List ℕ) (row : CircuitPlan) (work : Work) (network : NetworkState) → nat_eq (next_origin network) origin ≡ false → IsApart origin circuit network (entering network at octets row work)
+entering_apart : (origin : ℕ) (circuit at : CircuitId) (octets : List ℕ) (row : CircuitPlan) (work : Work) (network : NetworkState) → nat_eq (next_origin network) origin ≡ false
+    → IsApart origin circuit network (entering network at octets row work)
 unfolding with_frame
 entering_apart origin circuit at octets row work network apart =
     let same = absorb_apart origin circuit row.edge (next_origin network) 0 work (with_frame network) apart in
@@ -116,13 +118,15 @@ is_of origin (Some packet) = nat_eq packet.origin origin
 none_is_of : (origin : ℕ) (test : Packet → Bool) (packets : List Packet) → of_origin origin packets ≡ [] → is_of origin (find test packets) ≡ false
 none_is_of origin test [] none = refl
 none_is_of origin test (p ∷ ps) none = by (test p) (nat_eq p.origin origin) refl none (λ rest. none_is_of origin test ps rest) where
-  by : (here same : Bool) → nat_eq p.origin origin ≡ same → cond same (p ∷ of_origin origin ps) (of_origin origin ps) ≡ [] → (of_origin origin ps ≡ [] → is_of origin (find test ps) ≡ false) → is_of origin (cond here (Some p) (find test ps)) ≡ false
+  by : (here same : Bool) → nat_eq p.origin origin ≡ same → cond same (p ∷ of_origin origin ps) (of_origin origin ps) ≡ []
+      → (of_origin origin ps ≡ [] → is_of origin (find test ps) ≡ false) → is_of origin (cond here (Some p) (find test ps)) ≡ false
   by here true same none rest = absurd (cc (none))
   by true false same none rest = same
   by false false same none rest = rest none
 
 -- the copies stay where another packet goes
-without_other : (origin number : ℕ) (packets : List Packet) → is_of origin (find (λ packet. nat_eq packet.number number) packets) ≡ false → of_origin origin (without_number number packets) ≡ of_origin origin packets
+without_other : (origin number : ℕ) (packets : List Packet) → is_of origin (find (λ packet. nat_eq packet.number number) packets) ≡ false
+    → of_origin origin (without_number number packets) ≡ of_origin origin packets
 without_other origin number [] apart = refl
 without_other origin number (p ∷ ps) apart = by (nat_eq p.number number) apart (λ later. without_other origin number ps later) where
   by : (here : Bool) → is_of origin (cond here (Some p) (find (λ packet. nat_eq packet.number number) ps)) ≡ false
@@ -131,7 +135,8 @@ without_other origin number (p ∷ ps) apart = by (nat_eq p.number number) apart
   by true apart rest = rw apart refl
   by false apart rest = ap (λ (l : List Packet). cond (nat_eq p.origin origin) (p ∷ l) l) (rest apart)
 
-packet_goes : (origin number : ℕ) (network : NetworkState) → is_of origin (packet_at network number) ≡ false → of_origin origin (without_packet number network).under_way ≡ of_origin origin network.under_way
+packet_goes : (origin number : ℕ) (network : NetworkState) → is_of origin (packet_at network number) ≡ false → of_origin origin (without_packet number network).under_way
+    ≡ of_origin origin network.under_way
 unfolding without_packet
 packet_goes origin number network apart = without_other origin number network.under_way apart
 
@@ -162,7 +167,8 @@ again_apart origin circuit network (Some packet) apart = record { left = refl; u
 
 -- ---- a ping
 
-ping_apart : (plan : Plan) (origin : ℕ) (circuit : CircuitId) (me : EdgeId) (wire : WireId) (network : NetworkState) → nat_eq 0 origin ≡ false → IsApart origin circuit network (ping_event plan me wire network)
+ping_apart : (plan : Plan) (origin : ℕ) (circuit : CircuitId) (me : EdgeId) (wire : WireId) (network : NetworkState) → nat_eq 0 origin ≡ false
+    → IsApart origin circuit network (ping_event plan me wire network)
 ping_apart plan origin circuit me wire network some = by (ping_work plan network me wire).idle where
   by : (idles : Bool) → IsApart origin circuit network (cond idles (idle network) (absorb me 0 0 (ping_work plan network me wire) network))
   by true = idle_apart origin circuit network
@@ -211,7 +217,8 @@ moves_copy network origin Tick = is_any (of_origin origin network.under_way)
 moves_copy network origin event = false
 
 pub step_apart : (plan : Plan) (origin : ℕ) (circuit : CircuitId) (network : NetworkState) (event : Event) → nat_eq 0 origin ≡ false
-    → moves_copy network origin event ≡ false → (network.entered + 1 ≡ origin → (step plan network event).state.entered ≡ network.entered + 1 → ⊥) → IsApart origin circuit network (step plan network event)
+    → moves_copy network origin event ≡ false → (network.entered + 1 ≡ origin → (step plan network event).state.entered ≡ network.entered + 1 → ⊥)
+    → IsApart origin circuit network (step plan network event)
 step_apart plan origin circuit network (Frame at octets) some other apart =
     let same = frame_apart plan origin circuit at octets (circuit_row plan at) network apart in
     record { left = same.left; under_way = same.under_way }
@@ -296,7 +303,8 @@ abbrev pub along : Plan → NetworkState → List Event → Stepped
 along plan network events = record { state = state_after plan network events; entries = entries_along plan network events }
 
 -- before a frame enters
-pub apart_before : (plan : Plan) (origin : ℕ) (circuit : CircuitId) (network : NetworkState) (events : List Event) → nat_eq 0 origin ≡ false → (state_after plan network events).entered < origin → of_origin origin network.under_way ≡ []
+pub apart_before : (plan : Plan) (origin : ℕ) (circuit : CircuitId) (network : NetworkState) (events : List Event) → nat_eq 0 origin ≡ false
+    → (state_after plan network events).entered < origin → of_origin origin network.under_way ≡ []
     → IsApart origin circuit network (along plan network events)
 apart_before plan origin circuit network [] some later none = record { left = refl; under_way = refl }
 apart_before plan origin circuit network (e ∷ es) some later none =
@@ -306,7 +314,8 @@ apart_before plan origin circuit network (e ∷ es) some later none =
     apart_then origin circuit network first (along plan first.state es) here (apart_before plan origin circuit first.state es some later (here.under_way ∙ none))
 
 -- once no copy of the frame is under way, none comes back, and nothing more is told of it
-pub apart_after : (plan : Plan) (origin : ℕ) (circuit : CircuitId) (network : NetworkState) (events : List Event) → nat_eq 0 origin ≡ false → origin ≤ network.entered → of_origin origin network.under_way ≡ [] → IsApart origin circuit network (along plan network events)
+pub apart_after : (plan : Plan) (origin : ℕ) (circuit : CircuitId) (network : NetworkState) (events : List Event) → nat_eq 0 origin ≡ false → origin ≤ network.entered
+    → of_origin origin network.under_way ≡ [] → IsApart origin circuit network (along plan network events)
 apart_after plan origin circuit network [] some entered none = record { left = refl; under_way = refl }
 apart_after plan origin circuit network (e ∷ es) some entered none =
     let first : Stepped = step plan network e in
@@ -333,7 +342,8 @@ never_within most origin (Left at from hops octets ∷ es) never = (
 never_within most origin (e ∷ es) never = never_within most origin es never
 
 -- what enters has passed none
-pub frame_within : (most : ℕ) (plan : Plan) (number : ℕ) (at : CircuitId) (octets : List ℕ) (row : Option CircuitPlan) (network : NetworkState) → LeftWithin most number (frame_event plan at octets row network).entries
+pub frame_within : (most : ℕ) (plan : Plan) (number : ℕ) (at : CircuitId) (octets : List ℕ) (row : Option CircuitPlan) (network : NetworkState)
+    → LeftWithin most number (frame_event plan at octets row network).entries
 frame_within most plan number at octets None network = tt
 frame_within most plan number at octets (Some row) network = taken (frame_work plan network at octets row).idle where
   taken : (idles : Bool) → LeftWithin most number (cond idles (idle network) (entering network at octets row (frame_work plan network at octets row))).entries

@@ -85,7 +85,8 @@ unfolding with_copy
 repeated = refl
 
 -- each of them arrives
-both_arrive : entries_along plan network (Again 5 ∷ Arrive 6 ∷ Arrive 5 ∷ []) ≡ Did (Again 5) ∷ Copied 6 5 ∷ Did (Arrive 6) ∷ Dropped (edge 1) 2 NoLabel ∷ Did (Arrive 5) ∷ Dropped (edge 1) 2 NoLabel ∷ []
+both_arrive : entries_along plan network (Again 5 ∷ Arrive 6 ∷ Arrive 5 ∷ [])
+    ≡ Did (Again 5) ∷ Copied 6 5 ∷ Did (Arrive 6) ∷ Dropped (edge 1) 2 NoLabel ∷ Did (Arrive 5) ∷ Dropped (edge 1) 2 NoLabel ∷ []
 unfolding gives with_edge with_copy without_packet
 both_arrive = refl
 

@@ -94,7 +94,8 @@ pipe_sends from to octets network true = record { under_way = sym (append-nil ne
 pipe_sends from to octets network false = sent_none network
 
 pub packet_sends : (wire : WireId) (from to : EdgeId) (origin hops : ℕ) (octets : List ℕ) (network : NetworkState)
-    → HasSent network (record { number = network.sent + 1; wire = wire; from = from; to = to; origin = origin; hops = hops; age = 0; bytes = octets } ∷ []) (with_packet wire from to origin hops octets network)
+    → HasSent network (record { number = network.sent + 1; wire = wire; from = from; to = to; origin = origin; hops = hops; age = 0; bytes = octets } ∷ [])
+    (with_packet wire from to origin hops octets network)
 unfolding with_packet
 packet_sends wire from to origin hops octets network = record { under_way = refl; sent = refl; entered = refl }
 
@@ -117,7 +118,8 @@ all_send me origin hops (e ∷ es) network =
     subst (λ (packets : List Packet). HasSent network packets (absorb_all me origin hops es next)) (packets_then me origin hops network.sent next.sent e es here.sent)
     (sent_then network next (absorb_all me origin hops es next) (packets_of me origin hops network.sent (e ∷ [])) (packets_of me origin hops next.sent es) here (all_send me origin hops es next))
 
-pub absorb_sends : (me : EdgeId) (origin hops : ℕ) (work : Work) (network : NetworkState) → HasSent network (packets_of me origin hops network.sent work.effects) (absorb me origin hops work network).state
+pub absorb_sends : (me : EdgeId) (origin hops : ℕ) (work : Work) (network : NetworkState)
+    → HasSent network (packets_of me origin hops network.sent work.effects) (absorb me origin hops work network).state
 unfolding with_edge
 absorb_sends me origin hops work network =
     let same = all_send me origin hops work.effects (with_edge me work.edge network) in
@@ -178,7 +180,8 @@ without_rise least number (p ∷ ps) rise = by (nat_eq p.number number) (without
   by false rest = (rise.0, rest)
 
 -- one list behind the other, where no number of the first is larger than one from which those of the second rise
-pub append_rise : (least most : ℕ) (front back : List Packet) → least ≤ most → NumbersRise least front → AllByRecursion (λ packet. packet.number ≤ most) front → NumbersRise most back → NumbersRise least (front ++ back)
+pub append_rise : (least most : ℕ) (front back : List Packet) → least ≤ most → NumbersRise least front → AllByRecursion (λ packet. packet.number ≤ most) front → NumbersRise most back
+    → NumbersRise least (front ++ back)
 append_rise least most [] back under rise within more = rise_from most least back under more
 append_rise least most (p ∷ front) back under rise within more = (rise.0, append_rise p.number most front back within.0 rise.1 within.1 more)
 
@@ -198,7 +201,8 @@ gone least number (p ∷ ps) rise = by (nat_eq p.number number) refl (gone p.num
   by false other rest = rw other rest
 
 -- the others are found as before
-pub others_stay : (number other : ℕ) (packets : List Packet) → nat_eq other number ≡ false → find (λ packet. nat_eq packet.number other) (without_number number packets) ≡ find (λ packet. nat_eq packet.number other) packets
+pub others_stay : (number other : ℕ) (packets : List Packet) → nat_eq other number ≡ false → find (λ packet. nat_eq packet.number other) (without_number number packets)
+    ≡ find (λ packet. nat_eq packet.number other) packets
 others_stay number other [] apart = refl
 others_stay number other (p ∷ ps) apart = by (nat_eq p.number number) refl (others_stay number other ps apart) where
   by : (b : Bool) → nat_eq p.number number ≡ b
@@ -242,7 +246,8 @@ numbered_then : (network next : NetworkState) (packets : List Packet) → AreNum
     → AllByRecursion (IsCounted next.sent next.entered) packets → AreNumbered next
 numbered_then network next packets numbered sends rise counted =
     let more : network.sent ≤ next.sent = omega (arith, sends.sent) in
-    let numbers : AllByRecursion (λ packet. packet.number ≤ network.sent) network.under_way = holds_by (IsCounted network.sent network.entered) (λ packet. packet.number ≤ network.sent) network.under_way (λ packet is. is.number) numbered.counted in
+    let numbers : AllByRecursion (λ packet. packet.number ≤ network.sent) network.under_way =
+    holds_by (IsCounted network.sent network.entered) (λ packet. packet.number ≤ network.sent) network.under_way (λ packet is. is.number) numbered.counted in
     record {
       rise = subst (λ (l : List Packet). NumbersRise 0 l) (sym sends.under_way) (append_rise 0 network.sent network.under_way packets (omega arith) numbered.rise numbers rise);
       counted = subst (λ (l : List Packet). AllByRecursion (IsCounted next.sent next.entered) l) (sym sends.under_way)
@@ -272,7 +277,8 @@ entered_numbered network numbered = record {
   counted = counted_on network.sent network.sent network.entered (network.entered + 1) network.under_way (omega arith) (omega arith) numbered.counted;
 }
 
-frame_numbered : (plan : Plan) (network : NetworkState) (circuit : CircuitId) (octets : List ℕ) (row : Option CircuitPlan) → AreNumbered network → AreNumbered (frame_event plan circuit octets row network).state
+frame_numbered : (plan : Plan) (network : NetworkState) (circuit : CircuitId) (octets : List ℕ) (row : Option CircuitPlan) → AreNumbered network
+    → AreNumbered (frame_event plan circuit octets row network).state
 unfolding with_frame
 frame_numbered plan network circuit octets None numbered = numbered
 frame_numbered plan network circuit octets (Some row) numbered = by (frame_work plan network circuit octets row).idle where
@@ -295,7 +301,8 @@ without_enters : (number : ℕ) (network : NetworkState) → still_entered numbe
 unfolding without_packet
 without_enters number network = refl
 
-arrive_numbered : (plan : Plan) (network : NetworkState) (number : ℕ) (found : Option Packet) → packet_at network number ≡ found → AreNumbered network → AreNumbered (arrive_event plan found network).state
+arrive_numbered : (plan : Plan) (network : NetworkState) (number : ℕ) (found : Option Packet) → packet_at network number ≡ found → AreNumbered network
+    → AreNumbered (arrive_event plan found network).state
 arrive_numbered plan network number None is numbered = numbered
 arrive_numbered plan network number (Some packet) is numbered =
     let counted = packet_holds (IsCounted network.sent network.entered) network number packet numbered.counted is in
@@ -352,7 +359,8 @@ step_numbered plan network (Arrive number) numbered = arrive_numbered plan netwo
 step_numbered plan network (Discard number) numbered = discard_numbered network (packet_at network number) numbered
 step_numbered plan network (Again number) numbered = again_numbered network number (packet_at network number) refl numbered
 step_numbered plan network (Ping me wire) numbered = ping_numbered plan me wire network numbered
-step_numbered plan network Tick numbered = quiet_numbered (with_older network) (step plan network Tick).state (older_numbered network numbered) (ticks_quiet plan 0 (length plan.edges) (with_older network))
+step_numbered plan network Tick numbered = quiet_numbered (with_older network) (step plan network Tick).state (older_numbered network numbered)
+    (ticks_quiet plan 0 (length plan.edges) (with_older network))
 step_numbered plan network event numbered = quiet_numbered network (step plan network event).state numbered (step_signals plan network event refl).quiet
 
 pub after_numbered : (plan : Plan) (network : NetworkState) (events : List Event) → AreNumbered network → AreNumbered (state_after plan network events)
@@ -375,12 +383,14 @@ arriving_gone plan packet network numbered under =
     let rest : NetworkState = without_packet packet.number network in
     let packets : List Packet = packets_of packet.to packet.origin packet.hops network.sent (packet_work plan network packet).effects in
     let test : Packet → Bool = λ p. nat_eq p.number packet.number in
-    let later : find test packets ≡ None = none_below network.sent packet.number packets under (packets_rise packet.to packet.origin packet.hops network.sent (packet_work plan network packet).effects) in
+    let later : find test packets ≡ None = none_below network.sent packet.number packets under
+    (packets_rise packet.to packet.origin packet.hops network.sent (packet_work plan network packet).effects) in
     ap (λ (l : List Packet). find test l) (arriving_sends plan packet network).under_way
     ∙ (find-append test rest.under_way packets
     ∙ (ap (λ (found : Option Packet). option_or found (find test packets)) (without_gone packet.number network numbered) ∙ later))
 
-arrive_gone : (plan : Plan) (network : NetworkState) (number : ℕ) (found : Option Packet) → packet_at network number ≡ found → AreNumbered network → packet_at (arrive_event plan found network).state number ≡ None
+arrive_gone : (plan : Plan) (network : NetworkState) (number : ℕ) (found : Option Packet) → packet_at network number ≡ found → AreNumbered network
+    → packet_at (arrive_event plan found network).state number ≡ None
 arrive_gone plan network number None is numbered = is
 arrive_gone plan network number (Some packet) is numbered =
     let counted = packet_holds (IsCounted network.sent network.entered) network number packet numbered.counted is in

@@ -66,7 +66,8 @@ entered_placed : (network : NetworkState) → IsPlaced network → IsPlaced (wit
 unfolding with_frame
 entered_placed network placed = record { me = placed.me }
 
-frame_placed : (plan : Plan) (network : NetworkState) (circuit : CircuitId) (octets : List ℕ) (row : Option CircuitPlan) → IsPlaced network → IsPlaced (frame_event plan circuit octets row network).state
+frame_placed : (plan : Plan) (network : NetworkState) (circuit : CircuitId) (octets : List ℕ) (row : Option CircuitPlan) → IsPlaced network
+    → IsPlaced (frame_event plan circuit octets row network).state
 unfolding with_frame
 frame_placed plan network circuit octets None placed = placed
 frame_placed plan network circuit octets (Some row) placed = taken (frame_work plan network circuit octets row).idle where
@@ -79,7 +80,8 @@ frame_placed plan network circuit octets (Some row) placed = taken (frame_work p
 circuit_placed : (plan : Plan) (network : NetworkState) (circuit : CircuitId) (on : Bool) (row : Option CircuitPlan) → IsPlaced network → IsPlaced (circuit_event plan circuit on row network).state
 circuit_placed plan network circuit on None placed = placed
 circuit_placed plan network circuit on (Some row) placed =
-    answer_placed row.edge 0 0 (circuit_input plan taken_all circuit on (Some row) (begin_at network row.edge)) network placed (circuit_signals plan taken_all circuit on (Some row) (begin_at network row.edge)).me
+    answer_placed row.edge 0 0 (circuit_input plan taken_all circuit on (Some row) (begin_at network row.edge)) network placed
+    (circuit_signals plan taken_all circuit on (Some row) (begin_at network row.edge)).me
 
 wire_placed : (plan : Plan) (me : EdgeId) (wire : WireId) (on : Bool) (network : NetworkState) → IsPlaced network → IsPlaced (wire_event plan me wire on network).state
 wire_placed plan me wire on network placed =
@@ -106,7 +108,8 @@ ticks_placed plan place (suc count) network placed =
 
 -- ---- connections
 
-connecting_placed : (plan : Plan) (from to : EdgeId) (network : NetworkState) → IsPlaced network → IsPlaced (connecting from (connected_work plan network from to) to (connected_work plan network to from) network).state
+connecting_placed : (plan : Plan) (from to : EdgeId) (network : NetworkState) → IsPlaced network
+    → IsPlaced (connecting from (connected_work plan network from to) to (connected_work plan network to from) network).state
 connecting_placed plan from to network placed =
     let first : Work = connected_work plan network from to in
     let second : Work = connected_work plan network to from in

@@ -24,7 +24,8 @@ place n e same = ap (λ (k : ℕ). record { 0 = k }) (eqb-true n e.0 same)
 points_behind : (plan : Plan) (row : WirePlan) (first next : EdgeId) (rest : List EdgeId) (a : ℕ)
     → points_on plan row (first ∷ up_to (next ∷ rest) a) ≡ point_at plan row next first ∷ points_on plan row (up_to (next ∷ rest) a)
 points_behind plan row first next rest a = by (a == next.0) refl where
-  by : (b : Bool) → (a == next.0) ≡ b → points_on plan row (first ∷ (if b then next ∷ [] else next ∷ up_to rest a)) ≡ point_at plan row next first ∷ points_on plan row (if b then next ∷ [] else next ∷ up_to rest a)
+  by : (b : Bool) → (a == next.0) ≡ b → points_on plan row (first ∷ (if b then next ∷ [] else next ∷ up_to rest a))
+      ≡ point_at plan row next first ∷ points_on plan row (if b then next ∷ [] else next ∷ up_to rest a)
   by true is = refl
   by false is = refl
 
@@ -71,7 +72,8 @@ up_to_before (last ∷ []) a b once h = clash h
 up_to_before (first ∷ next ∷ rest) a b once h = by (a == first.0) refl
     (λ q. up_to_before (next ∷ rest) a b (once_behind first (next ∷ rest) once) q)
   where
-    by : (t : Bool) → (a == first.0) ≡ t → (follows (next ∷ rest) a b ≡ true → length (up_to (next ∷ rest) a) + 1 ≤ length (next ∷ rest)) → length (if t then first ∷ [] else first ∷ up_to (next ∷ rest) a) + 1 ≤ length (first ∷ next ∷ rest)
+    by : (t : Bool) → (a == first.0) ≡ t → (follows (next ∷ rest) a b ≡ true → length (up_to (next ∷ rest) a) + 1 ≤ length (next ∷ rest))
+        → length (if t then first ∷ [] else first ∷ up_to (next ∷ rest) a) + 1 ≤ length (first ∷ next ∷ rest)
     by true is more = omega arith
     by false is more = omega (arith, more (rw is at h))
 
@@ -85,21 +87,26 @@ points_one_less plan row first [] = omega arith
 points_one_less plan row first (point ∷ rest) = omega (arith, points_one_less plan row point rest)
 
 -- of a way that begins with an edge, one less
-points_of_way : (plan : Plan) (row : WirePlan) (path : List EdgeId) (a b most : ℕ) → has_repeat path ≡ false → follows path a b ≡ true → length path ≤ most + 2 → length (points_on plan row (up_to path a)) ≤ most
+points_of_way : (plan : Plan) (row : WirePlan) (path : List EdgeId) (a b most : ℕ) → has_repeat path ≡ false → follows path a b ≡ true → length path ≤ most + 2
+    → length (points_on plan row (up_to path a)) ≤ most
 points_of_way plan row [] a b most once h fits = clash h
 points_of_way plan row (first ∷ rest) a b most once h fits = by (a == first.0) refl (up_to_before (first ∷ rest) a b once h) where
-  by : (t : Bool) → (a == first.0) ≡ t → length (if t then first ∷ [] else first ∷ up_to rest a) + 1 ≤ length (first ∷ rest) → length (points_on plan row (if t then first ∷ [] else first ∷ up_to rest a)) ≤ most
+  by : (t : Bool) → (a == first.0) ≡ t → length (if t then first ∷ [] else first ∷ up_to rest a) + 1 ≤ length (first ∷ rest)
+      → length (points_on plan row (if t then first ∷ [] else first ∷ up_to rest a)) ≤ most
   by true is less = omega arith
   by false is less = omega (arith, points_one_less plan row first (up_to rest a), less, fits)
 
 -- on a path of five edges three points at most are told
-pub points_three : (plan : Plan) (row : WirePlan) (from to : ℕ) → has_repeat row.path ≡ false → length row.path ≤ 5 → follows row.path from to || follows row.path to from ≡ true → length (expected plan row from to).points ≤ 3
+pub points_three : (plan : Plan) (row : WirePlan) (from to : ℕ) → has_repeat row.path ≡ false → length row.path ≤ 5 → follows row.path from to || follows row.path to from ≡ true
+    → length (expected plan row from to).points ≤ 3
 points_three plan row from to once fits joined = split {P = length (expected plan row from to).points ≤ 3} (follows row.path from to)
     (λ h. rw h (points_of_way plan row row.path from to 3 once h (omega (arith, fits))))
-    (λ h. rw h (points_of_way plan row (reverse row.path) from to 3 (once_reversed row.path ∙ once) (follows_reversed row.path from to ∙ (rw h at joined)) (omega (arith, fits, length-reverse row.path))))
+    (λ h. rw h (points_of_way plan row (reverse row.path) from to 3 (once_reversed row.path ∙ once) (follows_reversed row.path from to ∙ (rw h at joined))
+    (omega (arith, fits, length-reverse row.path))))
 
 -- and a switching point hears two at most
-pub points_heard : (plan : Plan) (row : WirePlan) (me from to : EdgeId) → has_repeat row.path ≡ false → length row.path ≤ 5 → mate_on row.path me.0 from.0 ≡ Some to → length (expected plan row from.0 me.0).points < 3
+pub points_heard : (plan : Plan) (row : WirePlan) (me from to : EdgeId) → has_repeat row.path ≡ false → length row.path ≤ 5 → mate_on row.path me.0 from.0 ≡ Some to
+    → length (expected plan row from.0 me.0).points < 3
 points_heard plan row me from to once fits is =
     less (length (expected plan row from.0 me.0).points) (length (expected plan row me.0 to.0).points)
     (ap (λ (l : List PassedPoint). length l) (passes_points plan row me from to once is) ∙ length-append (expected plan row from.0 me.0).points (point_at plan row me from ∷ []))

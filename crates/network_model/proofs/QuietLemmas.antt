@@ -101,7 +101,8 @@ ticking_own plan network me = own_effects is_of_signalling (tick_input plan take
 pub circuit_own : (plan : Plan) (network : NetworkState) (circuit : CircuitId) (on : Bool) (row : CircuitPlan)
     → are_all is_of_signalling (circuit_input plan taken_all circuit on (Some row) (begin_at network row.edge)).effects ≡ true
 circuit_own plan network circuit on row =
-    own_effects is_of_signalling (circuit_input plan taken_all circuit on (Some row) (begin_at network row.edge)).effects (circuit_signals plan taken_all circuit on (Some row) (begin_at network row.edge)).effects
+    own_effects is_of_signalling (circuit_input plan taken_all circuit on (Some row) (begin_at network row.edge)).effects
+    (circuit_signals plan taken_all circuit on (Some row) (begin_at network row.edge)).effects
 
 pub wire_own : (plan : Plan) (network : NetworkState) (me : EdgeId) (wire : WireId) (on : Bool) → are_all is_of_signalling (wire_input plan taken_all wire on (begin_at network me)).effects ≡ true
 wire_own plan network me wire on = own_effects is_of_signalling (wire_input plan taken_all wire on (begin_at network me)).effects (wire_signals plan taken_all wire on (begin_at network me)).effects
@@ -140,7 +141,8 @@ losing_tells plan me peer network = signals_tell me 0 0 (losing_work plan networ
 delivering_tells : (plan : Plan) (from to : EdgeId) (count : ℕ) (network : NetworkState) → NoneGoesOut (delivering plan from to count network).entries
 delivering_tells plan from to count network =
     let octets : List ℕ = take count (network.pipes from.0 to.0) in
-    signals_tell to 0 0 (hearing_work plan network from to octets).effects (with_edge to (hearing_work plan network from to octets).edge (with_pipe from to (drop count (network.pipes from.0 to.0)) network))
+    signals_tell to 0 0 (hearing_work plan network from to octets).effects
+    (with_edge to (hearing_work plan network from to octets).edge (with_pipe from to (drop count (network.pipes from.0 to.0)) network))
     (hearing_own plan network from to octets)
 
 pub deliver_tells : (plan : Plan) (from to : EdgeId) (count : ℕ) (network : NetworkState) → NoneGoesOut (deliver_event plan from to count network).entries
@@ -222,7 +224,8 @@ answer_quiet me work network own = by work.idle where
   by true = record { under_way = refl; sent = refl; entered = refl }
   by false = absorb_quiet me work network own
 
-connecting_quiet : (plan : Plan) (from to : EdgeId) (network : NetworkState) → IsQuiet network (connecting from (connected_work plan network from to) to (connected_work plan network to from) network).state
+connecting_quiet : (plan : Plan) (from to : EdgeId) (network : NetworkState)
+    → IsQuiet network (connecting from (connected_work plan network from to) to (connected_work plan network to from) network).state
 connecting_quiet plan from to network =
     let first : Work = connected_work plan network from to in
     let second : Work = connected_work plan network to from in

@@ -30,7 +30,8 @@ follows_more (first ∷ next ∷ rest) x a b = mix (a == first.0 && b == next.0)
 repeat_more : (path : List EdgeId) (x : EdgeId) → has_repeat (path ++ x ∷ []) ≡ has_repeat path || stands_on x.0 path
 repeat_more [] x = refl
 repeat_more (first ∷ rest) x =
-    mix (stands_on first.0 rest) (x.0 == first.0) (has_repeat rest) (stands_on x.0 rest) (first.0 == x.0) (turned_test x.0 first.0 refl) (list_any-append (λ (e : EdgeId). e.0 == first.0) rest (x ∷ [])) (repeat_more rest x)
+    mix (stands_on first.0 rest) (x.0 == first.0) (has_repeat rest) (stands_on x.0 rest) (first.0 == x.0) (turned_test x.0 first.0 refl)
+    (list_any-append (λ (e : EdgeId). e.0 == first.0) rest (x ∷ [])) (repeat_more rest x)
   where
     mix : (p q r s u : Bool) {t v : Bool} → u ≡ q → t ≡ p || (q || false) → v ≡ r || s → t || v ≡ (p || r) || (u || s)
     mix p q r s u e h k = grind (arith, e, h, k)
@@ -47,7 +48,8 @@ stands_reversed (first ∷ rest) a =
 
 pub once_reversed : (path : List EdgeId) → has_repeat (reverse path) ≡ has_repeat path
 once_reversed [] = refl
-once_reversed (first ∷ rest) = ap has_repeat (reverse_first first rest) ∙ (repeat_more (reverse rest) first ∙ mix (has_repeat rest) (stands_on first.0 rest) (once_reversed rest) (stands_reversed rest first.0))
+once_reversed (first ∷ rest) = ap has_repeat (reverse_first first rest)
+    ∙ (repeat_more (reverse rest) first ∙ mix (has_repeat rest) (stands_on first.0 rest) (once_reversed rest) (stands_reversed rest first.0))
   where
     mix : (p q : Bool) {t u : Bool} → t ≡ p → u ≡ q → t || u ≡ q || p
     mix p q h k = grind (arith, h, k)

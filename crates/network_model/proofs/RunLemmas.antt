@@ -11,7 +11,8 @@ pub after-append : (plan : Plan) (network : NetworkState) (xs ys : List Event) �
 after-append plan network [] ys = refl
 after-append plan network (x ∷ xs) ys = after-append plan (step plan network x).state xs ys
 
-pub along-append : (plan : Plan) (network : NetworkState) (xs ys : List Event) → entries_along plan network (xs ++ ys) ≡ entries_along plan network xs ++ entries_along plan (state_after plan network xs) ys
+pub along-append : (plan : Plan) (network : NetworkState) (xs ys : List Event) → entries_along plan network (xs ++ ys)
+    ≡ entries_along plan network xs ++ entries_along plan (state_after plan network xs) ys
 along-append plan network [] ys = refl
 along-append plan network (x ∷ xs) ys =
     ap (λ (l : List Entry). (step plan network x).entries ++ l) (along-append plan (step plan network x).state xs ys)

@@ -43,7 +43,8 @@ AllSplit plan me (e ∷ es) = AllSplit plan me es
 effects_split : (plan : Plan) (me : EdgeId) (origin hops : ℕ) (network : NetworkState) (es : List Effect) → AllSplit plan me es → Split plan (all_entries_of me origin hops es network)
 effects_split plan me origin hops network [] all = tt
 effects_split plan me origin hops network (effect.Said peer bytes ∷ es) all = (tt, effects_split plan me origin hops (absorb_one me origin hops (effect.Said peer bytes) network) es all)
-effects_split plan me origin hops network (effect.Sent peer wire came bytes ∷ es) all = (all.0, effects_split plan me origin hops (absorb_one me origin hops (effect.Sent peer wire came bytes) network) es all.1)
+effects_split plan me origin hops network (effect.Sent peer wire came bytes ∷ es) all =
+    (all.0, effects_split plan me origin hops (absorb_one me origin hops (effect.Sent peer wire came bytes) network) es all.1)
 effects_split plan me origin hops network (effect.Left at bytes ∷ es) all = (tt, effects_split plan me origin hops network es all)
 effects_split plan me origin hops network (effect.Dropped cause ∷ es) all = (tt, effects_split plan me origin hops network es all)
 effects_split plan me origin hops network (effect.Session peer state ∷ es) all = (tt, effects_split plan me origin hops network es all)
@@ -80,7 +81,8 @@ mate_inside (before ∷ point ∷ next ∷ rest) me from to is = by (nat_eq me.0
   by true here behind = refl
   by false away behind = behind (rw away at is)
 
-sent_on : (plan : Plan) (edge : EdgeState) (me : EdgeId) (octets : List ℕ) (peer : EdgeId) (wire : WireId) (came : Arrival) → edge.me ≡ me → SentOn plan edge octets peer wire came → SplitSent plan me wire came
+sent_on : (plan : Plan) (edge : EdgeState) (me : EdgeId) (octets : List ℕ) (peer : EdgeId) (wire : WireId) (came : Arrival) → edge.me ≡ me → SentOn plan edge octets peer wire came
+    → SplitSent plan me wire came
 sent_on plan edge me octets peer wire came same on =
     let inside : is_switching_point plan me wire ≡ true =
     ap (λ (w : WireId). is_switching_point plan me w) on.same
@@ -110,7 +112,8 @@ ping_split plan me wire network = by (ping_work plan network me wire).idle where
       effects_split plan me 0 0 _ (ping_work plan network me wire).effects
       (asked_split plan (edge_at network me) me wire (ping_work plan network me wire).effects (pings_stay_local plan taken_all (edge_at network me) [] wire))
 
-frame_split : (plan : Plan) (network : NetworkState) (circuit : CircuitId) (octets : List ℕ) (row : Option CircuitPlan) → circuit_row plan circuit ≡ row → Split plan (frame_event plan circuit octets row network).entries
+frame_split : (plan : Plan) (network : NetworkState) (circuit : CircuitId) (octets : List ℕ) (row : Option CircuitPlan) → circuit_row plan circuit ≡ row
+    → Split plan (frame_event plan circuit octets row network).entries
 frame_split plan network circuit octets None is = (tt, tt)
 frame_split plan network circuit octets (Some row) is = taken (frame_work plan network circuit octets row).idle where
   taken : (idles : Bool) → Split plan (cond idles (idle network) (entering network circuit octets row (frame_work plan network circuit octets row))).entries
@@ -125,7 +128,8 @@ arrive_split : (plan : Plan) (network : NetworkState) (found : Option Packet) �
 arrive_split plan network None placed = (tt, tt)
 arrive_split plan network (Some packet) placed =
     effects_split plan packet.to packet.origin packet.hops _ (packet_work plan network packet).effects
-    (behind_split plan (edge_at network packet.to) packet.to packet.bytes (packet_work plan network packet).effects (placed.me packet.to.0) (packet_stays plan taken_all (edge_at network packet.to) [] packet.bytes))
+    (behind_split plan (edge_at network packet.to) packet.to packet.bytes (packet_work plan network packet).effects (placed.me packet.to.0)
+    (packet_stays plan taken_all (edge_at network packet.to) [] packet.bytes))
 
 discard_split : (plan : Plan) (network : NetworkState) (found : Option Packet) → Split plan (discard_event found network).entries
 discard_split plan network None = (tt, tt)
@@ -154,7 +158,8 @@ step_split plan network event placed = none_split plan (step plan network event)
 pub along_split : (plan : Plan) (network : NetworkState) (events : List Event) → IsPlaced network → Split plan (entries_along plan network events)
 along_split plan network [] placed = tt
 along_split plan network (e ∷ es) placed =
-    split-append plan (step plan network e).entries (entries_along plan (step plan network e).state es) (step_split plan network e placed) (along_split plan (step plan network e).state es (step_placed plan network e placed))
+    split-append plan (step plan network e).entries (entries_along plan (step plan network e).state es) (step_split plan network e placed)
+    (along_split plan (step plan network e).state es (step_placed plan network e placed))
 
 pub run_split : RunsAreSplit
 run_split plan events checked = along_split plan (empty_network plan) events (record { me = λ k. refl })

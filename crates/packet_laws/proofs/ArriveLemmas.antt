@@ -115,7 +115,8 @@ module _ (plan : Plan) (network : NetworkState) (trace : List Entry) (packet : P
 
   entry : entry_of packet.bytes ≡ Ok (record { label = carried.label; bottom = true; ttl = carried.packed.ttl })
   entry = ap entry_of carried.packed.bytes
-      ∙ packed_is_unpacked.entry carried.label carried.packed.ttl true (payload_of (expected plan carried.row packet.from.0 packet.to.0).offer.cword carried.packed.vlan carried.frame) carried.is_label alive.least alive.most
+      ∙ packed_is_unpacked.entry carried.label carried.packed.ttl true
+      (payload_of (expected plan carried.row packet.from.0 packet.to.0).offer.cword carried.packed.vlan carried.frame) carried.is_label alive.least alive.most
 
   label : out.comes.entry.label ≡ carried.label
   label = same_entry (entry_of packet.bytes) out.comes.entry (record { label = carried.label; bottom = true; ttl = carried.packed.ttl }) out.comes.read entry
@@ -143,7 +144,8 @@ module _ (plan : Plan) (network : NetworkState) (trace : List Entry) (packet : P
   own = terminal_offer plan packet.wire carried.row packet.to packet.from checked carried.is back terminal
 
   -- it is read in the mode in which it was packed
-  unpacks : unpacked_by (offer_of carried.row packet.to.0) (mtu_of plan carried.row.service) (payload_of (expected plan carried.row packet.from.0 packet.to.0).offer.cword carried.packed.vlan carried.frame) ≡ Ok carried.frame
+  unpacks : unpacked_by (offer_of carried.row packet.to.0) (mtu_of plan carried.row.service)
+      (payload_of (expected plan carried.row packet.from.0 packet.to.0).offer.cword carried.packed.vlan carried.frame) ≡ Ok carried.frame
   unpacks = read_again (offer_of carried.row packet.to.0) (mtu_of plan carried.row.service) (expected plan carried.row packet.from.0 packet.to.0).offer.cword carried.packed.vlan carried.frame
       (ap (λ (o : Offer). o.cword) (sym own.offer) ∙ carried.packed.same_word)
       (ap (λ (o : Offer). o.tagged) (sym own.offer) ∙ (carried.packed.same_mode ∙ sym carried.packed.mode))

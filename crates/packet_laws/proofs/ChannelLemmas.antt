@@ -84,7 +84,8 @@ shared_turned : (cword : Bool) (points own told : ℕ) → shared cword points o
 shared_turned cword points own told =
     rw (and_turned (offers own Header) (offers told Header), and_turned (offers own Alert) (offers told Alert), and_turned (offers own Expiry) (offers told Expiry)) refl
 
-pub picked_turned : (one other : Option ℕ) (cword : Bool) (points : ℕ) → picked one (option_map (λ channels. (channels, icmp_ping)) other) cword points ≡ picked other (option_map (λ channels. (channels, icmp_ping)) one) cword points
+pub picked_turned : (one other : Option ℕ) (cword : Bool) (points : ℕ) → picked one (option_map (λ channels. (channels, icmp_ping)) other) cword points
+    ≡ picked other (option_map (λ channels. (channels, icmp_ping)) one) cword points
 picked_turned None None cword points = refl
 picked_turned None (Some b) cword points = refl
 picked_turned (Some a) None cword points = refl
@@ -103,16 +104,19 @@ pub picks_planned : (plan : Plan) (row : WirePlan) (me : EdgeId) (peer : ℕ) (b
     → channel_under row me binding ≡ planned_channel plan row me.0 peer
 picks_planned plan row me peer binding own tells =
     let offer : (expected plan row me.0 peer).offer ≡ offer_of row me.0 = own.offer in
-    let points : length binding.told.points ≡ points_in_all plan row me.0 peer = told_points plan row peer me.0 binding.told tells ∙ (sym (zero-add (length (expected plan row peer me.0).points)) ∙ ap (λ (l : List PassedPoint). length l + length (expected plan row peer me.0).points) (sym own.points)) in
+    let points : length binding.told.points ≡ points_in_all plan row me.0 peer = told_points plan row peer me.0 binding.told tells
+    ∙ (sym (zero-add (length (expected plan row peer me.0).points)) ∙ ap (λ (l : List PassedPoint). length l + length (expected plan row peer me.0).points) (sym own.points)) in
     ap (λ (o : Offer). picked o.vccv binding.told.vccv o.cword (length binding.told.points)) (sym offer)
-    ∙ (ap (λ (v : Option (ℕ × ℕ)). picked (expected plan row me.0 peer).offer.vccv v (expected plan row me.0 peer).offer.cword (length binding.told.points)) (told_channels plan row peer me.0 binding.told tells)
+    ∙ (ap (λ (v : Option (ℕ × ℕ)). picked (expected plan row me.0 peer).offer.vccv v (expected plan row me.0 peer).offer.cword (length binding.told.points))
+    (told_channels plan row peer me.0 binding.told tells)
     ∙ ap (picked (expected plan row me.0 peer).offer.vccv (channels_told (expected plan row peer me.0).offer) (expected plan row me.0 peer).offer.cword) points)
 
 points_turned : (plan : Plan) (row : WirePlan) (from to : ℕ) → points_in_all plan row from to ≡ points_in_all plan row to from
 points_turned plan row from to = omega arith
 
 -- where both use a control word or none does
-pub channel_turned : (plan : Plan) (row : WirePlan) (from to : ℕ) → (expected plan row to from).offer.cword ≡ (expected plan row from to).offer.cword → planned_channel plan row to from ≡ planned_channel plan row from to
+pub channel_turned : (plan : Plan) (row : WirePlan) (from to : ℕ) → (expected plan row to from).offer.cword ≡ (expected plan row from to).offer.cword → planned_channel plan row to from
+    ≡ planned_channel plan row from to
 channel_turned plan row from to word =
     picked_turned (expected plan row to from).offer.vccv (expected plan row from to).offer.vccv (expected plan row to from).offer.cword (points_in_all plan row to from)
     ∙ (ap (λ (c : Bool). picked (expected plan row from to).offer.vccv (channels_told (expected plan row to from).offer) c (points_in_all plan row to from)) word

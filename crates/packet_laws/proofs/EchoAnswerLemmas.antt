@@ -77,7 +77,8 @@ module _ (label ttl : ℕ) (ip : List ℕ) (entry : StackEntry) (is : IsLabel la
   none_in_front : (kind : Cc) (octets : List ℕ) → entry_of octets ≡ Ok (record { label = label; bottom = true; ttl = ttl }) → has_alert (entry_of octets) ≡ true → ComesAsSent kind Alert label entry
   none_in_front kind octets first alert = absurd (cc (sym (no_alert label ttl) ∙ (ap has_alert (sym first) ∙ alert)))
 
-  pub comes_as_sent : (kind other : Cc) → (kind ≡ Header → nat_eq ttl 1 ≡ false) → entry_of (from_label other (octets_in kind label ttl ip)) ≡ Ok entry → is_in_channel other (octets_in kind label ttl ip) entry ≡ true
+  pub comes_as_sent : (kind other : Cc) → (kind ≡ Header → nat_eq ttl 1 ≡ false) → entry_of (from_label other (octets_in kind label ttl ip)) ≡ Ok entry
+      → is_in_channel other (octets_in kind label ttl ip) entry ≡ true
       → ComesAsSent kind other label entry
   comes_as_sent Header Header living read channel = as_sent Header read
   comes_as_sent Alert Alert living read channel = as_sent Alert read
@@ -184,14 +185,16 @@ module _ (plan : Plan) (network : NetworkState) (packet : Packet) (peer : EdgeId
 
     request : IsRequestOf echo.row echo.source echo.target echo.ip
     request = asks_only echo.row echo.source echo.target back.kind echo.ip back.from back.to back.sequence back.long
-        (far_of plan types (source_of echo.row.path packet.from.0 packet.to.0) echo.source echo.comes_from) (far_of plan types (source_of echo.row.path packet.to.0 packet.from.0) echo.target echo.goes_to) echo.message asked
+        (far_of plan types (source_of echo.row.path packet.from.0 packet.to.0) echo.source echo.comes_from)
+        (far_of plan types (source_of echo.row.path packet.to.0 packet.from.0) echo.target echo.goes_to) echo.message asked
 
     answered : bytes ≡ channel_octets back.kind back.binding (answer_packet echo.ip)
     answered = back.answered
         ∙ (ap (λ (l : List ℕ). channel_octets back.kind back.binding (answer_packet (ip_packet_of (has_header back.kind) l))) payload_is
         ∙ ap (λ (l : List ℕ). channel_octets back.kind back.binding (answer_packet l))
         (cut_of echo.row echo.source echo.target back.kind echo.ip
-        (far_of plan types (source_of echo.row.path packet.from.0 packet.to.0) echo.source echo.comes_from) (far_of plan types (source_of echo.row.path packet.to.0 packet.from.0) echo.target echo.goes_to) request))
+        (far_of plan types (source_of echo.row.path packet.from.0 packet.to.0) echo.source echo.comes_from)
+        (far_of plan types (source_of echo.row.path packet.to.0 packet.from.0) echo.target echo.goes_to) request))
 
     says_back : IsEchoMessage back.row echo.target echo.source (answer_packet echo.ip)
     says_back = subst (λ (r : WirePlan). IsEchoMessage r echo.target echo.source (answer_packet echo.ip)) (sym of_row) (Answers request.sequence request.fits (ap answer_packet request.is))
@@ -203,4 +206,5 @@ module _ (plan : Plan) (network : NetworkState) (packet : Packet) (peer : EdgeId
         subst (λ (k : EdgeId). IsEchoed plan network (packet_from packet.to packet.origin hops sent k wire bytes)) (sym back.back)
         (subst (λ (w : WireId). IsEchoed plan network (packet_from packet.to packet.origin hops sent back.place.peer w bytes)) (sym back.same)
         (subst (λ (b : List ℕ). IsEchoed plan network (packet_from packet.to packet.origin hops sent back.place.peer back.place.wire b)) (sym answered)
-        (sender_echoes plan network packet.to back.place back.row back.binding checked ruled bound packet.origin hops sent back.kind echo.target echo.source (answer_packet echo.ip) echo.unnumbered picked_here near far says_back)))
+        (sender_echoes plan network packet.to back.place back.row back.binding checked ruled bound packet.origin hops sent back.kind echo.target echo.source
+        (answer_packet echo.ip) echo.unnumbered picked_here near far says_back)))

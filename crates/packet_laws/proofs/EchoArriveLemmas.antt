@@ -58,7 +58,8 @@ module _ (plan : Plan) (network : NetworkState) (packet : Packet) (effects : Lis
   -- ---- behind a router alert
 
   alert_apart : packet.bytes ≡ echo_stack Alert echo.label echo.ttl ++ payload Alert echo.ip → StaysInChannel plan (network.edges packet.to.0) packet.bytes (packet_work plan network packet)
-  alert_apart is = echoes_stay_apart.alert plan taken_all (network.edges packet.to.0) [] packet.bytes (record { label = 1; bottom = false; ttl = 255 }) (ap entry_of is ∙ alert_entry (stack_entry echo.label true echo.ttl ++ payload Alert echo.ip)) refl
+  alert_apart is = echoes_stay_apart.alert plan taken_all (network.edges packet.to.0) [] packet.bytes (record { label = 1; bottom = false; ttl = 255 })
+      (ap entry_of is ∙ alert_entry (stack_entry echo.label true echo.ttl ++ payload Alert echo.ip)) refl
 
   -- ---- behind the label of the end
 
@@ -94,7 +95,8 @@ module _ (plan : Plan) (network : NetworkState) (packet : Packet) (effects : Lis
     own = terminal_offer plan out.place.wire out.row packet.to out.place.peer checked out.comes.is joined_here terminal_here
 
     modes : HaveSameMode plan out.row packet.to.0 out.place.peer.0
-    modes = forwarding_agrees plan network packet.to.0 out.place.peer.0 out.place.wire out.row (role_at plan (network.edges packet.to.0) out.place) ((network.edges packet.to.0).bits out.place.wire.0) planned out.comes.forwards
+    modes = forwarding_agrees plan network packet.to.0 out.place.peer.0 out.place.wire out.row (role_at plan (network.edges packet.to.0) out.place)
+        ((network.edges packet.to.0).bits out.place.wire.0) planned out.comes.forwards
 
     -- the channel that was picked at the other end
     channel_here : planned_channel plan out.row out.place.peer.0 packet.to.0 ≡ Some echo.kind
@@ -118,12 +120,15 @@ module _ (plan : Plan) (network : NetworkState) (packet : Packet) (effects : Lis
       bound = out.bound;
     }
 
-    header_apart : echo.kind ≡ Header → packet.bytes ≡ echo_stack Header echo.label echo.ttl ++ payload Header echo.ip → StaysInChannel plan (network.edges packet.to.0) packet.bytes (packet_work plan network packet)
+    header_apart : echo.kind ≡ Header → packet.bytes ≡ echo_stack Header echo.label echo.ttl ++ payload Header echo.ip
+        → StaysInChannel plan (network.edges packet.to.0) packet.bytes (packet_work plan network packet)
     header_apart kind is =
         let word : (expected plan out.row out.place.peer.0 packet.to.0).offer.cword ≡ true =
-        header_word (expected plan out.row out.place.peer.0 packet.to.0).offer.vccv (channels_told (expected plan out.row packet.to.0 out.place.peer.0).offer) (expected plan out.row out.place.peer.0 packet.to.0).offer.cword
+        header_word (expected plan out.row out.place.peer.0 packet.to.0).offer.vccv (channels_told (expected plan out.row packet.to.0 out.place.peer.0).offer)
+        (expected plan out.row out.place.peer.0 packet.to.0).offer.cword
         (points_in_all plan out.row out.place.peer.0 packet.to.0) (channel_here ∙ ap Some kind) in
-        echoes_stay_apart.header plan taken_all (network.edges packet.to.0) [] packet.bytes out.place out.row out.binding for_end (word_at true word) (ap (λ (b : List ℕ). is_channel (behind_entry b)) is)
+        echoes_stay_apart.header plan taken_all (network.edges packet.to.0) [] packet.bytes out.place out.row out.binding for_end (word_at true word)
+        (ap (λ (b : List ℕ). is_channel (behind_entry b)) is)
 
     -- both ends pick the same
     picks_same : channel_under out.row (network.edges packet.to.0).me out.binding ≡ Some echo.kind
@@ -145,7 +150,8 @@ module _ (plan : Plan) (network : NetworkState) (packet : Packet) (effects : Lis
     unfolding for_end
     expiry_apart kind = echoes_stay_apart.expiry plan taken_all (network.edges packet.to.0) [] packet.bytes out.place out.row out.binding for_end (last_ttl kind) (picks_same ∙ ap Some kind)
 
-  by_kind : (kind : Cc) → echo.kind ≡ kind → packet.bytes ≡ echo_stack kind echo.label echo.ttl ++ payload kind echo.ip → StaysInChannel plan (network.edges packet.to.0) packet.bytes (packet_work plan network packet)
+  by_kind : (kind : Cc) → echo.kind ≡ kind → packet.bytes ≡ echo_stack kind echo.label echo.ttl ++ payload kind echo.ip
+      → StaysInChannel plan (network.edges packet.to.0) packet.bytes (packet_work plan network packet)
   by_kind Header kind is = header_apart (ap entry_of is ∙ front_entry echo.label echo.ttl (payload Header echo.ip) echo.is_label alive) kind is
   by_kind Alert kind is = alert_apart is
   by_kind Expiry kind is = expiry_apart (ap entry_of is ∙ front_entry echo.label echo.ttl (payload Expiry echo.ip) echo.is_label alive) kind
@@ -155,7 +161,8 @@ module _ (plan : Plan) (network : NetworkState) (packet : Packet) (effects : Lis
   copied_apart = by_kind echo.kind refl echo.bytes
 
 -- whatever comes of it, no bridge hears it
-pub echo_unheard : (plan : Plan) (network : NetworkState) (packet : Packet) → IsChecked plan → IsRuledNetwork plan network → IsEchoed plan network packet → (packet_work plan network packet).edge ≡ network.edges packet.to.0
+pub echo_unheard : (plan : Plan) (network : NetworkState) (packet : Packet) → IsChecked plan → IsRuledNetwork plan network → IsEchoed plan network packet
+    → (packet_work plan network packet).edge ≡ network.edges packet.to.0
 echo_unheard plan network packet checked ruled echo = by (packet_hears plan taken_all (network.edges packet.to.0) [] packet.bytes) where
   by : HearsAFrame plan (network.edges packet.to.0) packet.bytes (packet_work plan network packet) → (packet_work plan network packet).edge ≡ network.edges packet.to.0
   by (HearsNone same) = same
@@ -169,13 +176,15 @@ module _ (plan : Plan) (network : NetworkState) (trace : List Entry) (packet : P
       (few_points plan carried.row packet.from.0 packet.to.0 (wire_fits plan packet.wire carried.row checked carried.is)) carried.packed.left
 
   frame_entry : entry_of packet.bytes ≡ Ok (record { label = carried.label; bottom = true; ttl = carried.packed.ttl })
-  frame_entry = ap entry_of carried.packed.bytes ∙ front_entry carried.label carried.packed.ttl (payload_of (expected plan carried.row packet.from.0 packet.to.0).offer.cword carried.packed.vlan carried.frame) carried.is_label frame_alive
+  frame_entry = ap entry_of carried.packed.bytes ∙ front_entry carried.label carried.packed.ttl
+      (payload_of (expected plan carried.row packet.from.0 packet.to.0).offer.cword carried.packed.vlan carried.frame) carried.is_label frame_alive
 
   no_router_alert : has_alert (entry_of packet.bytes) ≡ false
   no_router_alert = ap has_alert frame_entry ∙ and_false (nat_eq carried.label 1)
 
   pub frame_ttl : nat_eq carried.packed.ttl 1 ≡ false
-  frame_ttl = ttl_lives carried.packed.ttl (length (expected plan carried.row packet.from.0 packet.to.0).points) (few_points plan carried.row packet.from.0 packet.to.0 (wire_fits plan packet.wire carried.row checked carried.is)) carried.packed.left
+  frame_ttl = ttl_lives carried.packed.ttl (length (expected plan carried.row packet.from.0 packet.to.0).points)
+      (few_points plan carried.row packet.from.0 packet.to.0 (wire_fits plan packet.wire carried.row checked carried.is)) carried.packed.left
 
   -- with control word it begins with the nibble 0
   no_header : (word : Bool) → (expected plan carried.row packet.from.0 packet.to.0).offer.cword ≡ word → word ≡ true → is_channel (behind_entry packet.bytes) ≡ false
@@ -188,15 +197,19 @@ module _ (plan : Plan) (network : NetworkState) (trace : List Entry) (packet : P
       → (expected plan carried.row packet.from.0 packet.to.0).offer.cword ≡ false → ⊥
   no_word place row binding by none =
       let me : (network.edges packet.to.0).me ≡ packet.to = (ruled.edges packet.to.0).place in
-      let same : by.entry ≡ record { label = carried.label; bottom = true; ttl = carried.packed.ttl } = same_read (entry_of packet.bytes) by.entry (record { label = carried.label; bottom = true; ttl = carried.packed.ttl }) by.read frame_entry in
-      let owner : IsOwner plan (network.edges packet.to.0) carried.label place = owner_is plan (network.edges packet.to.0) carried.label place (ap (λ (e : StackEntry). advertiser plan (network.edges packet.to.0) e.label) (sym same) ∙ by.owner) in
+      let same : by.entry ≡ record { label = carried.label; bottom = true; ttl = carried.packed.ttl } =
+      same_read (entry_of packet.bytes) by.entry (record { label = carried.label; bottom = true; ttl = carried.packed.ttl }) by.read frame_entry in
+      let owner : IsOwner plan (network.edges packet.to.0) carried.label place =
+      owner_is plan (network.edges packet.to.0) carried.label place (ap (λ (e : StackEntry). advertiser plan (network.edges packet.to.0) e.label) (sym same) ∙ by.owner) in
       let places = carried.named.owner place.wire.0 place.peer.0 owner.owned in
       let of_row : row ≡ carried.row = same_row row carried.row (sym by.is ∙ (ap (slice_get plan.wires) places.0 ∙ carried.is)) in
       let end_row : owner.end.row ≡ carried.row = same_row owner.end.row carried.row (sym owner.end.is ∙ (ap (slice_get plan.wires) places.0 ∙ carried.is)) in
       let back : joins packet.to.0 packet.from.0 carried.row.path ≡ true = sym (joins_turned carried.row.path packet.from.0 packet.to.0) ∙ carried.joined in
-      let terminal : is_terminal carried.row packet.to ≡ true = ap (λ (r : WirePlan). is_terminal r packet.to) (sym end_row) ∙ (ap (is_terminal owner.end.row) (sym me) ∙ (sym owner.end.terminal ∙ by.terminal)) in
+      let terminal : is_terminal carried.row packet.to ≡ true =
+      ap (λ (r : WirePlan). is_terminal r packet.to) (sym end_row) ∙ (ap (is_terminal owner.end.row) (sym me) ∙ (sym owner.end.terminal ∙ by.terminal)) in
       let own : TellsOwnOffer plan carried.row packet.to.0 packet.from.0 = terminal_offer plan packet.wire carried.row packet.to packet.from checked carried.is back terminal in
-      let on : (offer_of row (network.edges packet.to.0).me.0).cword ≡ true = header_word _ binding.told.vccv (offer_of row (network.edges packet.to.0).me.0).cword (length binding.told.points) by.picked in
+      let on : (offer_of row (network.edges packet.to.0).me.0).cword ≡ true =
+      header_word _ binding.told.vccv (offer_of row (network.edges packet.to.0).me.0).cword (length binding.told.points) by.picked in
       let off : (offer_of row (network.edges packet.to.0).me.0).cword ≡ false =
       ap (λ (r : WirePlan). (offer_of r (network.edges packet.to.0).me.0).cword) of_row
       ∙ (ap (λ (k : EdgeId). (offer_of carried.row k.0).cword) me
@@ -211,5 +224,6 @@ module _ (plan : Plan) (network : NetworkState) (trace : List Entry) (packet : P
     word false is = no_word place row binding by is
   not_in_channel place row Alert binding by = absurd (cc (sym no_router_alert ∙ by.channel))
   not_in_channel place row Expiry binding by =
-      let same : by.entry ≡ record { label = carried.label; bottom = true; ttl = carried.packed.ttl } = same_read (entry_of packet.bytes) by.entry (record { label = carried.label; bottom = true; ttl = carried.packed.ttl }) by.read frame_entry in
+      let same : by.entry ≡ record { label = carried.label; bottom = true; ttl = carried.packed.ttl } =
+      same_read (entry_of packet.bytes) by.entry (record { label = carried.label; bottom = true; ttl = carried.packed.ttl }) by.read frame_entry in
       absurd (cc (sym frame_ttl ∙ (ap (λ (e : StackEntry). nat_eq e.ttl 1) (sym same) ∙ by.channel)))

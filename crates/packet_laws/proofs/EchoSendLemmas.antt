@@ -46,7 +46,8 @@ use Rattle.packet_laws.proofs.PathLemmas.{HasTerminals, side_of, terminals}
 -- ---- the end that sends
 
 -- an end of the plan that is terminal, and bound
-pub bound_end : (plan : Plan) (network : NetworkState) (me : EdgeId) (place : EndPlace) (row : WirePlan) (binding : Binding) → IsEndOf plan me place → place.terminal ≡ true → wire_row plan place.wire ≡ Some row
+pub bound_end : (plan : Plan) (network : NetworkState) (me : EdgeId) (place : EndPlace) (row : WirePlan) (binding : Binding) → IsEndOf plan me place → place.terminal ≡ true
+    → wire_row plan place.wire ≡ Some row
     → (end_at (network.edges me.0) place).remote ≡ Some binding → IsBoundEnd plan network me place row binding
 bound_end plan network me place row binding end terminal is bound =
     let same : end.row ≡ row = same_row end.row row (sym end.is ∙ is) in
@@ -139,7 +140,8 @@ asked_echoes plan network me hops sent wire peer on bytes checked ruled asked =
     let at : (network.edges me.0).me ≡ me = (ruled.edges me.0).place in
     let here : wire_end plan me wire ≡ Some asked.place = ap (λ (k : EdgeId). wire_end plan k wire) (sym at) ∙ asked.here in
     let terminal : asked.place.terminal ≡ true = second_holds (is_of_wire wire asked.place) asked.place.terminal (sync.wire_end_is plan me wire asked.place here) in
-    let sender : IsBoundEnd plan network me asked.place asked.row asked.binding = bound_end plan network me asked.place asked.row asked.binding (wire_end_is plan me wire asked.place here) terminal asked.is asked.bound in
+    let sender : IsBoundEnd plan network me asked.place asked.row asked.binding =
+    bound_end plan network me asked.place asked.row asked.binding (wire_end_is plan me wire asked.place here) terminal asked.is asked.bound in
     let picks : channel_under asked.row me asked.binding ≡ Some asked.kind = ap (λ (k : EdgeId). channel_under asked.row k asked.binding) (sym at) ∙ asked.picked in
     let near : edge_address plan me ≡ Some asked.from = ap (edge_address plan) (sym at) ∙ asked.near in
     let far : far_address plan me asked.row ≡ Some asked.to = ap (λ (k : EdgeId). far_address plan k asked.row) (sym at) ∙ asked.far in
@@ -147,5 +149,6 @@ asked_echoes plan network me hops sent wire peer on bytes checked ruled asked =
     subst (λ (k : EdgeId). IsEchoed plan network (packet_from me 0 hops sent k on bytes)) (sym asked.beside)
     (subst (λ (w : WireId). IsEchoed plan network (packet_from me 0 hops sent asked.place.peer w bytes)) (sym asked.same)
     (subst (λ (b : List ℕ). IsEchoed plan network (packet_from me 0 hops sent asked.place.peer asked.place.wire b)) (sym asked.asked)
-    (sender_echoes plan network me asked.place asked.row asked.binding checked ruled sender 0 hops sent asked.kind asked.from asked.to (request_packet (ping_between asked.row asked.from asked.to number)) refl picks near far
+    (sender_echoes plan network me asked.place asked.row asked.binding checked ruled sender 0 hops sent asked.kind asked.from asked.to
+    (request_packet (ping_between asked.row asked.from asked.to number)) refl picks near far
     (Asks (number % 65536) (below number) (sym (request_same (ping_between asked.row asked.from asked.to number)))))))

@@ -108,8 +108,10 @@ module _ (plan : Plan) (network : NetworkState) (packet : Packet) (to : EdgeId) 
   channel_on : planned_channel plan echo.row packet.to.0 to.0 ≡ Some echo.kind
   channel_on =
       ap (λ (o : Offer). picked o.vccv (channels_told (expected plan echo.row to.0 packet.to.0).offer) o.cword (points_in_all plan echo.row packet.to.0 to.0)) offer_on
-      ∙ (ap (λ (o : Offer). picked (expected plan echo.row packet.from.0 packet.to.0).offer.vccv (channels_told o) (expected plan echo.row packet.from.0 packet.to.0).offer.cword (points_in_all plan echo.row packet.to.0 to.0)) offer_back
-      ∙ (ap (picked (expected plan echo.row packet.from.0 packet.to.0).offer.vccv (channels_told (expected plan echo.row packet.to.0 packet.from.0).offer) (expected plan echo.row packet.from.0 packet.to.0).offer.cword) same_points
+      ∙ (ap (λ (o : Offer). picked (expected plan echo.row packet.from.0 packet.to.0).offer.vccv (channels_told o) (expected plan echo.row packet.from.0 packet.to.0).offer.cword
+      (points_in_all plan echo.row packet.to.0 to.0)) offer_back
+      ∙ (ap (picked (expected plan echo.row packet.from.0 packet.to.0).offer.vccv (channels_told (expected plan echo.row packet.to.0 packet.from.0).offer)
+      (expected plan echo.row packet.from.0 packet.to.0).offer.cword) same_points
       ∙ echo.channel))
 
   comes_on : source_address plan echo.row packet.to.0 to.0 ≡ Some echo.source
@@ -139,7 +141,16 @@ module _ (plan : Plan) (network : NetworkState) (packet : Packet) (to : EdgeId) 
   bytes_on Expiry other is = ap (relabelled binding.label (echo.ttl - 1)) is ∙ relabelled_entry binding.label (echo.ttl - 1) echo.label echo.ttl (payload Expiry echo.ip) echo.is_label.below alive.most
 
   pub relay_echoed : (echo.kind ≡ Alert → ⊥)
-      → IsEchoed plan network (record { number = number; wire = packet.wire; from = packet.to; to = to; origin = packet.origin; hops = hops; age = 0; bytes = relabelled binding.label (echo.ttl - 1) packet.bytes })
+      → IsEchoed plan network (record {
+        number = number;
+        wire = packet.wire;
+        from = packet.to;
+        to = to;
+        origin = packet.origin;
+        hops = hops;
+        age = 0;
+        bytes = relabelled binding.label (echo.ttl - 1) packet.bytes;
+      })
   relay_echoed other = record {
     unnumbered = echo.unnumbered;
     row = echo.row;
@@ -176,7 +187,8 @@ module _ (plan : Plan) (network : NetworkState) (packet : Packet) (effects : Lis
   lives : IsAlive echo.ttl
   lives = alive_by plan echo.row packet.from.0 packet.to.0 echo.kind echo.ttl (wire_fits plan packet.wire echo.row checked echo.is) echo.left
 
-  entry_by : (kind : Cc) → (kind ≡ Alert → ⊥) → packet.bytes ≡ echo_stack kind echo.label echo.ttl ++ payload kind echo.ip → entry_of packet.bytes ≡ Ok (record { label = echo.label; bottom = true; ttl = echo.ttl })
+  entry_by : (kind : Cc) → (kind ≡ Alert → ⊥) → packet.bytes ≡ echo_stack kind echo.label echo.ttl ++ payload kind echo.ip → entry_of packet.bytes
+      ≡ Ok (record { label = echo.label; bottom = true; ttl = echo.ttl })
   entry_by Header other is = ap entry_of is ∙ front_entry echo.label echo.ttl (payload Header echo.ip) echo.is_label lives
   entry_by Alert other is = absurd (other refl)
   entry_by Expiry other is = ap entry_of is ∙ front_entry echo.label echo.ttl (payload Expiry echo.ip) echo.is_label lives
@@ -207,8 +219,36 @@ module _ (plan : Plan) (network : NetworkState) (packet : Packet) (effects : Lis
   goes_there = ap (λ (n : ℕ). record { 0 = n }) places.0
 
   pub echo_goes_on : (number hops : ℕ)
-      → IsEchoed plan network (record { number = number; wire = out.place.wire; from = packet.to; to = out.to; origin = packet.origin; hops = hops; age = 0; bytes = relabelled out.binding.label (out.entry.ttl - 1) packet.bytes })
+      → IsEchoed plan network (record {
+        number = number;
+        wire = out.place.wire;
+        from = packet.to;
+        to = out.to;
+        origin = packet.origin;
+        hops = hops;
+        age = 0;
+        bytes = relabelled out.binding.label (out.entry.ttl - 1) packet.bytes;
+      })
   echo_goes_on number hops =
-      subst (λ (w : WireId). IsEchoed plan network (record { number = number; wire = w; from = packet.to; to = out.to; origin = packet.origin; hops = hops; age = 0; bytes = relabelled out.binding.label (out.entry.ttl - 1) packet.bytes })) (same_wire out.place.wire packet.wire places.0)
-      (subst (λ (t : ℕ). IsEchoed plan network (record { number = number; wire = packet.wire; from = packet.to; to = out.to; origin = packet.origin; hops = hops; age = 0; bytes = relabelled out.binding.label (t - 1) packet.bytes })) (ap (λ (e : StackEntry). e.ttl) (sym same_entry))
+      subst (λ (w : WireId). IsEchoed plan network
+      (record {
+        number = number;
+        wire = w;
+        from = packet.to;
+        to = out.to;
+        origin = packet.origin;
+        hops = hops;
+        age = 0;
+        bytes = relabelled out.binding.label (out.entry.ttl - 1) packet.bytes;
+      })) (same_wire out.place.wire packet.wire places.0)
+      (subst (λ (t : ℕ). IsEchoed plan network (record {
+        number = number;
+        wire = packet.wire;
+        from = packet.to;
+        to = out.to;
+        origin = packet.origin;
+        hops = hops;
+        age = 0;
+        bytes = relabelled out.binding.label (t - 1) packet.bytes;
+      })) (ap (λ (e : StackEntry). e.ttl) (sym same_entry))
       (relay_echoed plan network packet out.to out.binding number hops checked ruled echo mate_here bound_there no_alert))

@@ -41,8 +41,10 @@ octet n low = octets_cons n [] low octets_none
 
 front_octets : AreOctets (0x45 ∷ 0 ∷ 0 ∷ 28 ∷ 0 ∷ 0 ∷ 0 ∷ 0 ∷ 255 ∷ 1 ∷ [])
 front_octets = octets_append (0x45 ∷ 0 ∷ 0 ∷ 28 ∷ 0 ∷ []) (0 ∷ 0 ∷ 0 ∷ 255 ∷ 1 ∷ [])
-    (octets_cons 0x45 (0 ∷ 0 ∷ 28 ∷ 0 ∷ []) (omega arith) (octets_cons 0 (0 ∷ 28 ∷ 0 ∷ []) (omega arith) (octets_cons 0 (28 ∷ 0 ∷ []) (omega arith) (octets_cons 28 (0 ∷ []) (omega arith) (octet 0 (omega arith))))))
-    (octets_cons 0 (0 ∷ 0 ∷ 255 ∷ 1 ∷ []) (omega arith) (octets_cons 0 (0 ∷ 255 ∷ 1 ∷ []) (omega arith) (octets_cons 0 (255 ∷ 1 ∷ []) (omega arith) (octets_cons 255 (1 ∷ []) (omega arith) (octet 1 (omega arith))))))
+    (octets_cons 0x45 (0 ∷ 0 ∷ 28 ∷ 0 ∷ []) (omega arith)
+    (octets_cons 0 (0 ∷ 28 ∷ 0 ∷ []) (omega arith) (octets_cons 0 (28 ∷ 0 ∷ []) (omega arith) (octets_cons 28 (0 ∷ []) (omega arith) (octet 0 (omega arith))))))
+    (octets_cons 0 (0 ∷ 0 ∷ 255 ∷ 1 ∷ []) (omega arith)
+    (octets_cons 0 (0 ∷ 255 ∷ 1 ∷ []) (omega arith) (octets_cons 0 (255 ∷ 1 ∷ []) (omega arith) (octets_cons 255 (1 ∷ []) (omega arith) (octet 1 (omega arith))))))
 
 request_octets : (ping : Ping) → AreOctets ping.from.0 → AreOctets ping.to.0 → AreOctets (request_packet ping)
 request_octets ping from to =
@@ -55,7 +57,16 @@ request_size : (ping : Ping) → length ping.from.0 ≡ 4 → length ping.to.0 �
 request_size ping from to =
     let header = summed_length (0x45 ∷ 0 ∷ 0 ∷ 28 ∷ 0 ∷ 0 ∷ 0 ∷ 0 ∷ 255 ∷ 1 ∷ []) (ping.from.0 ++ ping.to.0) in
     let message = summed_length (8 ∷ 0 ∷ []) (big_bytes 2 ping.number ++ big_bytes 2 ping.sequence) in
-    omega (arith, length-append (summed (0x45 ∷ 0 ∷ 0 ∷ 28 ∷ 0 ∷ 0 ∷ 0 ∷ 0 ∷ 255 ∷ 1 ∷ []) (ping.from.0 ++ ping.to.0)) (summed (8 ∷ 0 ∷ []) (big_bytes 2 ping.number ++ big_bytes 2 ping.sequence)), header, message, length-append ping.from.0 ping.to.0, from, to)
+    omega (
+      arith,
+      length-append (summed (0x45 ∷ 0 ∷ 0 ∷ 28 ∷ 0 ∷ 0 ∷ 0 ∷ 0 ∷ 255 ∷ 1 ∷ []) (ping.from.0 ++ ping.to.0))
+          (summed (8 ∷ 0 ∷ []) (big_bytes 2 ping.number ++ big_bytes 2 ping.sequence)),
+      header,
+      message,
+      length-append ping.from.0 ping.to.0,
+      from,
+      to,
+    )
 
 -- a sequence number counts modulo 65,536
 low_part : (n : ℕ) → n % 65536 % 256 ≡ n % 256

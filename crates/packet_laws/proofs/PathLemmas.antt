@@ -98,7 +98,8 @@ all_points plan row me peer wire joined terminal = by (side_of row.path me peer 
   by : IsSideOf row.path me peer → length (expected plan row peer me).points ≡ length row.path - 2
   by (AtFirst first on back) =
       rw back (less (length (points_on plan row (up_to (reverse row.path) peer))) (length row.path)
-      (way_counted plan row (reverse row.path) peer me (omega (arith, length-reverse row.path, wire.least)) (once_reversed row.path ∙ wire.once) (follows_reversed row.path peer me ∙ on) (first_is_last row.path me first)
+      (way_counted plan row (reverse row.path) peer me (omega (arith, length-reverse row.path, wire.least)) (once_reversed row.path ∙ wire.once)
+      (follows_reversed row.path peer me ∙ on) (first_is_last row.path me first)
       ∙ length-reverse row.path))
   by (AtLast other last back on) =
       rw back (less (length (points_on plan row (up_to row.path peer))) (length row.path) (way_counted plan row row.path peer me wire.least wire.once back last))

@@ -40,7 +40,8 @@ then_runs plan network trace event events here later =
       isolated = isolated-append plan trace told (entries_along plan next events) here later.isolated;
     }
 
-pub along_right : (plan : Plan) (events : List Event) (network : NetworkState) (trace : List Entry) → IsChecked plan → HasTypes plan → All (IsEventOf plan) events → IsOrdered plan network → IsRuledNetwork plan network
+pub along_right : (plan : Plan) (events : List Event) (network : NetworkState) (trace : List Entry) → IsChecked plan → HasTypes plan → All (IsEventOf plan) events
+    → IsOrdered plan network → IsRuledNetwork plan network
     → KeepsPacketRule plan network trace → RunsRight plan network trace events
 along_right plan [] network trace checked types planned ordered ruled rule =
     record { rule = subst (λ (l : List Entry). KeepsPacketRule plan network l) (sym (append-nil trace)) rule; isolated = tt }

@@ -53,7 +53,8 @@ pub record HasCome (plan : Plan) (trace : List Entry) (service : ServiceId) (ori
   pub formed : inner_at plan sender octets ≡ Ok frame
 
 -- as the frame of a wire of the service
-pub entered_of : (plan : Plan) (trace : List Entry) (row : WirePlan) (service : ServiceId) (origin : ℕ) (frame : List ℕ) → row.service ≡ service → HasCome plan trace service origin frame → HasEnteredService plan trace row origin frame
+pub entered_of : (plan : Plan) (trace : List Entry) (row : WirePlan) (service : ServiceId) (origin : ℕ) (frame : List ℕ) → row.service ≡ service
+    → HasCome plan trace service origin frame → HasEnteredService plan trace row origin frame
 entered_of plan trace row service origin frame same come = record {
   numbered = come.numbered;
   sender = come.sender;
@@ -64,7 +65,14 @@ entered_of plan trace row service origin frame same come = record {
 }
 
 pub come_of : (plan : Plan) (trace : List Entry) (row : WirePlan) (origin : ℕ) (frame : List ℕ) → HasEnteredService plan trace row origin frame → HasCome plan trace row.service origin frame
-come_of plan trace row origin frame entered = record { numbered = entered.numbered; sender = entered.sender; octets = entered.octets; told = entered.told; of_service = entered.service; formed = entered.formed }
+come_of plan trace row origin frame entered = record {
+  numbered = entered.numbered;
+  sender = entered.sender;
+  octets = entered.octets;
+  told = entered.told;
+  of_service = entered.service;
+  formed = entered.formed;
+}
 
 -- it has come still when more was told
 pub come_on : (plan : Plan) (trace more : List Entry) (service : ServiceId) (origin : ℕ) (frame : List ℕ) → HasCome plan trace service origin frame → HasCome plan (trace ++ more) service origin frame
@@ -163,7 +171,8 @@ copy_carried plan network trace me origin hops sent came service frame arrival p
     subst (λ (k : EdgeId). IsCarried plan network trace (packet_from me origin hops sent k wire bytes)) (sym copy.same_peer)
     (subst (λ (w : WireId). IsCarried plan network trace (packet_from me origin hops sent copy.place.peer w bytes)) (sym copy.same_wire)
     (subst (λ (b : List ℕ). IsCarried plan network trace (packet_from me origin hops sent copy.place.peer copy.place.wire b)) (sym is)
-    (sender_carries plan network me copy.place copy.row copy.binding checked ruled (copy_sender plan network me came service frame arrival peer wire of_arrival bytes at copy) trace service origin hops sent frame copy.same_service come)))
+    (sender_carries plan network me copy.place copy.row copy.binding checked ruled
+    (copy_sender plan network me came service frame arrival peer wire of_arrival bytes at copy) trace service origin hops sent frame copy.same_service come)))
   where
     at : (network.edges me.0).me ≡ me
     at = (ruled.edges me.0).place

@@ -41,14 +41,16 @@ pub bound_picks : (plan : Plan) (network : NetworkState) (row : WirePlan) (me : 
     → IsBoundEnd plan network me place row binding → channel_under row me binding ≡ channel_between (offer_of row me.0) (expected plan row place.peer.0 me.0).offer (length row.path - 2)
 bound_picks plan network row me place binding checked ruled bound =
     let wire : IsWireOf plan row = wire_fits plan place.wire row checked bound.is in
-    let planned : IsPlannedBinding plan network me.0 place.peer.0 place.wire row binding = (end_is_planned plan network checked ruled me.0 place.peer.0 place.wire row bound.is bound.joined).holds binding bound.bound in
+    let planned : IsPlannedBinding plan network me.0 place.peer.0 place.wire row binding =
+    (end_is_planned plan network checked ruled me.0 place.peer.0 place.wire row bound.is bound.joined).holds binding bound.bound in
     ap (λ (v : Option (ℕ × ℕ)). picked (offer_of row me.0).vccv v (offer_of row me.0).cword (length binding.told.points)) (told_channels plan row place.peer.0 me.0 binding.told planned.tells)
     ∙ ap (λ (n : ℕ). channel_between (offer_of row me.0) (expected plan row place.peer.0 me.0).offer n)
     (told_points plan row place.peer.0 me.0 binding.told planned.tells ∙ all_points plan row me.0 place.peer.0 wire bound.joined bound.terminal)
 
 -- ---- the law
 
-far_end : (plan : Plan) (network : NetworkState) (row : WirePlan) (me other : EdgeId) (place : EndPlace) (binding : Binding) → IsChecked plan → nat_eq me.0 other.0 ≡ false → IsBoundEnd plan network me place row binding → is_terminal row other ≡ true
+far_end : (plan : Plan) (network : NetworkState) (row : WirePlan) (me other : EdgeId) (place : EndPlace) (binding : Binding) → IsChecked plan → nat_eq me.0 other.0 ≡ false
+    → IsBoundEnd plan network me place row binding → is_terminal row other ≡ true
     → (expected plan row place.peer.0 me.0).offer ≡ offer_of row other.0
 far_end plan network row me other place binding checked apart bound terminal =
     far_offer plan row me other place.peer.0 (side_of row.path me.0 place.peer.0 (wire_fits plan place.wire row checked bound.is).once bound.joined bound.terminal) apart terminal

@@ -77,7 +77,8 @@ carried_on plan network trace more packet carried = record {
 
 -- in a network in which labels go on to be named
 pub carried_in : (plan : Plan) (network next : NetworkState) (trace : List Entry) (packet : Packet)
-    → ((k wire peer age label : ℕ) → MayCarry (network.edges k) wire peer age label → MayCarry (next.edges k) wire peer age label) → IsCarried plan network trace packet → IsCarried plan next trace packet
+    → ((k wire peer age label : ℕ) → MayCarry (network.edges k) wire peer age label → MayCarry (next.edges k) wire peer age label) → IsCarried plan network trace packet
+    → IsCarried plan next trace packet
 carried_in plan network next trace packet names carried = record {
   row = carried.row;
   is = carried.is;
@@ -116,7 +117,8 @@ carried_again plan network trace packet number hops carried = record {
 }
 
 -- a ping or an answer is one whatever was told, in a network in which labels go on to be named
-echoed_in : (plan : Plan) (network next : NetworkState) (packet : Packet) → ((k wire peer age label : ℕ) → MayCarry (network.edges k) wire peer age label → MayCarry (next.edges k) wire peer age label) → IsEchoed plan network packet → IsEchoed plan next packet
+echoed_in : (plan : Plan) (network next : NetworkState) (packet : Packet)
+    → ((k wire peer age label : ℕ) → MayCarry (network.edges k) wire peer age label → MayCarry (next.edges k) wire peer age label) → IsEchoed plan network packet → IsEchoed plan next packet
 echoed_in plan network next packet names echo = record {
   unnumbered = echo.unnumbered;
   row = echo.row;
@@ -168,13 +170,23 @@ right_on : (plan : Plan) (network : NetworkState) (trace more : List Entry) (pac
 right_on plan network trace more packet (inl carried) = inl (carried_on plan network trace more packet carried)
 right_on plan network trace more packet (inr echo) = inr echo
 
-right_in : (plan : Plan) (network next : NetworkState) (trace : List Entry) (packet : Packet) → ((k wire peer age label : ℕ) → MayCarry (network.edges k) wire peer age label → MayCarry (next.edges k) wire peer age label)
+right_in : (plan : Plan) (network next : NetworkState) (trace : List Entry) (packet : Packet)
+    → ((k wire peer age label : ℕ) → MayCarry (network.edges k) wire peer age label → MayCarry (next.edges k) wire peer age label)
     → FollowsPacketRule plan network trace packet → FollowsPacketRule plan next trace packet
 right_in plan network next trace packet names (inl carried) = inl (carried_in plan network next trace packet names carried)
 right_in plan network next trace packet names (inr echo) = inr (echoed_in plan network next packet names echo)
 
 right_again : (plan : Plan) (network : NetworkState) (trace : List Entry) (packet : Packet) (number hops : ℕ) → FollowsPacketRule plan network trace packet
-    → FollowsPacketRule plan network trace (record { number = number; wire = packet.wire; from = packet.from; to = packet.to; origin = packet.origin; hops = hops; age = packet.age; bytes = packet.bytes })
+    → FollowsPacketRule plan network trace (record {
+      number = number;
+      wire = packet.wire;
+      from = packet.from;
+      to = packet.to;
+      origin = packet.origin;
+      hops = hops;
+      age = packet.age;
+      bytes = packet.bytes;
+    })
 right_again plan network trace packet number hops (inl carried) = inl (carried_again plan network trace packet number hops carried)
 right_again plan network trace packet number hops (inr echo) = inr (echoed_again plan network packet number hops echo)
 
@@ -182,7 +194,8 @@ right_again plan network trace packet number hops (inr echo) = inr (echoed_again
 abbrev pub GrowsAll : NetworkState → NetworkState → Type 0
 GrowsAll network next = (k : ℕ) → Grows (network.edges k) (next.edges k)
 
-carried_older : (plan : Plan) (network next : NetworkState) (trace : List Entry) (packet : Packet) → packet.age + 1 < rest_ticks → GrowsAll network next → IsCarried plan network trace packet → IsCarried plan next trace (older packet)
+carried_older : (plan : Plan) (network next : NetworkState) (trace : List Entry) (packet : Packet) → packet.age + 1 < rest_ticks → GrowsAll network next
+    → IsCarried plan network trace packet → IsCarried plan next trace (older packet)
 carried_older plan network next trace packet young grows carried = record {
   row = carried.row;
   is = carried.is;
@@ -227,7 +240,8 @@ echoed_older plan network next packet young grows echo = record {
   named = grows packet.to.0 packet.wire.0 packet.from.0 packet.age echo.label young echo.named;
 }
 
-right_older : (plan : Plan) (network next : NetworkState) (trace : List Entry) (packet : Packet) → packet.age + 1 < rest_ticks → GrowsAll network next → FollowsPacketRule plan network trace packet → FollowsPacketRule plan next trace (older packet)
+right_older : (plan : Plan) (network next : NetworkState) (trace : List Entry) (packet : Packet) → packet.age + 1 < rest_ticks → GrowsAll network next
+    → FollowsPacketRule plan network trace packet → FollowsPacketRule plan next trace (older packet)
 right_older plan network next trace packet young grows (inl carried) = inl (carried_older plan network next trace packet young grows carried)
 right_older plan network next trace packet young grows (inr echo) = inr (echoed_older plan network next packet young grows echo)
 
@@ -238,17 +252,21 @@ all_right_older plan network next trace (p ∷ ps) grows all = by (lives_on p) r
   low : (a : ℕ) → nat_lt (a + 1) 64 ≡ true → a + 1 < 64
   low a is = grind (arith, nat_tests)
 
-  by : (b : Bool) → lives_on p ≡ b → AllByRecursion (FollowsPacketRule plan next trace) (all_older ps) → AllByRecursion (FollowsPacketRule plan next trace) (cond b (older p ∷ all_older ps) (all_older ps))
+  by : (b : Bool) → lives_on p ≡ b → AllByRecursion (FollowsPacketRule plan next trace) (all_older ps)
+      → AllByRecursion (FollowsPacketRule plan next trace) (cond b (older p ∷ all_older ps) (all_older ps))
   by true lives rest = (right_older plan network next trace p (low p.age lives) grows all.0, rest)
   by false lives rest = rest
 
 -- a packet with the number of a frame carries that frame
-pub carried_of : (plan : Plan) (network : NetworkState) (trace : List Entry) (packet : Packet) → FollowsPacketRule plan network trace packet → (packet.origin == 0) ≡ false → IsCarried plan network trace packet
+pub carried_of : (plan : Plan) (network : NetworkState) (trace : List Entry) (packet : Packet) → FollowsPacketRule plan network trace packet → (packet.origin == 0) ≡ false
+    → IsCarried plan network trace packet
 carried_of plan network trace packet (inl carried) numbered = carried
 carried_of plan network trace packet (inr echo) numbered = absurd (cc (sym numbered ∙ ap (λ (n : ℕ). n == 0) echo.unnumbered))
 
-all_on : (plan : Plan) (network : NetworkState) (trace more : List Entry) (packets : List Packet) → AllByRecursion (FollowsPacketRule plan network trace) packets → AllByRecursion (FollowsPacketRule plan network (trace ++ more)) packets
-all_on plan network trace more packets all = holds_by (FollowsPacketRule plan network trace) (FollowsPacketRule plan network (trace ++ more)) packets (λ packet right. right_on plan network trace more packet right) all
+all_on : (plan : Plan) (network : NetworkState) (trace more : List Entry) (packets : List Packet) → AllByRecursion (FollowsPacketRule plan network trace) packets
+    → AllByRecursion (FollowsPacketRule plan network (trace ++ more)) packets
+all_on plan network trace more packets all = holds_by (FollowsPacketRule plan network trace) (FollowsPacketRule plan network (trace ++ more)) packets
+    (λ packet right. right_on plan network trace more packet right) all
 
 -- ---- what leaves came in
 
@@ -267,7 +285,8 @@ left_came plan edge trace service origin frame from at bytes checked come copy =
       receiver_service = copy.same_service;
       frame = frame;
       as_entered = come.formed;
-      as_left = ap (inner_at plan at) copy.dressed ∙ inner_there plan come.sender at service sends.row receives.row come.octets frame checked sends.is come.of_service come.formed receives.is copy.same_service;
+      as_left = ap (inner_at plan at) copy.dressed
+          ∙ inner_there plan come.sender at service sends.row receives.row come.octets frame checked sends.is come.of_service come.formed receives.is copy.same_service;
     }
 
 -- copies are told apart from other services
@@ -278,8 +297,11 @@ copies_isolated plan edge me came service origin hops frame from (effect.Left at
   left_came plan edge trace service origin frame from at bytes checked come all.0,
   copies_isolated plan edge me came service origin hops frame from es other _ checked (come_on plan trace _ service origin frame come) all.1,
 )
-copies_isolated plan edge me came service origin hops frame from (effect.Sent peer wire of_arrival bytes ∷ es) other trace checked come all =
-    (tt, copies_isolated plan edge me came service origin hops frame from es (absorb_one me origin hops (effect.Sent peer wire of_arrival bytes) other) _ checked (come_on plan trace _ service origin frame come) all.1)
+copies_isolated plan edge me came service origin hops frame from (effect.Sent peer wire of_arrival bytes ∷ es) other trace checked come all = (
+  tt,
+  copies_isolated plan edge me came service origin hops frame from es (absorb_one me origin hops (effect.Sent peer wire of_arrival bytes) other) _ checked
+      (come_on plan trace _ service origin frame come) all.1,
+)
 copies_isolated plan edge me came service origin hops frame from (effect.Dropped why ∷ es) other trace checked come all =
     (tt, copies_isolated plan edge me came service origin hops frame from es other _ checked (come_on plan trace _ service origin frame come) all.1)
 copies_isolated plan edge me came service origin hops frame from (effect.Said peer bytes ∷ es) other trace checked come all = absurd all.0
@@ -304,14 +326,17 @@ pub record GoesRight (plan : Plan) (network : NetworkState) (trace : List Entry)
 right_none : (plan : Plan) (network : NetworkState) (trace : List Entry) (me : EdgeId) (origin : ℕ) (es : List Effect) → es ≡ [] → GoesRight plan network trace me origin es
 right_none plan network trace me origin es none = subst (GoesRight plan network trace me origin) (sym none) (record { carried = λ hops sent. tt; isolated = λ hops other. tt })
 
-right_dropped : (plan : Plan) (network : NetworkState) (trace : List Entry) (me : EdgeId) (origin : ℕ) (why : DropCause) (es : List Effect) → es ≡ effect.Dropped why ∷ [] → GoesRight plan network trace me origin es
+right_dropped : (plan : Plan) (network : NetworkState) (trace : List Entry) (me : EdgeId) (origin : ℕ) (why : DropCause) (es : List Effect) → es ≡ effect.Dropped why ∷ []
+    → GoesRight plan network trace me origin es
 right_dropped plan network trace me origin why es one = subst (GoesRight plan network trace me origin) (sym one) (record { carried = λ hops sent. tt; isolated = λ hops other. (tt, tt) })
 
-right_told : (plan : Plan) (network : NetworkState) (trace : List Entry) (me : EdgeId) (origin : ℕ) (wire : WireId) (sequence : ℕ) (es : List Effect) → es ≡ effect.Pong wire sequence ∷ [] → GoesRight plan network trace me origin es
+right_told : (plan : Plan) (network : NetworkState) (trace : List Entry) (me : EdgeId) (origin : ℕ) (wire : WireId) (sequence : ℕ) (es : List Effect) → es
+    ≡ effect.Pong wire sequence ∷ [] → GoesRight plan network trace me origin es
 right_told plan network trace me origin wire sequence es one = subst (GoesRight plan network trace me origin) (sym one) (record { carried = λ hops sent. tt; isolated = λ hops other. (tt, tt) })
 
 right_copies : (plan : Plan) (network : NetworkState) (trace : List Entry) (me : EdgeId) (origin : ℕ) (came : Arrival) (service : ServiceId) (frame : List ℕ) (from : ℕ) (es : List Effect)
-    → IsChecked plan → IsRuledNetwork plan network → HasCome plan trace service origin frame → AllAreCopies plan (network.edges me.0) came service frame from es → GoesRight plan network trace me origin es
+    → IsChecked plan → IsRuledNetwork plan network → HasCome plan trace service origin frame → AllAreCopies plan (network.edges me.0) came service frame from es
+    → GoesRight plan network trace me origin es
 right_copies plan network trace me origin came service frame from es checked ruled come all = record {
   carried = λ hops sent. holds_by (IsCarried plan network trace) (FollowsPacketRule plan network trace) (packets_of me origin hops sent es) (λ packet carried. inl carried)
       (copies_carried plan network trace me origin hops sent came service frame from es checked ruled come all);
@@ -320,19 +345,28 @@ right_copies plan network trace me origin came service frame from es checked rul
 
 -- on a frame that was told
 frame_right : (plan : Plan) (network : NetworkState) (trace : List Entry) (circuit : CircuitId) (origin : ℕ) (octets : List ℕ) (row : CircuitPlan) (es : List Effect)
-    → IsChecked plan → IsRuledNetwork plan network → circuit_row plan circuit ≡ Some row → (origin == 0) ≡ false → Among (In circuit origin octets) trace → FrameWork plan (network.edges row.edge.0) circuit octets (Some row) es
+    → IsChecked plan → IsRuledNetwork plan network → circuit_row plan circuit ≡ Some row → (origin == 0) ≡ false → Among (In circuit origin octets) trace
+    → FrameWork plan (network.edges row.edge.0) circuit octets (Some row) es
     → GoesRight plan network trace row.edge origin es
 frame_right plan network trace circuit origin octets row es checked ruled is numbered told (FrameIsIdle none) = right_none plan network trace row.edge origin es none
 frame_right plan network trace circuit origin octets row es checked ruled is numbered told (FrameIsDropped why formed one) =
     subst (GoesRight plan network trace row.edge origin) (sym one) (record { carried = λ hops sent. tt; isolated = λ hops other. (tt, tt) })
 frame_right plan network trace circuit origin octets row es checked ruled is numbered told (FrameGoesOut own same out) =
     right_copies plan network trace row.edge origin (arrival.Circuit circuit) own.service out.frame out.from es checked ruled
-    (record { numbered = numbered; sender = circuit; octets = octets; told = told; of_service = ap (λ (r : Option CircuitPlan). option_map (λ (c : CircuitPlan). c.service) r) (is ∙ same); formed = out.formed })
+    (record {
+      numbered = numbered;
+      sender = circuit;
+      octets = octets;
+      told = told;
+      of_service = ap (λ (r : Option CircuitPlan). option_map (λ (c : CircuitPlan). c.service) r) (is ∙ same);
+      formed = out.formed;
+    })
     out.copies
 
 -- on a packet that is carried
 packet_right : (plan : Plan) (network : NetworkState) (trace : List Entry) (packet : Packet) (es : List Effect)
-    → IsChecked plan → IsRuledNetwork plan network → IsCarried plan network trace packet → PacketWork plan (network.edges packet.to.0) packet.bytes es → GoesRight plan network trace packet.to packet.origin es
+    → IsChecked plan → IsRuledNetwork plan network → IsCarried plan network trace packet → PacketWork plan (network.edges packet.to.0) packet.bytes es
+    → GoesRight plan network trace packet.to packet.origin es
 packet_right plan network trace packet es checked ruled carried (PacketIsLost none) = right_none plan network trace packet.to packet.origin es none
 packet_right plan network trace packet es checked ruled carried (PacketIsDropped why one) =
     right_dropped plan network trace packet.to packet.origin why es one
@@ -345,18 +379,21 @@ packet_right plan network trace packet es checked ruled carried (PacketGoesOn ou
       carried = λ hops sent. (inl (goes_on plan network trace packet es checked ruled carried (ruled.edges packet.to.0).place out (sent + 1) (hops + 1)), tt);
       isolated = λ hops other. (tt, tt);
     })
-packet_right plan network trace packet es checked ruled carried (PacketIsAnswered peer wire bytes back one) = absurd (not_in_channel plan network trace packet checked ruled carried back.place back.row back.kind back.binding back.by)
+packet_right plan network trace packet es checked ruled carried (PacketIsAnswered peer wire bytes back one) =
+    absurd (not_in_channel plan network trace packet checked ruled carried back.place back.row back.kind back.binding back.by)
 packet_right plan network trace packet es checked ruled carried (PacketIsTold wire sequence answer one) = right_told plan network trace packet.to packet.origin wire sequence es one
 
 -- on a ping or an answer: it is dropped, goes on, is answered or is told, and no frame goes out
 verified_right : (plan : Plan) (network : NetworkState) (trace : List Entry) (packet : Packet) (service : ServiceId) (wire : WireId) (frame : List ℕ) (from : ℕ) (es : List Effect)
-    → IsVerified plan (network.edges packet.to.0) packet.bytes es → AllAreCopies plan (network.edges packet.to.0) (arrival.Wire wire) service frame from es → GoesRight plan network trace packet.to packet.origin es
+    → IsVerified plan (network.edges packet.to.0) packet.bytes es → AllAreCopies plan (network.edges packet.to.0) (arrival.Wire wire) service frame from es
+    → GoesRight plan network trace packet.to packet.origin es
 verified_right plan network trace packet service wire frame from es (IsDropped why one) copies = right_dropped plan network trace packet.to packet.origin why es one
 verified_right plan network trace packet service wire frame from es (IsAnswered place row kind binding bytes by one) copies =
     absurd (no_copy (subst (AllAreCopies plan (network.edges packet.to.0) (arrival.Wire wire) service frame from) one copies).0.same_arrival) where
       no_copy : arrival.Own ≡ arrival.Wire wire → ⊥
       no_copy same = cc (same)
-verified_right plan network trace packet service wire frame from es (IsTold place row kind binding sequence by one) copies = right_told plan network trace packet.to packet.origin place.wire sequence es one
+verified_right plan network trace packet service wire frame from es (IsTold place row kind binding sequence by one) copies =
+    right_told plan network trace packet.to packet.origin place.wire sequence es one
 
 echo_right : (plan : Plan) (network : NetworkState) (trace : List Entry) (packet : Packet)
     → IsChecked plan → HasTypes plan → IsRuledNetwork plan network → IsEchoed plan network packet → PacketWork plan (network.edges packet.to.0) packet.bytes (packet_work plan network packet).effects
@@ -376,11 +413,14 @@ echo_right plan network trace packet checked types ruled echo (PacketIsAnswered 
       carried = λ hops sent. (inr (answer_echoes plan network packet peer wire arrival.Own bytes checked ruled echo back types hops sent), tt);
       isolated = λ hops other. (tt, tt);
     })
-echo_right plan network trace packet checked types ruled echo (PacketIsTold wire sequence answer one) = right_told plan network trace packet.to packet.origin wire sequence (packet_work plan network packet).effects one
+echo_right plan network trace packet checked types ruled echo (PacketIsTold wire sequence answer one) =
+    right_told plan network trace packet.to packet.origin wire sequence (packet_work plan network packet).effects one
 
 -- on a packet that is right
-either_right : (plan : Plan) (network : NetworkState) (trace : List Entry) (packet : Packet) → IsChecked plan → HasTypes plan → IsRuledNetwork plan network → FollowsPacketRule plan network trace packet
-    → PacketWork plan (network.edges packet.to.0) packet.bytes (packet_work plan network packet).effects → GoesRight plan network trace packet.to packet.origin (packet_work plan network packet).effects
+either_right : (plan : Plan) (network : NetworkState) (trace : List Entry) (packet : Packet) → IsChecked plan → HasTypes plan → IsRuledNetwork plan network
+    → FollowsPacketRule plan network trace packet
+    → PacketWork plan (network.edges packet.to.0) packet.bytes (packet_work plan network packet).effects
+    → GoesRight plan network trace packet.to packet.origin (packet_work plan network packet).effects
 either_right plan network trace packet checked types ruled (inl carried) work = packet_right plan network trace packet (packet_work plan network packet).effects checked ruled carried work
 either_right plan network trace packet checked types ruled (inr echo) work = echo_right plan network trace packet checked types ruled echo work
 
@@ -403,7 +443,8 @@ pub record StepsRight (plan : Plan) (network : NetworkState) (trace : List Entry
   pub isolated : IsolatedAfter plan trace stepped.entries
 
 -- the packets under way are as they were
-same_right : (plan : Plan) (network : NetworkState) (trace : List Entry) (stepped : Stepped) → KeepsPacketRule plan network trace → stepped.state.under_way ≡ network.under_way → IsolatedAfter plan trace stepped.entries
+same_right : (plan : Plan) (network : NetworkState) (trace : List Entry) (stepped : Stepped) → KeepsPacketRule plan network trace → stepped.state.under_way ≡ network.under_way
+    → IsolatedAfter plan trace stepped.entries
     → StepsRight plan network trace stepped
 same_right plan network trace stepped rule same isolated = record {
   carried = subst (AllByRecursion (FollowsPacketRule plan network (trace ++ stepped.entries))) (sym same) (all_on plan network trace stepped.entries network.under_way rule);
@@ -463,18 +504,21 @@ without_leaves : (number : ℕ) (network : NetworkState) → (without_packet num
 unfolding without_packet
 without_leaves number network = refl
 
-without_right : (plan : Plan) (network : NetworkState) (trace : List Entry) (number : ℕ) → KeepsPacketRule plan network trace → AllByRecursion (FollowsPacketRule plan network trace) (without_packet number network).under_way
+without_right : (plan : Plan) (network : NetworkState) (trace : List Entry) (number : ℕ) → KeepsPacketRule plan network trace
+    → AllByRecursion (FollowsPacketRule plan network trace) (without_packet number network).under_way
 without_right plan network trace number rule =
     subst (AllByRecursion (FollowsPacketRule plan network trace)) (sym (without_leaves number network)) (without_hold (FollowsPacketRule plan network trace) number network.under_way rule)
 
-arriving_right : (plan : Plan) (network : NetworkState) (trace : List Entry) (packet : Packet) → IsChecked plan → HasTypes plan → IsRuledNetwork plan network → KeepsPacketRule plan network trace → FollowsPacketRule plan network trace packet
+arriving_right : (plan : Plan) (network : NetworkState) (trace : List Entry) (packet : Packet) → IsChecked plan → HasTypes plan → IsRuledNetwork plan network
+    → KeepsPacketRule plan network trace → FollowsPacketRule plan network trace packet
     → StepsRight plan network trace (arriving plan packet network)
 arriving_right plan network trace packet checked types ruled rule carried =
     let work : Work = packet_work plan network packet in
     absorb_right plan network (without_packet packet.number network) trace packet.to packet.origin packet.hops work (without_right plan network trace packet.number rule)
     (either_right plan network trace packet checked types ruled carried (behind.packet_work plan taken_all (edge_at network packet.to) [] packet.bytes))
 
-arrive_right : (plan : Plan) (network : NetworkState) (trace : List Entry) (number : ℕ) (found : Option Packet) → IsChecked plan → HasTypes plan → IsRuledNetwork plan network → KeepsPacketRule plan network trace
+arrive_right : (plan : Plan) (network : NetworkState) (trace : List Entry) (number : ℕ) (found : Option Packet) → IsChecked plan → HasTypes plan → IsRuledNetwork plan network
+    → KeepsPacketRule plan network trace
     → packet_at network number ≡ found → StepsRight plan network trace (arrive_event plan found network)
 arrive_right plan network trace number None checked types ruled rule is = same_right plan network trace (idle network) rule refl (tt, tt)
 arrive_right plan network trace number (Some packet) checked types ruled rule is =
@@ -485,10 +529,20 @@ discard_right plan network trace None rule = same_right plan network trace (idle
 discard_right plan network trace (Some packet) rule =
     record { carried = all_on plan network trace [] (without_packet packet.number network).under_way (without_right plan network trace packet.number rule); isolated = tt }
 
-repeating_right : (plan : Plan) (network : NetworkState) (trace : List Entry) (packet : Packet) → KeepsPacketRule plan network trace → FollowsPacketRule plan network trace packet → StepsRight plan network trace (repeating packet network)
+repeating_right : (plan : Plan) (network : NetworkState) (trace : List Entry) (packet : Packet) → KeepsPacketRule plan network trace → FollowsPacketRule plan network trace packet
+    → StepsRight plan network trace (repeating packet network)
 repeating_right plan network trace packet rule carried =
     let stepped : Stepped = repeating packet network in
-    let copy : Packet = record { number = network.sent + 1; wire = packet.wire; from = packet.from; to = packet.to; origin = packet.origin; hops = packet.hops; age = packet.age; bytes = packet.bytes } in
+    let copy : Packet = record {
+      number = network.sent + 1;
+      wire = packet.wire;
+      from = packet.from;
+      to = packet.to;
+      origin = packet.origin;
+      hops = packet.hops;
+      age = packet.age;
+      bytes = packet.bytes;
+    } in
     let sends = repeating_sends packet network in
     record {
       carried = subst (AllByRecursion (FollowsPacketRule plan network (trace ++ stepped.entries))) (sym sends.under_way)
@@ -519,17 +573,21 @@ tick_under_way : (plan : Plan) (network : NetworkState) → (step plan network T
 unfolding with_older
 tick_under_way plan network = (ticks_quiet plan 0 (length plan.edges) (with_older network)).under_way
 
-signal_right : (plan : Plan) (network : NetworkState) (trace : List Entry) (event : Event) → KeepsPacketRule plan network trace → IsSignalStep network (step plan network event) → StepsRight plan network trace (step plan network event)
-signal_right plan network trace event rule signals = same_right plan network trace (step plan network event) rule signals.quiet.under_way (none_isolated plan trace (step plan network event).entries signals.tells)
+signal_right : (plan : Plan) (network : NetworkState) (trace : List Entry) (event : Event) → KeepsPacketRule plan network trace → IsSignalStep network (step plan network event)
+    → StepsRight plan network trace (step plan network event)
+signal_right plan network trace event rule signals =
+    same_right plan network trace (step plan network event) rule signals.quiet.under_way (none_isolated plan trace (step plan network event).entries signals.tells)
 
 pub step_right : (plan : Plan) (network : NetworkState) (trace : List Entry) (event : Event) → IsChecked plan → HasTypes plan → IsRuledNetwork plan network → KeepsPacketRule plan network trace
     → StepsRight plan network trace (step plan network event)
 step_right plan network trace (Frame circuit octets) checked types ruled rule =
     then_right plan network trace (Did (Frame circuit octets)) (brings plan (Frame circuit octets) network) tt
-    (frame_event_right plan network (trace ++ Did (Frame circuit octets) ∷ []) circuit octets (circuit_row plan circuit) checked ruled (all_on plan network trace (Did (Frame circuit octets) ∷ []) network.under_way rule) refl)
+    (frame_event_right plan network (trace ++ Did (Frame circuit octets) ∷ []) circuit octets (circuit_row plan circuit) checked ruled
+    (all_on plan network trace (Did (Frame circuit octets) ∷ []) network.under_way rule) refl)
 step_right plan network trace (Arrive number) checked types ruled rule =
     then_right plan network trace (Did (Arrive number)) (brings plan (Arrive number) network) tt
-    (arrive_right plan network (trace ++ Did (Arrive number) ∷ []) number (packet_at network number) checked types ruled (all_on plan network trace (Did (Arrive number) ∷ []) network.under_way rule) refl)
+    (arrive_right plan network (trace ++ Did (Arrive number) ∷ []) number (packet_at network number) checked types ruled
+    (all_on plan network trace (Did (Arrive number) ∷ []) network.under_way rule) refl)
 step_right plan network trace (Discard number) checked types ruled rule =
     then_right plan network trace (Did (Discard number)) (brings plan (Discard number) network) tt
     (discard_right plan network (trace ++ Did (Discard number) ∷ []) (packet_at network number) (all_on plan network trace (Did (Discard number) ∷ []) network.under_way rule))
@@ -550,14 +608,16 @@ step_right plan network trace Tick checked types ruled rule =
 step_right plan network trace event checked types ruled rule = signal_right plan network trace event rule (step_signals plan network event refl)
 
 -- and the labels that packets carry go on to be named
-still_carried : (plan : Plan) (network : NetworkState) (trace : List Entry) (event : Event) → ((k wire peer age label : ℕ) → MayCarry (network.edges k) wire peer age label → MayCarry ((step plan network event).state.edges k) wire peer age label)
+still_carried : (plan : Plan) (network : NetworkState) (trace : List Entry) (event : Event)
+    → ((k wire peer age label : ℕ) → MayCarry (network.edges k) wire peer age label → MayCarry ((step plan network event).state.edges k) wire peer age label)
     → StepsRight plan network trace (step plan network event) → KeepsPacketRule plan (step plan network event).state (trace ++ (step plan network event).entries)
 still_carried plan network trace event names right =
     let next : NetworkState = (step plan network event).state in
     let told : List Entry = trace ++ (step plan network event).entries in
     holds_by (FollowsPacketRule plan network told) (FollowsPacketRule plan next told) next.under_way (λ packet follows. right_in plan network next told packet names follows) right.carried
 
-pub step_keeps_rule : (plan : Plan) (network : NetworkState) (trace : List Entry) (event : Event) → IsChecked plan → HasTypes plan → IsEventOf plan event → IsOrdered plan network → IsRuledNetwork plan network
+pub step_keeps_rule : (plan : Plan) (network : NetworkState) (trace : List Entry) (event : Event) → IsChecked plan → HasTypes plan → IsEventOf plan event → IsOrdered plan network
+    → IsRuledNetwork plan network
     → KeepsPacketRule plan network trace → KeepsPacketRule plan (step plan network event).state (trace ++ (step plan network event).entries)
 step_keeps_rule plan network trace Tick checked types planned ordered ruled rule =
     let stepped : Stepped = step plan network Tick in

@@ -54,7 +54,8 @@ relabelled_entry label ttl old was rest low most =
     let class : big_number 4 (entry_octets old true was ++ rest) / 256 % 16 ≡ 1 = ap (λ (n : ℕ). n / 256 % 16) number ∙ class_kept old was most in
     ap (λ (n : ℕ). big_bytes 4 (label * 4096 + (n * 256 + ttl)) ++ rest) class
 
-pub relabelled_packed : (label ttl old was : ℕ) (cword : Bool) (vlan : Option ℕ) (frame : List ℕ) → old ≤ 1048575 → was ≤ 255 → relabelled label ttl (packed old was cword vlan frame) ≡ packed label ttl cword vlan frame
+pub relabelled_packed : (label ttl old was : ℕ) (cword : Bool) (vlan : Option ℕ) (frame : List ℕ) → old ≤ 1048575 → was ≤ 255 → relabelled label ttl (packed old was cword vlan frame)
+    ≡ packed label ttl cword vlan frame
 relabelled_packed label ttl old was cword vlan frame low most = relabelled_entry label ttl old was (payload_of cword vlan frame) low most
 
 -- ---- a mate
@@ -106,7 +107,9 @@ module _ (plan : Plan) (network : NetworkState) (trace : List Entry) (packet : P
         ∙ ap (λ (o : Offer). pushed_vlan (expected plan rule.row packet.to.0 to.0).offer.tagged o.vlan) (sym offer_back));
     bytes =
         ap (relabelled binding.label (rule.packed.ttl - 1)) rule.packed.bytes
-        ∙ (relabelled_packed binding.label (rule.packed.ttl - 1) rule.label rule.packed.ttl (expected plan rule.row packet.from.0 packet.to.0).offer.cword rule.packed.vlan rule.frame rule.is_label.below (most rule.packed.ttl (length (expected plan rule.row packet.from.0 packet.to.0).points) rule.packed.left)
+        ∙ (relabelled_packed binding.label (rule.packed.ttl - 1) rule.label rule.packed.ttl
+        (expected plan rule.row packet.from.0 packet.to.0).offer.cword rule.packed.vlan rule.frame rule.is_label.below
+        (most rule.packed.ttl (length (expected plan rule.row packet.from.0 packet.to.0).points) rule.packed.left)
         ∙ ap (λ (o : Offer). packed binding.label (rule.packed.ttl - 1) o.cword rule.packed.vlan rule.frame) (sym offer_on));
     same_word = ap (λ (o : Offer). o.cword) offer_back ∙ (rule.packed.same_word ∙ ap (λ (o : Offer). o.cword) (sym offer_on));
     same_mode = ap (λ (o : Offer). o.tagged) offer_back ∙ (rule.packed.same_mode ∙ ap (λ (o : Offer). o.tagged) (sym offer_on));
@@ -150,7 +153,8 @@ module _ (plan : Plan) (network : NetworkState) (trace : List Entry) (packet : P
   entry : entry_of packet.bytes ≡ Ok (record { label = carried.label; bottom = true; ttl = carried.packed.ttl })
   entry = ap entry_of carried.packed.bytes
       ∙ packed_is_unpacked.entry carried.label carried.packed.ttl true (payload_of (expected plan carried.row packet.from.0 packet.to.0).offer.cword carried.packed.vlan carried.frame) carried.is_label
-      (least carried.packed.ttl (length (expected plan carried.row packet.from.0 packet.to.0).points) few carried.packed.left) (ttl_most carried.packed.ttl (length (expected plan carried.row packet.from.0 packet.to.0).points) carried.packed.left)
+      (least carried.packed.ttl (length (expected plan carried.row packet.from.0 packet.to.0).points) few carried.packed.left)
+      (ttl_most carried.packed.ttl (length (expected plan carried.row packet.from.0 packet.to.0).points) carried.packed.left)
     where
       least : (t m : ℕ) → m ≤ 5 → t + m ≡ 255 → 1 ≤ t
       least t m few is = omega (arith, few, is)
@@ -178,8 +182,37 @@ module _ (plan : Plan) (network : NetworkState) (trace : List Entry) (packet : P
 
   -- what is sent on, under a number and after hops
   pub goes_on : (number hops : ℕ)
-      → IsCarried plan network trace (record { number = number; wire = out.place.wire; from = packet.to; to = out.to; origin = packet.origin; hops = hops; age = 0; bytes = relabelled out.binding.label (out.entry.ttl - 1) packet.bytes })
+      → IsCarried plan network trace (record {
+        number = number;
+        wire = out.place.wire;
+        from = packet.to;
+        to = out.to;
+        origin = packet.origin;
+        hops = hops;
+        age = 0;
+        bytes = relabelled out.binding.label (out.entry.ttl - 1) packet.bytes;
+      })
   goes_on number hops =
-      subst (λ (w : WireId). IsCarried plan network trace (record { number = number; wire = w; from = packet.to; to = out.to; origin = packet.origin; hops = hops; age = 0; bytes = relabelled out.binding.label (out.entry.ttl - 1) packet.bytes })) (same_wire out.place.wire packet.wire places.0)
-      (subst (λ (t : ℕ). IsCarried plan network trace (record { number = number; wire = packet.wire; from = packet.to; to = out.to; origin = packet.origin; hops = hops; age = 0; bytes = relabelled out.binding.label (t - 1) packet.bytes })) (ap (λ (e : StackEntry). e.ttl) (sym same_entry))
+      subst (λ (w : WireId). IsCarried plan network trace
+      (record {
+        number = number;
+        wire = w;
+        from = packet.to;
+        to = out.to;
+        origin = packet.origin;
+        hops = hops;
+        age = 0;
+        bytes = relabelled out.binding.label (out.entry.ttl - 1) packet.bytes;
+      })) (same_wire out.place.wire packet.wire places.0)
+      (subst (λ (t : ℕ). IsCarried plan network trace
+      (record {
+        number = number;
+        wire = packet.wire;
+        from = packet.to;
+        to = out.to;
+        origin = packet.origin;
+        hops = hops;
+        age = 0;
+        bytes = relabelled out.binding.label (t - 1) packet.bytes;
+      })) (ap (λ (e : StackEntry). e.ttl) (sym same_entry))
       (relay_carried plan network trace packet out.to out.binding number hops checked ruled carried mate_is bound))

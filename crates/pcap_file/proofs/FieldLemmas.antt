@@ -33,14 +33,16 @@ field_sound base order octets field e =
     (grind (arith, whole), value)
 
 -- where fields have no first fault, none of them has a fault
-all_sound : (base : ℕ) (order : Endianness) (octets : List ℕ) (fields : List CaptureField) → first_field_fault base order octets fields ≡ None → AllByRecursion (λ field. field_fault base order octets field ≡ None) fields
+all_sound : (base : ℕ) (order : Endianness) (octets : List ℕ) (fields : List CaptureField) → first_field_fault base order octets fields ≡ None
+    → AllByRecursion (λ field. field_fault base order octets field ≡ None) fields
 all_sound base order octets [] none = tt
 all_sound base order octets (field ∷ fields) none =
     let (one, others) = both_none (field_fault base order octets field) (first_field_fault base order octets fields) none in
     (one, all_sound base order octets fields others)
 
 -- a header whose fields have no fault is one
-pub header_sound : (order : Endianness) (octets : List ℕ) → 4 ≤ length octets → order_told (number_at Big 4 0 octets) ≡ Some order → first_field_fault 0 order octets header_fields ≡ None → HasHeader order octets
+pub header_sound : (order : Endianness) (octets : List ℕ) → 4 ≤ length octets → order_told (number_at Big 4 0 octets) ≡ Some order → first_field_fault 0 order octets header_fields
+    ≡ None → HasHeader order octets
 header_sound order octets there told none =
     let sound = all_sound 0 order octets header_fields none in
     let (whole, network) = field_sound 0 order octets Network sound.1.1.1.1.1.0 in
@@ -64,13 +66,15 @@ record_sound base order octets none =
     record { whole = (field_sound base order octets Data sound.1.1.1.1.0).0; captured = refl; most = grind (arith, most) }
 
 -- a field that is whole, with a right value, has no fault
-pub field_passes : (base : ℕ) (order : Endianness) (octets : List ℕ) (field : CaptureField) → field_place field + field_size order octets field ≤ length octets → value_fault base order octets field ≡ None → field_fault base order octets field ≡ None
+pub field_passes : (base : ℕ) (order : Endianness) (octets : List ℕ) (field : CaptureField) → field_place field + field_size order octets field ≤ length octets
+    → value_fault base order octets field ≡ None → field_fault base order octets field ≡ None
 field_passes base order octets field whole right =
     let enough : nat_lt (length octets) (field_place field + field_size order octets field) ≡ false = grind (arith, whole) in
     rw enough right
 
 -- fields without a fault have no first fault
-pub first_passes : (base : ℕ) (order : Endianness) (octets : List ℕ) (fields : List CaptureField) → AllByRecursion (λ field. field_fault base order octets field ≡ None) fields → first_field_fault base order octets fields ≡ None
+pub first_passes : (base : ℕ) (order : Endianness) (octets : List ℕ) (fields : List CaptureField) → AllByRecursion (λ field. field_fault base order octets field ≡ None) fields
+    → first_field_fault base order octets fields ≡ None
 first_passes base order octets [] all = refl
 first_passes base order octets (field ∷ fields) all = rw (all.0) (first_passes base order octets fields all.1)
 

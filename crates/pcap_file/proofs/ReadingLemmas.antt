@@ -32,7 +32,8 @@ header_sound order octets fault header (inl lacks) = let there = header.there in
 header_sound order octets fault header (inr (inl other)) = not_both (order_told (number_at Big 4 0 octets)) order other.other header.magic
 header_sound order octets fault header (inr (inr wrong)) =
     let same = same_order (order_told (number_at Big 4 0 octets)) order wrong.order header.magic wrong.magic in
-    not_both (first_field_fault 0 order octets header_fields) fault (header_passes order octets header) (subst (λ (o : Endianness). first_field_fault 0 o octets header_fields ≡ Some fault) (sym same) wrong.first)
+    not_both (first_field_fault 0 order octets header_fields) fault (header_passes order octets header)
+    (subst (λ (o : Endianness). first_field_fault 0 o octets header_fields ≡ Some fault) (sym same) wrong.first)
 
 -- a header has one first fault at most
 pub one_header_fault : (octets : List ℕ) (fault other : CaptureFault) → IsHeaderFault octets fault → IsHeaderFault octets other → fault ≡ other
@@ -49,7 +50,8 @@ one_header_fault octets fault other (inr (inr a)) (inr (inr b)) =
     same_fault (first_field_fault 0 a.order octets header_fields) fault other a.first (subst (λ (o : Endianness). first_field_fault 0 o octets header_fields ≡ Some other) (sym same) b.first)
 
 -- the record in front of octets is one
-same_record : (order : Endianness) (p q : PacketRecord) (more rest : List ℕ) → IsPacketRecord order p → IsPacketRecord order q → spell_record p ++ more ≡ spell_record q ++ rest → (p ≡ q) × (more ≡ rest)
+same_record : (order : Endianness) (p q : PacketRecord) (more rest : List ℕ) → IsPacketRecord order p → IsPacketRecord order q → spell_record p ++ more ≡ spell_record q ++ rest
+    → (p ≡ q) × (more ≡ rest)
 same_record order p q more rest is_p is_q e =
     let joined : p.head ++ (p.frame ++ more) ≡ q.head ++ (q.frame ++ rest) = sym (append_assoc p.head p.frame more) ∙ (e ∙ append_assoc q.head q.frame rest) in
     let (heads, behind) = same_front p.head q.head (p.frame ++ more) (q.frame ++ rest) (is_p.size ∙ sym is_q.size) joined in
@@ -80,7 +82,8 @@ same_records order [] [] rest more are_p are_q no_p no_q e = (refl, e)
 same_records order [] (q ∷ qs) rest more are_p are_q no_p no_q e = absurd (no_p q (flat_map spell_record qs ++ more) are_q.0 (e ∙ append_assoc (spell_record q) (flat_map spell_record qs) more))
 same_records order (p ∷ ps) [] rest more are_p are_q no_p no_q e = absurd (no_q p (flat_map spell_record ps ++ rest) are_p.0 (sym e ∙ append_assoc (spell_record p) (flat_map spell_record ps) rest))
 same_records order (p ∷ ps) (q ∷ qs) rest more are_p are_q no_p no_q e =
-    let joined : spell_record p ++ (flat_map spell_record ps ++ rest) ≡ spell_record q ++ (flat_map spell_record qs ++ more) = sym (append_assoc (spell_record p) (flat_map spell_record ps) rest) ∙ (e ∙ append_assoc (spell_record q) (flat_map spell_record qs) more) in
+    let joined : spell_record p ++ (flat_map spell_record ps ++ rest) ≡ spell_record q ++ (flat_map spell_record qs ++ more) =
+    sym (append_assoc (spell_record p) (flat_map spell_record ps) rest) ∙ (e ∙ append_assoc (spell_record q) (flat_map spell_record qs) more) in
     let (head, behind) = same_record order p q (flat_map spell_record ps ++ rest) (flat_map spell_record qs ++ more) are_p.0 are_q.0 joined in
     let (tail, left) = same_records order ps qs rest more are_p.1 are_q.1 no_p no_q behind in
     ((λ i. head i ∷ tail i), left)
@@ -94,8 +97,10 @@ same_frames order octets frames others a b =
 -- records are not broken
 not_broken : (order : Endianness) (octets : List ℕ) (frames : List (List ℕ)) (fault : CaptureFault) → AreRecords order octets frames → HasBrokenRecord order octets fault → ⊥
 not_broken order octets frames fault a b =
-    let joined : flat_map spell_record a.records ++ [] ≡ flat_map spell_record b.records.records ++ b.rest = append-nil (flat_map spell_record a.records) ∙ (sym a.joined ∙ (b.split ∙ ap (λ (l : List ℕ). l ++ b.rest) b.records.joined)) in
-    let (records, left) = same_records order a.records b.records.records [] b.rest a.are b.records.are (none_in_nothing order) (none_in_broken (24 + length b.front) order b.rest fault b.first) joined in
+    let joined : flat_map spell_record a.records ++ [] ≡ flat_map spell_record b.records.records ++ b.rest =
+    append-nil (flat_map spell_record a.records) ∙ (sym a.joined ∙ (b.split ∙ ap (λ (l : List ℕ). l ++ b.rest) b.records.joined)) in
+    let (records, left) = same_records order a.records b.records.records [] b.rest a.are b.records.are (none_in_nothing order)
+    (none_in_broken (24 + length b.front) order b.rest fault b.first) joined in
     let some = b.some in
     let none = ap length left in
     absurd (omega arith)
@@ -105,9 +110,11 @@ one_broken : (order : Endianness) (octets : List ℕ) (fault other : CaptureFaul
 one_broken order octets fault other a b =
     let joined : flat_map spell_record a.records.records ++ a.rest ≡ flat_map spell_record b.records.records ++ b.rest =
     ap (λ (l : List ℕ). l ++ a.rest) (sym a.records.joined) ∙ (sym a.split ∙ (b.split ∙ ap (λ (l : List ℕ). l ++ b.rest) b.records.joined)) in
-    let (records, rests) = same_records order a.records.records b.records.records a.rest b.rest a.records.are b.records.are (none_in_broken (24 + length a.front) order a.rest fault a.first) (none_in_broken (24 + length b.front) order b.rest other b.first) joined in
+    let (records, rests) = same_records order a.records.records b.records.records a.rest b.rest a.records.are b.records.are
+    (none_in_broken (24 + length a.front) order a.rest fault a.first) (none_in_broken (24 + length b.front) order b.rest other b.first) joined in
     let fronts : a.front ≡ b.front = a.records.joined ∙ (ap (flat_map spell_record) records ∙ sym b.records.joined) in
-    let found : first_field_fault (24 + length a.front) order a.rest record_fields ≡ first_field_fault (24 + length b.front) order b.rest record_fields = λ i. first_field_fault (24 + length (fronts i)) order (rests i) record_fields in
+    let found : first_field_fault (24 + length a.front) order a.rest record_fields ≡ first_field_fault (24 + length b.front) order b.rest record_fields =
+    λ i. first_field_fault (24 + length (fronts i)) order (rests i) record_fields in
     same_fault (first_field_fault (24 + length a.front) order a.rest record_fields) fault other a.first (found ∙ b.first)
 
 one_list : (octets : List ℕ) (frames others : List (List ℕ)) → IsCapture octets frames → IsCapture octets others → frames ≡ others
@@ -142,10 +149,12 @@ told_first octets (Truncated at field) tells = inr tells
 told_first octets NoMemory tells = inl refl
 
 -- the only answer to a capture, and to octets with a fault
-pub accepts : (octets : List ℕ) (result : Result (List (List ℕ)) CaptureFault) → IfOk result (IsCapture octets) → IfErr result (TellsCaptureFault (IsFirstFault octets)) → (frames : List (List ℕ)) → IsCapture octets frames → IsCaptureUnlessNoMemory result (Ok frames)
+pub accepts : (octets : List ℕ) (result : Result (List (List ℕ)) CaptureFault) → IfOk result (IsCapture octets) → IfErr result (TellsCaptureFault (IsFirstFault octets))
+    → (frames : List (List ℕ)) → IsCapture octets frames → IsCaptureUnlessNoMemory result (Ok frames)
 accepts octets (Ok others) is told frames capture = inl (ap Ok (one_list octets others frames is capture))
 accepts octets (Err fault) is told frames capture = elim (told_first octets fault told) [ inl none ↦ inr (ap Err none) | inr first ↦ absurd (never_both octets frames fault capture first) ]
 
-pub refuses : (octets : List ℕ) (result : Result (List (List ℕ)) CaptureFault) → IfOk result (IsCapture octets) → IfErr result (TellsCaptureFault (IsFirstFault octets)) → (fault : CaptureFault) → IsFirstFault octets fault → IsCaptureUnlessNoMemory result (Err fault)
+pub refuses : (octets : List ℕ) (result : Result (List (List ℕ)) CaptureFault) → IfOk result (IsCapture octets) → IfErr result (TellsCaptureFault (IsFirstFault octets))
+    → (fault : CaptureFault) → IsFirstFault octets fault → IsCaptureUnlessNoMemory result (Err fault)
 refuses octets (Ok frames) is told fault first = absurd (never_both octets frames fault is first)
 refuses octets (Err other) is told fault first = elim (told_first octets other told) [ inl none ↦ inr (ap Err none) | inr named ↦ inl (ap Err (one_fault octets other fault named first)) ]

@@ -18,8 +18,10 @@ use Rattle.pcap_file.specs.Records.{PacketRecord, IsPacketRecord, AreRecords, sp
 
 -- a number in the front is that of all
 pub number_front : (order : Endianness) (size place : ℕ) (xs ys : List ℕ) → place + size ≤ length xs → number_at order size place (xs ++ ys) ≡ number_at order size place xs
-number_front Big size place xs ys within = ap (λ (l : List ℕ). big_number size l) (drop-append-le place xs ys (omega arith)) ∙ big_from-append size (drop place xs) ys (let len = length-drop place xs in omega arith)
-number_front Little size place xs ys within = ap (λ (l : List ℕ). little_number size l) (drop-append-le place xs ys (omega arith)) ∙ little_from-append size (drop place xs) ys (let len = length-drop place xs in omega arith)
+number_front Big size place xs ys within = ap (λ (l : List ℕ). big_number size l) (drop-append-le place xs ys (omega arith))
+    ∙ big_from-append size (drop place xs) ys (let len = length-drop place xs in omega arith)
+number_front Little size place xs ys within = ap (λ (l : List ℕ). little_number size l) (drop-append-le place xs ys (omega arith))
+    ∙ little_from-append size (drop place xs) ys (let len = length-drop place xs in omega arith)
 
 all_more : (order : Endianness) (rs : List PacketRecord) (r : PacketRecord) → AllByRecursion (IsPacketRecord order) rs → IsPacketRecord order r → AllByRecursion (IsPacketRecord order) (rs ++ r ∷ [])
 all_more order [] r all is = (is, tt)
@@ -30,22 +32,26 @@ frames_more [] r = refl
 frames_more (q ∷ rs) r = ap (λ (l : List (List ℕ)). q.frame ∷ l) (frames_more rs r)
 
 -- one record more behind records
-pub records_more : (order : Endianness) (octets : List ℕ) (frames : List (List ℕ)) (r : PacketRecord) → AreRecords order octets frames → IsPacketRecord order r → AreRecords order (octets ++ spell_record r) (frames ++ r.frame ∷ [])
+pub records_more : (order : Endianness) (octets : List ℕ) (frames : List (List ℕ)) (r : PacketRecord) → AreRecords order octets frames → IsPacketRecord order r
+    → AreRecords order (octets ++ spell_record r) (frames ++ r.frame ∷ [])
 records_more order octets frames r are is = record {
   records = are.records ++ r ∷ [];
-  joined = ap (λ (l : List ℕ). l ++ spell_record r) are.joined ∙ (ap (λ (l : List ℕ). flat_map spell_record are.records ++ l) (sym (append-nil (spell_record r))) ∙ sym (flat_map-append spell_record are.records (r ∷ [])));
+  joined = ap (λ (l : List ℕ). l ++ spell_record r) are.joined
+      ∙ (ap (λ (l : List ℕ). flat_map spell_record are.records ++ l) (sym (append-nil (spell_record r))) ∙ sym (flat_map-append spell_record are.records (r ∷ [])));
   are = all_more order are.records r are.are is;
   of = ap (λ (l : List (List ℕ)). l ++ r.frame ∷ []) are.of ∙ sym (frames_more are.records r);
 }
 
 -- a number in the octets that are taken is that of all
-pub number_taken : (order : Endianness) (size place count : ℕ) (octets : List ℕ) → place + size ≤ count → count ≤ length octets → number_at order size place (take count octets) ≡ number_at order size place octets
+pub number_taken : (order : Endianness) (size place count : ℕ) (octets : List ℕ) → place + size ≤ count → count ≤ length octets → number_at order size place (take count octets)
+    ≡ number_at order size place octets
 number_taken order size place count octets fits within =
     sym (number_front order size place (take count octets) (drop count octets) (let len = length-take count octets in omega arith))
     ∙ ap (λ (l : List ℕ). number_at order size place l) (take-append-drop count octets)
 
 -- octets that begin with a record begin with its head and its frame
-pub record_in_front : (order : Endianness) (octets frame : List ℕ) (count : ℕ) → BeginsRecord order octets count → frame ≡ take count (drop 16 octets) → IsPacketRecord order (record { head = take 16 octets; frame = frame })
+pub record_in_front : (order : Endianness) (octets frame : List ℕ) (count : ℕ) → BeginsRecord order octets count → frame ≡ take count (drop 16 octets)
+    → IsPacketRecord order (record { head = take 16 octets; frame = frame })
 record_in_front order octets frame count begins e =
     let whole = begins.whole in
     let most = begins.most in
@@ -72,7 +78,8 @@ pub all_records : (order : Endianness) (octets : List ℕ) (frames : List (List 
 all_records order octets frames at are whole = subst (λ (l : List ℕ). AreRecords order l frames) (grind (arith, whole, common_steps)) are
 
 -- octets from a place on whose fields have a fault break the record that begins there
-pub broken_at : (order : Endianness) (octets rest : List ℕ) (frames : List (List ℕ)) (at base : ℕ) (fault : CaptureFault) → at < length octets → AreRecords order (take at octets) frames → rest ≡ drop at octets
+pub broken_at : (order : Endianness) (octets rest : List ℕ) (frames : List (List ℕ)) (at base : ℕ) (fault : CaptureFault) → at < length octets
+    → AreRecords order (take at octets) frames → rest ≡ drop at octets
     → base ≡ 24 + at → first_field_fault base order rest record_fields ≡ Some fault → HasBrokenRecord order octets fault
 broken_at order octets rest frames at base fault within are behind place first = record {
   front = take at octets;

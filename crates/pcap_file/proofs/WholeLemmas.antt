@@ -30,7 +30,8 @@ record ReadSoFar (order : Endianness) (octets front rest : List ℕ) (frames : L
 goes_on : (order : Endianness) (octets front rest : List ℕ) (frames : List (List ℕ)) → ReadSoFar order octets front rest frames → 0 < length rest
     → ((more left : List ℕ) (longer : List (List ℕ)) → ReadSoFar order octets more left longer → length left < length rest → RecordsReading order octets)
     → (found : Option CaptureFault) → first_field_fault (24 + length front) order rest record_fields ≡ found → RecordsReading order octets
-goes_on order octets front rest frames so_far some next (Some fault) e = broken fault (record { front = front; rest = rest; split = so_far.split; frames = frames; records = so_far.records; some = some; first = e })
+goes_on order octets front rest frames so_far some next (Some fault) e =
+    broken fault (record { front = front; rest = rest; split = so_far.split; frames = frames; records = so_far.records; some = some; first = e })
 goes_on order octets front rest frames so_far some next None e =
     let begins = record_sound (24 + length front) order rest e in
     let count = number_at order 4 8 rest in
@@ -62,7 +63,8 @@ behind_header : (order : Endianness) (octets : List ℕ) → HasHeader order oct
 behind_header order octets header (whole frames are) = captured frames (record { order = order; header = header; records = are })
 behind_header order octets header (broken fault is) = refused fault (inr (record { order = order; header = header; broken = is }))
 
-behind_magic : (order : Endianness) (octets : List ℕ) → 4 ≤ length octets → order_told (number_at Big 4 0 octets) ≡ Some order → (found : Option CaptureFault) → first_field_fault 0 order octets header_fields ≡ found → CaptureReading octets
+behind_magic : (order : Endianness) (octets : List ℕ) → 4 ≤ length octets → order_told (number_at Big 4 0 octets) ≡ Some order → (found : Option CaptureFault)
+    → first_field_fault 0 order octets header_fields ≡ found → CaptureReading octets
 behind_magic order octets there told (Some fault) e = refused fault (inl (inr (inr (record { order = order; there = there; magic = told; first = e }))))
 behind_magic order octets there told None e = behind_header order octets (header_sound order octets there told e) (each_records order (drop 24 octets))
 

@@ -23,7 +23,8 @@ one_spelling (x ∷ []) s one first = let same : x ≡ s = cc (sym first) in ap 
 one_spelling (x ∷ y ∷ ss) s one first = absurd (omega arith)
 
 -- the only message of a PDU is a KeepAlive
-pub seen_alive : (seen : SeenPdu) (sender : LdpId) (id : ℕ) (s : Spelling) → 1 ≡ length seen.spellings → Some s ≡ slice_get seen.spellings 0 → StandsFor s (message.KeepAlive id) → sender ≡ seen.id → IsPduOf seen (alive sender id)
+pub seen_alive : (seen : SeenPdu) (sender : LdpId) (id : ℕ) (s : Spelling) → 1 ≡ length seen.spellings → Some s ≡ slice_get seen.spellings 0 → StandsFor s (message.KeepAlive id)
+    → sender ≡ seen.id → IsPduOf seen (alive sender id)
 seen_alive seen sender id s one first stands from = record {
   id = from;
   stand = subst (λ (ss : List Spelling). StandInOrder ss (message.KeepAlive id ∷ [])) (sym (one_spelling seen.spellings s (sym one) first)) (stands, tt);
@@ -60,10 +61,12 @@ front_next s pdu is = record { going = is.going; pdu = pdu; rest = is.rest; fron
 front_passes : (s new : StreamState) (pdu : Pdu) → IsInFront s pdu → ((p : Pdu) (rest : List ℕ) → HasFront s.max s.held p rest → Passes s new p) → Passes s new pdu
 front_passes s new pdu is passes = passes pdu is.rest is.front
 
-pub front_ready : (max : ℕ) (first old new : StreamState) (pdu : Pdu) → old ≡ record first { max = max } → IsReady first → IsInFront old pdu → ((p : Pdu) (rest : List ℕ) → HasFront old.max old.held p rest → Passes old new p) → IsReady new
+pub front_ready : (max : ℕ) (first old new : StreamState) (pdu : Pdu) → old ≡ record first { max = max } → IsReady first → IsInFront old pdu
+    → ((p : Pdu) (rest : List ℕ) → HasFront old.max old.held p rest → Passes old new p) → IsReady new
 front_ready max first old new pdu is ready front passes = passed_ready max first old new pdu is ready (front_passes old new pdu front passes)
 
-pub front_pdu : (max : ℕ) (first old new : StreamState) (pdu : Pdu) → max ≤ 4096 → old ≡ record first { max = max } → IsReady first → IsInFront old pdu → ((p : Pdu) (rest : List ℕ) → HasFront old.max old.held p rest → Passes old new p) → IsAtPdu max first.held new.held pdu
+pub front_pdu : (max : ℕ) (first old new : StreamState) (pdu : Pdu) → max ≤ 4096 → old ≡ record first { max = max } → IsReady first → IsInFront old pdu
+    → ((p : Pdu) (rest : List ℕ) → HasFront old.max old.held p rest → Passes old new p) → IsAtPdu max first.held new.held pdu
 front_pdu max first old new pdu small is ready front passes = at_pdu max max first old new pdu small refl is ready (front_passes old new pdu front passes)
 
 -- more octets are waited for
@@ -73,5 +76,6 @@ front_waits max first old small is ready more = waiting max max first old old sm
 -- a fault is in front
 pub front_fault : (max : ℕ) (first old : StreamState) (refusal : DecodeFault) → old ≡ record first { max = max } → IsReady first → StandsIn old (next.Fault refusal) → IsAtFault max first.held refusal
 front_fault max first old refusal is ready faulty =
-    let refused : IsStreamRefused old (record { held = old.held; max = old.max; base = old.base; refused = Some faulty.fault }) old.base refusal = record { fault = faulty.fault; names = faulty.names; place = refl; stands = faulty.stands; is = refl } in
+    let refused : IsStreamRefused old (record { held = old.held; max = old.max; base = old.base; refused = Some faulty.fault }) old.base refusal =
+    record { fault = faulty.fault; names = faulty.names; place = refl; stands = faulty.stands; is = refl } in
     at_fault max max first old (record { held = old.held; max = old.max; base = old.base; refused = Some faulty.fault }) old.base refusal refl is ready refused

@@ -27,7 +27,8 @@ use Rattle.peer_dialogue.proofs.HeardLemmas.{spelled_heard}
 
 -- ---- messages in order
 
-pub messages_more : (plan : Plan) (told : Answers) (peer : EdgeId) (messages : List Message) (place : ℕ) (message : Message) (work : Work) → place < length messages → message ≡ slice_index_or messages place message
+pub messages_more : (plan : Plan) (told : Answers) (peer : EdgeId) (messages : List Message) (place : ℕ) (message : Message) (work : Work) → place < length messages → message
+    ≡ slice_index_or messages place message
     → hears_messages plan told peer (drop place messages) work ≡ hears_messages plan told peer (drop (place + 1) messages) (hears_message plan told peer message work)
 messages_more plan told peer [] place message work within at = absurd (omega arith)
 messages_more plan told peer (x ∷ messages) zero message work within at = ap (λ (m : Message). hears_messages plan told peer messages (hears_message plan told peer m work)) (sym at)
@@ -35,7 +36,8 @@ messages_more plan told peer (x ∷ messages) (suc place) message work within at
     let behind : suc place + 1 ≡ suc (place + 1) = omega arith in
     rw behind (messages_more plan told peer messages place message work (omega arith) at)
 
-pub messages_end : (plan : Plan) (told : Answers) (peer : EdgeId) (messages : List Message) (place : ℕ) (work : Work) → length messages ≤ place → hears_messages plan told peer (drop place messages) work ≡ work
+pub messages_end : (plan : Plan) (told : Answers) (peer : EdgeId) (messages : List Message) (place : ℕ) (work : Work) → length messages ≤ place
+    → hears_messages plan told peer (drop place messages) work ≡ work
 messages_end plan told peer [] zero work past = refl
 messages_end plan told peer [] (suc place) work past = refl
 messages_end plan told peer (x ∷ messages) zero work past = absurd (omega arith)
@@ -54,11 +56,13 @@ waiting_none max small = record { octets = λ at. grind (arith); most = small; p
 pub waiting : (max set : ℕ) (first old new : StreamState) → max ≤ 4096 → set ≡ max → old ≡ record first { max = set } → IsReady first → Waits old new → IsWaiting max new.held × (new.held ≡ first.held)
 waiting max set first old new small same is ready made =
     let waits : Waits (record first { max = max }) new = subst (λ (s : StreamState). Waits s new) (is ∙ ap (λ (n : ℕ). record first { max = n }) same) made in (
-      subst (λ (s : StreamState). IsWaiting max s.held) (sym waits.unchanged) (record { octets = ready.octets; most = small; pending = waits.pending; room = pending_room max first.held small waits.pending }),
+      subst (λ (s : StreamState). IsWaiting max s.held) (sym waits.unchanged)
+          (record { octets = ready.octets; most = small; pending = waits.pending; room = pending_room max first.held small waits.pending }),
       ap (λ (s : StreamState). s.held) waits.unchanged,
     )
 
-pub at_pdu : (max set : ℕ) (first old new : StreamState) (pdu : Pdu) → max ≤ 4096 → set ≡ max → old ≡ record first { max = set } → IsReady first → Passes old new pdu → IsAtPdu max first.held new.held pdu
+pub at_pdu : (max set : ℕ) (first old new : StreamState) (pdu : Pdu) → max ≤ 4096 → set ≡ max → old ≡ record first { max = set } → IsReady first → Passes old new pdu
+    → IsAtPdu max first.held new.held pdu
 at_pdu max set first old new pdu small same is ready made =
     let passes : Passes (record first { max = max }) new pdu = subst (λ (s : StreamState). Passes s new pdu) (is ∙ ap (λ (n : ℕ). record first { max = n }) same) made in
     let front : HasFront max first.held pdu new.held = record { piece = passes.piece; split = passes.split; spelled = passes.spelled } in
@@ -73,9 +77,11 @@ passed_ready set first old new pdu is ready made =
     let passes : Passes (record first { max = set }) new pdu = subst (λ (s : StreamState). Passes s new pdu) is made in
     record { octets = octets_behind passes.piece new.held (subst AreOctets passes.split ready.octets); going = ap (λ (s : StreamState). s.refused) passes.is }
 
-pub at_fault : (max set : ℕ) (first old new : StreamState) (base : ℕ) (refusal : DecodeFault) → set ≡ max → old ≡ record first { max = set } → IsReady first → IsStreamRefused old new base refusal → IsAtFault max first.held refusal
+pub at_fault : (max set : ℕ) (first old new : StreamState) (base : ℕ) (refusal : DecodeFault) → set ≡ max → old ≡ record first { max = set } → IsReady first
+    → IsStreamRefused old new base refusal → IsAtFault max first.held refusal
 at_fault max set first old new base refusal same is ready made =
-    let refused : IsStreamRefused (record first { max = max }) new base refusal = subst (λ (s : StreamState). IsStreamRefused s new base refusal) (is ∙ ap (λ (n : ℕ). record first { max = n }) same) made in
+    let refused : IsStreamRefused (record first { max = max }) new base refusal =
+    subst (λ (s : StreamState). IsStreamRefused s new base refusal) (is ∙ ap (λ (n : ℕ). record first { max = n }) same) made in
     record { fault = refused.fault; front = stands refused.fault refused.stands; names = refused.names }
   where
     stands : (fault : Fault) → IsFaultOf (record first { max = max }) fault → IsFrontFault max first.held fault
@@ -151,7 +157,8 @@ pub on_same : (plan : Plan) (told : Answers) (peer : EdgeId) (a b c : List ℕ) 
 on_same plan told peer a b c u v same on = subst (λ (l : List ℕ). HearsOn plan told peer a l u v) same on
 
 -- all was heard, and the session ended
-pub ended_all : (plan : Plan) (told : Answers) (peer : EdgeId) (octets rest : List ℕ) (work now : Work) → now.edge.peering peer.0 ≡ None → HearsOn plan told peer octets rest work now → now ≡ hears plan told peer octets work
+pub ended_all : (plan : Plan) (told : Answers) (peer : EdgeId) (octets rest : List ℕ) (work now : Work) → now.edge.peering peer.0 ≡ None → HearsOn plan told peer octets rest work now
+    → now ≡ hears plan told peer octets work
 ended_all plan told peer octets rest work now none on =
     let here = on.on (length octets) (omega arith) in
     sym (here.is ∙ few_none plan told peer here.fuel rest now none)

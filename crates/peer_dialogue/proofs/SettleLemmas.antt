@@ -57,7 +57,8 @@ ended_at peer why kept edge calls out =
     ap (λ (e : EdgeState). record { edge = e; calls = calls; effects = (out ++ Session peer (name.Ended why) ∷ []) ++ Gone peer ∷ []; idle = false }) (put_twice peer kept None edge)
 
 -- the link is not called
-uncalled_at : (peer : EdgeId) (kept : Option Peering) (edge : EdgeState) (calls now : List LinkCall) (out given : List Effect) → now ≡ calls → given ≡ out → at_peer peer kept edge now given ≡ at_peer peer kept edge calls out
+uncalled_at : (peer : EdgeId) (kept : Option Peering) (edge : EdgeState) (calls now : List LinkCall) (out given : List Effect) → now ≡ calls → given ≡ out
+    → at_peer peer kept edge now given ≡ at_peer peer kept edge calls out
 uncalled_at peer kept edge calls now out given same gave = ap (λ (c : List LinkCall). at_peer peer kept edge c given) same ∙ ap (at_peer peer kept edge calls) gave
 
 pub same_names : (old new : Phase) → phase_name old ≡ phase_name new → is_same_phase old new ≡ true
@@ -126,14 +127,19 @@ pub happened : (told : Answers) (peer : EdgeId) (held : List ℕ) (between : Pee
     → StandsBetween between view → old ≡ name_of view → next ≡ view_next view event → replies ≡ view_said view event
     → ((s : SessionState) → s.peers ≡ between → put_replies told peer replies (at_peer peer (Some (record { session = s; held = held; next_id = id })) edge calls out)
     ≡ record { work = at_peer peer (Some (record { session = having_put spoke s; held = held; next_id = after })) edge now given; failed = failed })
-    → ((before : SessionState) → phase_name before.phase ≡ old → work ≡ settled peer before.phase next (record { work = at_peer peer (Some (record { session = having_put spoke (next_state before next); held = held; next_id = after })) edge now given; failed = failed }))
+    → ((before : SessionState) → phase_name before.phase ≡ old → work
+    ≡ settled peer before.phase next (record {
+      work = at_peer peer (Some (record { session = having_put spoke (next_state before next); held = held; next_id = after })) edge now given;
+      failed = failed;
+    }))
     → work ≡ happens told peer event (at_peer peer (Some (record { session = state_of between view; held = held; next_id = id })) edge calls out)
 happened told peer held between (EndedBy why) next old id after spoke failed event replies edge calls now out given work stands named is said put settles = absurd stands
 happened told peer held between (Stands s) next old id after spoke failed event replies edge calls now out given work stands named is said put settles =
     settles s (sym named)
     ∙ (ap (settled peer s.phase next) (sym (put (next_state s next) (next_between between s next stands (stays_between between (Stands s) next event stands is))))
     ∙ (ap (λ (rs : List Reply). settled peer s.phase next (put_replies told peer rs (at_peer peer (Some (record { session = next_state s next; held = held; next_id = id })) edge calls out))) said
-    ∙ (ap (λ (v : SessionView). settled peer s.phase v (put_replies told peer (replies_of (outcome_of s event)) (at_peer peer (Some (record { session = next_state s v; held = held; next_id = id })) edge calls out))) is
+    ∙ (ap (λ (v : SessionView). settled peer s.phase v
+    (put_replies told peer (replies_of (outcome_of s event)) (at_peer peer (Some (record { session = next_state s v; held = held; next_id = id })) edge calls out))) is
     ∙ sym (happens_at told peer held s id event edge calls out))))
 
 -- ---- the exits of what is settled
@@ -176,7 +182,8 @@ settled_on peer before s view put edge calls now out given kept stands failed is
     ∙ (told_at peer (is_same_phase before.phase s.phase) s.phase kept edge calls out
     ∙ ap (tells_change peer before.phase s.phase) (sym is)))
 
-pub telling_is : (peer : EdgeId) (old new : Phase) (out given : List Effect) → (phase_name old ≡ phase_name new → given ≡ out) → ((phase_name old ≡ phase_name new → ⊥) → given ≡ out ++ Session peer (phase_name new) ∷ [])
+pub telling_is : (peer : EdgeId) (old new : Phase) (out given : List Effect) → (phase_name old ≡ phase_name new → given ≡ out)
+    → ((phase_name old ≡ phase_name new → ⊥) → given ≡ out ++ Session peer (phase_name new) ∷ [])
     → given ≡ telling peer (is_same_phase old new) (phase_name new) out
 telling_is peer old new out given same other = by (is_same_phase old new) refl where
   by : (b : Bool) → is_same_phase old new ≡ b → given ≡ telling peer b (phase_name new) out
@@ -210,7 +217,8 @@ pub put_between : (between : Peers) (spoke : Bool) (s : SessionState) → s.peer
 put_between between true s is = is
 put_between between false s is = is
 
-pub stands_put : (between : Peers) (view now : SessionView) (spoke : Bool) → ending_reason view ≡ None → IsBetween between view → ((s : SessionState) → view ≡ Stands s → now ≡ Stands (having_put spoke s)) → StandsBetween between now
+pub stands_put : (between : Peers) (view now : SessionView) (spoke : Bool) → ending_reason view ≡ None → IsBetween between view
+    → ((s : SessionState) → view ≡ Stands s → now ≡ Stands (having_put spoke s)) → StandsBetween between now
 stands_put between (Stands s) now spoke none is put = subst (StandsBetween between) (sym (put s refl)) (put_between between spoke s is)
 stands_put between (EndedBy why) now spoke none is put = absurd (cc (none))
 
@@ -237,7 +245,8 @@ pub put_on : (does : Work → Spoken) (peer : EdgeId) (held : List ℕ) (between
 put_on does peer held between other (EndedBy why) now id after taken edge calls new out given stands is took put = absurd stands
 put_on does peer held between other (Stands s) now id after false edge calls new out given stands is took put = absurd (cc (took))
 put_on does peer held between other (Stands s) now id after true edge calls new out given stands is took put =
-    ap (λ (v : SessionView). record { work = at_peer peer (Some (record { session = state_of other v; held = held; next_id = after })) edge new given; failed = false }) (spoken_is (Stands s) now s refl is)
+    ap (λ (v : SessionView). record { work = at_peer peer (Some (record { session = state_of other v; held = held; next_id = after })) edge new given; failed = false })
+    (spoken_is (Stands s) now s refl is)
     ∙ ap (had_spoken peer) (sym (put s stands))
 
 pub put_off : (does : Work → Spoken) (peer : EdgeId) (held : List ℕ) (between : Peers) (view : SessionView) (id after : ℕ) (taken : Bool) (edge : EdgeState) (calls new now : List LinkCall) (out mid given : List Effect)
@@ -287,7 +296,8 @@ refused_is s wrong = ap (view_after s) (by s.phase (is_active s.peers)) where
   by phase.Operational active = refl
 
 -- what is refused ends the session
-pub refused_none : (between : Peers) (view next : SessionView) (event : SessionEvent) (wrong : DecodeFault) (left : Option Peering) → StandsBetween between view → next ≡ view_next view event → event ≡ Refused wrong
+pub refused_none : (between : Peers) (view next : SessionView) (event : SessionEvent) (wrong : DecodeFault) (left : Option Peering) → StandsBetween between view → next
+    ≡ view_next view event → event ≡ Refused wrong
     → ((why : Reason) → next ≡ EndedBy why → left ≡ None) → left ≡ None
 refused_none between (Stands s) next event wrong left stands is refused ended = ended reason.Decode (is ∙ (ap (next_of s) refused ∙ refused_is s wrong))
 refused_none between (EndedBy why) next event wrong left stands is refused ended = absurd stands

@@ -46,7 +46,8 @@ pub peer_of : (peer : EdgeId) (kept : Option Peering) (edge : EdgeState) (calls 
 unfolding at_peer
 peer_of peer kept edge calls out = read_peer peer kept edge
 
-pub changed_at : (peer : EdgeId) (first next : Option Peering) (edge : EdgeState) (calls : List LinkCall) (out : List Effect) → changes (with_peering peer next) (at_peer peer first edge calls out) ≡ at_peer peer next edge calls out
+pub changed_at : (peer : EdgeId) (first next : Option Peering) (edge : EdgeState) (calls : List LinkCall) (out : List Effect)
+    → changes (with_peering peer next) (at_peer peer first edge calls out) ≡ at_peer peer next edge calls out
 unfolding at_peer changes
 changed_at peer first next edge calls out = ap (λ (e : EdgeState). record { edge = e; calls = calls; effects = out; idle = false }) (put_twice peer first next edge)
 
@@ -150,7 +151,8 @@ agrees_before told a b goes agrees = record {
 
 -- ---- replies in order
 
-pub replies_more : (told : Answers) (peer : EdgeId) (replies : List Reply) (reply : Reply) (place : ℕ) (work next : Work) → slice_get replies place ≡ Some reply → put_reply told peer reply work ≡ record { work = next; failed = false }
+pub replies_more : (told : Answers) (peer : EdgeId) (replies : List Reply) (reply : Reply) (place : ℕ) (work next : Work) → slice_get replies place ≡ Some reply
+    → put_reply told peer reply work ≡ record { work = next; failed = false }
     → put_replies told peer (drop place replies) work ≡ put_replies told peer (drop (place + 1) replies) next
 replies_more told peer [] reply place work next at put = absurd (cc (at))
 replies_more told peer (x ∷ replies) reply zero work next at put =
@@ -161,7 +163,8 @@ replies_more told peer (x ∷ replies) reply (suc place) work next at put =
     let behind : suc place + 1 ≡ suc (place + 1) = omega arith in
     rw behind (replies_more told peer replies reply place work next at put)
 
-pub replies_failed : (told : Answers) (peer : EdgeId) (replies : List Reply) (reply : Reply) (place : ℕ) (work next : Work) → slice_get replies place ≡ Some reply → put_reply told peer reply work ≡ record { work = next; failed = true }
+pub replies_failed : (told : Answers) (peer : EdgeId) (replies : List Reply) (reply : Reply) (place : ℕ) (work next : Work) → slice_get replies place ≡ Some reply
+    → put_reply told peer reply work ≡ record { work = next; failed = true }
     → put_replies told peer (drop place replies) work ≡ record { work = next; failed = true }
 replies_failed told peer [] reply place work next at put = absurd (cc (at))
 replies_failed told peer (x ∷ replies) reply zero work next at put =
@@ -170,7 +173,8 @@ replies_failed told peer (x ∷ replies) reply zero work next at put =
     ∙ ap (λ (p : Spoken). puts_on (put_replies told peer replies) p.failed p.work) put
 replies_failed told peer (x ∷ replies) reply (suc place) work next at put = replies_failed told peer replies reply place work next at put
 
-pub replies_end : (told : Answers) (peer : EdgeId) (replies : List Reply) (place : ℕ) (work : Work) → length replies ≤ place → put_replies told peer (drop place replies) work ≡ record { work = work; failed = false }
+pub replies_end : (told : Answers) (peer : EdgeId) (replies : List Reply) (place : ℕ) (work : Work) → length replies ≤ place → put_replies told peer (drop place replies) work
+    ≡ record { work = work; failed = false }
 replies_end told peer [] zero work past = refl
 replies_end told peer [] (suc place) work past = refl
 replies_end told peer (x ∷ replies) zero work past = absurd (omega arith)
@@ -247,5 +251,6 @@ none_left [] place none = omega arith
 none_left (x ∷ replies) zero none = absurd (cc (none))
 none_left (x ∷ replies) (suc place) none = omega (arith, none_left replies place none)
 
-pub all_put : (told : Answers) (peer : EdgeId) (replies : List Reply) (place : ℕ) (work : Work) (whole : Spoken) → slice_get replies place ≡ None → whole ≡ put_replies told peer (drop place replies) work → whole ≡ record { work = work; failed = false }
+pub all_put : (told : Answers) (peer : EdgeId) (replies : List Reply) (place : ℕ) (work : Work) (whole : Spoken) → slice_get replies place ≡ None → whole
+    ≡ put_replies told peer (drop place replies) work → whole ≡ record { work = work; failed = false }
 all_put told peer replies place work whole none so_far = so_far ∙ replies_end told peer replies place work (none_left replies place none)

@@ -30,7 +30,8 @@ unfolding at_edge
 acts_there plan told peer message edge calls out work there is = is ∙ sym (ap (λ (b : Bool). cond b (acts_on plan told peer message (at_edge edge calls out)) (at_edge edge calls out)) there)
 
 pub mapping_acts : (plan : Plan) (told : Answers) (peer : EdgeId) (message : Message) (id : ℕ) (fec : PwFec) (label : ℕ) (status : Option PwStatus) (points : List Point) (binding : Binding) (edge : EdgeState) (calls : List LinkCall) (out : List Effect) (work : Work)
-    → message ≡ LabelMapping id fec label status points → binding ≡ binding_in fec label status points → work ≡ maps_to plan told peer fec binding (end_of_fec plan edge peer fec) (at_edge edge calls out)
+    → message ≡ LabelMapping id fec label status points → binding ≡ binding_in fec label status points → work
+    ≡ maps_to plan told peer fec binding (end_of_fec plan edge peer fec) (at_edge edge calls out)
     → work ≡ acts_on plan told peer message (at_edge edge calls out)
 mapping_acts plan told peer message id fec label status points binding edge calls out work at made is =
     mapping_heard plan told peer fec label status points binding edge calls out work made is ∙ sym (ap (λ (m : Message). acts_on plan told peer m (at_edge edge calls out)) at)

@@ -52,10 +52,12 @@ pub sent_not : (told : Answers) (place at : EndPlace) (came : Arrival) (packet s
 unfolding at_edge gives posts
 sent_not told place at came packet slice true edge calls now out given is same refused called gave agrees = absurd (cc (refused))
 sent_not told place at came packet slice false edge calls now out given is same refused called gave agrees =
-    let here : now ≡ calls ++ call_of place.peer true packet false ∷ [] = called ∙ (ap (λ (p : EndPlace). calls ++ call_of p.peer true slice false ∷ []) is ∙ ap (λ (b : List ℕ). calls ++ call_of place.peer true b false ∷ []) same) in
+    let here : now ≡ calls ++ call_of place.peer true packet false ∷ [] =
+    called ∙ (ap (λ (p : EndPlace). calls ++ call_of p.peer true slice false ∷ []) is ∙ ap (λ (b : List ℕ). calls ++ call_of place.peer true b false ∷ []) same) in
     ap (λ (c : List LinkCall). record { edge = edge; calls = c; effects = given; idle = false }) here
     ∙ (ap (λ (l : List Effect). record { edge = edge; calls = calls ++ call_of place.peer true packet false ∷ []; effects = l; idle = false }) gave
-    ∙ ap (λ (b : Bool). had_posted place came packet b (record { edge = edge; calls = calls; effects = out; idle = false })) (sym (told_last told calls (call_of place.peer true packet false) (subst (Agrees told) here agrees))))
+    ∙ ap (λ (b : Bool). had_posted place came packet b (record { edge = edge; calls = calls; effects = out; idle = false }))
+    (sym (told_last told calls (call_of place.peer true packet false) (subst (Agrees told) here agrees))))
 
 pub sent_is : (told : Answers) (place at : EndPlace) (came : Arrival) (packet slice : List ℕ) (taken : Bool) (edge : EdgeState) (calls now : List LinkCall) (out given : List Effect)
     → at ≡ place → slice ≡ packet → taken ≡ true → now ≡ calls ++ call_of at.peer true slice taken ∷ [] → given ≡ out ++ Sent at.peer at.wire came packet ∷ [] → Agrees told now
@@ -63,10 +65,13 @@ pub sent_is : (told : Answers) (place at : EndPlace) (came : Arrival) (packet sl
 unfolding at_edge gives posts
 sent_is told place at came packet slice false edge calls now out given is same refused called gave agrees = absurd (cc (refused))
 sent_is told place at came packet slice true edge calls now out given is same refused called gave agrees =
-    let here : now ≡ calls ++ call_of place.peer true packet true ∷ [] = called ∙ (ap (λ (p : EndPlace). calls ++ call_of p.peer true slice true ∷ []) is ∙ ap (λ (b : List ℕ). calls ++ call_of place.peer true b true ∷ []) same) in
+    let here : now ≡ calls ++ call_of place.peer true packet true ∷ [] =
+    called ∙ (ap (λ (p : EndPlace). calls ++ call_of p.peer true slice true ∷ []) is ∙ ap (λ (b : List ℕ). calls ++ call_of place.peer true b true ∷ []) same) in
     ap (λ (c : List LinkCall). record { edge = edge; calls = c; effects = given; idle = false }) here
-    ∙ (ap (λ (l : List Effect). record { edge = edge; calls = calls ++ call_of place.peer true packet true ∷ []; effects = l; idle = false }) (gave ∙ ap (λ (p : EndPlace). out ++ Sent p.peer p.wire came packet ∷ []) is)
-    ∙ ap (λ (b : Bool). had_posted place came packet b (record { edge = edge; calls = calls; effects = out; idle = false })) (sym (told_last told calls (call_of place.peer true packet true) (subst (Agrees told) here agrees))))
+    ∙ (ap (λ (l : List Effect). record { edge = edge; calls = calls ++ call_of place.peer true packet true ∷ []; effects = l; idle = false })
+    (gave ∙ ap (λ (p : EndPlace). out ++ Sent p.peer p.wire came packet ∷ []) is)
+    ∙ ap (λ (b : Bool). had_posted place came packet b (record { edge = edge; calls = calls; effects = out; idle = false }))
+    (sym (told_last told calls (call_of place.peer true packet true) (subst (Agrees told) here agrees))))
 
 -- ---- a copy by an end
 
@@ -93,13 +98,16 @@ under_some told came frame me place row own remote binding offer packet work x a
 pub copy_none : (told : Answers) (came : Arrival) (frame : List ℕ) (plan : Plan) (end : Option EndPlace) (work : Work) → end ≡ None → work ≡ sends_copy plan told came frame end work
 copy_none told came frame plan end work none = sym (ap (λ (e : Option EndPlace). sends_copy plan told came frame e work) none)
 
-pub copy_some : (c : EdgeLists) (told : Answers) (came : Arrival) (frame : List ℕ) (slot : ℕ) (end : Option EndPlace) (calls : List LinkCall) (out : List Effect) (x : Work) → end ≡ Some (place_of c.ends slot)
+pub copy_some : (c : EdgeLists) (told : Answers) (came : Arrival) (frame : List ℕ) (slot : ℕ) (end : Option EndPlace) (calls : List LinkCall) (out : List Effect) (x : Work) → end
+    ≡ Some (place_of c.ends slot)
     → x ≡ sends_under told came frame c.me (place_of c.ends slot) (wire_row c.plan (place_of c.ends slot).wire) (end_in c.ends slot).remote (at_edge (seen c) calls out)
     → x ≡ sends_copy c.plan told came frame end (at_edge (seen c) calls out)
 copy_some c told came frame slot end calls out x some is =
     is
-    ∙ (ap (λ (m : EdgeId). sends_under told came frame m (place_of c.ends slot) (wire_row c.plan (place_of c.ends slot).wire) (end_in c.ends slot).remote (at_edge (seen c) calls out)) (sym (me_at c calls out))
-    ∙ (ap (λ e. sends_under told came frame (at_edge (seen c) calls out).edge.me (place_of c.ends slot) (wire_row c.plan (place_of c.ends slot).wire) e.remote (at_edge (seen c) calls out)) (sym (local_at c calls out slot))
+    ∙ (ap (λ (m : EdgeId). sends_under told came frame m (place_of c.ends slot) (wire_row c.plan (place_of c.ends slot).wire) (end_in c.ends slot).remote (at_edge (seen c) calls out))
+    (sym (me_at c calls out))
+    ∙ (ap (λ e. sends_under told came frame (at_edge (seen c) calls out).edge.me (place_of c.ends slot) (wire_row c.plan (place_of c.ends slot).wire) e.remote
+    (at_edge (seen c) calls out)) (sym (local_at c calls out slot))
     ∙ ap (λ (e : Option EndPlace). sends_copy c.plan told came frame e (at_edge (seen c) calls out)) (sym some)))
 
 -- ---- the copy by a port
@@ -159,7 +167,8 @@ heard_targets c f service frame arrival targets is synced keeps step decided =
     ∙ (ap (λ (p : Plan). is_target (ports_of p service c.forwarding.me) (open_ports c.forwarding service) arrival known) is.plan
     ∙ (ap (λ (m : EdgeId). is_target (ports_of c.plan service m) (open_ports c.forwarding service) arrival known) is.me
     ∙ (ap (λ (t : ℕ → Bool). is_target ports t arrival known) (open_forwards c service is synced ∙ same)
-    ∙ ap (λ es. is_target ports (port_forwards c.plan now ports) arrival (known_port es (destination frame))) (learned_read (record c { forwarding = f }) service (entries_of (domain_of f service.0)) refl))))
+    ∙ ap (λ es. is_target ports (port_forwards c.plan now ports) arrival (known_port es (destination frame)))
+    (learned_read (record c { forwarding = f }) service (entries_of (domain_of f service.0)) refl))))
 
 pub forwarded_some : (c now : EdgeLists) (told : Answers) (came : Arrival) (service : ServiceId) (frame : List ℕ) (port : Option ℕ) (arrival : ℕ) (targets : ℕ → Bool) (calls : List LinkCall) (out : List Effect) (x : Work)
     → port ≡ Some arrival → Keeps c now → seen now ≡ hearing service frame arrival (seen c)
@@ -172,12 +181,14 @@ forwarded_some c now told came service frame port arrival targets calls out x is
     ∙ (ap (λ (p : Plan). copies targets (copy_by p told came frame) 0 (ports_of p service now.me) (at_edge (seen now) calls out)) keeps.plan
     ∙ (ap (λ (m : EdgeId). copies targets (copy_by c.plan told came frame) 0 (ports_of c.plan service m) (at_edge (seen now) calls out)) keeps.me
     ∙ (ap (λ (t : ℕ → Bool). copies t (copy_by c.plan told came frame) 0 (ports_of c.plan service c.me) (at_edge (seen now) calls out)) chosen
-    ∙ (ap (λ (s : EdgeState). copies (targets_of c.plan s service (ports_of c.plan service c.me) frame arrival) (copy_by c.plan told came frame) 0 (ports_of c.plan service c.me) (at_edge s calls out)) hears
+    ∙ (ap (λ (s : EdgeState). copies (targets_of c.plan s service (ports_of c.plan service c.me) frame arrival) (copy_by c.plan told came frame) 0 (ports_of c.plan service c.me)
+    (at_edge s calls out)) hears
     ∙ ap (λ (p : Option ℕ). forwarded c.plan told came service frame p (at_edge (seen c) calls out)) (sym is)))))
 
 -- ---- what was read
 
-pub received_ok : (plan : Plan) (told : Answers) (came : Arrival) (service : ServiceId) (port : Option ℕ) (formed : Result (List ℕ) DropCause) (frame slice : List ℕ) (work x : Work) → formed ≡ Ok frame → slice ≡ frame
+pub received_ok : (plan : Plan) (told : Answers) (came : Arrival) (service : ServiceId) (port : Option ℕ) (formed : Result (List ℕ) DropCause) (frame slice : List ℕ) (work x : Work)
+    → formed ≡ Ok frame → slice ≡ frame
     → x ≡ forwarded plan told came service slice port work → x ≡ received plan told came service port formed work
 received_ok plan told came service port formed frame slice work x is same heard =
     heard ∙ (ap (λ (l : List ℕ). forwarded plan told came service l port work) same ∙ ap (λ (r : Result (List ℕ) DropCause). received plan told came service port r work) (sym is))
@@ -187,7 +198,8 @@ one_part : (front back : List ℕ) → (length back == 0) ≡ true → front ≡
 one_part front back none =
     sym (ap (λ (l : List ℕ). front ++ l) (nil_from_length back (eqb-true (length back) 0 none)) ∙ append-nil front)
 
-pub received_whole : (plan : Plan) (told : Answers) (came : Arrival) (service : ServiceId) (port : Option ℕ) (formed : Result (List ℕ) DropCause) (front back : List ℕ) (work x : Work) → formed ≡ Ok (front ++ back) → (length back == 0) ≡ true
+pub received_whole : (plan : Plan) (told : Answers) (came : Arrival) (service : ServiceId) (port : Option ℕ) (formed : Result (List ℕ) DropCause) (front back : List ℕ) (work x : Work)
+    → formed ≡ Ok (front ++ back) → (length back == 0) ≡ true
     → x ≡ forwarded plan told came service front port work → x ≡ received plan told came service port formed work
 received_whole plan told came service port formed front back work x is none heard =
     received_ok plan told came service port formed (front ++ back) front work x is (one_part front back none) heard
@@ -200,6 +212,7 @@ received_err plan told came service port formed why edge calls out given is gave
     ∙ ap (λ (r : Result (List ℕ) DropCause). received plan told came service port r (record { edge = edge; calls = calls; effects = out; idle = false })) (sym is)
 
 -- what is dropped is given out
-pub dropped_at : (why : DropCause) (edge : EdgeState) (calls : List LinkCall) (out given : List Effect) → given ≡ out ++ Dropped why ∷ [] → at_edge edge calls given ≡ drops why (at_edge edge calls out)
+pub dropped_at : (why : DropCause) (edge : EdgeState) (calls : List LinkCall) (out given : List Effect) → given ≡ out ++ Dropped why ∷ [] → at_edge edge calls given
+    ≡ drops why (at_edge edge calls out)
 unfolding at_edge gives
 dropped_at why edge calls out given gave = ap (λ (l : List Effect). record { edge = edge; calls = calls; effects = l; idle = false }) gave

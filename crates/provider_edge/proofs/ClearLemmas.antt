@@ -51,7 +51,8 @@ withdraw_acts plan told peer message id addresses fec macs work next at is = is 
 pub no_fec_heard : (plan : Plan) (told : Answers) (peer : EdgeId) (fec : Option PwFec) (macs : Option (List Mac)) (work : Work) → fec ≡ None → work ≡ hears_mac_withdraw plan told peer fec macs work
 no_fec_heard plan told peer fec macs work none = sym (ap (λ (f : Option PwFec). hears_mac_withdraw plan told peer f macs work) none)
 
-both_heard : (plan : Plan) (told : Answers) (peer : EdgeId) (fec : Option PwFec) (named : PwFec) (macs : Option (List Mac)) (addresses : List Mac) (work : Work) → fec ≡ Some named → macs ≡ Some addresses
+both_heard : (plan : Plan) (told : Answers) (peer : EdgeId) (fec : Option PwFec) (named : PwFec) (macs : Option (List Mac)) (addresses : List Mac) (work : Work) → fec ≡ Some named
+    → macs ≡ Some addresses
     → hears_mac_withdraw plan told peer fec macs work ≡ clears_by plan told addresses (end_of_fec plan work.edge peer named) work
 both_heard plan told peer fec named macs addresses work there listed =
     ap (λ (f : Option PwFec). hears_mac_withdraw plan told peer f macs work) there ∙ ap (λ (m : Option (List Mac)). hears_mac_withdraw plan told peer (Some named) m work) listed
@@ -75,14 +76,16 @@ end_heard plan told peer fec named macs addresses place edge calls out next ther
 -- ---- the wire of the end
 
 -- a switching point tells its other side
-pub beyond_clears : (c : EdgeLists) (told : Answers) (addresses given : List Mac) (place at : EndPlace) (calls : List LinkCall) (out : List Effect) (next : Work) → place ≡ at → not place.terminal ≡ true → given ≡ addresses
+pub beyond_clears : (c : EdgeLists) (told : Answers) (addresses given : List Mac) (place at : EndPlace) (calls : List LinkCall) (out : List Effect) (next : Work) → place ≡ at
+    → not place.terminal ≡ true → given ≡ addresses
     → next ≡ tells_by told given (end_beyond c.plan c.me at) (at_edge (seen c) calls out) → next ≡ clears_by c.plan told addresses (Some at) (at_edge (seen c) calls out)
 beyond_clears c told addresses given place at calls out next is passes same tells =
     let work : Work = at_edge (seen c) calls out in
     tells
     ∙ (ap (λ (l : List Mac). tells_by told l (end_beyond c.plan c.me at) work) same
     ∙ (ap (λ (m : EdgeId). tells_by told addresses (end_beyond c.plan m at) work) (sym (me_at c calls out))
-    ∙ sym (ap (λ (b : Bool). cond b (clears_wire c.plan told addresses at (wire_row c.plan at.wire) work) (tells_by told addresses (end_beyond c.plan work.edge.me at) work)) (sym (ap (λ (p : EndPlace). p.terminal) is) ∙ not-true place.terminal passes))))
+    ∙ sym (ap (λ (b : Bool). cond b (clears_wire c.plan told addresses at (wire_row c.plan at.wire) work) (tells_by told addresses (end_beyond c.plan work.edge.me at) work))
+    (sym (ap (λ (p : EndPlace). p.terminal) is) ∙ not-true place.terminal passes))))
 
 there : {X : Type 0} (xs : List X) (i : ℕ) → slice_get xs i ≡ None → i < length xs → ⊥
 there [] i none below = absurd (omega arith)
@@ -105,7 +108,8 @@ terminal_clears c told addresses place at service found calls out next is ends w
       ∙ (ap (λ (s : ServiceId). clears_at c.plan told addresses s (position (is_wire_port at.wire) (ports_of c.plan s c.me)) work) (of row some)
       ∙ (ap (λ (m : EdgeId). clears_at c.plan told addresses row.service (position (is_wire_port at.wire) (ports_of c.plan row.service m)) work) (sym (me_at c calls out))
       ∙ (ap (λ (r : Option WirePlan). clears_wire c.plan told addresses at r work) (sym some)
-      ∙ ap (λ (b : Bool). cond b (clears_wire c.plan told addresses at (wire_row c.plan at.wire) work) (tells_by told addresses (end_beyond c.plan work.edge.me at) work)) (sym (sym (ap (λ (p : EndPlace). p.terminal) is) ∙ not-false place.terminal ends))))))
+      ∙ ap (λ (b : Bool). cond b (clears_wire c.plan told addresses at (wire_row c.plan at.wire) work) (tells_by told addresses (end_beyond c.plan work.edge.me at) work))
+      (sym (sym (ap (λ (p : EndPlace). p.terminal) is) ∙ not-false place.terminal ends))))))
 
 -- the port that is found for a wire leads to it
 pub found_is_wire : (wire : WireId) (ports : List Port) (found : Option ℕ) → found ≡ position (is_wire_port wire) ports → IfSome found (λ from. is_wire_at ports from ≡ true)
@@ -119,7 +123,8 @@ found_is_wire wire ports (Some from) is = behind (slice_get ports from) ((found_
 
 -- ---- the bridge forgets, and the addresses go on
 
-pub no_port_clears : (plan : Plan) (told : Answers) (addresses : List Mac) (service : ServiceId) (found : Option ℕ) (work : Work) → found ≡ None → work ≡ clears_at plan told addresses service found work
+pub no_port_clears : (plan : Plan) (told : Answers) (addresses : List Mac) (service : ServiceId) (found : Option ℕ) (work : Work) → found ≡ None → work
+    ≡ clears_at plan told addresses service found work
 no_port_clears plan told addresses service found work none = sym (ap (λ (f : Option ℕ). clears_at plan told addresses service f work) none)
 
 pub cleared_on : (c mid : EdgeLists) (told : Answers) (addresses given : List Mac) (service : ServiceId) (from : ℕ) (found : Option ℕ) (calls : List LinkCall) (out : List Effect) (next : Work)
@@ -143,7 +148,8 @@ pub passed_to : (c : EdgeLists) (told : Answers) (addresses : List Mac) (service
 passed_to c told addresses service from role found other ports passed calls out next is some are passes told_on =
     let work : Work = at_edge (seen c) calls out in
     told_on
-    ∙ (ap (λ (t : ℕ → Bool). copies t (tells_at c.plan told addresses) 0 (ports_of c.plan service c.me) work) (same_tests passed (is_passed_to role ports from) passes ∙ ap (λ (l : List Port). is_passed_to role l from) are)
+    ∙ (ap (λ (t : ℕ → Bool). copies t (tells_at c.plan told addresses) 0 (ports_of c.plan service c.me) work)
+    (same_tests passed (is_passed_to role ports from) passes ∙ ap (λ (l : List Port). is_passed_to role l from) are)
     ∙ (ap (λ (m : EdgeId). copies (is_passed_to role (ports_of c.plan service m) from) (tells_at c.plan told addresses) 0 (ports_of c.plan service m) work) (sym (me_at c calls out))
     ∙ ap (λ (r : Option Role). passes_on c.plan told addresses service from r work) (sym (sym is ∙ some))))
 
@@ -177,5 +183,6 @@ told_spoke c told addresses x wire calls out next is told_on =
 pub no_end_told : (told : Answers) (addresses : List Mac) (end : Option EndPlace) (work : Work) → end ≡ None → work ≡ tells_by told addresses end work
 no_end_told told addresses end work none = sym (ap (λ (e : Option EndPlace). tells_by told addresses e work) none)
 
-pub end_told : (told : Answers) (addresses : List Mac) (end : Option EndPlace) (place : EndPlace) (work next : Work) → end ≡ Some place → next ≡ tells_pieces told place (pieces_of addresses) work → next ≡ tells_by told addresses end work
+pub end_told : (told : Answers) (addresses : List Mac) (end : Option EndPlace) (place : EndPlace) (work next : Work) → end ≡ Some place → next
+    ≡ tells_pieces told place (pieces_of addresses) work → next ≡ tells_by told addresses end work
 end_told told addresses end place work next some is = is ∙ ap (λ (e : Option EndPlace). tells_by told addresses e work) (sym some)

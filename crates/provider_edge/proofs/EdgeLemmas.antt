@@ -68,7 +68,8 @@ not_there : (e : EdgeLists) (calls : List LinkCall) → worked e calls (record {
 unfolding worked idles
 not_there e calls = refl
 
-pub lost_idle : (e : EdgeLists) (told : Answers) (peer : EdgeId) (calls : List LinkCall) → has_end (seen e) peer ≡ false → worked e calls (record { idle = true; list = [] }) ≡ lost_input e.plan told peer (beginning (seen e) calls)
+pub lost_idle : (e : EdgeLists) (told : Answers) (peer : EdgeId) (calls : List LinkCall) → has_end (seen e) peer ≡ false → worked e calls (record { idle = true; list = [] })
+    ≡ lost_input e.plan told peer (beginning (seen e) calls)
 lost_idle e told peer calls none =
     not_there e calls ∙ sym (ap (λ (b : Bool). cond b (mends e.plan told (happens_with_ends told peer (Closed reason.Closed) (beginning (seen e) calls))) (idles (beginning (seen e) calls))) none)
 
@@ -84,7 +85,8 @@ octets_idle e mid told peer octets calls none same =
     ∙ (ap (λ (s : EdgeState). idles (beginning s calls)) same
     ∙ sym (ap (λ (x : Option Peering). octets_input e.plan told peer octets x (beginning (seen e) calls)) none))
 
-pub octets_done : (e : EdgeLists) (told : Answers) (peer : EdgeId) (octets held : List ℕ) (mid : EdgeState) (calls : List LinkCall) (work : Work) → AreTakenOut peer ((seen e).peering peer.0) (seen e) mid (Some held)
+pub octets_done : (e : EdgeLists) (told : Answers) (peer : EdgeId) (octets held : List ℕ) (mid : EdgeState) (calls : List LinkCall) (work : Work)
+    → AreTakenOut peer ((seen e).peering peer.0) (seen e) mid (Some held)
     → work ≡ mends e.plan told (hears_on e.plan told peer octets ((seen e).peering peer.0) (beginning (seen e) calls))
     → work ≡ octets_input e.plan told peer octets ((seen e).peering peer.0) (beginning (seen e) calls)
 octets_done e told peer octets held mid calls work taken is = by ((seen e).peering peer.0) taken is where
@@ -100,12 +102,14 @@ restart_done e now calls is = ap (λ (s : EdgeState). record { edge = s; calls =
 
 -- ---- ticks
 
-counted_at : (e rest mid : EdgeLists) (calls : List LinkCall) → seen rest ≡ resting (seen e) → seen mid ≡ with_ticks (later (seen rest).ticks) (seen rest) → at_edge (seen mid) calls [] ≡ changes counted (beginning (seen e) calls)
+counted_at : (e rest mid : EdgeLists) (calls : List LinkCall) → seen rest ≡ resting (seen e) → seen mid ≡ with_ticks (later (seen rest).ticks) (seen rest) → at_edge (seen mid) calls []
+    ≡ changes counted (beginning (seen e) calls)
 unfolding at_edge changes with_kept
 counted_at e rest mid calls rests counts =
     ap (λ (s : EdgeState). record { edge = s; calls = calls; effects = []; idle = false }) (counts ∙ ap (λ (s : EdgeState). with_ticks (later s.ticks) s) rests)
 
-forgot_at : (mid now : EdgeLists) (plan : Plan) (calls : List LinkCall) (list : List Effect) → mid.plan ≡ plan → seen now ≡ forgetting mid.plan (seen mid) → at_edge (seen now) calls list ≡ changes (forgetting plan) (at_edge (seen mid) calls list)
+forgot_at : (mid now : EdgeLists) (plan : Plan) (calls : List LinkCall) (list : List Effect) → mid.plan ≡ plan → seen now ≡ forgetting mid.plan (seen mid)
+    → at_edge (seen now) calls list ≡ changes (forgetting plan) (at_edge (seen mid) calls list)
 unfolding at_edge changes
 forgot_at mid now plan calls list same is = ap (λ (s : EdgeState). record { edge = s; calls = calls; effects = list; idle = false }) (is ∙ ap (λ (p : Plan). forgetting p (seen mid)) same)
 
@@ -131,7 +135,8 @@ pub connected_idle : (e : EdgeLists) (told : Answers) (peer : EdgeId) (calls : L
 unfolding worked idles
 connected_idle e told peer calls apart =
     let test : are_joined e.plan (seen e).me.0 peer.0 && not (has_end (seen e) peer) ≡ false = ap (λ (m : EdgeId). are_joined e.plan m.0 peer.0 && not (has_end (seen e) peer)) (me_of e) ∙ apart in
-    sym (ap (λ (b : Bool). cond b (connects_between e.plan told peer (slice_get e.plan.edges (seen e).me.0) (slice_get e.plan.edges peer.0) (beginning (seen e) calls)) (idles (beginning (seen e) calls))) test)
+    sym (ap (λ (b : Bool). cond b (connects_between e.plan told peer (slice_get e.plan.edges (seen e).me.0) (slice_get e.plan.edges peer.0) (beginning (seen e) calls))
+    (idles (beginning (seen e) calls))) test)
 
 pub apart_test : (joined stands : Bool) → joined ≡ false → joined && not stands ≡ false
 apart_test false stands apart = refl
@@ -142,7 +147,8 @@ between_none plan told peer None other work none = refl
 between_none plan told peer (Some own) None work none = refl
 between_none plan told peer (Some own) (Some other) work none = absurd (cc (none))
 
-between_some : (plan : Plan) (told : Answers) (peer : EdgeId) (own other : Option EdgePlan) (peers : Peers) (work : Work) → peers_between own other ≡ Some peers → connects_between plan told peer own other work ≡ mends plan told (connects told peer (connection_with peers) work)
+between_some : (plan : Plan) (told : Answers) (peer : EdgeId) (own other : Option EdgePlan) (peers : Peers) (work : Work) → peers_between own other ≡ Some peers
+    → connects_between plan told peer own other work ≡ mends plan told (connects told peer (connection_with peers) work)
 between_some plan told peer None other peers work some = absurd (cc (some))
 between_some plan told peer (Some own) None peers work some = absurd (cc (some))
 between_some plan told peer (Some own) (Some other) peers work some =
@@ -152,8 +158,10 @@ between_some plan told peer (Some own) (Some other) peers work some =
 connects_by : (e : EdgeLists) (told : Answers) (peer : EdgeId) (work : Work) → work.edge ≡ seen e → are_joined e.plan e.me.0 peer.0 && not (has_end (seen e) peer) ≡ true
     → connected_input e.plan told peer work ≡ connects_between e.plan told peer (slice_get e.plan.edges e.me.0) (slice_get e.plan.edges peer.0) work
 connects_by e told peer work is test =
-    ap (λ (s : EdgeState). cond (are_joined e.plan s.me.0 peer.0 && not (has_end s peer)) (connects_between e.plan told peer (slice_get e.plan.edges s.me.0) (slice_get e.plan.edges peer.0) work) (idles work)) is
-    ∙ (ap (λ (m : EdgeId). cond (are_joined e.plan m.0 peer.0 && not (has_end (seen e) peer)) (connects_between e.plan told peer (slice_get e.plan.edges m.0) (slice_get e.plan.edges peer.0) work) (idles work)) (me_of e)
+    ap (λ (s : EdgeState). cond (are_joined e.plan s.me.0 peer.0 && not (has_end s peer))
+    (connects_between e.plan told peer (slice_get e.plan.edges s.me.0) (slice_get e.plan.edges peer.0) work) (idles work)) is
+    ∙ (ap (λ (m : EdgeId). cond (are_joined e.plan m.0 peer.0 && not (has_end (seen e) peer))
+    (connects_between e.plan told peer (slice_get e.plan.edges m.0) (slice_get e.plan.edges peer.0) work) (idles work)) (me_of e)
     ∙ ap (λ (b : Bool). cond b (connects_between e.plan told peer (slice_get e.plan.edges e.me.0) (slice_get e.plan.edges peer.0) work) (idles work)) test)
 
 pub connected_none : (e : EdgeLists) (told : Answers) (peer : EdgeId) (peers : Option Peers) (calls : List LinkCall) → are_joined e.plan e.me.0 peer.0 && not (has_end (seen e) peer) ≡ true
@@ -161,15 +169,18 @@ pub connected_none : (e : EdgeLists) (told : Answers) (peer : EdgeId) (peers : O
     → worked e calls (record { idle = true; list = [] }) ≡ connected_input e.plan told peer (beginning (seen e) calls)
 unfolding worked idles
 connected_none e told peer peers calls test is none =
-    sym (connects_by e told peer (beginning (seen e) calls) refl test ∙ between_none e.plan told peer (slice_get e.plan.edges e.me.0) (slice_get e.plan.edges peer.0) (beginning (seen e) calls) (sym is ∙ none))
+    sym (connects_by e told peer (beginning (seen e) calls) refl test
+    ∙ between_none e.plan told peer (slice_get e.plan.edges e.me.0) (slice_get e.plan.edges peer.0) (beginning (seen e) calls) (sym is ∙ none))
 
-pub connected_done : (e : EdgeLists) (told : Answers) (peer : EdgeId) (found : Option Peers) (peers : Peers) (calls : List LinkCall) (work : Work) → are_joined e.plan e.me.0 peer.0 && not (has_end (seen e) peer) ≡ true
+pub connected_done : (e : EdgeLists) (told : Answers) (peer : EdgeId) (found : Option Peers) (peers : Peers) (calls : List LinkCall) (work : Work)
+    → are_joined e.plan e.me.0 peer.0 && not (has_end (seen e) peer) ≡ true
     → found ≡ peers_between (slice_get e.plan.edges e.me.0) (slice_get e.plan.edges peer.0) → found ≡ Some peers
     → work ≡ mends e.plan told (connects told peer (connection_with peers) (beginning (seen e) calls))
     → work ≡ connected_input e.plan told peer (beginning (seen e) calls)
 connected_done e told peer found peers calls work test is some connected =
     connected
-    ∙ sym (connects_by e told peer (beginning (seen e) calls) refl test ∙ between_some e.plan told peer (slice_get e.plan.edges e.me.0) (slice_get e.plan.edges peer.0) peers (beginning (seen e) calls) (sym is ∙ some))
+    ∙ sym (connects_by e told peer (beginning (seen e) calls) refl test
+    ∙ between_some e.plan told peer (slice_get e.plan.edges e.me.0) (slice_get e.plan.edges peer.0) peers (beginning (seen e) calls) (sym is ∙ some))
 
 pub peer_within : (plan : Plan) (own : Option EdgePlan) (peer : EdgeId) (peers : Peers) → peers_between own (slice_get plan.edges peer.0) ≡ Some peers → peer.0 < length plan.edges
 peer_within plan own peer peers some = by own (slice_get plan.edges peer.0) refl some where
@@ -180,12 +191,15 @@ peer_within plan own peer peers some = by own (slice_get plan.edges peer.0) refl
 
 -- ---- wires
 
-pub wire_apart : (e : EdgeLists) (told : Answers) (wire : WireId) (on : Bool) (calls : List LinkCall) → passes e.plan e.me wire ≡ false → worked e calls (record { idle = true; list = [] }) ≡ wire_input e.plan told wire on (beginning (seen e) calls)
+pub wire_apart : (e : EdgeLists) (told : Answers) (wire : WireId) (on : Bool) (calls : List LinkCall) → passes e.plan e.me wire ≡ false
+    → worked e calls (record { idle = true; list = [] }) ≡ wire_input e.plan told wire on (beginning (seen e) calls)
 unfolding seen
 wire_apart e told wire on calls apart =
-    not_there e calls ∙ sym (ap (λ (b : Bool). cond (b && not (is_same on ((seen e).wire_on wire.0))) (mends e.plan told (changes (turned_wire wire on) (beginning (seen e) calls))) (idles (beginning (seen e) calls))) apart)
+    not_there e calls ∙ sym (ap (λ (b : Bool). cond (b && not (is_same on ((seen e).wire_on wire.0))) (mends e.plan told (changes (turned_wire wire on) (beginning (seen e) calls)))
+    (idles (beginning (seen e) calls))) apart)
 
-pub wire_already : (e : EdgeLists) (told : Answers) (wire : WireId) (on : Bool) (calls : List LinkCall) → beq ((seen e).wire_on wire.0) on ≡ true → worked e calls (record { idle = true; list = [] }) ≡ wire_input e.plan told wire on (beginning (seen e) calls)
+pub wire_already : (e : EdgeLists) (told : Answers) (wire : WireId) (on : Bool) (calls : List LinkCall) → beq ((seen e).wire_on wire.0) on ≡ true
+    → worked e calls (record { idle = true; list = [] }) ≡ wire_input e.plan told wire on (beginning (seen e) calls)
 wire_already e told wire on calls same =
     not_there e calls ∙ sym (ap (λ (b : Bool). cond b (mends e.plan told (changes (turned_wire wire on) (beginning (seen e) calls))) (idles (beginning (seen e) calls)))
     (and_not_held (passes e.plan (seen e).me wire) (is_same on ((seen e).wire_on wire.0)) (same_already on ((seen e).wire_on wire.0) same)))
@@ -194,19 +208,25 @@ pub wire_turned : (e : EdgeLists) (told : Answers) (wire : WireId) (on : Bool) (
     → work ≡ mends e.plan told (changes (turned_wire wire on) (beginning (seen e) calls)) → work ≡ wire_input e.plan told wire on (beginning (seen e) calls)
 unfolding seen
 wire_turned e told wire on calls work through other is =
-    is ∙ sym (ap (λ (b : Bool). cond (b && not (is_same on ((seen e).wire_on wire.0))) (mends e.plan told (changes (turned_wire wire on) (beginning (seen e) calls))) (idles (beginning (seen e) calls))) through
-    ∙ ap (λ (b : Bool). cond (not b) (mends e.plan told (changes (turned_wire wire on) (beginning (seen e) calls))) (idles (beginning (seen e) calls))) (other_before on ((seen e).wire_on wire.0) other))
+    is ∙ sym (ap (λ (b : Bool). cond (b && not (is_same on ((seen e).wire_on wire.0))) (mends e.plan told (changes (turned_wire wire on) (beginning (seen e) calls)))
+    (idles (beginning (seen e) calls))) through
+    ∙ ap (λ (b : Bool). cond (not b) (mends e.plan told (changes (turned_wire wire on) (beginning (seen e) calls))) (idles (beginning (seen e) calls)))
+    (other_before on ((seen e).wire_on wire.0) other))
 
-pub turned_at : (e mid : EdgeLists) (wire : WireId) (on : Bool) (calls : List LinkCall) → seen mid ≡ turned_wire wire on (seen e) → at_edge (seen mid) calls [] ≡ changes (turned_wire wire on) (beginning (seen e) calls)
+pub turned_at : (e mid : EdgeLists) (wire : WireId) (on : Bool) (calls : List LinkCall) → seen mid ≡ turned_wire wire on (seen e) → at_edge (seen mid) calls []
+    ≡ changes (turned_wire wire on) (beginning (seen e) calls)
 unfolding at_edge changes
 turned_at e mid wire on calls is = ap (λ (s : EdgeState). record { edge = s; calls = calls; effects = []; idle = false }) is
 
-pub status_apart : (e : EdgeLists) (told : Answers) (wire : WireId) (bits : ℕ) (calls : List LinkCall) → ends_here e.plan e.me wire ≡ false → worked e calls (record { idle = true; list = [] }) ≡ status_input e.plan told wire bits (beginning (seen e) calls)
+pub status_apart : (e : EdgeLists) (told : Answers) (wire : WireId) (bits : ℕ) (calls : List LinkCall) → ends_here e.plan e.me wire ≡ false
+    → worked e calls (record { idle = true; list = [] }) ≡ status_input e.plan told wire bits (beginning (seen e) calls)
 unfolding seen
 status_apart e told wire bits calls apart =
-    not_there e calls ∙ sym (ap (λ (b : Bool). cond (b && not (bits == (seen e).bits wire.0)) (mends e.plan told (changes (with_bits wire bits) (beginning (seen e) calls))) (idles (beginning (seen e) calls))) apart)
+    not_there e calls ∙ sym (ap (λ (b : Bool). cond (b && not (bits == (seen e).bits wire.0)) (mends e.plan told (changes (with_bits wire bits) (beginning (seen e) calls)))
+    (idles (beginning (seen e) calls))) apart)
 
-pub status_already : (e : EdgeLists) (told : Answers) (wire : WireId) (bits : ℕ) (calls : List LinkCall) → (bits == (seen e).bits wire.0) ≡ true → worked e calls (record { idle = true; list = [] }) ≡ status_input e.plan told wire bits (beginning (seen e) calls)
+pub status_already : (e : EdgeLists) (told : Answers) (wire : WireId) (bits : ℕ) (calls : List LinkCall) → (bits == (seen e).bits wire.0) ≡ true
+    → worked e calls (record { idle = true; list = [] }) ≡ status_input e.plan told wire bits (beginning (seen e) calls)
 status_already e told wire bits calls same =
     not_there e calls ∙ sym (ap (λ (b : Bool). cond b (mends e.plan told (changes (with_bits wire bits) (beginning (seen e) calls))) (idles (beginning (seen e) calls)))
     (and_not_held (ends_here e.plan (seen e).me wire) (bits == (seen e).bits wire.0) same))
@@ -218,34 +238,42 @@ status_set e told wire bits calls work here other is =
     is ∙ sym (ap (λ (b : Bool). cond (b && not (bits == (seen e).bits wire.0)) (mends e.plan told (changes (with_bits wire bits) (beginning (seen e) calls))) (idles (beginning (seen e) calls))) here
     ∙ ap (λ (b : Bool). cond (not b) (mends e.plan told (changes (with_bits wire bits) (beginning (seen e) calls))) (idles (beginning (seen e) calls))) other)
 
-pub bits_at : (e mid : EdgeLists) (wire : WireId) (bits : ℕ) (calls : List LinkCall) → seen mid ≡ with_bits wire bits (seen e) → at_edge (seen mid) calls [] ≡ changes (with_bits wire bits) (beginning (seen e) calls)
+pub bits_at : (e mid : EdgeLists) (wire : WireId) (bits : ℕ) (calls : List LinkCall) → seen mid ≡ with_bits wire bits (seen e) → at_edge (seen mid) calls []
+    ≡ changes (with_bits wire bits) (beginning (seen e) calls)
 unfolding at_edge changes
 bits_at e mid wire bits calls is = ap (λ (s : EdgeState). record { edge = s; calls = calls; effects = []; idle = false }) is
 
-pub priority_apart : (e : EdgeLists) (told : Answers) (wire : WireId) (priority : ℕ) (calls : List LinkCall) → is_own_spoke e.me (wire_row e.plan wire) ≡ false → worked e calls (record { idle = true; list = [] }) ≡ priority_input e.plan told wire priority (beginning (seen e) calls)
+pub priority_apart : (e : EdgeLists) (told : Answers) (wire : WireId) (priority : ℕ) (calls : List LinkCall) → is_own_spoke e.me (wire_row e.plan wire) ≡ false
+    → worked e calls (record { idle = true; list = [] }) ≡ priority_input e.plan told wire priority (beginning (seen e) calls)
 unfolding seen
 priority_apart e told wire priority calls apart =
-    not_there e calls ∙ sym (ap (λ (b : Bool). cond (b && not (priority == (seen e).priority wire.0)) (mends e.plan told (changes (with_priority wire priority) (beginning (seen e) calls))) (idles (beginning (seen e) calls))) apart)
+    not_there e calls ∙ sym (ap (λ (b : Bool). cond (b && not (priority == (seen e).priority wire.0))
+    (mends e.plan told (changes (with_priority wire priority) (beginning (seen e) calls))) (idles (beginning (seen e) calls))) apart)
 
-pub priority_already : (e : EdgeLists) (told : Answers) (wire : WireId) (priority : ℕ) (calls : List LinkCall) → (priority == (seen e).priority wire.0) ≡ true → worked e calls (record { idle = true; list = [] }) ≡ priority_input e.plan told wire priority (beginning (seen e) calls)
+pub priority_already : (e : EdgeLists) (told : Answers) (wire : WireId) (priority : ℕ) (calls : List LinkCall) → (priority == (seen e).priority wire.0) ≡ true
+    → worked e calls (record { idle = true; list = [] }) ≡ priority_input e.plan told wire priority (beginning (seen e) calls)
 priority_already e told wire priority calls same =
     not_there e calls ∙ sym (ap (λ (b : Bool). cond b (mends e.plan told (changes (with_priority wire priority) (beginning (seen e) calls))) (idles (beginning (seen e) calls)))
     (and_not_held (is_own_spoke (seen e).me (wire_row e.plan wire)) (priority == (seen e).priority wire.0) same))
 
-pub priority_set : (e : EdgeLists) (told : Answers) (wire : WireId) (priority : ℕ) (calls : List LinkCall) (work : Work) → is_own_spoke e.me (wire_row e.plan wire) ≡ true → (priority == (seen e).priority wire.0) ≡ false
+pub priority_set : (e : EdgeLists) (told : Answers) (wire : WireId) (priority : ℕ) (calls : List LinkCall) (work : Work) → is_own_spoke e.me (wire_row e.plan wire) ≡ true
+    → (priority == (seen e).priority wire.0) ≡ false
     → work ≡ mends e.plan told (changes (with_priority wire priority) (beginning (seen e) calls)) → work ≡ priority_input e.plan told wire priority (beginning (seen e) calls)
 unfolding seen
 priority_set e told wire priority calls work here other is =
-    is ∙ sym (ap (λ (b : Bool). cond (b && not (priority == (seen e).priority wire.0)) (mends e.plan told (changes (with_priority wire priority) (beginning (seen e) calls))) (idles (beginning (seen e) calls))) here
+    is ∙ sym (ap (λ (b : Bool). cond (b && not (priority == (seen e).priority wire.0)) (mends e.plan told (changes (with_priority wire priority) (beginning (seen e) calls)))
+    (idles (beginning (seen e) calls))) here
     ∙ ap (λ (b : Bool). cond (not b) (mends e.plan told (changes (with_priority wire priority) (beginning (seen e) calls))) (idles (beginning (seen e) calls))) other)
 
-pub priority_at : (e mid : EdgeLists) (wire : WireId) (priority : ℕ) (calls : List LinkCall) → seen mid ≡ with_priority wire priority (seen e) → at_edge (seen mid) calls [] ≡ changes (with_priority wire priority) (beginning (seen e) calls)
+pub priority_at : (e mid : EdgeLists) (wire : WireId) (priority : ℕ) (calls : List LinkCall) → seen mid ≡ with_priority wire priority (seen e) → at_edge (seen mid) calls []
+    ≡ changes (with_priority wire priority) (beginning (seen e) calls)
 unfolding at_edge changes
 priority_at e mid wire priority calls is = ap (λ (s : EdgeState). record { edge = s; calls = calls; effects = []; idle = false }) is
 
 -- ---- circuits
 
-pub circuit_at : (e mid : EdgeLists) (circuit : CircuitId) (row : CircuitPlan) (on : Bool) (calls : List LinkCall) → seen mid ≡ turned e.plan circuit row on (seen e) → at_edge (seen mid) calls [] ≡ changes (turned e.plan circuit row on) (beginning (seen e) calls)
+pub circuit_at : (e mid : EdgeLists) (circuit : CircuitId) (row : CircuitPlan) (on : Bool) (calls : List LinkCall) → seen mid ≡ turned e.plan circuit row on (seen e)
+    → at_edge (seen mid) calls [] ≡ changes (turned e.plan circuit row on) (beginning (seen e) calls)
 unfolding at_edge changes
 circuit_at e mid circuit row on calls is = ap (λ (s : EdgeState). record { edge = s; calls = calls; effects = []; idle = false }) is
 

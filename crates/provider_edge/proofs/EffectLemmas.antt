@@ -126,9 +126,11 @@ pub record AreKept (plan : Plan) (Holds : Work → Type 0) : Type 0 where
   pub wire : (wire : WireId) (down : Option Down) (w : Work) → wire.0 < length plan.wires → Holds w → Holds (gives (Wire wire down) w)
   pub pong : (wire : WireId) (sequence : ℕ) (w : Work) → wire.0 < length plan.wires → Holds w → Holds (gives (Pong wire sequence) w)
   pub gone : (peer : EdgeId) (w : Work) → peer.0 < length plan.edges → Holds w → Holds (gives (Closed peer) w)
-  pub said : (peer : EdgeId) (bytes : List ℕ) (change : EdgeState → EdgeState) (w : Work) → peer.0 < length plan.edges → Holds w → Holds (gives (Said peer bytes) (changes change (puts peer bytes true w)))
+  pub said : (peer : EdgeId) (bytes : List ℕ) (change : EdgeState → EdgeState) (w : Work) → peer.0 < length plan.edges → Holds w
+      → Holds (gives (Said peer bytes) (changes change (puts peer bytes true w)))
   pub refused : (peer : EdgeId) (bytes : List ℕ) (w : Work) → Holds w → Holds (puts peer bytes false w)
-  pub sent : (peer : EdgeId) (wire : WireId) (came : Arrival) (bytes : List ℕ) (w : Work) → peer.0 < length plan.edges → wire.0 < length plan.wires → Holds w → Holds (gives (Sent peer wire came bytes) (posts peer bytes true w))
+  pub sent : (peer : EdgeId) (wire : WireId) (came : Arrival) (bytes : List ℕ) (w : Work) → peer.0 < length plan.edges → wire.0 < length plan.wires → Holds w
+      → Holds (gives (Sent peer wire came bytes) (posts peer bytes true w))
   pub lost : (peer : EdgeId) (bytes : List ℕ) (w : Work) → Holds w → Holds (posts peer bytes false w)
 
 -- ---- where ends are
@@ -150,7 +152,8 @@ joined_within plan a b (first ∷ next ∷ rest) joined all =
     let two : next.0 < length plan.edges = below_edges plan next (first_holds (is_edge_of plan next) (list_all (is_edge_of plan) rest) tail) in
     by one two (λ further. joined_within plan a b (next ∷ rest) further tail) (nat_eq a first.0 && nat_eq b next.0) refl (nat_eq b first.0 && nat_eq a next.0) refl joined
   where
-    by : first.0 < length plan.edges → next.0 < length plan.edges → (joins a b (next ∷ rest) ≡ true → b < length plan.edges) → (x : Bool) → (nat_eq a first.0 && nat_eq b next.0) ≡ x → (y : Bool) → (nat_eq b first.0 && nat_eq a next.0) ≡ y
+    by : first.0 < length plan.edges → next.0 < length plan.edges → (joins a b (next ∷ rest) ≡ true → b < length plan.edges) → (x : Bool) → (nat_eq a first.0 && nat_eq b next.0) ≡ x
+        → (y : Bool) → (nat_eq b first.0 && nat_eq a next.0) ≡ y
         → (x || y) || joins a b (next ∷ rest) ≡ true → b < length plan.edges
     by one two further true is y other any = subst (λ (n : ℕ). n < length plan.edges) (sym (eqb-true b next.0 (second_holds (nat_eq a first.0) (nat_eq b next.0) is))) two
     by one two further false is true other any = subst (λ (n : ℕ). n < length plan.edges) (sym (eqb-true b first.0 (first_holds (nat_eq b first.0) (nat_eq a next.0) other))) one
@@ -168,13 +171,15 @@ places_placed plan me checked = all-map (IsEndOf plan me) (IsPlaced plan) (end_p
 
 -- ---- frames
 
-sends_kept : (plan : Plan) (Holds : Work → Type 0) → AreKept plan Holds → (told : Answers) (place : EndPlace) (came : Arrival) (octets : List ℕ) (work : Work) → IsPlaced plan place → Holds work → Holds (sends told place came octets work)
+sends_kept : (plan : Plan) (Holds : Work → Type 0) → AreKept plan Holds → (told : Answers) (place : EndPlace) (came : Arrival) (octets : List ℕ) (work : Work) → IsPlaced plan place
+    → Holds work → Holds (sends told place came octets work)
 sends_kept plan Holds kept told place came octets work placed here = by (next_answer told work) where
   by : (taken : Bool) → Holds (had_posted place came octets taken work)
   by true = kept.sent place.peer place.wire came octets work placed.peer placed.wire here
   by false = kept.dropped causes.LinkFault (posts place.peer octets false work) (kept.lost place.peer octets work here)
 
-copied_kept : (plan : Plan) (Holds : Work → Type 0) → AreKept plan Holds → (told : Answers) (came : Arrival) (frame : List ℕ) (end : Option EndPlace) (work : Work) → ((place : EndPlace) → end ≡ Some place → IsPlaced plan place) → Holds work
+copied_kept : (plan : Plan) (Holds : Work → Type 0) → AreKept plan Holds → (told : Answers) (came : Arrival) (frame : List ℕ) (end : Option EndPlace) (work : Work)
+    → ((place : EndPlace) → end ≡ Some place → IsPlaced plan place) → Holds work
     → Holds (sends_copy plan told came frame end work)
 copied_kept plan Holds kept told came frame None work placed here = here
 copied_kept plan Holds kept told came frame (Some place) work placed here = by (wire_row plan place.wire) (end_at work.edge place).remote where
@@ -183,16 +188,20 @@ copied_kept plan Holds kept told came frame (Some place) work placed here = by (
   by (Some row) None = here
   by (Some row) (Some binding) = sends_kept plan Holds kept told place came (packet_of (offer_of row work.edge.me.0) binding frame) work (placed place refl) here
 
-copy_kept : (plan : Plan) (Holds : Work → Type 0) → AreKept plan Holds → IsChecked plan → (told : Answers) (came : Arrival) (frame : List ℕ) (x : Port) (b : Bool) (work : Work) → ((c : CircuitId) → x ≡ port.Circuit c → c.0 < length plan.circuits)
+copy_kept : (plan : Plan) (Holds : Work → Type 0) → AreKept plan Holds → IsChecked plan → (told : Answers) (came : Arrival) (frame : List ℕ) (x : Port) (b : Bool) (work : Work)
+    → ((c : CircuitId) → x ≡ port.Circuit c → c.0 < length plan.circuits)
     → Holds work → Holds (cond b (copy_by plan told came frame x work) work)
 copy_kept plan Holds kept checked told came frame x false work planned here = here
 copy_kept plan Holds kept checked told came frame (port.Circuit c) true work planned here = kept.left c (dress (tag_of plan c) frame) work (planned c refl) here
 copy_kept plan Holds kept checked told came frame (port.Mesh wire) true work planned here =
-    copied_kept plan Holds kept told came frame (wire_end plan work.edge.me wire) work (λ place. found_among (IsPlaced plan) (is_end_of_wire wire) (end_places plan work.edge.me) place (places_placed plan work.edge.me checked)) here
+    copied_kept plan Holds kept told came frame (wire_end plan work.edge.me wire) work
+    (λ place. found_among (IsPlaced plan) (is_end_of_wire wire) (end_places plan work.edge.me) place (places_placed plan work.edge.me checked)) here
 copy_kept plan Holds kept checked told came frame (port.Spoke wire) true work planned here =
-    copied_kept plan Holds kept told came frame (wire_end plan work.edge.me wire) work (λ place. found_among (IsPlaced plan) (is_end_of_wire wire) (end_places plan work.edge.me) place (places_placed plan work.edge.me checked)) here
+    copied_kept plan Holds kept told came frame (wire_end plan work.edge.me wire) work
+    (λ place. found_among (IsPlaced plan) (is_end_of_wire wire) (end_places plan work.edge.me) place (places_placed plan work.edge.me checked)) here
 
-copies_kept : (plan : Plan) (Holds : Work → Type 0) → AreKept plan Holds → IsChecked plan → (told : Answers) (came : Arrival) (frame : List ℕ) (targets : ℕ → Bool) (p : ℕ) (ports : List Port) (work : Work)
+copies_kept : (plan : Plan) (Holds : Work → Type 0) → AreKept plan Holds → IsChecked plan
+    → (told : Answers) (came : Arrival) (frame : List ℕ) (targets : ℕ → Bool) (p : ℕ) (ports : List Port) (work : Work)
     → ((q : ℕ) (c : CircuitId) → slice_get ports q ≡ Some (port.Circuit c) → c.0 < length plan.circuits)
     → Holds work → Holds (copies targets (copy_by plan told came frame) p ports work)
 copies_kept plan Holds kept checked told came frame targets p [] work planned here = here
@@ -206,18 +215,22 @@ in_plan plan service me q c leads =
     let served : IsServed plan.circuits service me c.0 = served_at plan service me q (port.Circuit c) leads in
     slice_get_within plan.circuits c.0 served.row served.is
 
-forwarded_kept : (plan : Plan) (Holds : Work → Type 0) → AreKept plan Holds → IsChecked plan → (told : Answers) (came : Arrival) (service : ServiceId) (frame : List ℕ) (port : Option ℕ) (work : Work) → Holds work → Holds (forwarded plan told came service frame port work)
+forwarded_kept : (plan : Plan) (Holds : Work → Type 0) → AreKept plan Holds → IsChecked plan
+    → (told : Answers) (came : Arrival) (service : ServiceId) (frame : List ℕ) (port : Option ℕ) (work : Work) → Holds work → Holds (forwarded plan told came service frame port work)
 forwarded_kept plan Holds kept checked told came service frame None work here = here
 forwarded_kept plan Holds kept checked told came service frame (Some arrival) work here =
     let heard : Work = changes (hearing service frame arrival) work in
-    copies_kept plan Holds kept checked told came frame (targets_of plan heard.edge service (ports_of plan service heard.edge.me) frame arrival) 0 (ports_of plan service heard.edge.me) heard (in_plan plan service heard.edge.me)
+    copies_kept plan Holds kept checked told came frame (targets_of plan heard.edge service (ports_of plan service heard.edge.me) frame arrival) 0
+    (ports_of plan service heard.edge.me) heard (in_plan plan service heard.edge.me)
     (kept.changed (hearing service frame arrival) work here)
 
-received_kept : (plan : Plan) (Holds : Work → Type 0) → AreKept plan Holds → IsChecked plan → (told : Answers) (came : Arrival) (service : ServiceId) (port : Option ℕ) (read : Result (List ℕ) DropCause) (work : Work) → Holds work → Holds (received plan told came service port read work)
+received_kept : (plan : Plan) (Holds : Work → Type 0) → AreKept plan Holds → IsChecked plan
+    → (told : Answers) (came : Arrival) (service : ServiceId) (port : Option ℕ) (read : Result (List ℕ) DropCause) (work : Work) → Holds work → Holds (received plan told came service port read work)
 received_kept plan Holds kept checked told came service port (Ok frame) work here = forwarded_kept plan Holds kept checked told came service frame port work here
 received_kept plan Holds kept checked told came service port (Err cause) work here = kept.dropped cause work here
 
-frame_kept : (plan : Plan) (Holds : Work → Type 0) → AreKept plan Holds → IsChecked plan → (told : Answers) (circuit : CircuitId) (octets : List ℕ) (row : Option CircuitPlan) (work : Work) → Holds work → Holds (frame_input plan told circuit octets row work)
+frame_kept : (plan : Plan) (Holds : Work → Type 0) → AreKept plan Holds → IsChecked plan
+    → (told : Answers) (circuit : CircuitId) (octets : List ℕ) (row : Option CircuitPlan) (work : Work) → Holds work → Holds (frame_input plan told circuit octets row work)
 frame_kept plan Holds kept checked told circuit octets None work here = kept.idle work here
 frame_kept plan Holds kept checked told circuit octets (Some row) work here = taken (is_own work.edge row && is_on work.edge circuit) where
   taken : (b : Bool) → Holds (cond b (received plan told (arrival.Circuit circuit) row.service (port_at plan work.edge circuit row) (inner_at plan circuit octets) work) (idles work))
@@ -226,7 +239,8 @@ frame_kept plan Holds kept checked told circuit octets (Some row) work here = ta
 
 -- ---- packets
 
-enters_kept : (plan : Plan) (Holds : Work → Type 0) → AreKept plan Holds → IsChecked plan → (told : Answers) (row : WirePlan) (place : EndPlace) (payload : List ℕ) (work : Work) → Holds work → Holds (enters plan told row place payload work)
+enters_kept : (plan : Plan) (Holds : Work → Type 0) → AreKept plan Holds → IsChecked plan → (told : Answers) (row : WirePlan) (place : EndPlace) (payload : List ℕ) (work : Work)
+    → Holds work → Holds (enters plan told row place payload work)
 enters_kept plan Holds kept checked told row place payload work here = by (is_up (down_at plan work.edge place)) where
   by : (b : Bool) → Holds (cond b (bridges_frame plan told row place payload work) (drops causes.Down work))
   by true = received_kept plan Holds kept checked told (arrival.Wire place.wire) row.service (port_of_wire plan work.edge place.wire row) (unpacked_at plan row work.edge.me payload) work here
@@ -234,19 +248,22 @@ enters_kept plan Holds kept checked told row place payload work here = by (is_up
 
 -- ---- an echo packet
 
-echoed_kept : (plan : Plan) (Holds : Work → Type 0) → AreKept plan Holds → (told : Answers) (place : EndPlace) (kind : Cc) (binding : Binding) (ip : List ℕ) (read : Result Echo VccvFault) (work : Work) → IsPlaced plan place → Holds work
+echoed_kept : (plan : Plan) (Holds : Work → Type 0) → AreKept plan Holds
+    → (told : Answers) (place : EndPlace) (kind : Cc) (binding : Binding) (ip : List ℕ) (read : Result Echo VccvFault) (work : Work) → IsPlaced plan place → Holds work
     → Holds (echoes told place kind binding ip read work)
 echoed_kept plan Holds kept told place kind binding ip (Err why) work placed here = kept.dropped (vccv_cause_of why) work here
 echoed_kept plan Holds kept told place kind binding ip (Ok (Answer sequence)) work placed here = kept.pong place.wire sequence work placed.wire here
 echoed_kept plan Holds kept told place kind binding ip (Ok (Request from to sequence long)) work placed here =
     sends_kept plan Holds kept told place arrival.Own (channel_octets kind binding (answer_packet ip)) work placed here
 
-verified_kept : (plan : Plan) (Holds : Work → Type 0) → AreKept plan Holds → (told : Answers) (place : EndPlace) (row : WirePlan) (kind : Cc) (binding : Binding) (payload : List ℕ) (work : Work) → IsPlaced plan place → Holds work
+verified_kept : (plan : Plan) (Holds : Work → Type 0) → AreKept plan Holds
+    → (told : Answers) (place : EndPlace) (row : WirePlan) (kind : Cc) (binding : Binding) (payload : List ℕ) (work : Work) → IsPlaced plan place → Holds work
     → Holds (verifies told place row kind binding payload work)
 verified_kept plan Holds kept told place row kind binding payload work placed here =
     echoed_kept plan Holds kept told place kind binding (ip_packet_of (has_header kind) payload) (reading (has_header kind) (ping_number row) payload) work placed here
 
-verified_in_kept : (plan : Plan) (Holds : Work → Type 0) → AreKept plan Holds → (told : Answers) (place : EndPlace) (row : WirePlan) (kind : Cc) (binding : Binding) (payload : List ℕ) (work : Work) → IsPlaced plan place → Holds work
+verified_in_kept : (plan : Plan) (Holds : Work → Type 0) → AreKept plan Holds
+    → (told : Answers) (place : EndPlace) (row : WirePlan) (kind : Cc) (binding : Binding) (payload : List ℕ) (work : Work) → IsPlaced plan place → Holds work
     → Holds (verifies_in told place row kind binding payload work)
 verified_in_kept plan Holds kept told place row kind binding payload work placed here = by (is_picked kind (channel_under row work.edge.me binding)) where
   by : (b : Bool) → Holds (cond b (verifies told place row kind binding payload work) (drops causes.NotOffered work))
@@ -255,7 +272,8 @@ verified_in_kept plan Holds kept told place row kind binding payload work placed
 
 -- ---- a terminal end
 
-worded_kept : (plan : Plan) (Holds : Work → Type 0) → AreKept plan Holds → IsChecked plan → (told : Answers) (row : WirePlan) (place : EndPlace) (binding : Binding) (payload : List ℕ) (work : Work) → IsPlaced plan place → Holds work
+worded_kept : (plan : Plan) (Holds : Work → Type 0) → AreKept plan Holds → IsChecked plan
+    → (told : Answers) (row : WirePlan) (place : EndPlace) (binding : Binding) (payload : List ℕ) (work : Work) → IsPlaced plan place → Holds work
     → Holds (by_control_word plan told row place binding payload work)
 worded_kept plan Holds kept checked told row place binding payload work placed here = by (nat_eq (length payload) 0) where
   channel : (b : Bool) → Holds (cond b (verifies_in told place row Header binding payload work) (enters plan told row place payload work))
@@ -266,7 +284,8 @@ worded_kept plan Holds kept checked told row place binding payload work placed h
   by true = kept.dropped causes.Short work here
   by false = channel (is_channel payload)
 
-offered_kept : (plan : Plan) (Holds : Work → Type 0) → AreKept plan Holds → IsChecked plan → (told : Answers) (row : WirePlan) (place : EndPlace) (binding : Binding) (ttl : ℕ) (cword : Bool) (payload : List ℕ) (work : Work) → IsPlaced plan place → Holds work
+offered_kept : (plan : Plan) (Holds : Work → Type 0) → AreKept plan Holds → IsChecked plan
+    → (told : Answers) (row : WirePlan) (place : EndPlace) (binding : Binding) (ttl : ℕ) (cword : Bool) (payload : List ℕ) (work : Work) → IsPlaced plan place → Holds work
     → Holds (by_offer plan told row place binding ttl cword payload work)
 offered_kept plan Holds kept checked told row place binding ttl true payload work placed here = worded_kept plan Holds kept checked told row place binding payload work placed here
 offered_kept plan Holds kept checked told row place binding ttl false payload work placed here = by (nat_eq ttl 1 && is_picked Expiry (channel_under row work.edge.me binding)) where
@@ -274,11 +293,13 @@ offered_kept plan Holds kept checked told row place binding ttl false payload wo
   by true = verified_kept plan Holds kept told place row Expiry binding payload work placed here
   by false = enters_kept plan Holds kept checked told row place payload work here
 
-terminated_kept : (plan : Plan) (Holds : Work → Type 0) → AreKept plan Holds → IsChecked plan → (told : Answers) (place : EndPlace) (ttl : ℕ) (row : Option WirePlan) (remote : Option Binding) (payload : List ℕ) (work : Work) → IsPlaced plan place → Holds work
+terminated_kept : (plan : Plan) (Holds : Work → Type 0) → AreKept plan Holds → IsChecked plan
+    → (told : Answers) (place : EndPlace) (ttl : ℕ) (row : Option WirePlan) (remote : Option Binding) (payload : List ℕ) (work : Work) → IsPlaced plan place → Holds work
     → Holds (terminated plan told place ttl row remote payload work)
 terminated_kept plan Holds kept checked told place ttl None remote payload work placed here = kept.dropped causes.Down work here
 terminated_kept plan Holds kept checked told place ttl (Some row) None payload work placed here = kept.dropped causes.Down work here
-terminated_kept plan Holds kept checked told place ttl (Some row) (Some binding) payload work placed here = offered_kept plan Holds kept checked told row place binding ttl (offer_of row work.edge.me.0).cword payload work placed here
+terminated_kept plan Holds kept checked told place ttl (Some row) (Some binding) payload work placed here =
+    offered_kept plan Holds kept checked told row place binding ttl (offer_of row work.edge.me.0).cword payload work placed here
 
 -- the mate at a switching point is an edge of the plan
 mate_within : (plan : Plan) (path : List EdgeId) (me from : ℕ) (to : EdgeId) → list_all (is_edge_of plan) path ≡ true → mate_on path me from ≡ Some to → to.0 < length plan.edges
@@ -304,7 +325,8 @@ mate_within plan (before ∷ point ∷ next ∷ rest) me from to all is =
     by false true one two later eq = same before two eq
     by false false one two later eq = later eq
 
-switched_kept : (plan : Plan) (Holds : Work → Type 0) → AreKept plan Holds → IsChecked plan → (told : Answers) (octets : List ℕ) (entry : StackEntry) (place : EndPlace) (work : Work) → Holds work → Holds (switched plan told octets entry place work)
+switched_kept : (plan : Plan) (Holds : Work → Type 0) → AreKept plan Holds → IsChecked plan → (told : Answers) (octets : List ℕ) (entry : StackEntry) (place : EndPlace) (work : Work)
+    → Holds work → Holds (switched plan told octets entry place work)
 switched_kept plan Holds kept checked told octets entry place work here = by (wire_row plan place.wire) refl where
   under : (to : EdgeId) → IsPlaced plan (towards to place) → (label : Result ℕ SwapDrop) → Holds (switched_under told octets entry place to label work)
   under to placed (Err why) = kept.dropped (dropped_for why) work here
@@ -321,11 +343,13 @@ switched_kept plan Holds kept checked told octets entry place work here = by (wi
   by None is = here
   by (Some row) is = mated row is (mate row work.edge.me.0 place.peer.0) refl
 
-owned_kept : (plan : Plan) (Holds : Work → Type 0) → AreKept plan Holds → IsChecked plan → (told : Answers) (octets : List ℕ) (entry : StackEntry) (end : Option EndPlace) (work : Work) → ((place : EndPlace) → end ≡ Some place → IsPlaced plan place) → Holds work
+owned_kept : (plan : Plan) (Holds : Work → Type 0) → AreKept plan Holds → IsChecked plan → (told : Answers) (octets : List ℕ) (entry : StackEntry) (end : Option EndPlace) (work : Work)
+    → ((place : EndPlace) → end ≡ Some place → IsPlaced plan place) → Holds work
     → Holds (owned plan told octets entry end work)
 owned_kept plan Holds kept checked told octets entry None work placed here = kept.dropped causes.NoLabel work here
 owned_kept plan Holds kept checked told octets entry (Some place) work placed here = by place.terminal where
-  by : (b : Bool) → Holds (cond b (terminated plan told place entry.ttl (wire_row plan place.wire) (end_at work.edge place).remote (behind_entry octets) work) (switched plan told octets entry place work))
+  by : (b : Bool) → Holds (cond b (terminated plan told place entry.ttl (wire_row plan place.wire) (end_at work.edge place).remote (behind_entry octets) work)
+      (switched plan told octets entry place work))
   by true = terminated_kept plan Holds kept checked told place entry.ttl (wire_row plan place.wire) (end_at work.edge place).remote (behind_entry octets) work (placed place refl) here
   by false = switched_kept plan Holds kept checked told octets entry place work here
 
@@ -334,7 +358,8 @@ advertiser_placed : (plan : Plan) (edge : EdgeState) (label : ℕ) → IsChecked
 advertiser_placed plan edge label checked place =
     found_among (IsPlaced plan) (λ (p : EndPlace). advertises_label label (end_at edge p).local) (end_places plan edge.me) place (places_placed plan edge.me checked)
 
-labelled_kept : (plan : Plan) (Holds : Work → Type 0) → AreKept plan Holds → IsChecked plan → (told : Answers) (octets : List ℕ) (entry : StackEntry) (work : Work) → Holds work → Holds (labelled plan told octets entry work)
+labelled_kept : (plan : Plan) (Holds : Work → Type 0) → AreKept plan Holds → IsChecked plan → (told : Answers) (octets : List ℕ) (entry : StackEntry) (work : Work) → Holds work
+    → Holds (labelled plan told octets entry work)
 labelled_kept plan Holds kept checked told octets entry work here = by (nat_lt entry.label least_label) where
   bottom : (b : Bool) → Holds (cond b (owned plan told octets entry (advertiser plan work.edge entry.label) work) (drops causes.NotBottom work))
   bottom true = owned_kept plan Holds kept checked told octets entry (advertiser plan work.edge entry.label) work (advertiser_placed plan work.edge entry.label checked) here
@@ -344,13 +369,15 @@ labelled_kept plan Holds kept checked told octets entry work here = by (nat_lt e
   by true = kept.dropped causes.NoLabel work here
   by false = bottom entry.bottom
 
-alert_end_kept : (plan : Plan) (Holds : Work → Type 0) → AreKept plan Holds → (told : Answers) (place : EndPlace) (row : Option WirePlan) (remote : Option Binding) (payload : List ℕ) (work : Work) → IsPlaced plan place → Holds work
+alert_end_kept : (plan : Plan) (Holds : Work → Type 0) → AreKept plan Holds
+    → (told : Answers) (place : EndPlace) (row : Option WirePlan) (remote : Option Binding) (payload : List ℕ) (work : Work) → IsPlaced plan place → Holds work
     → Holds (alerts_by told place row remote payload work)
 alert_end_kept plan Holds kept told place None remote payload work placed here = kept.dropped causes.NotOffered work here
 alert_end_kept plan Holds kept told place (Some row) None payload work placed here = kept.dropped causes.NotOffered work here
 alert_end_kept plan Holds kept told place (Some row) (Some binding) payload work placed here = verified_in_kept plan Holds kept told place row Alert binding payload work placed here
 
-alerted_kept : (plan : Plan) (Holds : Work → Type 0) → AreKept plan Holds → IsChecked plan → (told : Answers) (octets : List ℕ) (read : Result StackEntry DropCause) (work : Work) → Holds work → Holds (alerted plan told octets read work)
+alerted_kept : (plan : Plan) (Holds : Work → Type 0) → AreKept plan Holds → IsChecked plan → (told : Answers) (octets : List ℕ) (read : Result StackEntry DropCause) (work : Work)
+    → Holds work → Holds (alerted plan told octets read work)
 alerted_kept plan Holds kept checked told octets (Err why) work here = kept.dropped why work here
 alerted_kept plan Holds kept checked told octets (Ok entry) work here = by entry.bottom where
   terminal : (place : EndPlace) → IsPlaced plan place → (b : Bool)
@@ -378,10 +405,12 @@ packet_kept plan Holds kept checked told octets work here = to (entry_of octets)
 
 -- ---- a ping
 
-asked_kept : (plan : Plan) (Holds : Work → Type 0) → AreKept plan Holds → (told : Answers) (place : EndPlace) (row : WirePlan) (kind : Cc) (binding : Binding) (from to : Option Addr) (work : Work) → IsPlaced plan place → Holds work
+asked_kept : (plan : Plan) (Holds : Work → Type 0) → AreKept plan Holds
+    → (told : Answers) (place : EndPlace) (row : WirePlan) (kind : Cc) (binding : Binding) (from to : Option Addr) (work : Work) → IsPlaced plan place → Holds work
     → Holds (asks told place row kind binding from to work)
 asked_kept plan Holds kept told place row kind binding (Some from) (Some to) work placed here =
-    sends_kept plan Holds kept told place arrival.Own (channel_octets kind binding (request_packet (ping_between row from to (work.edge.next_ping place.wire.0)))) (changes (pinging place.wire) work) placed
+    sends_kept plan Holds kept told place arrival.Own (channel_octets kind binding (request_packet (ping_between row from to (work.edge.next_ping place.wire.0))))
+    (changes (pinging place.wire) work) placed
     (kept.changed (pinging place.wire) work here)
 asked_kept plan Holds kept told place row kind binding (Some from) None work placed here = kept.idle work here
 asked_kept plan Holds kept told place row kind binding None to work placed here = kept.idle work here
@@ -410,20 +439,24 @@ ping_kept plan Holds kept checked told wire work here = to (wire_end plan work.e
 
 -- ---- sessions
 
-octets_kept : (plan : Plan) (Holds : Work → Type 0) → AreKept plan Holds → (peer : EdgeId) → peer.0 < length plan.edges → (bytes : List ℕ) (taken : Bool) (work : Work) → Holds work → Holds (put_octets peer bytes taken work).work
+octets_kept : (plan : Plan) (Holds : Work → Type 0) → AreKept plan Holds → (peer : EdgeId) → peer.0 < length plan.edges → (bytes : List ℕ) (taken : Bool) (work : Work) → Holds work
+    → Holds (put_octets peer bytes taken work).work
 octets_kept plan Holds kept peer within bytes true work here = kept.said peer bytes (with_spoken peer) work within here
 octets_kept plan Holds kept peer within bytes false work here = kept.refused peer bytes work here
 
-reply_kept : (plan : Plan) (Holds : Work → Type 0) → AreKept plan Holds → (told : Answers) (peer : EdgeId) → peer.0 < length plan.edges → (reply : Reply) (work : Work) → Holds work → Holds (put_reply told peer reply work).work
+reply_kept : (plan : Plan) (Holds : Work → Type 0) → AreKept plan Holds → (told : Answers) (peer : EdgeId) → peer.0 < length plan.edges → (reply : Reply) (work : Work) → Holds work
+    → Holds (put_reply told peer reply work).work
 reply_kept plan Holds kept told peer within reply work here = to (work.edge.peering peer.0) where
   to : (x : Option Peering) → Holds (put_reply_to told peer reply x work).work
   to None = here
   to (Some p) = octets_kept plan Holds kept peer within (octets_of p reply) (next_answer told work) work here
 
-replies_kept : (plan : Plan) (Holds : Work → Type 0) → AreKept plan Holds → (told : Answers) (peer : EdgeId) → peer.0 < length plan.edges → (replies : List Reply) (work : Work) → Holds work → Holds (put_replies told peer replies work).work
+replies_kept : (plan : Plan) (Holds : Work → Type 0) → AreKept plan Holds → (told : Answers) (peer : EdgeId) → peer.0 < length plan.edges → (replies : List Reply) (work : Work)
+    → Holds work → Holds (put_replies told peer replies work).work
 replies_kept plan Holds kept told peer within [] work here = here
 replies_kept plan Holds kept told peer within (reply ∷ replies) work here =
-    on (λ w h. replies_kept plan Holds kept told peer within replies w h) (put_reply told peer reply work).failed (put_reply told peer reply work).work (reply_kept plan Holds kept told peer within reply work here)
+    on (λ w h. replies_kept plan Holds kept told peer within replies w h) (put_reply told peer reply work).failed (put_reply told peer reply work).work
+    (reply_kept plan Holds kept told peer within reply work here)
   where
     on : ((w : Work) → Holds w → Holds (put_replies told peer replies w).work) → (failed : Bool) (w : Work) → Holds w → Holds (puts_on (put_replies told peer replies) failed w).work
     on rest true w h = h
@@ -434,7 +467,8 @@ ends_kept plan Holds kept peer within why work here =
     kept.gone peer (gives (Session peer (name.Ended why)) (changes (with_peering peer None) work)) within
     (kept.session peer (name.Ended why) (changes (with_peering peer None) work) within (kept.changed (with_peering peer None) work here))
 
-went_kept : (plan : Plan) (Holds : Work → Type 0) → AreKept plan Holds → (peer : EdgeId) → peer.0 < length plan.edges → (old new : Phase) (put : Spoken) → Holds put.work → Holds (went_on peer old new put)
+went_kept : (plan : Plan) (Holds : Work → Type 0) → AreKept plan Holds → (peer : EdgeId) → peer.0 < length plan.edges → (old new : Phase) (put : Spoken) → Holds put.work
+    → Holds (went_on peer old new put)
 went_kept plan Holds kept peer within old new put here = by put.failed where
   tells : (b : Bool) → Holds (cond b put.work (gives (Session peer (phase_name new)) put.work))
   tells true = here
@@ -450,7 +484,8 @@ had_kept plan Holds kept peer within put here = by put.failed where
   by true = ends_kept plan Holds kept peer within reason.LinkFault put.work here
   by false = here
 
-happens_kept : (plan : Plan) (Holds : Work → Type 0) → AreKept plan Holds → (told : Answers) (peer : EdgeId) → peer.0 < length plan.edges → (event : SessionEvent) (work : Work) → Holds work → Holds (happens told peer event work)
+happens_kept : (plan : Plan) (Holds : Work → Type 0) → AreKept plan Holds → (told : Answers) (peer : EdgeId) → peer.0 < length plan.edges → (event : SessionEvent) (work : Work)
+    → Holds work → Holds (happens told peer event work)
 happens_kept plan Holds kept told peer within event work here = to (work.edge.peering peer.0) where
   comes : (p : Peering) (outcome : Outcome) → Holds (comes_of told peer p outcome work)
   comes p Stay = here
@@ -471,13 +506,15 @@ clears_kept plan Holds kept peer work here = by (has_end work.edge peer) where
   by true = here
   by false = kept.changed (losing_ends peer) work here
 
-with_ends_kept : (plan : Plan) (Holds : Work → Type 0) → AreKept plan Holds → (told : Answers) (peer : EdgeId) → peer.0 < length plan.edges → (event : SessionEvent) (work : Work) → Holds work → Holds (happens_with_ends told peer event work)
+with_ends_kept : (plan : Plan) (Holds : Work → Type 0) → AreKept plan Holds → (told : Answers) (peer : EdgeId) → peer.0 < length plan.edges → (event : SessionEvent) (work : Work)
+    → Holds work → Holds (happens_with_ends told peer event work)
 with_ends_kept plan Holds kept told peer within event work here = clears_kept plan Holds kept peer (happens told peer event work) (happens_kept plan Holds kept told peer within event work here)
 
 had_said_kept : (plan : Plan) (Holds : Work → Type 0) → AreKept plan Holds → (peer : EdgeId) → peer.0 < length plan.edges → (put : Spoken) → Holds put.work → Holds (had_said peer put).work
 had_said_kept plan Holds kept peer within put here = clears_kept plan Holds kept peer (had_put peer put) (had_kept plan Holds kept peer within put here)
 
-says_kept : (plan : Plan) (Holds : Work → Type 0) → AreKept plan Holds → (told : Answers) (peer : EdgeId) → peer.0 < length plan.edges → (message : ℕ → Message) (work : Work) → Holds work → Holds (says told peer message work).work
+says_kept : (plan : Plan) (Holds : Work → Type 0) → AreKept plan Holds → (told : Answers) (peer : EdgeId) → peer.0 < length plan.edges → (message : ℕ → Message) (work : Work)
+    → Holds work → Holds (says told peer message work).work
 says_kept plan Holds kept told peer within message work here = to (work.edge.peering peer.0) where
   to : (x : Option Peering) → Holds (says_to told peer message x work).work
   to None = here
@@ -485,13 +522,16 @@ says_kept plan Holds kept told peer within message work here = to (work.edge.pee
       had_said_kept plan Holds kept peer within (put_octets peer (message_octets_of p message) (next_answer told work) work)
       (octets_kept plan Holds kept peer within (message_octets_of p message) (next_answer told work) work here)
 
-advised_kept : (plan : Plan) (Holds : Work → Type 0) → AreKept plan Holds → (told : Answers) (peer : EdgeId) → peer.0 < length plan.edges → (advice : Option Reply) (work : Work) → Holds work → Holds (advises told peer advice work)
+advised_kept : (plan : Plan) (Holds : Work → Type 0) → AreKept plan Holds → (told : Answers) (peer : EdgeId) → peer.0 < length plan.edges → (advice : Option Reply) (work : Work)
+    → Holds work → Holds (advises told peer advice work)
 advised_kept plan Holds kept told peer within None work here = here
-advised_kept plan Holds kept told peer within (Some reply) work here = had_said_kept plan Holds kept peer within (put_reply told peer reply work) (reply_kept plan Holds kept told peer within reply work here)
+advised_kept plan Holds kept told peer within (Some reply) work here =
+    had_said_kept plan Holds kept peer within (put_reply told peer reply work) (reply_kept plan Holds kept told peer within reply work here)
 
 -- ---- an edge mends
 
-end_kept : (plan : Plan) (Holds : Work → Type 0) → AreKept plan Holds → (told : Answers) (place : EndPlace) → IsPlaced plan place → (work : Work) → Holds work → Holds (mends_end plan told place work).work
+end_kept : (plan : Plan) (Holds : Work → Type 0) → AreKept plan Holds → (told : Answers) (place : EndPlace) → IsPlaced plan place → (work : Work) → Holds work
+    → Holds (mends_end plan told place work).work
 end_kept plan Holds kept told place placed work here = to (end_at work.edge place).local where
   wished : (w : Option Told) → Holds (advertises_wish told place w work).work
   wished None = here
@@ -499,7 +539,8 @@ end_kept plan Holds kept told place placed work here = to (end_at work.edge plac
     by : (label : Option ℕ) → Holds (advertises_under told place content label work).work
     by None = here
     by (Some label) =
-        says_kept plan Holds kept told place.peer placed.peer (mapping place.pw_id label content) (changes (advertising place label content) work) (kept.changed (advertising place label content) work here)
+        says_kept plan Holds kept told place.peer placed.peer (mapping place.pw_id label content) (changes (advertising place label content) work)
+        (kept.changed (advertising place label content) work here)
 
   unless : (label : ℕ) (content : Told) (w : Option Told) → Holds (withdraws_unless told place label content w work).work
   unless label content w = by (stands place content w) where
@@ -516,28 +557,32 @@ end_kept plan Holds kept told place placed work here = to (end_at work.edge plac
   to (Advertised label content) = unless label content (wish plan work.edge place)
   to (Withdrawing label) = here
 
-status_kept : (plan : Plan) (Holds : Work → Type 0) → AreKept plan Holds → (told : Answers) (place : EndPlace) → IsPlaced plan place → (work : Work) → Holds work → Holds (mends_status plan told place work).work
+status_kept : (plan : Plan) (Holds : Work → Type 0) → AreKept plan Holds → (told : Answers) (place : EndPlace) → IsPlaced plan place → (work : Work) → Holds work
+    → Holds (mends_status plan told place work).work
 status_kept plan Holds kept told place placed work here = to (end_at work.edge place).local where
   over : (content : Told) (status : PwStatus) (last : Option PwStatus) → Holds (tells_over told place content status last work).work
   over content status None = here
   over content status (Some last) = by (nat_eq last.0 status.0) where
     by : (b : Bool) → Holds (cond b (stays work) (tells_new_status told place content status work)).work
     by true = here
-    by false = says_kept plan Holds kept told place.peer placed.peer (status_notification place.pw_id status content) (changes (telling_status place status) work) (kept.changed (telling_status place status) work here)
+    by false = says_kept plan Holds kept told place.peer placed.peer (status_notification place.pw_id status content) (changes (telling_status place status) work)
+        (kept.changed (telling_status place status) work here)
 
   to : (local : LocalPart) → Holds (mends_status_of plan told place local work).work
   to (Idle declined) = here
   to (Advertised label content) = over content (status_to_tell plan work.edge place) content.status
   to (Withdrawing label) = here
 
-piece_kept : (plan : Plan) (Holds : Work → Type 0) → AreKept plan Holds → (told : Answers) (place : EndPlace) → IsPlaced plan place → (addresses : List Mac) (work : Work) → Holds work → Holds (tells_piece told place addresses work).work
+piece_kept : (plan : Plan) (Holds : Work → Type 0) → AreKept plan Holds → (told : Answers) (place : EndPlace) → IsPlaced plan place → (addresses : List Mac) (work : Work) → Holds work
+    → Holds (tells_piece told place addresses work).work
 piece_kept plan Holds kept told place placed addresses work here = to (end_at work.edge place).local where
   to : (local : LocalPart) → Holds (tells_piece_by told place addresses local work).work
   to (Idle declined) = here
   to (Advertised label content) = says_kept plan Holds kept told place.peer placed.peer (mac_withdrawal place.pw_id addresses content) work here
   to (Withdrawing label) = here
 
-choice_kept : (plan : Plan) (Holds : Work → Type 0) → AreKept plan Holds → (told : Answers) (before : ℕ → Option WireId) (place : EndPlace) → IsPlaced plan place → (work : Work) → Holds work → Holds (mends_choice plan told before place work).work
+choice_kept : (plan : Plan) (Holds : Work → Type 0) → AreKept plan Holds → (told : Answers) (before : ℕ → Option WireId) (place : EndPlace) → IsPlaced plan place → (work : Work)
+    → Holds work → Holds (mends_choice plan told before place work).work
 choice_kept plan Holds kept told before place placed work here = by (is_new_choice before work.edge.chosen place.wire (wire_row plan place.wire)) where
   by : (b : Bool) → Holds (cond b (tells_piece told place [] work) (stays work)).work
   by true = piece_kept plan Holds kept told place placed [] work here
@@ -548,12 +593,14 @@ each_kept : (plan : Plan) (Holds : Work → Type 0) (mend : EndPlace → Work �
 each_kept plan Holds mend one [] placed m here = here
 each_kept plan Holds mend one (place ∷ places) placed m here = each_kept plan Holds mend one places placed.1 (and_says m (mend place)) (one place placed.0 m.work here)
 
-downs_kept : (plan : Plan) (Holds : Work → Type 0) → AreKept plan Holds → (places : List EndPlace) → AllByRecursion (IsPlaced plan) places → (work : Work) → Holds work → Holds (tells_downs plan places work)
+downs_kept : (plan : Plan) (Holds : Work → Type 0) → AreKept plan Holds → (places : List EndPlace) → AllByRecursion (IsPlaced plan) places → (work : Work) → Holds work
+    → Holds (tells_downs plan places work)
 downs_kept plan Holds kept [] placed work here = here
 downs_kept plan Holds kept (place ∷ places) placed work here = downs_kept plan Holds kept places placed.1 (cond place.terminal (tells_down place (down_at plan work.edge place) work) work) (by place.terminal) where
   told_one : (b : Bool) → Holds (cond b work (gives (Wire place.wire (down_at plan work.edge place)) (changes (with_told_down place.wire (down_at plan work.edge place)) work)))
   told_one true = here
-  told_one false = kept.wire place.wire (down_at plan work.edge place) (changes (with_told_down place.wire (down_at plan work.edge place)) work) placed.0.wire (kept.changed (with_told_down place.wire (down_at plan work.edge place)) work here)
+  told_one false = kept.wire place.wire (down_at plan work.edge place) (changes (with_told_down place.wire (down_at plan work.edge place)) work) placed.0.wire
+      (kept.changed (with_told_down place.wire (down_at plan work.edge place)) work here)
 
   by : (b : Bool) → Holds (cond b (tells_down place (down_at plan work.edge place) work) work)
   by true = told_one (nat_eq (cause_number (work.edge.told_down place.wire.0)) (cause_number (down_at plan work.edge place)))
@@ -598,35 +645,43 @@ mends_kept plan Holds kept checked told work here = rounds_kept plan Holds kept 
 
 -- ---- a MAC withdraw
 
-pieces_kept : (plan : Plan) (Holds : Work → Type 0) → AreKept plan Holds → (told : Answers) (place : EndPlace) → IsPlaced plan place → (pieces : List (List Mac)) (work : Work) → Holds work → Holds (tells_pieces told place pieces work)
+pieces_kept : (plan : Plan) (Holds : Work → Type 0) → AreKept plan Holds → (told : Answers) (place : EndPlace) → IsPlaced plan place → (pieces : List (List Mac)) (work : Work)
+    → Holds work → Holds (tells_pieces told place pieces work)
 pieces_kept plan Holds kept told place placed [] work here = here
 pieces_kept plan Holds kept told place placed (piece ∷ pieces) work here =
     pieces_kept plan Holds kept told place placed pieces (tells_piece told place piece work).work (piece_kept plan Holds kept told place placed piece work here)
 
-told_by_kept : (plan : Plan) (Holds : Work → Type 0) → AreKept plan Holds → (told : Answers) (addresses : List Mac) (end : Option EndPlace) (work : Work) → ((place : EndPlace) → end ≡ Some place → IsPlaced plan place) → Holds work
+told_by_kept : (plan : Plan) (Holds : Work → Type 0) → AreKept plan Holds → (told : Answers) (addresses : List Mac) (end : Option EndPlace) (work : Work)
+    → ((place : EndPlace) → end ≡ Some place → IsPlaced plan place) → Holds work
     → Holds (tells_by told addresses end work)
 told_by_kept plan Holds kept told addresses None work placed here = here
 told_by_kept plan Holds kept told addresses (Some place) work placed here = pieces_kept plan Holds kept told place (placed place refl) (pieces_of addresses) work here
 
-told_at_kept : (plan : Plan) (Holds : Work → Type 0) → AreKept plan Holds → IsChecked plan → (told : Answers) (addresses : List Mac) (x : Port) (b : Bool) (work : Work) → Holds work → Holds (cond b (tells_at plan told addresses x work) work)
+told_at_kept : (plan : Plan) (Holds : Work → Type 0) → AreKept plan Holds → IsChecked plan → (told : Answers) (addresses : List Mac) (x : Port) (b : Bool) (work : Work) → Holds work
+    → Holds (cond b (tells_at plan told addresses x work) work)
 told_at_kept plan Holds kept checked told addresses x false work here = here
 told_at_kept plan Holds kept checked told addresses (port.Circuit c) true work here = here
 told_at_kept plan Holds kept checked told addresses (port.Mesh wire) true work here =
-    told_by_kept plan Holds kept told addresses (wire_end plan work.edge.me wire) work (λ place. found_among (IsPlaced plan) (is_end_of_wire wire) (end_places plan work.edge.me) place (places_placed plan work.edge.me checked)) here
+    told_by_kept plan Holds kept told addresses (wire_end plan work.edge.me wire) work
+    (λ place. found_among (IsPlaced plan) (is_end_of_wire wire) (end_places plan work.edge.me) place (places_placed plan work.edge.me checked)) here
 told_at_kept plan Holds kept checked told addresses (port.Spoke wire) true work here =
-    told_by_kept plan Holds kept told addresses (wire_end plan work.edge.me wire) work (λ place. found_among (IsPlaced plan) (is_end_of_wire wire) (end_places plan work.edge.me) place (places_placed plan work.edge.me checked)) here
+    told_by_kept plan Holds kept told addresses (wire_end plan work.edge.me wire) work
+    (λ place. found_among (IsPlaced plan) (is_end_of_wire wire) (end_places plan work.edge.me) place (places_placed plan work.edge.me checked)) here
 
-passed_kept : (plan : Plan) (Holds : Work → Type 0) → AreKept plan Holds → IsChecked plan → (told : Answers) (addresses : List Mac) (passed : ℕ → Bool) (p : ℕ) (ports : List Port) (work : Work) → Holds work
+passed_kept : (plan : Plan) (Holds : Work → Type 0) → AreKept plan Holds → IsChecked plan
+    → (told : Answers) (addresses : List Mac) (passed : ℕ → Bool) (p : ℕ) (ports : List Port) (work : Work) → Holds work
     → Holds (copies passed (tells_at plan told addresses) p ports work)
 passed_kept plan Holds kept checked told addresses passed p [] work here = here
 passed_kept plan Holds kept checked told addresses passed p (x ∷ ports) work here =
-    passed_kept plan Holds kept checked told addresses passed (p + 1) ports (cond (passed p) (tells_at plan told addresses x work) work) (told_at_kept plan Holds kept checked told addresses x (passed p) work here)
+    passed_kept plan Holds kept checked told addresses passed (p + 1) ports (cond (passed p) (tells_at plan told addresses x work) work)
+    (told_at_kept plan Holds kept checked told addresses x (passed p) work here)
 
 beyond_placed : (plan : Plan) (me : EdgeId) (wire : WireId) (mate : Option EdgeId) → IsChecked plan → (place : EndPlace) → end_beside plan me wire mate ≡ Some place → IsPlaced plan place
 beyond_placed plan me wire None checked place found = absurd (cc (found))
 beyond_placed plan me wire (Some peer) checked place found = found_among (IsPlaced plan) (is_at wire.0 peer.0) (end_places plan me) place (places_placed plan me checked) found
 
-withdraw_kept : (plan : Plan) (Holds : Work → Type 0) → AreKept plan Holds → IsChecked plan → (told : Answers) (peer : EdgeId) (fec : Option PwFec) (macs : Option (List Mac)) (work : Work) → Holds work → Holds (hears_mac_withdraw plan told peer fec macs work)
+withdraw_kept : (plan : Plan) (Holds : Work → Type 0) → AreKept plan Holds → IsChecked plan
+    → (told : Answers) (peer : EdgeId) (fec : Option PwFec) (macs : Option (List Mac)) (work : Work) → Holds work → Holds (hears_mac_withdraw plan told peer fec macs work)
 withdraw_kept plan Holds kept checked told peer None macs work here = here
 withdraw_kept plan Holds kept checked told peer (Some fec) None work here = here
 withdraw_kept plan Holds kept checked told peer (Some fec) (Some addresses) work here = named (end_of_fec plan work.edge peer fec) where
@@ -636,7 +691,8 @@ withdraw_kept plan Holds kept checked told peer (Some fec) (Some addresses) work
 
   at : (service : ServiceId) (found : Option ℕ) → Holds (clears_at plan told addresses service found work)
   at service None = here
-  at service (Some from) = on service from (roles.role_of plan service work.edge.me) (changes (withdrawing_at service addresses from) work) (kept.changed (withdrawing_at service addresses from) work here)
+  at service (Some from) = on service from (roles.role_of plan service work.edge.me) (changes (withdrawing_at service addresses from) work)
+      (kept.changed (withdrawing_at service addresses from) work here)
 
   wire : (place : EndPlace) (row : Option WirePlan) → Holds (clears_wire plan told addresses place row work)
   wire place None = here
@@ -654,12 +710,14 @@ withdraw_kept plan Holds kept checked told peer (Some fec) (Some addresses) work
 
 -- ---- what is heard
 
-acted_kept : (plan : Plan) (Holds : Work → Type 0) → AreKept plan Holds → IsChecked plan → (told : Answers) (peer : EdgeId) → peer.0 < length plan.edges → (message : Message) (work : Work) → Holds work → Holds (acts_on plan told peer message work)
+acted_kept : (plan : Plan) (Holds : Work → Type 0) → AreKept plan Holds → IsChecked plan → (told : Answers) (peer : EdgeId) → peer.0 < length plan.edges
+    → (message : Message) (work : Work) → Holds work → Holds (acts_on plan told peer message work)
 acted_kept plan Holds kept checked told peer within m work here = to m where
   maps : (fec : PwFec) (binding : Binding) (x : Option EndPlace) → Holds (maps_to plan told peer fec binding x work)
   maps fec binding None = says_kept plan Holds kept told peer within (release fec (Some binding.label)) work here
   maps fec binding (Some place) = by (takes_content plan work.edge.me place binding.told) where
-    by : (b : Bool) → Holds (cond b (changes (with_end_changed (bound binding) (Some place)) work) (releases_label told peer fec (Some binding.label) (changes (with_end_changed (unbound None) (Some place)) work)))
+    by : (b : Bool) → Holds (cond b (changes (with_end_changed (bound binding) (Some place)) work)
+        (releases_label told peer fec (Some binding.label) (changes (with_end_changed (unbound None) (Some place)) work)))
     by true = kept.changed (with_end_changed (bound binding) (Some place)) work here
     by false =
         says_kept plan Holds kept told peer within (release fec (Some binding.label)) (changes (with_end_changed (unbound None) (Some place)) work)
@@ -693,7 +751,8 @@ acted_kept plan Holds kept checked told peer within m work here = to m where
   to (message.Other id u number) = advised (advice_of (message.Other id u number))
   to (message.Unprocessed id number why) = advised (advice_of (message.Unprocessed id number why))
 
-message_kept : (plan : Plan) (Holds : Work → Type 0) → AreKept plan Holds → IsChecked plan → (told : Answers) (peer : EdgeId) → peer.0 < length plan.edges → (message : Message) (work : Work) → Holds work → Holds (hears_message plan told peer message work)
+message_kept : (plan : Plan) (Holds : Work → Type 0) → AreKept plan Holds → IsChecked plan → (told : Answers) (peer : EdgeId) → peer.0 < length plan.edges
+    → (message : Message) (work : Work) → Holds work → Holds (hears_message plan told peer message work)
 message_kept plan Holds kept checked told peer within m work here = heard (has_end work.edge peer) where
   mid : Work
   mid = happens_with_ends told peer (Received m) work
@@ -713,18 +772,21 @@ message_kept plan Holds kept checked told peer within m work here = heard (has_e
   heard true = mends_kept plan Holds kept checked told (hears_one plan told peer m work) (up (was_up (work.edge.peering peer.0)))
   heard false = here
 
-messages_kept : (plan : Plan) (Holds : Work → Type 0) → AreKept plan Holds → IsChecked plan → (told : Answers) (peer : EdgeId) → peer.0 < length plan.edges → (messages : List Message) (work : Work) → Holds work → Holds (hears_messages plan told peer messages work)
+messages_kept : (plan : Plan) (Holds : Work → Type 0) → AreKept plan Holds → IsChecked plan → (told : Answers) (peer : EdgeId) → peer.0 < length plan.edges
+    → (messages : List Message) (work : Work) → Holds work → Holds (hears_messages plan told peer messages work)
 messages_kept plan Holds kept checked told peer within [] work here = here
 messages_kept plan Holds kept checked told peer within (m ∷ messages) work here =
     messages_kept plan Holds kept checked told peer within messages (hears_message plan told peer m work) (message_kept plan Holds kept checked told peer within m work here)
 
-few_kept : (plan : Plan) (Holds : Work → Type 0) → AreKept plan Holds → IsChecked plan → (told : Answers) (peer : EdgeId) → peer.0 < length plan.edges → (n : ℕ) (octets : List ℕ) (work : Work) → Holds work → Holds (hears_few plan told peer n octets work)
+few_kept : (plan : Plan) (Holds : Work → Type 0) → AreKept plan Holds → IsChecked plan → (told : Answers) (peer : EdgeId) → peer.0 < length plan.edges
+    → (n : ℕ) (octets : List ℕ) (work : Work) → Holds work → Holds (hears_few plan told peer n octets work)
 few_kept plan Holds kept checked told peer within zero octets work here = held (work.edge.peering peer.0) where
   held : (x : Option Peering) → Holds (holds peer octets x work)
   held None = here
   held (Some p) = kept.changed (with_peering peer (Some (record p { held = octets }))) work here
 few_kept plan Holds kept checked told peer within (suc n) octets work here = to (λ rest w h. few_kept plan Holds kept checked told peer within n rest w h) (work.edge.peering peer.0) where
-  front : ((rest : List ℕ) (w : Work) → Holds w → Holds (hears_few plan told peer n rest w)) → (p : Peering) (f : Front) → Holds (hears_front plan told peer (hears_few plan told peer n) p octets f work)
+  front : ((rest : List ℕ) (w : Work) → Holds w → Holds (hears_few plan told peer n rest w)) → (p : Peering) (f : Front)
+      → Holds (hears_front plan told peer (hears_few plan told peer n) p octets f work)
   front on p More = kept.changed (with_peering peer (Some (record p { held = octets }))) work here
   front on p (Got pdu rest) =
       on rest (hears_pdu plan told peer pdu work)
@@ -741,7 +803,8 @@ few_kept plan Holds kept checked told peer within (suc n) octets work here = to 
 pub record HasPeers (plan : Plan) (edge : EdgeState) : Type 0 where
   pub each : (peer : EdgeId) → has_end edge peer ≡ true → peer.0 < length plan.edges
 
-heard_kept : (plan : Plan) (Holds : Work → Type 0) → AreKept plan Holds → IsChecked plan → (told : Answers) (peer : EdgeId) (octets : List ℕ) (work : Work) → HasPeers plan work.edge → Holds work → Holds (octets_input plan told peer octets (work.edge.peering peer.0) work)
+heard_kept : (plan : Plan) (Holds : Work → Type 0) → AreKept plan Holds → IsChecked plan → (told : Answers) (peer : EdgeId) (octets : List ℕ) (work : Work) → HasPeers plan work.edge
+    → Holds work → Holds (octets_input plan told peer octets (work.edge.peering peer.0) work)
 heard_kept plan Holds kept checked told peer octets work peers here = to (work.edge.peering peer.0) refl where
   to : (x : Option Peering) → work.edge.peering peer.0 ≡ x → Holds (octets_input plan told peer octets x work)
   to None is = kept.idle work here
@@ -749,10 +812,12 @@ heard_kept plan Holds kept checked told peer octets work peers here = to (work.e
       mends_kept plan Holds kept checked told (hears_on plan told peer octets (Some p) work)
       (few_kept plan Holds kept checked told peer (peers.each peer (ap is_there is)) (suc (length (p.held ++ octets))) (p.held ++ octets) work here)
 
-lost_kept : (plan : Plan) (Holds : Work → Type 0) → AreKept plan Holds → IsChecked plan → (told : Answers) (peer : EdgeId) (work : Work) → HasPeers plan work.edge → Holds work → Holds (lost_input plan told peer work)
+lost_kept : (plan : Plan) (Holds : Work → Type 0) → AreKept plan Holds → IsChecked plan → (told : Answers) (peer : EdgeId) (work : Work) → HasPeers plan work.edge → Holds work
+    → Holds (lost_input plan told peer work)
 lost_kept plan Holds kept checked told peer work peers here = by (has_end work.edge peer) refl where
   by : (b : Bool) → has_end work.edge peer ≡ b → Holds (cond b (mends plan told (happens_with_ends told peer (table.Closed reason.Closed) work)) (idles work))
-  by true is = mends_kept plan Holds kept checked told (happens_with_ends told peer (table.Closed reason.Closed) work) (with_ends_kept plan Holds kept told peer (peers.each peer is) (table.Closed reason.Closed) work here)
+  by true is = mends_kept plan Holds kept checked told (happens_with_ends told peer (table.Closed reason.Closed) work)
+      (with_ends_kept plan Holds kept told peer (peers.each peer is) (table.Closed reason.Closed) work here)
   by false is = kept.idle work here
 
 connected_kept : (plan : Plan) (Holds : Work → Type 0) → AreKept plan Holds → IsChecked plan → (told : Answers) (peer : EdgeId) (work : Work) → Holds work → Holds (connected_input plan told peer work)
@@ -772,21 +837,26 @@ connected_kept plan Holds kept checked told peer work here = by (are_joined plan
   by true = between (slice_get plan.edges work.edge.me.0) (slice_get plan.edges peer.0) refl
   by false = kept.idle work here
 
-sessions_kept : (plan : Plan) (Holds : Work → Type 0) → AreKept plan Holds → (told : Answers) (place count : ℕ) (work : Work) → place + count ≤ length plan.edges → Holds work → Holds (ticks_sessions told place count work)
+sessions_kept : (plan : Plan) (Holds : Work → Type 0) → AreKept plan Holds → (told : Answers) (place count : ℕ) (work : Work) → place + count ≤ length plan.edges → Holds work
+    → Holds (ticks_sessions told place count work)
 sessions_kept plan Holds kept told place zero work within here = here
 sessions_kept plan Holds kept told place (suc count) work within here =
     sessions_kept plan Holds kept told (place + 1) count (happens_with_ends told (record { 0 = place }) Ticked work) (omega (arith, within))
     (with_ends_kept plan Holds kept told (record { 0 = place }) (omega (arith, within)) Ticked work here)
 
-changed_kept : (plan : Plan) (Holds : Work → Type 0) → AreKept plan Holds → IsChecked plan → (told : Answers) (change : EdgeState → EdgeState) (work : Work) (b : Bool) → Holds work → Holds (cond b (mends plan told (changes change work)) (idles work))
+changed_kept : (plan : Plan) (Holds : Work → Type 0) → AreKept plan Holds → IsChecked plan → (told : Answers) (change : EdgeState → EdgeState) (work : Work) (b : Bool) → Holds work
+    → Holds (cond b (mends plan told (changes change work)) (idles work))
 changed_kept plan Holds kept checked told change work true here = mends_kept plan Holds kept checked told (changes change work) (kept.changed change work here)
 changed_kept plan Holds kept checked told change work false here = kept.idle work here
 
-circuit_kept : (plan : Plan) (Holds : Work → Type 0) → AreKept plan Holds → IsChecked plan → (told : Answers) (circuit : CircuitId) (on : Bool) (row : Option CircuitPlan) (work : Work) → Holds work → Holds (circuit_input plan told circuit on row work)
+circuit_kept : (plan : Plan) (Holds : Work → Type 0) → AreKept plan Holds → IsChecked plan → (told : Answers) (circuit : CircuitId) (on : Bool) (row : Option CircuitPlan) (work : Work)
+    → Holds work → Holds (circuit_input plan told circuit on row work)
 circuit_kept plan Holds kept checked told circuit on None work here = kept.idle work here
-circuit_kept plan Holds kept checked told circuit on (Some row) work here = changed_kept plan Holds kept checked told (turned plan circuit row on) work (is_own work.edge row && not (is_same on (is_on work.edge circuit))) here
+circuit_kept plan Holds kept checked told circuit on (Some row) work here =
+    changed_kept plan Holds kept checked told (turned plan circuit row on) work (is_own work.edge row && not (is_same on (is_on work.edge circuit))) here
 
-step_kept : (plan : Plan) (Holds : Work → Type 0) → AreKept plan Holds → IsChecked plan → (told : Answers) (given : Input) (work : Work) → HasPeers plan work.edge → Holds work → Holds (edge_step plan told given work)
+step_kept : (plan : Plan) (Holds : Work → Type 0) → AreKept plan Holds → IsChecked plan → (told : Answers) (given : Input) (work : Work) → HasPeers plan work.edge → Holds work
+    → Holds (edge_step plan told given work)
 step_kept plan Holds kept checked told (input.Connected peer) work peers here = connected_kept plan Holds kept checked told peer work here
 step_kept plan Holds kept checked told (input.Octets peer bytes) work peers here = heard_kept plan Holds kept checked told peer bytes.now work peers here
 step_kept plan Holds kept checked told (input.Lost peer) work peers here = lost_kept plan Holds kept checked told peer work peers here
@@ -797,9 +867,11 @@ step_kept plan Holds kept checked told input.Tick work peers here =
     (sessions_kept plan Holds kept told 0 (length plan.edges) (changes counted work) (omega arith) (kept.changed counted work here)))
 step_kept plan Holds kept checked told (input.Frame circuit bytes) work peers here = frame_kept plan Holds kept checked told circuit bytes.now (circuit_row plan circuit) work here
 step_kept plan Holds kept checked told (input.Packet bytes) work peers here = packet_kept plan Holds kept checked told bytes.now work here
-step_kept plan Holds kept checked told (input.Wire wire on) work peers here = changed_kept plan Holds kept checked told (turned_wire wire on) work (passes plan work.edge.me wire && not (is_same on (work.edge.wire_on wire.0))) here
+step_kept plan Holds kept checked told (input.Wire wire on) work peers here =
+    changed_kept plan Holds kept checked told (turned_wire wire on) work (passes plan work.edge.me wire && not (is_same on (work.edge.wire_on wire.0))) here
 step_kept plan Holds kept checked told (input.Circuit circuit on) work peers here = circuit_kept plan Holds kept checked told circuit on (circuit_row plan circuit) work here
-step_kept plan Holds kept checked told (input.Status wire bits) work peers here = changed_kept plan Holds kept checked told (with_bits wire bits) work (ends_here plan work.edge.me wire && not (nat_eq bits (work.edge.bits wire.0))) here
+step_kept plan Holds kept checked told (input.Status wire bits) work peers here =
+    changed_kept plan Holds kept checked told (with_bits wire bits) work (ends_here plan work.edge.me wire && not (nat_eq bits (work.edge.bits wire.0))) here
 step_kept plan Holds kept checked told (input.Priority wire priority) work peers here =
     changed_kept plan Holds kept checked told (with_priority wire priority) work (is_own_spoke work.edge.me (wire_row plan wire) && not (nat_eq priority (work.edge.priority wire.0))) here
 step_kept plan Holds kept checked told (input.Ping wire) work peers here = ping_kept plan Holds kept checked told wire work here
@@ -844,7 +916,8 @@ taken-append : (xs ys : List LinkCall) → filter (λ call. call.taken) (xs ++ y
 taken-append [] ys = refl
 taken-append (x ∷ xs) ys = by x.taken (taken-append xs ys) where
   by : (b : Bool) → filter (λ call. call.taken) (xs ++ ys) ≡ filter (λ call. call.taken) xs ++ filter (λ call. call.taken) ys
-      → cond b (x ∷ filter (λ call. call.taken) (xs ++ ys)) (filter (λ call. call.taken) (xs ++ ys)) ≡ cond b (x ∷ filter (λ call. call.taken) xs) (filter (λ call. call.taken) xs) ++ filter (λ call. call.taken) ys
+      → cond b (x ∷ filter (λ call. call.taken) (xs ++ ys)) (filter (λ call. call.taken) (xs ++ ys))
+      ≡ cond b (x ∷ filter (λ call. call.taken) xs) (filter (λ call. call.taken) xs) ++ filter (λ call. call.taken) ys
   by true rest = ap (λ (l : List LinkCall). x ∷ l) rest
   by false rest = rest
 
@@ -857,11 +930,13 @@ tells_same before now es e none tells = record {
 }
 
 -- one call more, and what tells it
-tells_more : (before now : List LinkCall) (es fs : List Effect) (call : LinkCall) → calls_told fs ≡ filter (λ call. call.taken) (call ∷ []) → TellsTaken before now es → TellsTaken before (now ++ call ∷ []) (es ++ fs)
+tells_more : (before now : List LinkCall) (es fs : List Effect) (call : LinkCall) → calls_told fs ≡ filter (λ call. call.taken) (call ∷ []) → TellsTaken before now es
+    → TellsTaken before (now ++ call ∷ []) (es ++ fs)
 tells_more before now es fs call one tells = record {
   more = tells.more ++ call ∷ [];
   joined = ap (λ (l : List LinkCall). l ++ call ∷ []) tells.joined ∙ append_assoc before tells.more (call ∷ []);
-  told = told-append es fs ∙ (ap (λ (l : List LinkCall). l ++ calls_told fs) tells.told ∙ (ap (λ (l : List LinkCall). filter (λ call. call.taken) tells.more ++ l) one ∙ sym (taken-append tells.more (call ∷ []))));
+  told = told-append es fs ∙ (ap (λ (l : List LinkCall). l ++ calls_told fs) tells.told
+      ∙ (ap (λ (l : List LinkCall). filter (λ call. call.taken) tells.more ++ l) one ∙ sym (taken-append tells.more (call ∷ []))));
 }
 
 tell_kept : (plan : Plan) (before : List LinkCall) → AreKept plan (λ w. TellsTaken before w.calls w.effects)
@@ -921,7 +996,8 @@ steps_tell e now given effects before after is steps =
     (record { more = []; joined = sym (append-nil before); told = refl }))
 
 -- the edge is in sync again
-pub steps_synced : (e now : EdgeLists) (given : Input) (effects : Effects) (before after : List LinkCall) → IsEdge e → InSync e.plan (seen e) → Steps e now given effects before after → InSync e.plan (seen now)
+pub steps_synced : (e now : EdgeLists) (given : Input) (effects : Effects) (before after : List LinkCall) → IsEdge e → InSync e.plan (seen e) → Steps e now given effects before after
+    → InSync e.plan (seen now)
 unfolding worked
 steps_synced e now given effects before after is synced steps =
     subst (λ (w : Work). InSync e.plan w.edge) (sym (steps (told_by after) (agrees_itself after)))

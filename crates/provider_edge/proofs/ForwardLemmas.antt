@@ -42,7 +42,8 @@ holds_forwarding c f keeps working is = record {
 }
 
 -- the edge has these marks
-pub holds_marked : (c : EdgeLists) (f : ForwardingLists) (marks : Option EndMarks) → KeepsForwarding c.forwarding f → c.stopped ≡ true → IfSome marks (IsTidy c.plan (seen (record c { forwarding = f }))) → IsEdge c
+pub holds_marked : (c : EdgeLists) (f : ForwardingLists) (marks : Option EndMarks) → KeepsForwarding c.forwarding f → c.stopped ≡ true
+    → IfSome marks (IsTidy c.plan (seen (record c { forwarding = f }))) → IsEdge c
     → IsEdge (record c { forwarding = f; marks = marks })
 unfolding seen
 holds_marked c f marks keeps working tidy is = record {
@@ -63,7 +64,8 @@ holds_marked c f marks keeps working tidy is = record {
 }
 
 -- the marks are as they were
-pub holds_kept : (c : EdgeLists) (f : ForwardingLists) → KeepsForwarding c.forwarding f → c.stopped ≡ true → IfSome c.marks (IsTidy c.plan (seen (record c { forwarding = f }))) → IsEdge c → IsEdge (record c { forwarding = f })
+pub holds_kept : (c : EdgeLists) (f : ForwardingLists) → KeepsForwarding c.forwarding f → c.stopped ≡ true → IfSome c.marks (IsTidy c.plan (seen (record c { forwarding = f })))
+    → IsEdge c → IsEdge (record c { forwarding = f })
 holds_kept c f keeps working tidy is = holds_marked c f c.marks keeps working tidy is
 
 pub keeps_forwarding : {m : Option EndMarks} (c : EdgeLists) (f : ForwardingLists) → Keeps c (record c { forwarding = f; marks = m })
@@ -94,7 +96,8 @@ seen_forwarding change c f is keeps step = seen_marks (record c { forwarding = f
 -- what was learned at the port that is found is forgotten
 pub seen_forgot : (test : Port → Bool) (c : EdgeLists) (f : ForwardingLists) (service : ServiceId) → IsEdge c → KeepsForwarding c.forwarding f
     → ((edge : EdgeState) → with_forwarding f edge
-    ≡ with_addresses service (without_port (position test (ports_of c.forwarding.plan service c.forwarding.me)) (addresses_of (with_forwarding c.forwarding edge) service)) (with_forwarding c.forwarding edge))
+    ≡ with_addresses service (without_port (position test (ports_of c.forwarding.plan service c.forwarding.me)) (addresses_of (with_forwarding c.forwarding edge) service))
+    (with_forwarding c.forwarding edge))
     → seen (record c { forwarding = f })
     ≡ with_addresses service (without_port (position test (ports_of c.plan service c.me)) (addresses_of (seen c) service)) (seen c)
 seen_forgot test c f service is keeps step =

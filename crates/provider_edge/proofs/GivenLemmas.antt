@@ -26,7 +26,8 @@ use Rattle.provider_edge.specs.Changes.{KeepsLabels, changing}
 put_free : (label : ℕ) (peer : EdgeId) (kept : List Kept) → find is_free (put_by label_of (waiting label peer) kept) ≡ find is_free kept
 put_free label peer [] = refl
 put_free label peer (k ∷ ks) = by (put_free label peer ks) (nat_lt k.label label) where
-  by : find is_free (put_by label_of (waiting label peer) ks) ≡ find is_free ks → (b : Bool) → find is_free (cond b (k ∷ put_by label_of (waiting label peer) ks) (waiting label peer ∷ k ∷ ks)) ≡ find is_free (k ∷ ks)
+  by : find is_free (put_by label_of (waiting label peer) ks) ≡ find is_free ks → (b : Bool)
+      → find is_free (cond b (k ∷ put_by label_of (waiting label peer) ks) (waiting label peer ∷ k ∷ ks)) ≡ find is_free (k ∷ ks)
   by rest true = ap (λ (found : Option Kept). cond (is_free k) (Some k) found) rest
   by rest false = refl
 
@@ -131,7 +132,8 @@ changing_keeps change place edge keeps =
     ap (λ (left : Option ℕ). with_kept (keeps_one left place.peer edge.kept) (with_end place (change (end_at edge place)) edge)) (keeps (end_at edge place))
 
 -- and so they do where each end beside a peer is changed
-pub group_keeps : (peer : EdgeId) (change : EndState → EndState) (ends : ℕ → ℕ → EndState) (places : List EndPlace) (kept : List Kept) → KeepsLabels change → keeps_changed peer change ends places kept ≡ kept
+pub group_keeps : (peer : EdgeId) (change : EndState → EndState) (ends : ℕ → ℕ → EndState) (places : List EndPlace) (kept : List Kept) → KeepsLabels change
+    → keeps_changed peer change ends places kept ≡ kept
 group_keeps peer change ends [] kept keeps = refl
 group_keeps peer change ends (place ∷ places) kept keeps = ap (keeps_changed peer change ends places) (by (nat_eq place.peer.0 peer.0)) ∙ group_keeps peer change ends places kept keeps where
   end : EndState

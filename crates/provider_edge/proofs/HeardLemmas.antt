@@ -105,7 +105,8 @@ heard_gone (Some p) entries station arrival now apart gone =
 
 -- ---- a frame is heard by a port that is open
 
-forgotten_still : (c : EdgeLists) (service : ServiceId) (frame : List ℕ) (arrival : ℕ) (place : EndPlace) → IsEdge c → open_ports c.forwarding service arrival ≡ true → (seen c).me ≡ c.me → IsSynced c.plan (seen c) place
+forgotten_still : (c : EdgeLists) (service : ServiceId) (frame : List ℕ) (arrival : ℕ) (place : EndPlace) → IsEdge c → open_ports c.forwarding service arrival ≡ true → (seen c).me
+    ≡ c.me → IsSynced c.plan (seen c) place
     → IsForgotten c.plan (seen c) place → IsForgotten c.plan (hearing service frame arrival (seen c)) place
 unfolding with_addresses
 forgotten_still c service frame arrival place is on me synced gone = λ row terminal at down. by row terminal at down (nat_eq row.service.0 service.0) refl where

@@ -21,7 +21,8 @@ use Rattle.peer_dialogue.proofs.SpeakerLemmas.{put_same, put_twice}
 use Rattle.provider_edge.proofs.EdgeLemmas.{lost_idle}
 use Rattle.provider_edge.specs.Lists.{EdgeLists, seen, worked}
 
-pub peer_edge : (peer : EdgeId) (kept : Option Peering) (edge : EdgeState) (calls : List LinkCall) (out : List Effect) → edge.peering peer.0 ≡ kept → at_peer peer kept edge calls out ≡ at_edge edge calls out
+pub peer_edge : (peer : EdgeId) (kept : Option Peering) (edge : EdgeState) (calls : List LinkCall) (out : List Effect) → edge.peering peer.0 ≡ kept → at_peer peer kept edge calls out
+    ≡ at_edge edge calls out
 unfolding at_peer at_edge
 peer_edge peer kept edge calls out is = ap (λ (e : EdgeState). record { edge = e; calls = calls; effects = out; idle = false }) (put_same peer kept edge is)
 
@@ -84,7 +85,8 @@ pub nothing_kept : (peer : EdgeId) (edge : EdgeState) → has_end edge peer ≡ 
 nothing_kept peer edge absent = sym (absent_is (edge.peering peer.0) absent)
 
 -- no end of a connection is lost where none stands
-pub lost_none : (c mid : EdgeLists) (told : Answers) (peer : EdgeId) (taken : Option Peering) (calls : List LinkCall) → taken ≡ (seen c).peering peer.0 → taken ≡ None → seen mid ≡ with_peering peer None (seen c)
+pub lost_none : (c mid : EdgeLists) (told : Answers) (peer : EdgeId) (taken : Option Peering) (calls : List LinkCall) → taken ≡ (seen c).peering peer.0 → taken ≡ None → seen mid
+    ≡ with_peering peer None (seen c)
     → worked mid calls (record { idle = true; list = [] }) ≡ lost_input c.plan told peer (beginning (seen c) calls)
 unfolding worked
 lost_none c mid told peer taken calls read none took =
@@ -114,15 +116,20 @@ said_some told peer message taken kept edge calls out mid work failed read some 
     let there : edge.peering peer.0 ≡ Some kept = sym read ∙ some in
     ap (λ (w : Work). record { work = w; failed = failed }) clears
     ∙ (ap (λ (s : Spoken). record { work = clears_ends peer s.work; failed = s.failed }) spoken
-    ∙ (ap (λ (x : Option Peering). record { work = clears_ends peer (had_spoken peer (put_message_to told peer message x start)).work; failed = (had_spoken peer (put_message_to told peer message x start)).failed }) there
+    ∙ (ap (λ (x : Option Peering). record {
+      work = clears_ends peer (had_spoken peer (put_message_to told peer message x start)).work;
+      failed = (had_spoken peer (put_message_to told peer message x start)).failed;
+    }) there
     ∙ ap (λ (x : Option Peering). says_to told peer message x start) (sym there)))
 
 -- an advisory was put
-pub advised : (told : Answers) (peer : EdgeId) (reply : Reply) (start mid work : Work) → mid ≡ had_put peer (put_reply told peer reply start) → work ≡ clears_ends peer mid → work ≡ advises told peer (Some reply) start
+pub advised : (told : Answers) (peer : EdgeId) (reply : Reply) (start mid work : Work) → mid ≡ had_put peer (put_reply told peer reply start) → work ≡ clears_ends peer mid → work
+    ≡ advises told peer (Some reply) start
 advised told peer reply start mid work put clears = clears ∙ ap (clears_ends peer) put
 
 -- an event happened, and the ends are lost where no session is left
-pub happened : (told : Answers) (peer : EdgeId) (event : SessionEvent) (start mid work : Work) → mid ≡ happens told peer event start → work ≡ clears_ends peer mid → work ≡ happens_with_ends told peer event start
+pub happened : (told : Answers) (peer : EdgeId) (event : SessionEvent) (start mid work : Work) → mid ≡ happens told peer event start → work ≡ clears_ends peer mid → work
+    ≡ happens_with_ends told peer event start
 happened told peer event start mid work is clears = clears ∙ ap (clears_ends peer) is
 
 -- no session was taken out where one stands

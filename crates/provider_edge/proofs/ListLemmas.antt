@@ -53,7 +53,8 @@ use Rattle.provider_edge.specs.Tidy.{IsTidy}
 
 -- ---- what always holds
 
-pub holds_peerings : (c : EdgeLists) (peerings : List (Option Peering)) → length peerings ≡ length c.peerings → All HoldsFew peerings → c.stopped ≡ true → IsEdge c → IsEdge (record c { peerings = peerings; marks = None })
+pub holds_peerings : (c : EdgeLists) (peerings : List (Option Peering)) → length peerings ≡ length c.peerings → All HoldsFew peerings → c.stopped ≡ true → IsEdge c
+    → IsEdge (record c { peerings = peerings; marks = None })
 holds_peerings c peerings long few working is = record {
   checked = is.checked;
   peerings = long ∙ is.peerings;
@@ -175,7 +176,8 @@ unfolding seen with_ends_beside with_kept
 ends_lost c ends peer same are next kept = λ i. record (seen c) { places = same i; ends = are i; next_label = next i; kept = kept i }
 
 -- where nothing was told of any of them, that changes nothing
-pub lost_already : (c : EdgeLists) (peer : EdgeId) → changed_beside peer lost (seen_ends c.ends) ≡ seen_ends c.ends → ((kept : List Kept) → keeps_lost peer (seen_ends c.ends) c.ends.places kept ≡ kept) → losing_ends peer (seen c) ≡ seen c
+pub lost_already : (c : EdgeLists) (peer : EdgeId) → changed_beside peer lost (seen_ends c.ends) ≡ seen_ends c.ends
+    → ((kept : List Kept) → keeps_lost peer (seen_ends c.ends) c.ends.places kept ≡ kept) → losing_ends peer (seen c) ≡ seen c
 unfolding seen
 lost_already c peer untold kept = sym (ends_lost c c.ends peer refl (sym untold) refl (sym (kept c.ends.labels.kept)))
 
@@ -191,7 +193,8 @@ pub ends_met : (c : EdgeLists) (peer : EdgeId) (ends : EndLists) → ends ≡ re
 unfolding seen with_kept seen_ends
 ends_met c peer ends is = ap (λ (l : EndLists). seen (record c { ends = l })) is
 
-pub ends_rest : (c : EdgeLists) (ends : EndLists) (marks : Option EndMarks) → ends ≡ record c.ends { labels = ticking c.ends.labels } → seen (record c { ends = ends; marks = marks }) ≡ resting (seen c)
+pub ends_rest : (c : EdgeLists) (ends : EndLists) (marks : Option EndMarks) → ends ≡ record c.ends { labels = ticking c.ends.labels } → seen (record c { ends = ends; marks = marks })
+    ≡ resting (seen c)
 unfolding seen with_kept seen_ends
 ends_rest c ends marks is = ap (λ (l : EndLists). seen (record c { ends = l })) is
 
@@ -209,7 +212,8 @@ view_unpinged [] k = refl
 view_unpinged (x ∷ xs) zero = refl
 view_unpinged (x ∷ xs) (suc k) = view_unpinged xs k
 
-ends_fresh : (c : EdgeLists) (ends : EndLists) (pings : List ℕ) (spokes : SpokeLists) → ends.places ≡ c.ends.places → seen_ends ends ≡ (λ wire peer. fresh) → ends.labels.next ≡ c.ends.labels.next → LeavesAll c.ends ends
+ends_fresh : (c : EdgeLists) (ends : EndLists) (pings : List ℕ) (spokes : SpokeLists) → ends.places ≡ c.ends.places → seen_ends ends ≡ (λ wire peer. fresh) → ends.labels.next
+    ≡ c.ends.labels.next → LeavesAll c.ends ends
     → spokes.chosen ≡ map unchosen c.spokes.chosen
     → pings ≡ map unpinged c.pings → without_told (seen (record c { ends = ends; pings = pings; spokes = spokes; marks = None })) ≡ without_ends (keeping_all (seen c))
 unfolding seen without_ends without_told with_kept
@@ -245,7 +249,8 @@ holds_pings c pings long working is = record {
 }
 
 -- the marks are as they were
-pub holds_pinged : (c : EdgeLists) (pings : List ℕ) → length pings ≡ length c.pings → c.stopped ≡ true → IfSome c.marks (IsTidy c.plan (seen (record c { pings = pings }))) → IsEdge c → IsEdge (record c { pings = pings })
+pub holds_pinged : (c : EdgeLists) (pings : List ℕ) → length pings ≡ length c.pings → c.stopped ≡ true → IfSome c.marks (IsTidy c.plan (seen (record c { pings = pings }))) → IsEdge c
+    → IsEdge (record c { pings = pings })
 holds_pinged c pings long working tidy is = record {
   checked = is.checked;
   peerings = is.peerings;
@@ -264,19 +269,22 @@ holds_pinged c pings long working tidy is = record {
 }
 
 -- the ends and how often they were pinged are forgotten
-holds_unpinged : (c : EdgeLists) (ends : EndLists) (pings : List ℕ) (spokes : SpokeLists) → ends.places ≡ c.ends.places → pings ≡ map unpinged c.pings → spokes ≡ record c.spokes { chosen = map unchosen c.spokes.chosen } → c.stopped ≡ true → IsEdge c
+holds_unpinged : (c : EdgeLists) (ends : EndLists) (pings : List ℕ) (spokes : SpokeLists) → ends.places ≡ c.ends.places → pings ≡ map unpinged c.pings → spokes
+    ≡ record c.spokes { chosen = map unchosen c.spokes.chosen } → c.stopped ≡ true → IsEdge c
     → IsEdge (record c { ends = ends; pings = pings; spokes = spokes; marks = None })
 holds_unpinged c ends pings spokes same ones none working is =
     holds_spokes (record c { ends = ends; pings = pings; marks = None }) spokes (spokes_forgotten c.plan c.me c.spokes spokes none is.spokes) working
     (holds_pings (record c { ends = ends; marks = None }) pings (ap (λ (l : List ℕ). length l) ones ∙ length-map c.pings unpinged) working (holds_ends c ends same working is))
 
-pub holds_forgotten : (c : EdgeLists) (ends : EndLists) (pings : List ℕ) (spokes : SpokeLists) (f : ForwardingLists) → ends.places ≡ c.ends.places → pings ≡ map unpinged c.pings → spokes ≡ record c.spokes { chosen = map unchosen c.spokes.chosen } → KeepsForwarding c.forwarding f
+pub holds_forgotten : (c : EdgeLists) (ends : EndLists) (pings : List ℕ) (spokes : SpokeLists) (f : ForwardingLists) → ends.places ≡ c.ends.places → pings ≡ map unpinged c.pings
+    → spokes ≡ record c.spokes { chosen = map unchosen c.spokes.chosen } → KeepsForwarding c.forwarding f
     → c.stopped ≡ true → IsEdge c → IsEdge (record c { ends = ends; pings = pings; spokes = spokes; forwarding = f; marks = None })
 holds_forgotten c ends pings spokes f same ones none keeps working is =
     holds_forwarding (record c { ends = ends; pings = pings; spokes = spokes; marks = None }) f keeps working (holds_unpinged c ends pings spokes same ones none working is)
 
 -- each end is as it was opened and counts as not pinged, of no end anything was told, and no spoke is chosen
-pub ends_forgotten : (c : EdgeLists) (ends : EndLists) (pings : List ℕ) (spokes : SpokeLists) (f : ForwardingLists) → c.stopped ≡ true → IsEdge c → ends.places ≡ c.ends.places → pings ≡ map unpinged c.pings → spokes ≡ record c.spokes { chosen = map unchosen c.spokes.chosen }
+pub ends_forgotten : (c : EdgeLists) (ends : EndLists) (pings : List ℕ) (spokes : SpokeLists) (f : ForwardingLists) → c.stopped ≡ true → IsEdge c → ends.places ≡ c.ends.places → pings
+    ≡ map unpinged c.pings → spokes ≡ record c.spokes { chosen = map unchosen c.spokes.chosen }
     → KeepsForwarding c.forwarding f → seen_ends ends ≡ (λ wire peer. fresh) → ends.labels.next ≡ c.ends.labels.next → LeavesAll c.ends ends
     → ((edge : EdgeState) → with_forwarding f edge ≡ without_told (with_forwarding c.forwarding edge))
     → seen (record c { ends = ends; pings = pings; spokes = spokes; forwarding = f; marks = None }) ≡ without_ends (keeping_all (seen c))
@@ -290,11 +298,13 @@ pub cleared_not : (peer : EdgeId) (edge : EdgeState) (calls : List LinkCall) (ou
 unfolding at_edge
 cleared_not peer edge calls out there = sym (ap (λ (b : Bool). cond b (at_edge edge calls out) (changes (losing_ends peer) (at_edge edge calls out))) there)
 
-pub cleared : (peer : EdgeId) (edge now : EdgeState) (calls : List LinkCall) (out : List Effect) → has_end edge peer ≡ false → now ≡ losing_ends peer edge → at_edge now calls out ≡ clears_ends peer (at_edge edge calls out)
+pub cleared : (peer : EdgeId) (edge now : EdgeState) (calls : List LinkCall) (out : List Effect) → has_end edge peer ≡ false → now ≡ losing_ends peer edge → at_edge now calls out
+    ≡ clears_ends peer (at_edge edge calls out)
 unfolding at_edge changes
 cleared peer edge now calls out gone is =
     ap (λ (e : EdgeState). record { edge = e; calls = calls; effects = out; idle = false }) is
-    ∙ sym (ap (λ (b : Bool). cond b (record { edge = edge; calls = calls; effects = out; idle = false }) (changes (losing_ends peer) (record { edge = edge; calls = calls; effects = out; idle = false }))) gone)
+    ∙ sym (ap (λ (b : Bool). cond b (record { edge = edge; calls = calls; effects = out; idle = false })
+    (changes (losing_ends peer) (record { edge = edge; calls = calls; effects = out; idle = false }))) gone)
 
 -- ---- before the first input
 
@@ -468,7 +478,8 @@ slot_wire c slot is within =
     let placed = slot_placed c slot is within in
     slice_get_within c.plan.wires (place_of c.ends slot).wire.0 placed.row placed.is
 
-found_within : (plan : Plan) (me : EdgeId) (wire : WireId) (test : EndPlace → Bool) (places : List EndPlace) → ((place : EndPlace) → test place ≡ true → place.wire.0 ≡ wire.0) → AllByRecursion (IsEndOf plan me) places
+found_within : (plan : Plan) (me : EdgeId) (wire : WireId) (test : EndPlace → Bool) (places : List EndPlace) → ((place : EndPlace) → test place ≡ true → place.wire.0 ≡ wire.0)
+    → AllByRecursion (IsEndOf plan me) places
     → list_any test places ≡ true → wire.0 < length plan.wires
 found_within plan me wire test [] same all any = absurd (cc (any))
 found_within plan me wire test (x ∷ places) same all any = by (test x) refl any (found_within plan me wire test places same all.1) where
@@ -481,7 +492,8 @@ passes_within plan me wire any = found_within plan me wire (is_of_wire wire) (en
 
 pub ends_within : (plan : Plan) (me : EdgeId) (wire : WireId) → list_any (is_end_of_wire wire) (end_places plan me) ≡ true → wire.0 < length plan.wires
 ends_within plan me wire any =
-    found_within plan me wire (is_end_of_wire wire) (end_places plan me) (λ place same. eqb-true place.wire.0 wire.0 (first_holds (nat_eq place.wire.0 wire.0) place.terminal same)) (places_are plan me) any
+    found_within plan me wire (is_end_of_wire wire) (end_places plan me) (λ place same. eqb-true place.wire.0 wire.0 (first_holds (nat_eq place.wire.0 wire.0) place.terminal same))
+    (places_are plan me) any
 
 -- ---- what no input changes
 

@@ -80,12 +80,14 @@ some_past places peer count old new some away = record {
 }
 
 -- one more end, of a wire whose ends have marks
-pub some_more : (places : List EndPlace) (peer count first past : ℕ) (old new last : EndMarks) → MarksSome places peer count old new → AreSlotsOf places (place_at places count).wire.0 first past → IsWider new last → HaveMarks last first past
+pub some_more : (places : List EndPlace) (peer count first past : ℕ) (old new last : EndMarks) → MarksSome places peer count old new
+    → AreSlotsOf places (place_at places count).wire.0 first past → IsWider new last → HaveMarks last first past
     → MarksSome places peer (count + 1) old last
 some_more places peer count first past old new last some are wider have = record {
   wider = λ slot none. some.wider slot (wider slot none);
   each = λ slot other within below none same beside. elim (cases_order other count) [
-    | inl here ↦ wire_marked places (place_at places count).wire.0 first past last are have slot within none (sym (subst (λ (n : ℕ). (place_at places n).wire.0 ≡ (place_at places slot).wire.0) here same))
+    | inl here ↦ wire_marked places (place_at places count).wire.0 first past last are have slot within none
+        (sym (subst (λ (n : ℕ). (place_at places n).wire.0 ≡ (place_at places slot).wire.0) here same))
     | inr rest ↦ elim rest [
       | inl less ↦ some.each slot other within less (wider slot none) same beside
       | inr more ↦ omega (arith, below, more)
@@ -96,7 +98,8 @@ some_more places peer count first past old new last some are wider have = record
 pub other_peer : (a b : ℕ) → nat_eq a b ≡ false → a ≢ b
 other_peer a b is same = true≢false (sym (eq-eqb a b same) ∙ is)
 
-pub some_all : (places : List EndPlace) (peer count : ℕ) (stored : Option EndMarks) (old new : EndMarks) → stored ≡ Some old → length places ≤ count → IfSome stored (λ old. MarksSome places peer count old new) → Marked (MarksBeside places peer) stored (Some new)
+pub some_all : (places : List EndPlace) (peer count : ℕ) (stored : Option EndMarks) (old new : EndMarks) → stored ≡ Some old → length places ≤ count
+    → IfSome stored (λ old. MarksSome places peer count old new) → Marked (MarksBeside places peer) stored (Some new)
 some_all places peer count None old new is past some = absurd (cc (is))
 some_all places peer count (Some first) old new is past some = (some.wider, λ slot other within below none same. some.each slot other within (omega (arith, below, past)) none same)
 
@@ -124,7 +127,8 @@ found_from test p (x ∷ places) d (suc k) within here = by (test x) (found_from
     by false later = let is = later.2 in (later.0, later.1, omega (arith, is))
 
 -- what holds of each of the slots holds of that of each such place
-pub slots_hold : (P : ℕ → Type 0) (test : EndPlace → Bool) (places : List EndPlace) (d : EndPlace) → ((i : ℕ) → i < length (slots_where test 0 places) → P (slice_index_or (slots_where test 0 places) i 0))
+pub slots_hold : (P : ℕ → Type 0) (test : EndPlace → Bool) (places : List EndPlace) (d : EndPlace)
+    → ((i : ℕ) → i < length (slots_where test 0 places) → P (slice_index_or (slots_where test 0 places) i 0))
     → (slot : ℕ) → slot < length places → test (slice_index_or places slot d) ≡ true → P slot
 slots_hold P test places d each slot within here =
     let found = found_from test 0 places d slot within here in
@@ -141,7 +145,8 @@ first_none slots marks = record {
   each = λ i below within none. omega (arith, below);
 }
 
-pub first_more : (slots : List ℕ) (count slot : ℕ) (old new last : EndMarks) → MarksFirst slots count old new → count < length slots → slot ≡ slice_index_or slots count 0 → IsWider new last → HaveMarks last slot (slot + 1)
+pub first_more : (slots : List ℕ) (count slot : ℕ) (old new last : EndMarks) → MarksFirst slots count old new → count < length slots → slot ≡ slice_index_or slots count 0
+    → IsWider new last → HaveMarks last slot (slot + 1)
     → MarksFirst slots (count + 1) old last
 first_more slots count slot old new last some within is wider have = record {
   wider = λ other none. some.wider other (wider other none);
@@ -154,13 +159,15 @@ first_more slots count slot old new last some within is wider have = record {
   ];
 }
 
-pub first_all : (test : EndPlace → Bool) (places : List EndPlace) (slots : List ℕ) (count : ℕ) (stored : Option EndMarks) (old new : EndMarks) → stored ≡ Some old → slots ≡ slots_where test 0 places → length slots ≤ count
+pub first_all : (test : EndPlace → Bool) (places : List EndPlace) (slots : List ℕ) (count : ℕ) (stored : Option EndMarks) (old new : EndMarks) → stored ≡ Some old → slots
+    ≡ slots_where test 0 places → length slots ≤ count
     → IfSome stored (λ old. MarksFirst slots count old new) → Marked (MarksEach places test) stored (Some new)
 first_all test places slots count None old new is are past some = absurd (cc (is))
 first_all test places slots count (Some first) old new is are past some = (
   some.wider,
   λ slot within none. false_from_ne_true (test (place_at places slot)) (λ here.
-      slots_hold (λ n. IsUnmarked new n → ⊥) test places no_place (subst (λ (l : List ℕ). (i : ℕ) → i < length l → IsUnmarked new (slice_index_or l i 0) → ⊥) are (λ i within. some.each i (omega (arith, within, past)) within)) slot within here none),
+      slots_hold (λ n. IsUnmarked new n → ⊥) test places no_place
+      (subst (λ (l : List ℕ). (i : ℕ) → i < length l → IsUnmarked new (slice_index_or l i 0) → ⊥) are (λ i within. some.each i (omega (arith, within, past)) within)) slot within here none),
 )
 
 -- ---- an edge that is tidy but for its marks
@@ -168,10 +175,12 @@ first_all test places slots count (Some first) old new is are past some = (
 tidy_by : (edge : EdgeLists) (marks : EndMarks) → edge.marks ≡ Some marks → IsEdge edge → IsTidy edge.plan (seen edge) marks
 tidy_by edge marks is holds = subst (λ (o : Option EndMarks). IfSome o (IsTidy edge.plan (seen edge))) is holds.tidy
 
-pub settled_before : (edge : EdgeLists) (marks : EndMarks) (first : ℕ) → edge.marks ≡ Some marks → IsEdge edge → ((slot : ℕ) → slot < first → IsUnmarked marks slot) → (slot : ℕ) → slot < first → IsSettledAt edge.plan (seen edge) slot
+pub settled_before : (edge : EdgeLists) (marks : EndMarks) (first : ℕ) → edge.marks ≡ Some marks → IsEdge edge → ((slot : ℕ) → slot < first → IsUnmarked marks slot) → (slot : ℕ)
+    → slot < first → IsSettledAt edge.plan (seen edge) slot
 settled_before edge marks first is holds none slot below = (tidy_by edge marks is holds).ends slot (none slot below)
 
-pub settled_from : (edge : EdgeLists) (marks : EndMarks) (past : ℕ) → edge.marks ≡ Some marks → IsEdge edge → ((slot : ℕ) → past ≤ slot → IsUnmarked marks slot) → (slot : ℕ) → past ≤ slot → IsSettledAt edge.plan (seen edge) slot
+pub settled_from : (edge : EdgeLists) (marks : EndMarks) (past : ℕ) → edge.marks ≡ Some marks → IsEdge edge → ((slot : ℕ) → past ≤ slot → IsUnmarked marks slot) → (slot : ℕ)
+    → past ≤ slot → IsSettledAt edge.plan (seen edge) slot
 settled_from edge marks past is holds none slot above = (tidy_by edge marks is holds).ends slot (none slot above)
 
 -- the edge has its choice of a service, where no slot of its spokes has a mark

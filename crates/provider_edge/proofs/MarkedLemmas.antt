@@ -48,7 +48,8 @@ wire_tidy v c wire after is holds marked =
       marked = subst (λ (k : EdgeId). MarksWire (end_places c.plan k) wire a) (sym (me_of c)) marked.1;
     }
 
-pub each_tidy : (v c : EdgeLists) (test : EndPlace → Bool) (after : Option EndMarks) → v ≡ c → IsEdge v → Marked (MarksEach c.ends.places test) c.marks after → IfSome after (IsTidyApart c.plan (seen c) test)
+pub each_tidy : (v c : EdgeLists) (test : EndPlace → Bool) (after : Option EndMarks) → v ≡ c → IsEdge v → Marked (MarksEach c.ends.places test) c.marks after
+    → IfSome after (IsTidyApart c.plan (seen c) test)
 each_tidy v c test after is holds marked =
     by c.marks after (subst (λ (n : EdgeLists). IfSome n.marks (IsTidy n.plan (seen n))) is holds.tidy)
     (subst (λ (l : List EndPlace). Marked (MarksEach l test) c.marks after) (subst (λ (n : EdgeLists). n.ends.places ≡ end_places n.plan n.me) is holds.places) marked)
@@ -64,15 +65,18 @@ each_tidy v c test after is holds marked =
 
 -- ---- a change at one wire
 
-pub besides_kept : (c new : EdgeLists) (wire : ℕ) (after : Option EndMarks) → Keeps c new → IfSome after (IsTidyBesides c.plan (seen c) wire) → IsBesides wire (seen c) (seen new) → IfSome after (IsTidy new.plan (seen new))
+pub besides_kept : (c new : EdgeLists) (wire : ℕ) (after : Option EndMarks) → Keeps c new → IfSome after (IsTidyBesides c.plan (seen c) wire) → IsBesides wire (seen c) (seen new)
+    → IfSome after (IsTidy new.plan (seen new))
 besides_kept c new wire None keeps marked besides = tt
 besides_kept c new wire (Some marks) keeps marked besides =
     subst (λ (p : Plan). IsTidy p (seen new) marks) (sym keeps.plan)
     (tidy_besides c.plan wire (seen c) (seen new) (Some marks) (Some marks) marked.tidy ((λ slot free. free), marked.marked) besides)
 
 -- a label was taken, or none was left
-pub labelled_kept : (c new : EdgeLists) (told : Told) (place read : EndPlace) (taken : Option ℕ) (after : Option EndMarks) → read ≡ place → Keeps c new → IfSome after (IsTidyBesides c.plan (seen c) read.wire.0)
-    → (taken ≡ None → seen new ≡ seen c) → IfSome taken (λ label. (label_to_give (seen c) ≡ Some label) × (seen new ≡ advertising place label told (seen c))) → IfSome after (IsTidy new.plan (seen new))
+pub labelled_kept : (c new : EdgeLists) (told : Told) (place read : EndPlace) (taken : Option ℕ) (after : Option EndMarks) → read ≡ place → Keeps c new
+    → IfSome after (IsTidyBesides c.plan (seen c) read.wire.0)
+    → (taken ≡ None → seen new ≡ seen c) → IfSome taken (λ label. (label_to_give (seen c) ≡ Some label) × (seen new ≡ advertising place label told (seen c)))
+    → IfSome after (IsTidy new.plan (seen new))
 labelled_kept c new told place read None None is keeps marked same step = tt
 labelled_kept c new told place read None (Some marks) is keeps marked same step =
     subst (λ (p : Plan). IsTidy p (seen new) marks) (sym keeps.plan) (subst (λ (e : EdgeState). IsTidy c.plan e marks) (sym (same refl)) marked.tidy)
@@ -100,12 +104,14 @@ unfolding seen
 settles_begin c calls out first settled = settles_front c.plan (seen c) calls out first settled
 
 ends_rest : (c : EdgeLists) (told : Answers) (calls : List LinkCall) (out : List Effect) (failed : Bool) (past : ℕ) → ((slot : ℕ) → past ≤ slot → IsSettledAt c.plan (seen c) slot)
-    → each_end (mends_end c.plan told) (drop past (end_places c.plan c.me)) (record { work = at_edge (seen c) calls out; failed = failed }) ≡ record { work = at_edge (seen c) calls out; failed = failed }
+    → each_end (mends_end c.plan told) (drop past (end_places c.plan c.me)) (record { work = at_edge (seen c) calls out; failed = failed })
+    ≡ record { work = at_edge (seen c) calls out; failed = failed }
 unfolding seen
 ends_rest c told calls out failed past settled = ends_back c.plan told (seen c) calls out failed past settled
 
 statuses_rest : (c : EdgeLists) (told : Answers) (calls : List LinkCall) (out : List Effect) (failed : Bool) (past : ℕ) → ((slot : ℕ) → past ≤ slot → IsSettledAt c.plan (seen c) slot)
-    → each_end (mends_status c.plan told) (drop past (end_places c.plan c.me)) (record { work = at_edge (seen c) calls out; failed = failed }) ≡ record { work = at_edge (seen c) calls out; failed = failed }
+    → each_end (mends_status c.plan told) (drop past (end_places c.plan c.me)) (record { work = at_edge (seen c) calls out; failed = failed })
+    ≡ record { work = at_edge (seen c) calls out; failed = failed }
 unfolding seen
 statuses_rest c told calls out failed past settled = statuses_back c.plan told (seen c) calls out failed past settled
 
@@ -114,16 +120,20 @@ settles_rest : (c : EdgeLists) (calls : List LinkCall) (out : List Effect) (past
 unfolding seen
 settles_rest c calls out past settled = settles_back c.plan (seen c) calls out past settled
 
-pub ends_stop : (c now : EdgeLists) (told : Answers) (calls : List LinkCall) (out : List Effect) (failed : Bool) (past : ℕ) (whole : Spoken) → Keeps c now → ((slot : ℕ) → past ≤ slot → IsSettledAt now.plan (seen now) slot)
-    → whole ≡ each_end (mends_end c.plan told) (drop past (end_places c.plan c.me)) (record { work = at_edge (seen now) calls out; failed = failed }) → record { work = at_edge (seen now) calls out; failed = failed } ≡ whole
+pub ends_stop : (c now : EdgeLists) (told : Answers) (calls : List LinkCall) (out : List Effect) (failed : Bool) (past : ℕ) (whole : Spoken) → Keeps c now
+    → ((slot : ℕ) → past ≤ slot → IsSettledAt now.plan (seen now) slot)
+    → whole ≡ each_end (mends_end c.plan told) (drop past (end_places c.plan c.me)) (record { work = at_edge (seen now) calls out; failed = failed })
+    → record { work = at_edge (seen now) calls out; failed = failed } ≡ whole
 ends_stop c now told calls out failed past whole keeps settled so_far =
     let m : Spoken = record { work = at_edge (seen now) calls out; failed = failed } in
     sym (so_far
     ∙ (ap (λ (p : Plan). each_end (mends_end p told) (drop past (end_places p c.me)) m) (sym keeps.plan)
     ∙ (ap (λ (k : EdgeId). each_end (mends_end now.plan told) (drop past (end_places now.plan k)) m) (sym keeps.me) ∙ ends_rest now told calls out failed past settled)))
 
-pub statuses_stop : (c now : EdgeLists) (told : Answers) (calls : List LinkCall) (out : List Effect) (failed : Bool) (past : ℕ) (whole : Spoken) → Keeps c now → ((slot : ℕ) → past ≤ slot → IsSettledAt now.plan (seen now) slot)
-    → whole ≡ each_end (mends_status c.plan told) (drop past (end_places c.plan c.me)) (record { work = at_edge (seen now) calls out; failed = failed }) → record { work = at_edge (seen now) calls out; failed = failed } ≡ whole
+pub statuses_stop : (c now : EdgeLists) (told : Answers) (calls : List LinkCall) (out : List Effect) (failed : Bool) (past : ℕ) (whole : Spoken) → Keeps c now
+    → ((slot : ℕ) → past ≤ slot → IsSettledAt now.plan (seen now) slot)
+    → whole ≡ each_end (mends_status c.plan told) (drop past (end_places c.plan c.me)) (record { work = at_edge (seen now) calls out; failed = failed })
+    → record { work = at_edge (seen now) calls out; failed = failed } ≡ whole
 statuses_stop c now told calls out failed past whole keeps settled so_far =
     let m : Spoken = record { work = at_edge (seen now) calls out; failed = failed } in
     sym (so_far
@@ -142,7 +152,8 @@ settles_stop c now calls out past start keeps settled so_far =
 
 -- ---- a change beside one peer
 
-marked_seen : (c : EdgeLists) (peer : EdgeId) (before after : Option EndMarks) → Marked (MarksBeside (end_places c.plan c.me) peer.0) before after → Marked (MarksBeside (end_places c.plan (seen c).me) peer.0) before after
+marked_seen : (c : EdgeLists) (peer : EdgeId) (before after : Option EndMarks) → Marked (MarksBeside (end_places c.plan c.me) peer.0) before after
+    → Marked (MarksBeside (end_places c.plan (seen c).me) peer.0) before after
 unfolding seen
 marked_seen c peer before after marked = marked
 
@@ -157,7 +168,8 @@ pub group_kept : (v c new : EdgeLists) (peer : EdgeId) (change : EndState → En
     → Marked (MarksBeside c.ends.places peer.0) v.marks after → seen new ≡ with_ends_beside peer change (seen c) → IfSome after (IsTidy new.plan (seen new))
 group_kept v c new peer change after is holds keeps stays marked step =
     subst (λ (p : Plan). IfSome after (IsTidy p (seen new))) (sym keeps.plan)
-    (tidy_beside c.plan peer.0 (seen c) (seen new) v.marks after (subst (λ (n : EdgeLists). IfSome v.marks (IsTidy n.plan (seen n))) is holds.tidy) (marked_at c c peer v.marks after (keeps_same c) placed marked)
+    (tidy_beside c.plan peer.0 (seen c) (seen new) v.marks after (subst (λ (n : EdgeLists). IfSome v.marks (IsTidy n.plan (seen n))) is holds.tidy)
+    (marked_at c c peer v.marks after (keeps_same c) placed marked)
     (subst (IsBeside c.plan peer.0 (seen c)) (sym step) (beside_ends c.plan peer change (seen c) stays (fresh_else c placed))))
   where
     placed : c.ends.places ≡ end_places c.plan c.me
@@ -181,17 +193,20 @@ gone_kept v c mid new by peer after is holds keeps by_keeps marked took clears =
     else = fresh_else c placed
 
 -- an event happened to a session: where it does not stand as it did, the ends beside the peer have marks
-pub left_kept : (v c mid put new by : EdgeLists) (peer : EdgeId) (before left : Option Peering) (up stands : Bool) (after : Option EndMarks) → v ≡ c → IsEdge v → Keeps c new → Keeps c by → up ≡ was_up ((seen c).peering peer.0)
+pub left_kept : (v c mid put new by : EdgeLists) (peer : EdgeId) (before left : Option Peering) (up stands : Bool) (after : Option EndMarks) → v ≡ c → IsEdge v → Keeps c new
+    → Keeps c by → up ≡ was_up ((seen c).peering peer.0)
     → before ≡ (seen c).peering peer.0 → seen mid ≡ with_peering peer None (seen c) → seen put ≡ with_peering peer left (seen mid)
     → ((calls : List LinkCall) (out : List Effect) → at_edge (seen new) calls out ≡ clears_ends peer (at_edge (seen put) calls out)) → stands ≡ stands_as up left
     → (stands ≡ true → after ≡ v.marks) → (stands ≡ false → Marked (MarksBeside by.ends.places peer.0) v.marks after) → IfSome after (IsTidy new.plan (seen new))
 left_kept v c mid put new by peer before left up true after is holds keeps by_keeps at read took puts clears stood same marked =
     subst (λ (p : Plan). IfSome after (IsTidy p (seen new))) (sym keeps.plan)
     (subst (λ (m : Option EndMarks). IfSome m (IsTidy c.plan (seen new))) (sym (same refl))
-    (tidy_happened c.plan peer before left up (seen c) (seen mid) (seen put) (seen new) v.marks (subst (λ (n : EdgeLists). IfSome v.marks (IsTidy n.plan (seen n))) is holds.tidy) at read took puts clears (sym stood)))
+    (tidy_happened c.plan peer before left up (seen c) (seen mid) (seen put) (seen new) v.marks
+    (subst (λ (n : EdgeLists). IfSome v.marks (IsTidy n.plan (seen n))) is holds.tidy) at read took puts clears (sym stood)))
 left_kept v c mid put new by peer before left up false after is holds keeps by_keeps at read took puts clears stood same marked =
     subst (λ (p : Plan). IfSome after (IsTidy p (seen new))) (sym keeps.plan)
-    (tidy_beside c.plan peer.0 (seen c) (seen new) v.marks after (subst (λ (n : EdgeLists). IfSome v.marks (IsTidy n.plan (seen n))) is holds.tidy) (marked_at c by peer v.marks after by_keeps (subst (λ (n : EdgeLists). n.ends.places ≡ end_places n.plan n.me) is holds.places) (marked refl))
+    (tidy_beside c.plan peer.0 (seen c) (seen new) v.marks after (subst (λ (n : EdgeLists). IfSome v.marks (IsTidy n.plan (seen n))) is holds.tidy)
+    (marked_at c by peer v.marks after by_keeps (subst (λ (n : EdgeLists). n.ends.places ≡ end_places n.plan n.me) is holds.places) (marked refl))
     (beside_happened c.plan peer left (seen c) (seen mid) (seen put) (seen new) (fresh_else c (subst (λ (n : EdgeLists). n.ends.places ≡ end_places n.plan n.me) is holds.places)) took puts clears))
 
 -- ---- a change that unsettles no end
@@ -205,7 +220,8 @@ same_kept v c new change is holds keeps step stays =
 
 -- ---- the edge chooses for a service
 
-pub chosen_kept : (c new : EdgeLists) (service : ℕ) (chosen : Option WireId) (after : Option EndMarks) → Keeps c new → IfSome after (IsTidyApart c.plan (seen c) (starts_spoke c.plan c.me (record { 0 = service })))
+pub chosen_kept : (c new : EdgeLists) (service : ℕ) (chosen : Option WireId) (after : Option EndMarks) → Keeps c new
+    → IfSome after (IsTidyApart c.plan (seen c) (starts_spoke c.plan c.me (record { 0 = service })))
     → chosen ≡ choice c.plan (seen c) (record { 0 = service }) → seen new ≡ with_chosen (put_at (seen c).chosen service chosen) (seen c) → IfSome after (IsTidy new.plan (seen new))
 unfolding seen
 chosen_kept c new service chosen None keeps marked is chose = tt

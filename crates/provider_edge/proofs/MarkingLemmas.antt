@@ -66,7 +66,8 @@ within_wires v c wire long is same within =
 
 -- ---- a change at one wire, of which the ends have marks
 
-pub wire_marked : (v c new : EdgeLists) (wire : ℕ) (marks : Option EndMarks) → v ≡ c → IfSome marks (IsTidyBesides c.plan (seen c) wire) → IsEdge (record new { marks = None }) → Keeps v new → IsBesides wire (seen v) (seen new)
+pub wire_marked : (v c new : EdgeLists) (wire : ℕ) (marks : Option EndMarks) → v ≡ c → IfSome marks (IsTidyBesides c.plan (seen c) wire) → IsEdge (record new { marks = None })
+    → Keeps v new → IsBesides wire (seen v) (seen new)
     → IsEdge (record new { marks = marks })
 wire_marked v c new wire marks is marked plain keeps besides = with_marks new marks plain (besides_kept v new wire marks keeps (beside_at v c wire marks is marked) besides)
 
@@ -74,13 +75,16 @@ ends_keep : (v : EdgeLists) (ends : EndLists) → ends.places ≡ v.ends.places 
 ends_keep v ends same = record { plan = refl; me = refl; places = same; count = refl; stopped = refl }
 
 -- the end of a slot is changed
-pub end_marked : (v c : EdgeLists) (ends : EndLists) (change : EndState → EndState) (slot : ℕ) (read : EndPlace) (marks : Option EndMarks) → v ≡ c → IsEdge v → c.stopped ≡ true → ends.places ≡ v.ends.places
-    → seen_ends ends ≡ changed_at (place_of v.ends slot) change (seen_ends v.ends) → ends.labels.next ≡ v.ends.labels.next → LeavesOne v.ends slot change ends → read ≡ place_of c.ends slot → IfSome marks (IsTidyBesides c.plan (seen c) read.wire.0)
+pub end_marked : (v c : EdgeLists) (ends : EndLists) (change : EndState → EndState) (slot : ℕ) (read : EndPlace) (marks : Option EndMarks) → v ≡ c → IsEdge v → c.stopped ≡ true
+    → ends.places ≡ v.ends.places
+    → seen_ends ends ≡ changed_at (place_of v.ends slot) change (seen_ends v.ends) → ends.labels.next ≡ v.ends.labels.next → LeavesOne v.ends slot change ends → read
+    ≡ place_of c.ends slot → IfSome marks (IsTidyBesides c.plan (seen c) read.wire.0)
     → IsEdge (record v { ends = ends; marks = marks })
 end_marked v c ends change slot read marks is holds working same are next kept at marked =
     wire_marked v c (record v { ends = ends; marks = None }) read.wire.0 marks is marked (holds_ends v ends same (stopped_at v c is working) holds) (ends_keep v ends same)
     (subst (IsBesides read.wire.0 (seen v)) (sym (ends_at v ends slot change same are next kept))
-    (subst (λ (p : EndPlace). IsBesides p.wire.0 (seen v) (changing change (place_of v.ends slot) (seen v))) (sym (read_at v c slot read is at)) (besides_changing change (place_of v.ends slot) (seen v))))
+    (subst (λ (p : EndPlace). IsBesides p.wire.0 (seen v) (changing change (place_of v.ends slot) (seen v))) (sym (read_at v c slot read is at))
+    (besides_changing change (place_of v.ends slot) (seen v))))
 
 pub end_seen : (v c : EdgeLists) (ends : EndLists) (change : EndState → EndState) (slot : ℕ) (marks : Option EndMarks) → v ≡ c → ends.places ≡ v.ends.places
     → seen_ends ends ≡ changed_at (place_of v.ends slot) change (seen_ends v.ends) → ends.labels.next ≡ v.ends.labels.next → LeavesOne v.ends slot change ends
@@ -91,13 +95,15 @@ end_seen v c ends change slot marks is same are next kept =
     (ends_at v ends slot change same are next kept)
 
 -- a label was taken, or none was left
-pub labelled_marked : (v c : EdgeLists) (ends : EndLists) (told : Told) (slot : ℕ) (read : EndPlace) (taken : Option ℕ) (marks : Option EndMarks) → v ≡ c → IsEdge v → c.stopped ≡ true → ends.places ≡ v.ends.places
+pub labelled_marked : (v c : EdgeLists) (ends : EndLists) (told : Told) (slot : ℕ) (read : EndPlace) (taken : Option ℕ) (marks : Option EndMarks) → v ≡ c → IsEdge v → c.stopped ≡ true
+    → ends.places ≡ v.ends.places
     → (taken ≡ None → seen (record v { ends = ends; marks = None }) ≡ seen v)
     → IfSome taken (λ label. (label_to_give (seen v) ≡ Some label) × (seen (record v { ends = ends; marks = None }) ≡ advertising (place_of v.ends slot) label told (seen v)))
     → read ≡ place_of c.ends slot → IfSome marks (IsTidyBesides c.plan (seen c) read.wire.0) → IsEdge (record v { ends = ends; marks = marks })
 labelled_marked v c ends told slot read taken marks is holds working same none some at marked =
     with_marks (record v { ends = ends; marks = None }) marks (holds_ends v ends same (stopped_at v c is working) holds)
-    (labelled_kept v (record v { ends = ends; marks = None }) told (place_of v.ends slot) read taken marks (read_at v c slot read is at) (ends_keep v ends same) (beside_at v c read.wire.0 marks is marked) none some)
+    (labelled_kept v (record v { ends = ends; marks = None }) told (place_of v.ends slot) read taken marks (read_at v c slot read is at) (ends_keep v ends same)
+    (beside_at v c read.wire.0 marks is marked) none some)
 
 -- failure bits are set
 pub bits_marked : (v c : EdgeLists) (wire : WireId) (bits : ℕ) (marks : Option EndMarks) → v ≡ c → IsEdge v → wire.0 < length c.plan.wires → IfSome marks (IsTidyBesides c.plan (seen c) wire.0)
@@ -106,16 +112,19 @@ bits_marked v c wire bits marks is holds within marked plain =
     wire_marked v c (record v { bits = slice_set v.bits wire.0 bits; marks = None }) wire.0 marks is marked plain (record { plan = refl; me = refl; places = refl; count = refl; stopped = refl })
     (subst (IsBesides wire.0 (seen v)) (sym (seen_bits v wire bits (within_wires v c wire (length v.bits) is holds.each_bits within))) (besides_bits wire bits (seen v)))
 
-pub bits_seen : (v c : EdgeLists) (wire : WireId) (bits : ℕ) (marks : Option EndMarks) → v ≡ c → IsEdge v → wire.0 < length c.plan.wires → seen (record v { bits = slice_set v.bits wire.0 bits; marks = marks }) ≡ with_bits wire bits (seen c)
+pub bits_seen : (v c : EdgeLists) (wire : WireId) (bits : ℕ) (marks : Option EndMarks) → v ≡ c → IsEdge v → wire.0 < length c.plan.wires
+    → seen (record v { bits = slice_set v.bits wire.0 bits; marks = marks }) ≡ with_bits wire bits (seen c)
 unfolding seen
 bits_seen v c wire bits marks is holds within =
-    subst (λ (n : EdgeLists). seen (record v { bits = slice_set v.bits wire.0 bits; marks = marks }) ≡ with_bits wire bits (seen n)) is (seen_bits v wire bits (within_wires v c wire (length v.bits) is holds.each_bits within))
+    subst (λ (n : EdgeLists). seen (record v { bits = slice_set v.bits wire.0 bits; marks = marks }) ≡ with_bits wire bits (seen n)) is
+    (seen_bits v wire bits (within_wires v c wire (length v.bits) is holds.each_bits within))
 
 -- a priority is set
 pub priority_marked : (v c : EdgeLists) (wire : WireId) (priority : ℕ) (marks : Option EndMarks) → v ≡ c → IsEdge v → wire.0 < length c.plan.wires → IfSome marks (IsTidyBesides c.plan (seen c) wire.0)
     → IsEdge (record v { priorities = slice_set v.priorities wire.0 priority; marks = None }) → IsEdge (record v { priorities = slice_set v.priorities wire.0 priority; marks = marks })
 priority_marked v c wire priority marks is holds within marked plain =
-    wire_marked v c (record v { priorities = slice_set v.priorities wire.0 priority; marks = None }) wire.0 marks is marked plain (record { plan = refl; me = refl; places = refl; count = refl; stopped = refl })
+    wire_marked v c (record v { priorities = slice_set v.priorities wire.0 priority; marks = None }) wire.0 marks is marked plain
+    (record { plan = refl; me = refl; places = refl; count = refl; stopped = refl })
     (subst (IsBesides wire.0 (seen v)) (sym (seen_priority v wire priority (within_wires v c wire (length v.priorities) is holds.priorities within))) (besides_priority wire priority (seen v)))
 
 pub priority_seen : (v c : EdgeLists) (wire : WireId) (priority : ℕ) (marks : Option EndMarks) → v ≡ c → IsEdge v → wire.0 < length c.plan.wires
@@ -146,11 +155,14 @@ off_seen v c wire on marks is holds within off =
     turned true is_off = absurd (cc)
     turned false is_off = refl
 
-pub on_marked : (v c : EdgeLists) (wire : WireId) (on : Bool) (ends : EndLists) (marks : Option EndMarks) → v ≡ c → IsEdge v → c.stopped ≡ true → wire.0 < length c.plan.wires → IfSome marks (IsTidyBesides c.plan (seen c) wire.0)
-    → IsEdge (record v { wires_on = slice_set v.wires_on wire.0 on; marks = None }) → ends.places ≡ v.ends.places → seen_ends ends ≡ renewed_of wire (seen_ends v.ends) → ends.labels.next ≡ v.ends.labels.next → ends.labels.kept ≡ v.ends.labels.kept
+pub on_marked : (v c : EdgeLists) (wire : WireId) (on : Bool) (ends : EndLists) (marks : Option EndMarks) → v ≡ c → IsEdge v → c.stopped ≡ true → wire.0 < length c.plan.wires
+    → IfSome marks (IsTidyBesides c.plan (seen c) wire.0)
+    → IsEdge (record v { wires_on = slice_set v.wires_on wire.0 on; marks = None }) → ends.places ≡ v.ends.places → seen_ends ends ≡ renewed_of wire (seen_ends v.ends)
+    → ends.labels.next ≡ v.ends.labels.next → ends.labels.kept ≡ v.ends.labels.kept
     → IsEdge (record v { wires_on = slice_set v.wires_on wire.0 on; ends = ends; marks = marks })
 on_marked v c wire on ends marks is holds working within marked plain same are next kept =
-    wire_marked v c (record turned { ends = ends; marks = None }) wire.0 marks is marked (holds_ends turned ends same (stopped_at v c is working) plain) (record { plan = refl; me = refl; places = same; count = refl; stopped = refl })
+    wire_marked v c (record turned { ends = ends; marks = None }) wire.0 marks is marked (holds_ends turned ends same (stopped_at v c is working) plain)
+    (record { plan = refl; me = refl; places = same; count = refl; stopped = refl })
     (besides_then wire.0 (seen v) (seen turned) (seen (record turned { ends = ends; marks = None })) (turned_besides v wire on (within_wires v c wire (length v.wires_on) is holds.wires within))
     (subst (IsBesides wire.0 (seen turned)) (sym (ends_renewed turned ends wire same are next kept)) (besides_renewed wire (seen turned))))
   where
@@ -172,15 +184,18 @@ on_seen v c wire on ends marks is holds within now same are next kept =
 
 -- ---- a change beside one peer
 
-pub group_marked : (v c : EdgeLists) (ends : EndLists) (peer : EdgeId) (change : EndState → EndState) (marks : Option EndMarks) → v ≡ c → IsEdge v → c.stopped ≡ true → ends.places ≡ v.ends.places → change fresh ≡ fresh
-    → seen_ends ends ≡ changed_beside peer change (seen_ends v.ends) → ends.labels.next ≡ v.ends.labels.next → ends.labels.kept ≡ v.ends.labels.kept → Marked (MarksBeside c.ends.places peer.0) v.marks marks → IsEdge (record v { ends = ends; marks = marks })
+pub group_marked : (v c : EdgeLists) (ends : EndLists) (peer : EdgeId) (change : EndState → EndState) (marks : Option EndMarks) → v ≡ c → IsEdge v → c.stopped ≡ true → ends.places
+    ≡ v.ends.places → change fresh ≡ fresh
+    → seen_ends ends ≡ changed_beside peer change (seen_ends v.ends) → ends.labels.next ≡ v.ends.labels.next → ends.labels.kept ≡ v.ends.labels.kept
+    → Marked (MarksBeside c.ends.places peer.0) v.marks marks → IsEdge (record v { ends = ends; marks = marks })
 group_marked v c ends peer change marks is holds working same stays are next kept marked =
     with_marks (record v { ends = ends; marks = None }) marks (holds_ends v ends same (stopped_at v c is working) holds)
     (group_kept v v (record v { ends = ends; marks = None }) peer change marks refl holds (ends_keep v ends same) stays
     (subst (λ (n : EdgeLists). Marked (MarksBeside n.ends.places peer.0) v.marks marks) (sym is) marked) (ends_beside v ends peer change same are next kept))
 
 pub group_seen : (v c : EdgeLists) (ends : EndLists) (peer : EdgeId) (change : EndState → EndState) (marks : Option EndMarks) → v ≡ c → ends.places ≡ v.ends.places
-    → seen_ends ends ≡ changed_beside peer change (seen_ends v.ends) → ends.labels.next ≡ v.ends.labels.next → ends.labels.kept ≡ v.ends.labels.kept → seen (record v { ends = ends; marks = marks }) ≡ with_ends_beside peer change (seen c)
+    → seen_ends ends ≡ changed_beside peer change (seen_ends v.ends) → ends.labels.next ≡ v.ends.labels.next → ends.labels.kept ≡ v.ends.labels.kept
+    → seen (record v { ends = ends; marks = marks }) ≡ with_ends_beside peer change (seen c)
 unfolding seen
 group_seen v c ends peer change marks is same are next kept =
     subst (λ (n : EdgeLists). seen (record v { ends = ends; marks = marks }) ≡ with_ends_beside peer change (seen n)) is (ends_beside v ends peer change same are next kept)
@@ -230,7 +245,8 @@ chosen_seen v c spokes service chosen marks is holds within set =
 
 pub chosen_marked : (v c : EdgeLists) (spokes : SpokeLists) (service : ℕ) (chosen : Option WireId) (marks : Option EndMarks) → v ≡ c → IsEdge v → service < length c.plan.services
     → spokes ≡ record v.spokes { chosen = slice_set v.spokes.chosen service chosen } → chosen ≡ choice c.plan (seen c) (record { 0 = service })
-    → IfSome marks (IsTidyApart c.plan (seen c) (starts_spoke c.plan c.me (record { 0 = service }))) → IsEdge (record v { spokes = spokes; marks = None }) → IsEdge (record v { spokes = spokes; marks = marks })
+    → IfSome marks (IsTidyApart c.plan (seen c) (starts_spoke c.plan c.me (record { 0 = service }))) → IsEdge (record v { spokes = spokes; marks = None })
+    → IsEdge (record v { spokes = spokes; marks = marks })
 chosen_marked v c spokes service chosen marks is holds within set chose marked plain =
     with_marks (record v { spokes = spokes; marks = None }) marks plain
     (chosen_kept v (record v { spokes = spokes; marks = None }) service chosen marks (record { plan = refl; me = refl; places = refl; count = refl; stopped = refl })

@@ -67,12 +67,14 @@ pub round_again : (c now : EdgeLists) (told : Answers) (n i : ℕ) (start work n
 round_again c now told n i start work next failed keeps below so_far one again =
     so_far ∙ few_again c.plan told n i work next failed below (one ∙ ap (λ (p : Plan). mends_once p told work) keeps.plan) again
 
-pub round_done : (c now : EdgeLists) (told : Answers) (n i : ℕ) (start work next : Work) (failed : Bool) → Keeps c now → n ≡ suc (length c.plan.edges) → i < n → mends_few c.plan told n start ≡ mends_few c.plan told (n - i) work
+pub round_done : (c now : EdgeLists) (told : Answers) (n i : ℕ) (start work next : Work) (failed : Bool) → Keeps c now → n ≡ suc (length c.plan.edges) → i < n
+    → mends_few c.plan told n start ≡ mends_few c.plan told (n - i) work
     → record { work = next; failed = failed } ≡ mends_once now.plan told work → failed ≡ false → next ≡ mends c.plan told start
 round_done c now told n i start work next failed keeps rounds below so_far one all =
     sym (so_far ∙ few_done c.plan told n i work next failed below (one ∙ ap (λ (p : Plan). mends_once p told work) keeps.plan) all) ∙ ap (λ (k : ℕ). mends_few c.plan told k start) rounds
 
-pub rounds_end : (c : EdgeLists) (told : Answers) (n i : ℕ) (start work : Work) → n ≡ suc (length c.plan.edges) → n ≤ i → mends_few c.plan told n start ≡ mends_few c.plan told (n - i) work → work ≡ mends c.plan told start
+pub rounds_end : (c : EdgeLists) (told : Answers) (n i : ℕ) (start work : Work) → n ≡ suc (length c.plan.edges) → n ≤ i → mends_few c.plan told n start
+    ≡ mends_few c.plan told (n - i) work → work ≡ mends c.plan told start
 rounds_end c told n i start work rounds past so_far = sym (so_far ∙ few_end c.plan told n i work past) ∙ ap (λ (k : ℕ). mends_few c.plan told k start) rounds
 
 -- ---- all steps once
@@ -102,7 +104,8 @@ unfolding at_edge changes
 chosen_kept c now new calls out failed keeps is =
     ap (λ (e : EdgeState). record { work = record { edge = e; calls = calls; effects = out; idle = false }; failed = failed }) (is ∙ ap (λ (p : Plan). choosing p (seen now)) keeps.plan)
 
-pub statuses_kept : (c now : EdgeLists) (told : Answers) (m x : Spoken) → Keeps c now → x ≡ each_end (mends_status now.plan told) (end_places now.plan now.me) m → x ≡ each_end (mends_status c.plan told) (end_places c.plan c.me) m
+pub statuses_kept : (c now : EdgeLists) (told : Answers) (m x : Spoken) → Keeps c now → x ≡ each_end (mends_status now.plan told) (end_places now.plan now.me) m → x
+    ≡ each_end (mends_status c.plan told) (end_places c.plan c.me) m
 statuses_kept c now told m x keeps is =
     is ∙ (ap (λ (p : Plan). each_end (mends_status p told) (end_places p now.me) m) keeps.plan ∙ ap (λ (e : EdgeId). each_end (mends_status c.plan told) (end_places c.plan e) m) keeps.me)
 
@@ -144,7 +147,8 @@ each_past mend (x ∷ places) zero m past = absurd (omega arith)
 each_past mend (x ∷ places) (suc i) m past = each_past mend places i m (omega arith)
 
 -- one end more
-pub said_more : (before failed : Bool) (start next : Work) (mend : Work → Spoken) → record { work = next; failed = failed } ≡ mend start → record { work = next; failed = before || failed } ≡ and_says (record { work = start; failed = before }) mend
+pub said_more : (before failed : Bool) (start next : Work) (mend : Work → Spoken) → record { work = next; failed = failed } ≡ mend start
+    → record { work = next; failed = before || failed } ≡ and_says (record { work = start; failed = before }) mend
 said_more before failed start next mend one = ap (λ (s : Spoken). record { work = s.work; failed = before || s.failed }) one
 
 pub ends_next : (mends : Plan → EndPlace → Work → Spoken) (c now : EdgeLists) (i : ℕ) (m next whole : Spoken) → Keeps c now → c.ends.places ≡ end_places c.plan c.me → i < length now.ends.places
@@ -154,7 +158,8 @@ ends_next mends c now i m next whole keeps placed below so_far one =
     so_far
     ∙ (each_more (mends c.plan) (end_places c.plan c.me) i no_place m (subst (λ (l : List EndPlace). i < length l) (keeps.places ∙ placed) below)
     ∙ ap (each_end (mends c.plan) (drop (i + 1) (end_places c.plan c.me)))
-    (sym (one ∙ (ap (λ (p : Plan). and_says m (mends p (place_of now.ends i))) keeps.plan ∙ ap (λ (l : List EndPlace). and_says m (mends c.plan (slice_index_or l i no_place))) (keeps.places ∙ placed)))))
+    (sym (one ∙ (ap (λ (p : Plan). and_says m (mends p (place_of now.ends i))) keeps.plan
+    ∙ ap (λ (l : List EndPlace). and_says m (mends c.plan (slice_index_or l i no_place))) (keeps.places ∙ placed)))))
 
 pub ends_past : (mends : Plan → EndPlace → Work → Spoken) (c : EdgeLists) (i : ℕ) (m whole : Spoken) → c.ends.places ≡ end_places c.plan c.me → length c.ends.places ≤ i
     → whole ≡ each_end (mends c.plan) (drop i (end_places c.plan c.me)) m → m ≡ whole
@@ -165,7 +170,8 @@ down_told : (plan : Plan) (p q : EndPlace) (work : Work) → down_at plan (mende
 unfolding changes gives with_told_down
 down_told plan p q work = by p.terminal (cause_number (work.edge.told_down p.wire.0) == cause_number (down_at plan work.edge p)) where
   by : (terminal same : Bool)
-      → down_at plan (cond terminal (cond same work (gives (Wire p.wire (down_at plan work.edge p)) (changes (with_told_down p.wire (down_at plan work.edge p)) work))) work).edge q ≡ down_at plan work.edge q
+      → down_at plan (cond terminal (cond same work (gives (Wire p.wire (down_at plan work.edge p)) (changes (with_told_down p.wire (down_at plan work.edge p)) work))) work).edge q
+      ≡ down_at plan work.edge q
   by false same = refl
   by true true = refl
   by true false = refl
@@ -212,7 +218,8 @@ swapped plan p q work =
     forget_is None w = refl
     forget_is (Some why) w = refl
 
-    any : (terminal : Bool) (d : Option Down) (row : Option WirePlan) (own same : Bool) → cond terminal (forget d row (tell same own work)) (tell same own work) ≡ tell same own (cond terminal (forget d row work) work)
+    any : (terminal : Bool) (d : Option Down) (row : Option WirePlan) (own same : Bool) → cond terminal (forget d row (tell same own work)) (tell same own work)
+        ≡ tell same own (cond terminal (forget d row work) work)
     any false d row own same = refl
     any true None row own same = refl
     any true (Some why) None false same = refl
@@ -284,7 +291,8 @@ pub local_at : (c : EdgeLists) (calls : List LinkCall) (out : List Effect) (slot
 unfolding seen at_edge
 local_at c calls out slot = refl
 
-pub idle_declined : (plan : Plan) (told : Answers) (place : EndPlace) (work : Work) (declined : Bool) → (end_at work.edge place).local ≡ Idle declined → declined ≡ true → stays work ≡ mends_end plan told place work
+pub idle_declined : (plan : Plan) (told : Answers) (place : EndPlace) (work : Work) (declined : Bool) → (end_at work.edge place).local ≡ Idle declined → declined ≡ true → stays work
+    ≡ mends_end plan told place work
 idle_declined plan told place work declined is so =
     sym (ap (λ (l : LocalPart). mends_local plan told place l work) is ∙ ap (λ (b : Bool). mends_local plan told place (Idle b) work) so)
 
@@ -305,7 +313,8 @@ withdrawing_stays plan told place work label is = sym (ap (λ (l : LocalPart). m
 pub status_idle : (plan : Plan) (told : Answers) (place : EndPlace) (work : Work) (declined : Bool) → (end_at work.edge place).local ≡ Idle declined → stays work ≡ mends_status plan told place work
 status_idle plan told place work declined is = sym (ap (λ (l : LocalPart). mends_status_of plan told place l work) is)
 
-pub status_withdrawing : (plan : Plan) (told : Answers) (place : EndPlace) (work : Work) (label : ℕ) → (end_at work.edge place).local ≡ Withdrawing label → stays work ≡ mends_status plan told place work
+pub status_withdrawing : (plan : Plan) (told : Answers) (place : EndPlace) (work : Work) (label : ℕ) → (end_at work.edge place).local ≡ Withdrawing label → stays work
+    ≡ mends_status plan told place work
 status_withdrawing plan told place work label is = sym (ap (λ (l : LocalPart). mends_status_of plan told place l work) is)
 
 pub status_over : (plan : Plan) (told : Answers) (place : EndPlace) (work : Work) (label : ℕ) (content : Told) (put : Spoken) → (end_at work.edge place).local ≡ Advertised label content
@@ -315,13 +324,15 @@ status_over plan told place work label content put is puts = puts ∙ sym (ap (�
 pub over_none : (told : Answers) (place : EndPlace) (content : Told) (now : PwStatus) (given : Option PwStatus) (work : Work) → given ≡ None → stays work ≡ tells_over told place content now given work
 over_none told place content now given work none = sym (ap (λ (l : Option PwStatus). tells_over told place content now l work) none)
 
-pub over_same : (told : Answers) (place : EndPlace) (content : Told) (status now : PwStatus) (given : Option PwStatus) (last : PwStatus) (work : Work) → status ≡ now → given ≡ Some last → (last.0 == status.0) ≡ true
+pub over_same : (told : Answers) (place : EndPlace) (content : Told) (status now : PwStatus) (given : Option PwStatus) (last : PwStatus) (work : Work) → status ≡ now → given
+    ≡ Some last → (last.0 == status.0) ≡ true
     → stays work ≡ tells_over told place content now given work
 over_same told place content status now given last work is some same =
     sym (ap (λ (b : Bool). cond b (stays work) (tells_new_status told place content status work)) same)
     ∙ (ap (λ (s : PwStatus). tells_over told place content s (Some last) work) is ∙ ap (λ (l : Option PwStatus). tells_over told place content now l work) (sym some))
 
-pub over_new : (told : Answers) (place : EndPlace) (content : Told) (status now : PwStatus) (given : Option PwStatus) (last : PwStatus) (work : Work) (put : Spoken) → status ≡ now → given ≡ Some last → (last.0 == status.0) ≡ false
+pub over_new : (told : Answers) (place : EndPlace) (content : Told) (status now : PwStatus) (given : Option PwStatus) (last : PwStatus) (work : Work) (put : Spoken) → status ≡ now
+    → given ≡ Some last → (last.0 == status.0) ≡ false
     → put ≡ tells_new_status told place content status work → put ≡ tells_over told place content now given work
 over_new told place content status now given last work put is some other puts =
     puts
@@ -350,7 +361,8 @@ settled_other plan place at edge calls out is other = sym (by place.terminal (ap
   by true none = absurd (cc (none))
 
 -- what was learned at a terminal end is forgotten by its cause, which is then told
-pub settled_down : (plan : Plan) (place at : EndPlace) (down : Option Down) (edge mid : EdgeState) (calls : List LinkCall) (out : List Effect) (told : Work) → at ≡ place → not at.terminal ≡ false → down ≡ down_at plan edge place
+pub settled_down : (plan : Plan) (place at : EndPlace) (down : Option Down) (edge mid : EdgeState) (calls : List LinkCall) (out : List Effect) (told : Work) → at ≡ place
+    → not at.terminal ≡ false → down ≡ down_at plan edge place
     → mid ≡ cond (is_some down) (forgetting_wire plan at.wire (wire_row plan at.wire) edge) edge → told ≡ tells_down place down (at_edge mid calls out)
     → told ≡ mended_down plan place (forgotten_down plan place (at_edge edge calls out))
 unfolding at_edge changes
@@ -377,7 +389,8 @@ settled_down plan place at down edge mid calls out told is own why forgets tells
     after : Bool → Work
     after terminal = cond terminal whole start
 
-    by : (terminal : Bool) → terminal ≡ true → cond terminal (tells_down place (down_at plan (after terminal).edge place) (after terminal)) (after terminal) ≡ tells_down place (down_at plan whole.edge place) whole
+    by : (terminal : Bool) → terminal ≡ true → cond terminal (tells_down place (down_at plan (after terminal).edge place) (after terminal)) (after terminal)
+        ≡ tells_down place (down_at plan whole.edge place) whole
     by true so = refl
     by false so = absurd (cc (so))
 
@@ -416,7 +429,8 @@ choices_not plan told (place ∷ places) m = ap (each_end (mends_choice plan tol
       ∙ ap (λ (b : Bool). record { work = m.work; failed = b }) (or_false m.failed)
 
 -- where the choice is as it was no spoke was chosen anew
-pub same_choices : (plan : Plan) (told : Answers) (before : ℕ → Option WireId) (places : List EndPlace) (edge : EdgeState) (calls : List LinkCall) (out : List Effect) (failed : Bool) → before ≡ edge.chosen
+pub same_choices : (plan : Plan) (told : Answers) (before : ℕ → Option WireId) (places : List EndPlace) (edge : EdgeState) (calls : List LinkCall) (out : List Effect) (failed : Bool)
+    → before ≡ edge.chosen
     → record { work = at_edge edge calls out; failed = failed } ≡ each_end (mends_choice plan told before) places (record { work = at_edge edge calls out; failed = failed })
 unfolding at_edge
 same_choices plan told before places edge calls out failed same =
@@ -476,7 +490,8 @@ down_untold c slot end tells read is none =
     by (Some own) e = absurd (cc (e))
 
 -- an end tells nothing where its wire is off or the session is not up
-pub untold_stays : (plan : Plan) (told : Answers) (place at : EndPlace) (edge : EdgeState) (calls : List LinkCall) (out : List Effect) (may : Bool) → at ≡ place → may ≡ may_tell_end edge at → may ≡ false
+pub untold_stays : (plan : Plan) (told : Answers) (place at : EndPlace) (edge : EdgeState) (calls : List LinkCall) (out : List Effect) (may : Bool) → at ≡ place → may
+    ≡ may_tell_end edge at → may ≡ false
     → stays (at_edge edge calls out) ≡ advertises_wish told place (wish plan edge place) (at_edge edge calls out)
 unfolding at_edge
 untold_stays plan told place at edge calls out may is reads none =

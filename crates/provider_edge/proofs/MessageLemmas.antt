@@ -35,7 +35,8 @@ pub left_none_read : (peer : EdgeId) (mid now : EdgeState) (left : Option Peerin
 left_none_read peer mid now left puts none = ap (λ (e : EdgeState). e.peering peer.0) puts ∙ (read_peer peer left mid ∙ none)
 
 -- the loss of ends leaves that as it is
-pub cleared_none : (peer : EdgeId) (edge now : EdgeState) (calls : List LinkCall) (out : List Effect) → at_edge now calls out ≡ clears_ends peer (at_edge edge calls out) → edge.peering peer.0 ≡ None → now.peering peer.0 ≡ None
+pub cleared_none : (peer : EdgeId) (edge now : EdgeState) (calls : List LinkCall) (out : List Effect) → at_edge now calls out ≡ clears_ends peer (at_edge edge calls out)
+    → edge.peering peer.0 ≡ None → now.peering peer.0 ≡ None
 unfolding at_edge changes with_ends_beside with_kept
 cleared_none peer edge now calls out is none =
     let start : Work = record { edge = edge; calls = calls; effects = out; idle = false } in
@@ -51,7 +52,8 @@ message_none plan told peer message edge calls out none =
     let start : Work = record { edge = edge; calls = calls; effects = out; idle = false } in
     sym (ap (λ (b : Bool). cond b (mends plan told (hears_one plan told peer message start)) start) none)
 
-pub message_some : (plan now : Plan) (told : Answers) (peer : EdgeId) (message : Message) (edge : EdgeState) (calls : List LinkCall) (out : List Effect) (mid work : Work) → has_end edge peer ≡ true → now ≡ plan
+pub message_some : (plan now : Plan) (told : Answers) (peer : EdgeId) (message : Message) (edge : EdgeState) (calls : List LinkCall) (out : List Effect) (mid work : Work)
+    → has_end edge peer ≡ true → now ≡ plan
     → mid ≡ hears_one plan told peer message (at_edge edge calls out) → work ≡ mends now told mid
     → work ≡ hears_message plan told peer message (at_edge edge calls out)
 unfolding at_edge
@@ -62,7 +64,8 @@ message_some plan now told peer message edge calls out mid work there same heard
     ∙ (ap (mends plan told) heard
     ∙ sym (ap (λ (b : Bool). cond b (mends plan told (hears_one plan told peer message start)) start) there)))
 
-pub one_heard : (plan now : Plan) (told : Answers) (peer : EdgeId) (message : Message) (edge : EdgeState) (calls : List LinkCall) (out : List Effect) (up : Bool) (mid work : Work) → up ≡ was_up (edge.peering peer.0) → now ≡ plan
+pub one_heard : (plan now : Plan) (told : Answers) (peer : EdgeId) (message : Message) (edge : EdgeState) (calls : List LinkCall) (out : List Effect) (up : Bool) (mid work : Work) → up
+    ≡ was_up (edge.peering peer.0) → now ≡ plan
     → mid ≡ happens_with_ends told peer (Received message) (at_edge edge calls out) → work ≡ acts now told peer message up mid
     → work ≡ hears_one plan told peer message (at_edge edge calls out)
 unfolding at_edge
@@ -75,7 +78,8 @@ one_heard plan now told peer message edge calls out up mid work is same happened
 
 -- ---- messages
 
-pub heard_at : (messages : List Message) (place : ℕ) (message : Message) → AllByRecursion CanBeHeard messages → place < length messages → message ≡ slice_index_or messages place message → CanBeHeard message
+pub heard_at : (messages : List Message) (place : ℕ) (message : Message) → AllByRecursion CanBeHeard messages → place < length messages → message
+    ≡ slice_index_or messages place message → CanBeHeard message
 heard_at [] place message all within at = absurd (omega arith)
 heard_at (x ∷ messages) zero message all within at = subst CanBeHeard (sym at) all.0
 heard_at (x ∷ messages) (suc place) message all within at = heard_at messages place message all.1 (omega arith) at
@@ -89,7 +93,8 @@ messages_next plan now told peer messages place message work next whole same wit
     ∙ (messages_more plan told peer messages place message work within at
     ∙ ap (hears_messages plan told peer (drop (place + 1) messages)) (sym (heard ∙ ap (λ (p : Plan). hears_message p told peer message work) same)))
 
-pub pdu_begun : (plan : Plan) (told : Answers) (peer : EdgeId) (pdu : Pdu) (messages : List Message) (start mid : Work) → mid ≡ happens_with_ends told peer (Heard pdu.id) start → messages ≡ pdu.messages
+pub pdu_begun : (plan : Plan) (told : Answers) (peer : EdgeId) (pdu : Pdu) (messages : List Message) (start mid : Work) → mid ≡ happens_with_ends told peer (Heard pdu.id) start
+    → messages ≡ pdu.messages
     → hears_pdu plan told peer pdu start ≡ hears_messages plan told peer messages mid
 pdu_begun plan told peer pdu messages start mid is all = sym (ap (λ (l : List Message). hears_messages plan told peer l mid) all ∙ ap (hears_messages plan told peer pdu.messages) is)
 
@@ -127,7 +132,8 @@ fault_on plan told peer held rest more refusal kept max edge after calls new out
     (record { edge = edge; calls = calls; effects = out; idle = false }) (record { edge = after; calls = new; effects = given; idle = false })
     heard others (subst (λ (n : ℕ). n ≤ 4096) is small) (sym there) here.front here.names happened gone
 
-pub on_plan : (plan now : Plan) (told : Answers) (peer : EdgeId) (octets rest : List ℕ) (work next : Work) → now ≡ plan → HearsOn now told peer octets rest work next → HearsOn plan told peer octets rest work next
+pub on_plan : (plan now : Plan) (told : Answers) (peer : EdgeId) (octets rest : List ℕ) (work next : Work) → now ≡ plan → HearsOn now told peer octets rest work next
+    → HearsOn plan told peer octets rest work next
 on_plan plan now told peer octets rest work next same on = subst (λ (p : Plan). HearsOn p told peer octets rest work next) same on
 
 -- all was heard, and what is left is then held
@@ -156,24 +162,28 @@ taken_none peer None old mid none = (refl, none.1)
 taken_none peer (Some kept) old mid some = absurd (cc (some.0))
 
 -- nothing was kept, and so nothing was taken out
-pub untaken : (peer : EdgeId) (taken : Option Peering) (old mid : EdgeState) → taken ≡ old.peering peer.0 → taken ≡ None → mid ≡ with_peering peer None old → AreTakenOut peer (old.peering peer.0) old mid None
+pub untaken : (peer : EdgeId) (taken : Option Peering) (old mid : EdgeState) → taken ≡ old.peering peer.0 → taken ≡ None → mid ≡ with_peering peer None old
+    → AreTakenOut peer (old.peering peer.0) old mid None
 untaken peer taken old mid read none took =
     let gone : old.peering peer.0 ≡ None = sym read ∙ none in
     subst (λ (x : Option Peering). AreTakenOut peer x old mid None) (sym gone) (refl, took ∙ put_same peer None old gone)
 
 -- the octets were taken out of what was kept, and the rest was put back
-pub taken_held : (peer : EdgeId) (taken : Option Peering) (kept left : Peering) (held : List ℕ) (old mid new : EdgeState) → taken ≡ old.peering peer.0 → taken ≡ Some kept → held ≡ kept.held → left ≡ record kept { held = [] }
+pub taken_held : (peer : EdgeId) (taken : Option Peering) (kept left : Peering) (held : List ℕ) (old mid new : EdgeState) → taken ≡ old.peering peer.0 → taken ≡ Some kept → held
+    ≡ kept.held → left ≡ record kept { held = [] }
     → mid ≡ with_peering peer None old → new ≡ with_peering peer (Some left) mid → AreTakenOut peer (old.peering peer.0) old new (Some held)
 taken_held peer taken kept left held old mid new read some is rest took puts =
     subst (λ (x : Option Peering). AreTakenOut peer x old new (Some held)) (sym (sym read ∙ some))
     (ap Some is, puts ∙ (ap (with_peering peer (Some left)) took ∙ (put_twice peer None (Some left) old ∙ ap (λ (p : Peering). with_peering peer (Some p) old) rest)))
 
 -- octets are held of what was kept
-pub now_held : (peer : EdgeId) (taken : Option Peering) (kept left : Peering) (held : List ℕ) (old mid new : EdgeState) (calls : List LinkCall) (out : List Effect) → taken ≡ old.peering peer.0 → taken ≡ Some kept → left ≡ record kept { held = held }
+pub now_held : (peer : EdgeId) (taken : Option Peering) (kept left : Peering) (held : List ℕ) (old mid new : EdgeState) (calls : List LinkCall) (out : List Effect) → taken
+    ≡ old.peering peer.0 → taken ≡ Some kept → left ≡ record kept { held = held }
     → mid ≡ with_peering peer None old → new ≡ with_peering peer (Some left) mid → at_edge new calls out ≡ holds peer held (old.peering peer.0) (at_edge old calls out)
 unfolding at_edge changes
 now_held peer taken kept left held old mid new calls out read some is took puts =
-    ap (λ (e : EdgeState). record { edge = e; calls = calls; effects = out; idle = false }) (puts ∙ (ap (with_peering peer (Some left)) took ∙ (put_twice peer None (Some left) old ∙ ap (λ (p : Peering). with_peering peer (Some p) old) is)))
+    ap (λ (e : EdgeState). record { edge = e; calls = calls; effects = out; idle = false })
+    (puts ∙ (ap (with_peering peer (Some left)) took ∙ (put_twice peer None (Some left) old ∙ ap (λ (p : Peering). with_peering peer (Some p) old) is)))
     ∙ ap (λ (x : Option Peering). holds peer held x (record { edge = old; calls = calls; effects = out; idle = false })) (sym some ∙ read)
 
 -- and none are where nothing was kept
@@ -185,7 +195,8 @@ not_held peer taken held old mid calls out read none took =
     ∙ ap (λ (x : Option Peering). holds peer held x (record { edge = old; calls = calls; effects = out; idle = false })) (sym none ∙ read)
 
 -- what is held is taken out before more is heard: it tells nothing of how more is heard
-pub held_heard : (plan : Plan) (told : Answers) (peer : EdgeId) (octets held : List ℕ) (old mid : EdgeState) (calls : List LinkCall) (out : List Effect) (work : Work) → AreTakenOut peer (old.peering peer.0) old mid (Some held)
+pub held_heard : (plan : Plan) (told : Answers) (peer : EdgeId) (octets held : List ℕ) (old mid : EdgeState) (calls : List LinkCall) (out : List Effect) (work : Work)
+    → AreTakenOut peer (old.peering peer.0) old mid (Some held)
     → work ≡ hears plan told peer (held ++ octets) (at_edge mid calls out) → work ≡ hears_on plan told peer octets (old.peering peer.0) (at_edge old calls out)
 unfolding at_edge changes
 held_heard plan told peer octets held old mid calls out work taken heard = by (old.peering peer.0) refl taken where

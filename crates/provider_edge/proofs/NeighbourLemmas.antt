@@ -64,5 +64,6 @@ of_wires me peer wire (row ∷ rows) =
     ∙ (ap (λ (b : Bool). b || list_any (is_beside peer) (places_from me (wire + 1) rows)) (along_path (record { 0 = wire }) row me peer 0 row.path)
     ∙ ap (λ (b : Bool). joins me.0 peer row.path || b) (of_wires me peer (wire + 1) rows))
 
-pub beside_joined : (plan : Plan) (me peer : EdgeId) (places : List EndPlace) (beside : Bool) → places ≡ end_places plan me → beside ≡ list_any (is_beside peer.0) places → beside ≡ are_joined plan me.0 peer.0
+pub beside_joined : (plan : Plan) (me peer : EdgeId) (places : List EndPlace) (beside : Bool) → places ≡ end_places plan me → beside ≡ list_any (is_beside peer.0) places → beside
+    ≡ are_joined plan me.0 peer.0
 beside_joined plan me peer places beside are is = is ∙ (ap (list_any (is_beside peer.0)) are ∙ of_wires me peer.0 0 plan.wires)

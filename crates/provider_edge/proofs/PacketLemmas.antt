@@ -44,7 +44,8 @@ use Rattle.vccv_channel.specs.declared.cc.Cc.TheVariants.{Alert, Expiry, Header}
 
 -- ---- the first entry
 
-pub packet_err : (plan : Plan) (told : Answers) (octets : List ℕ) (why : DropCause) (edge : EdgeState) (calls : List LinkCall) (out given : List Effect) → entry_of octets ≡ Err why → given ≡ out ++ Dropped why ∷ []
+pub packet_err : (plan : Plan) (told : Answers) (octets : List ℕ) (why : DropCause) (edge : EdgeState) (calls : List LinkCall) (out given : List Effect) → entry_of octets ≡ Err why
+    → given ≡ out ++ Dropped why ∷ []
     → at_edge edge calls given ≡ packet_input plan told octets (at_edge edge calls out)
 packet_err plan told octets why edge calls out given read gave =
     dropped_at why edge calls out given gave ∙ ap (λ (r : Result StackEntry DropCause). opened_by plan told octets r (at_edge edge calls out)) (sym read)
@@ -55,22 +56,26 @@ edge_in : (c : EdgeLists) (calls : List LinkCall) (out : List Effect) → (at_ed
 unfolding at_edge
 edge_in c calls out = refl
 
-pub alerted_err : (plan : Plan) (told : Answers) (octets : List ℕ) (why : DropCause) (edge : EdgeState) (calls : List LinkCall) (out given : List Effect) → entry_of octets ≡ Err why → given ≡ out ++ Dropped why ∷ []
+pub alerted_err : (plan : Plan) (told : Answers) (octets : List ℕ) (why : DropCause) (edge : EdgeState) (calls : List LinkCall) (out given : List Effect) → entry_of octets ≡ Err why
+    → given ≡ out ++ Dropped why ∷ []
     → at_edge edge calls given ≡ alerted plan told octets (entry_of octets) (at_edge edge calls out)
 alerted_err plan told octets why edge calls out given read gave =
     dropped_at why edge calls out given gave ∙ ap (λ (r : Result StackEntry DropCause). alerted plan told octets r (at_edge edge calls out)) (sym read)
 
-pub alerted_ok : (plan : Plan) (told : Answers) (octets : List ℕ) (entry : StackEntry) (work x : Work) → entry_of octets ≡ Ok entry → x ≡ alerted plan told octets (Ok entry) work → x ≡ alerted plan told octets (entry_of octets) work
+pub alerted_ok : (plan : Plan) (told : Answers) (octets : List ℕ) (entry : StackEntry) (work x : Work) → entry_of octets ≡ Ok entry → x ≡ alerted plan told octets (Ok entry) work → x
+    ≡ alerted plan told octets (entry_of octets) work
 alerted_ok plan told octets entry work x read is = is ∙ ap (λ (r : Result StackEntry DropCause). alerted plan told octets r work) (sym read)
 
-pub not_bottom : (plan : Plan) (told : Answers) (octets : List ℕ) (entry : StackEntry) (edge : EdgeState) (calls : List LinkCall) (out given : List Effect) → entry.bottom ≡ false → given ≡ out ++ Dropped cause.NotBottom ∷ []
+pub not_bottom : (plan : Plan) (told : Answers) (octets : List ℕ) (entry : StackEntry) (edge : EdgeState) (calls : List LinkCall) (out given : List Effect) → entry.bottom ≡ false
+    → given ≡ out ++ Dropped cause.NotBottom ∷ []
     → at_edge edge calls given ≡ alerted plan told octets (Ok entry) (at_edge edge calls out)
 not_bottom plan told octets entry edge calls out given is gave =
     let work : Work = at_edge edge calls out in
     dropped_at cause.NotBottom edge calls out given gave
     ∙ sym (ap (λ (b : Bool). cond b (alerts_end plan told (behind_entry octets) (advertiser plan work.edge entry.label) work) (drops cause.NotBottom work)) is)
 
-pub at_bottom : (c : EdgeLists) (told : Answers) (octets : List ℕ) (entry : StackEntry) (calls : List LinkCall) (out : List Effect) (end : Option EndPlace) (x : Work) → entry.bottom ≡ true → advertiser c.plan (seen c) entry.label ≡ end
+pub at_bottom : (c : EdgeLists) (told : Answers) (octets : List ℕ) (entry : StackEntry) (calls : List LinkCall) (out : List Effect) (end : Option EndPlace) (x : Work) → entry.bottom
+    ≡ true → advertiser c.plan (seen c) entry.label ≡ end
     → x ≡ alerts_end c.plan told (behind_entry octets) end (at_edge (seen c) calls out)
     → x ≡ alerted c.plan told octets (Ok entry) (at_edge (seen c) calls out)
 at_bottom c told octets entry calls out end x is found same =
@@ -84,7 +89,8 @@ pub alerts_nowhere : (plan : Plan) (told : Answers) (octets : List ℕ) (edge : 
     → at_edge edge calls given ≡ alerts_end plan told (behind_entry octets) None (at_edge edge calls out)
 alerts_nowhere plan told octets edge calls out given gave = dropped_at cause.NoLabel edge calls out given gave
 
-pub behind_same : (plan : Plan) (told : Answers) (octets behind : List ℕ) (end : Option EndPlace) (work x : Work) → behind ≡ behind_entry octets → x ≡ alerts_end plan told behind end work → x ≡ alerts_end plan told (behind_entry octets) end work
+pub behind_same : (plan : Plan) (told : Answers) (octets behind : List ℕ) (end : Option EndPlace) (work x : Work) → behind ≡ behind_entry octets → x
+    ≡ alerts_end plan told behind end work → x ≡ alerts_end plan told (behind_entry octets) end work
 behind_same plan told octets behind end work x front is = is ∙ ap (λ (l : List ℕ). alerts_end plan told l end work) front
 
 -- the end that was found is the one that the label names
@@ -95,14 +101,17 @@ pub named_none : (f : ℕ → EndPlace) (found : Option ℕ) (named : Option End
 named_none f found named is none = sym is ∙ ap (option_map f) none
 
 -- a switching point takes no connectivity verification
-pub alerts_between : (plan : Plan) (told : Answers) (payload : List ℕ) (place at : EndPlace) (edge : EdgeState) (calls : List LinkCall) (out given : List Effect) → at ≡ place → not at.terminal ≡ true → given ≡ out ++ Dropped cause.NoLabel ∷ []
+pub alerts_between : (plan : Plan) (told : Answers) (payload : List ℕ) (place at : EndPlace) (edge : EdgeState) (calls : List LinkCall) (out given : List Effect) → at ≡ place
+    → not at.terminal ≡ true → given ≡ out ++ Dropped cause.NoLabel ∷ []
     → at_edge edge calls given ≡ alerts_end plan told payload (Some place) (at_edge edge calls out)
 alerts_between plan told payload place at edge calls out given is other gave =
     let work : Work = at_edge edge calls out in
     dropped_at cause.NoLabel edge calls out given gave
-    ∙ sym (ap (λ (b : Bool). cond b (alerts_by told place (wire_row plan place.wire) (end_at work.edge place).remote payload work) (drops cause.NoLabel work)) (ap (λ (p : EndPlace). p.terminal) (sym is) ∙ not-true at.terminal other))
+    ∙ sym (ap (λ (b : Bool). cond b (alerts_by told place (wire_row plan place.wire) (end_at work.edge place).remote payload work) (drops cause.NoLabel work))
+    (ap (λ (p : EndPlace). p.terminal) (sym is) ∙ not-true at.terminal other))
 
-verified_as : (told : Answers) (place : EndPlace) (row : WirePlan) (remote : Option Binding) (payload : List ℕ) (work : Work) → verified_by told place row Alert remote payload work ≡ alerts_by told place (Some row) remote payload work
+verified_as : (told : Answers) (place : EndPlace) (row : WirePlan) (remote : Option Binding) (payload : List ℕ) (work : Work) → verified_by told place row Alert remote payload work
+    ≡ alerts_by told place (Some row) remote payload work
 verified_as told place row None payload work = refl
 verified_as told place row (Some binding) payload work = refl
 
@@ -115,8 +124,10 @@ row_there [] k within = absurd (omega (arith, within))
 row_there (x ∷ xs) zero within = (x, refl)
 row_there (x ∷ xs) (suc k) within = row_there xs k (omega (arith, within))
 
-pub alerts_terminal : (c : EdgeLists) (told : Answers) (slot : ℕ) (at : EndPlace) (payload : List ℕ) (calls : List LinkCall) (out : List Effect) (x : Work) → at ≡ place_of c.ends slot → at.wire.0 < length c.plan.wires → not at.terminal ≡ false
-    → ((row : WirePlan) → wire_row c.plan (place_of c.ends slot).wire ≡ Some row → x ≡ verified_by told (place_of c.ends slot) row Alert (end_in c.ends slot).remote payload (at_edge (seen c) calls out))
+pub alerts_terminal : (c : EdgeLists) (told : Answers) (slot : ℕ) (at : EndPlace) (payload : List ℕ) (calls : List LinkCall) (out : List Effect) (x : Work) → at ≡ place_of c.ends slot
+    → at.wire.0 < length c.plan.wires → not at.terminal ≡ false
+    → ((row : WirePlan) → wire_row c.plan (place_of c.ends slot).wire ≡ Some row → x
+    ≡ verified_by told (place_of c.ends slot) row Alert (end_in c.ends slot).remote payload (at_edge (seen c) calls out))
     → x ≡ alerts_end c.plan told payload (Some (place_of c.ends slot)) (at_edge (seen c) calls out)
 alerts_terminal c told slot at payload calls out x is within terminal same =
     let place : EndPlace = place_of c.ends slot in
@@ -126,31 +137,38 @@ alerts_terminal c told slot at payload calls out x is within terminal same =
     ∙ (verified_as told place row (end_in c.ends slot).remote payload work
     ∙ (ap (λ (r : Option WirePlan). alerts_by told place r (end_in c.ends slot).remote payload work) (sym here)
     ∙ (ap (λ (r : Option Binding). alerts_by told place (wire_row c.plan place.wire) r payload work) (sym (remote_in c calls out slot))
-    ∙ sym (ap (λ (b : Bool). cond b (alerts_by told place (wire_row c.plan place.wire) (end_at work.edge place).remote payload work) (drops cause.NoLabel work)) (ap (λ (p : EndPlace). p.terminal) (sym is) ∙ not-false at.terminal terminal)))))
+    ∙ sym (ap (λ (b : Bool). cond b (alerts_by told place (wire_row c.plan place.wire) (end_at work.edge place).remote payload work) (drops cause.NoLabel work))
+    (ap (λ (p : EndPlace). p.terminal) (sym is) ∙ not-false at.terminal terminal)))))
 
 -- ---- whose label it is
 
 -- the end that was found by the ends' own list is that of the plan
-pub advertiser_in : (c : EdgeLists) (label : ℕ) → c.ends.places ≡ end_places c.plan c.me → find (λ place. advertises_label label (end_there c.ends place).local) c.ends.places ≡ advertiser c.plan (seen c) label
+pub advertiser_in : (c : EdgeLists) (label : ℕ) → c.ends.places ≡ end_places c.plan c.me → find (λ place. advertises_label label (end_there c.ends place).local) c.ends.places
+    ≡ advertiser c.plan (seen c) label
 unfolding seen
 advertiser_in c label placed = ap (find (λ place. advertises_label label (end_there c.ends place).local)) placed
 
 -- ---- the label is one of the edge's own
 
-pub reserved : (plan : Plan) (told : Answers) (octets : List ℕ) (entry : StackEntry) (edge : EdgeState) (calls : List LinkCall) (out given : List Effect) → entry.label < 16 → given ≡ out ++ Dropped cause.NoLabel ∷ []
+pub reserved : (plan : Plan) (told : Answers) (octets : List ℕ) (entry : StackEntry) (edge : EdgeState) (calls : List LinkCall) (out given : List Effect) → entry.label < 16 → given
+    ≡ out ++ Dropped cause.NoLabel ∷ []
     → at_edge edge calls given ≡ labelled plan told octets entry (at_edge edge calls out)
 reserved plan told octets entry edge calls out given below gave =
     let less : nat_lt entry.label least_label ≡ true = grind (arith, nat_tests, below) in
     dropped_at cause.NoLabel edge calls out given gave
-    ∙ sym (ap (λ (b : Bool). cond b (drops cause.NoLabel (at_edge edge calls out)) (cond entry.bottom (owned plan told octets entry (advertiser plan (at_edge edge calls out).edge entry.label) (at_edge edge calls out)) (drops cause.NotBottom (at_edge edge calls out)))) less)
+    ∙ sym (ap (λ (b : Bool). cond b (drops cause.NoLabel (at_edge edge calls out))
+    (cond entry.bottom (owned plan told octets entry (advertiser plan (at_edge edge calls out).edge entry.label) (at_edge edge calls out)) (drops cause.NotBottom (at_edge edge calls out)))) less)
 
-pub above_bottom : (plan : Plan) (told : Answers) (octets : List ℕ) (entry : StackEntry) (edge : EdgeState) (calls : List LinkCall) (out given : List Effect) → 16 ≤ entry.label → entry.bottom ≡ false → given ≡ out ++ Dropped cause.NotBottom ∷ []
+pub above_bottom : (plan : Plan) (told : Answers) (octets : List ℕ) (entry : StackEntry) (edge : EdgeState) (calls : List LinkCall) (out given : List Effect) → 16 ≤ entry.label
+    → entry.bottom ≡ false → given ≡ out ++ Dropped cause.NotBottom ∷ []
     → at_edge edge calls given ≡ labelled plan told octets entry (at_edge edge calls out)
 above_bottom plan told octets entry edge calls out given above other gave =
     let more : nat_lt entry.label least_label ≡ false = grind (arith, nat_tests, above) in
     dropped_at cause.NotBottom edge calls out given gave
-    ∙ sym (ap (λ (b : Bool). cond b (drops cause.NoLabel (at_edge edge calls out)) (cond entry.bottom (owned plan told octets entry (advertiser plan (at_edge edge calls out).edge entry.label) (at_edge edge calls out)) (drops cause.NotBottom (at_edge edge calls out)))) more
-    ∙ ap (λ (b : Bool). cond b (owned plan told octets entry (advertiser plan (at_edge edge calls out).edge entry.label) (at_edge edge calls out)) (drops cause.NotBottom (at_edge edge calls out))) other)
+    ∙ sym (ap (λ (b : Bool). cond b (drops cause.NoLabel (at_edge edge calls out))
+    (cond entry.bottom (owned plan told octets entry (advertiser plan (at_edge edge calls out).edge entry.label) (at_edge edge calls out)) (drops cause.NotBottom (at_edge edge calls out)))) more
+    ∙ ap (λ (b : Bool). cond b (owned plan told octets entry (advertiser plan (at_edge edge calls out).edge entry.label) (at_edge edge calls out))
+    (drops cause.NotBottom (at_edge edge calls out))) other)
 
 pub labelled_here : (c : EdgeLists) (told : Answers) (octets : List ℕ) (entry : StackEntry) (calls : List LinkCall) (out : List Effect) (x : Work) → 16 ≤ entry.label → entry.bottom ≡ true
     → x ≡ owned c.plan told octets entry (advertiser c.plan (seen c) entry.label) (at_edge (seen c) calls out)
@@ -163,21 +181,26 @@ labelled_here c told octets entry calls out x above bottom is =
     ∙ sym (ap (λ (b : Bool). cond b (drops cause.NoLabel work) (cond entry.bottom (owned c.plan told octets entry (advertiser c.plan work.edge entry.label) work) (drops cause.NotBottom work))) more
     ∙ ap (λ (b : Bool). cond b (owned c.plan told octets entry (advertiser c.plan work.edge entry.label) work) (drops cause.NotBottom work)) bottom))
 
-pub owned_none : (plan : Plan) (told : Answers) (octets : List ℕ) (entry : StackEntry) (end : Option EndPlace) (edge : EdgeState) (calls : List LinkCall) (out given : List Effect) → end ≡ None → given ≡ out ++ Dropped cause.NoLabel ∷ []
+pub owned_none : (plan : Plan) (told : Answers) (octets : List ℕ) (entry : StackEntry) (end : Option EndPlace) (edge : EdgeState) (calls : List LinkCall) (out given : List Effect)
+    → end ≡ None → given ≡ out ++ Dropped cause.NoLabel ∷ []
     → at_edge edge calls given ≡ owned plan told octets entry end (at_edge edge calls out)
 owned_none plan told octets entry end edge calls out given none gave =
     dropped_at cause.NoLabel edge calls out given gave ∙ ap (λ (e : Option EndPlace). owned plan told octets entry e (at_edge edge calls out)) (sym none)
 
-pub owned_some : (plan : Plan) (told : Answers) (octets : List ℕ) (entry : StackEntry) (end : Option EndPlace) (place : EndPlace) (work x : Work) → end ≡ Some place → x ≡ owned plan told octets entry (Some place) work → x ≡ owned plan told octets entry end work
+pub owned_some : (plan : Plan) (told : Answers) (octets : List ℕ) (entry : StackEntry) (end : Option EndPlace) (place : EndPlace) (work x : Work) → end ≡ Some place → x
+    ≡ owned plan told octets entry (Some place) work → x ≡ owned plan told octets entry end work
 owned_some plan told octets entry end place work x some is = is ∙ ap (λ (e : Option EndPlace). owned plan told octets entry e work) (sym some)
 
-pub owned_between : (plan : Plan) (told : Answers) (octets : List ℕ) (entry : StackEntry) (place at : EndPlace) (work x : Work) → at ≡ place → not at.terminal ≡ true → x ≡ switched plan told octets entry place work
+pub owned_between : (plan : Plan) (told : Answers) (octets : List ℕ) (entry : StackEntry) (place at : EndPlace) (work x : Work) → at ≡ place → not at.terminal ≡ true → x
+    ≡ switched plan told octets entry place work
     → x ≡ owned plan told octets entry (Some place) work
 owned_between plan told octets entry place at work x is other same =
     same
-    ∙ sym (ap (λ (b : Bool). cond b (terminated plan told place entry.ttl (wire_row plan place.wire) (end_at work.edge place).remote (behind_entry octets) work) (switched plan told octets entry place work)) (ap (λ (p : EndPlace). p.terminal) (sym is) ∙ not-true at.terminal other))
+    ∙ sym (ap (λ (b : Bool). cond b (terminated plan told place entry.ttl (wire_row plan place.wire) (end_at work.edge place).remote (behind_entry octets) work)
+    (switched plan told octets entry place work)) (ap (λ (p : EndPlace). p.terminal) (sym is) ∙ not-true at.terminal other))
 
-pub owned_terminal : (c : EdgeLists) (told : Answers) (octets behind : List ℕ) (entry : StackEntry) (slot : ℕ) (at : EndPlace) (calls : List LinkCall) (out : List Effect) (x : Work) → at ≡ place_of c.ends slot → not at.terminal ≡ false → behind ≡ behind_entry octets
+pub owned_terminal : (c : EdgeLists) (told : Answers) (octets behind : List ℕ) (entry : StackEntry) (slot : ℕ) (at : EndPlace) (calls : List LinkCall) (out : List Effect) (x : Work)
+    → at ≡ place_of c.ends slot → not at.terminal ≡ false → behind ≡ behind_entry octets
     → x ≡ terminated c.plan told (place_of c.ends slot) entry.ttl (wire_row c.plan (place_of c.ends slot).wire) (end_in c.ends slot).remote behind (at_edge (seen c) calls out)
     → x ≡ owned c.plan told octets entry (Some (place_of c.ends slot)) (at_edge (seen c) calls out)
 owned_terminal c told octets behind entry slot at calls out x is terminal front same =
@@ -186,7 +209,8 @@ owned_terminal c told octets behind entry slot at calls out x is terminal front 
     same
     ∙ (ap (λ (l : List ℕ). terminated c.plan told place entry.ttl (wire_row c.plan place.wire) (end_in c.ends slot).remote l work) front
     ∙ (ap (λ (r : Option Binding). terminated c.plan told place entry.ttl (wire_row c.plan place.wire) r (behind_entry octets) work) (sym (remote_in c calls out slot))
-    ∙ sym (ap (λ (b : Bool). cond b (terminated c.plan told place entry.ttl (wire_row c.plan place.wire) (end_at work.edge place).remote (behind_entry octets) work) (switched c.plan told octets entry place work)) (ap (λ (p : EndPlace). p.terminal) (sym is) ∙ not-false at.terminal terminal))))
+    ∙ sym (ap (λ (b : Bool). cond b (terminated c.plan told place entry.ttl (wire_row c.plan place.wire) (end_at work.edge place).remote (behind_entry octets) work)
+    (switched c.plan told octets entry place work)) (ap (λ (p : EndPlace). p.terminal) (sym is) ∙ not-false at.terminal terminal))))
 
 -- ---- a terminal end
 
@@ -219,7 +243,8 @@ some_there (Some x) is = (x, refl)
 pub by_row : (c : EdgeLists) (told : Answers) (slot ttl : ℕ) (bound : Bool) (offer : Offer) (payload : List ℕ) (calls : List LinkCall) (out : List Effect) (x : Work)
     → (place_of c.ends slot).wire.0 < length c.plan.wires → bound ≡ is_some (end_in c.ends slot).remote → bound ≡ true
     → ((row : WirePlan) → wire_row c.plan (place_of c.ends slot).wire ≡ Some row → offer ≡ offer_of row c.me.0)
-    → ((row : WirePlan) (binding : Binding) → wire_row c.plan (place_of c.ends slot).wire ≡ Some row → (end_in c.ends slot).remote ≡ Some binding → x ≡ by_offer c.plan told row (place_of c.ends slot) binding ttl offer.cword payload (at_edge (seen c) calls out))
+    → ((row : WirePlan) (binding : Binding) → wire_row c.plan (place_of c.ends slot).wire ≡ Some row → (end_in c.ends slot).remote ≡ Some binding → x
+    ≡ by_offer c.plan told row (place_of c.ends slot) binding ttl offer.cword payload (at_edge (seen c) calls out))
     → x ≡ terminated c.plan told (place_of c.ends slot) ttl (wire_row c.plan (place_of c.ends slot).wire) (end_in c.ends slot).remote payload (at_edge (seen c) calls out)
 by_row c told slot ttl bound offer payload calls out x within is here offers same =
     let place : EndPlace = place_of c.ends slot in
@@ -232,16 +257,19 @@ by_row c told slot ttl bound offer payload calls out x within is here offers sam
     ∙ (ap (λ (r : Option Binding). terminated c.plan told place ttl (Some row) r payload work) (sym held)
     ∙ ap (λ (r : Option WirePlan). terminated c.plan told place ttl r (end_in c.ends slot).remote payload work) (sym at))))
 
-pub with_word : (plan : Plan) (told : Answers) (row : WirePlan) (place : EndPlace) (binding : Binding) (ttl : ℕ) (cword : Bool) (payload : List ℕ) (work x : Work) → cword ≡ true → x ≡ by_control_word plan told row place binding payload work
+pub with_word : (plan : Plan) (told : Answers) (row : WirePlan) (place : EndPlace) (binding : Binding) (ttl : ℕ) (cword : Bool) (payload : List ℕ) (work x : Work) → cword ≡ true → x
+    ≡ by_control_word plan told row place binding payload work
     → x ≡ by_offer plan told row place binding ttl cword payload work
 with_word plan told row place binding ttl cword payload work x has is = is ∙ ap (λ (b : Bool). by_offer plan told row place binding ttl b payload work) (sym has)
 
-pub without_word : (plan : Plan) (told : Answers) (row : WirePlan) (place : EndPlace) (binding : Binding) (ttl : ℕ) (cword : Bool) (payload : List ℕ) (work x : Work) → cword ≡ false → x ≡ by_ttl plan told row place binding ttl payload work
+pub without_word : (plan : Plan) (told : Answers) (row : WirePlan) (place : EndPlace) (binding : Binding) (ttl : ℕ) (cword : Bool) (payload : List ℕ) (work x : Work) → cword ≡ false
+    → x ≡ by_ttl plan told row place binding ttl payload work
     → x ≡ by_offer plan told row place binding ttl cword payload work
 without_word plan told row place binding ttl cword payload work x plain is = is ∙ ap (λ (b : Bool). by_offer plan told row place binding ttl b payload work) (sym plain)
 
 -- without a control word: does the TTL end in the channel that was picked?
-expired : (c : EdgeLists) (row : WirePlan) (binding : Binding) (remote : Option Binding) (ttl : ℕ) (channel : Option Cc) (calls : List LinkCall) (out : List Effect) → channel ≡ channel_by row c.me remote → remote ≡ Some binding
+expired : (c : EdgeLists) (row : WirePlan) (binding : Binding) (remote : Option Binding) (ttl : ℕ) (channel : Option Cc) (calls : List LinkCall) (out : List Effect) → channel
+    ≡ channel_by row c.me remote → remote ≡ Some binding
     → (ttl == 1 && is_picked Expiry (channel_under row (at_edge (seen c) calls out).edge.me binding)) ≡ (ttl == 1 && is_picked Expiry channel)
 expired c row binding remote ttl channel calls out is held =
     ap (λ (m : EdgeId). ttl == 1 && is_picked Expiry (channel_under row m binding)) (me_at c calls out)
@@ -252,14 +280,16 @@ pub ttl_ends : (c : EdgeLists) (told : Answers) (row : WirePlan) (place : EndPla
     → x ≡ verifies told place row Expiry binding payload (at_edge (seen c) calls out) → x ≡ by_ttl c.plan told row place binding ttl payload (at_edge (seen c) calls out)
 ttl_ends c told row place binding remote ttl channel payload calls out x is held ends same =
     let work : Work = at_edge (seen c) calls out in
-    same ∙ sym (ap (λ (b : Bool). cond b (verifies told place row Expiry binding payload work) (enters c.plan told row place payload work)) (expired c row binding remote ttl channel calls out is held ∙ ends))
+    same ∙ sym (ap (λ (b : Bool). cond b (verifies told place row Expiry binding payload work) (enters c.plan told row place payload work))
+    (expired c row binding remote ttl channel calls out is held ∙ ends))
 
 pub ttl_goes_on : (c : EdgeLists) (told : Answers) (row : WirePlan) (place : EndPlace) (binding : Binding) (remote : Option Binding) (ttl : ℕ) (channel : Option Cc) (payload : List ℕ) (calls : List LinkCall) (out : List Effect) (x : Work)
     → channel ≡ channel_by row c.me remote → remote ≡ Some binding → (ttl == 1 && is_picked Expiry channel) ≡ false
     → x ≡ enters c.plan told row place payload (at_edge (seen c) calls out) → x ≡ by_ttl c.plan told row place binding ttl payload (at_edge (seen c) calls out)
 ttl_goes_on c told row place binding remote ttl channel payload calls out x is held goes same =
     let work : Work = at_edge (seen c) calls out in
-    same ∙ sym (ap (λ (b : Bool). cond b (verifies told place row Expiry binding payload work) (enters c.plan told row place payload work)) (expired c row binding remote ttl channel calls out is held ∙ goes))
+    same ∙ sym (ap (λ (b : Bool). cond b (verifies told place row Expiry binding payload work) (enters c.plan told row place payload work))
+    (expired c row binding remote ttl channel calls out is held ∙ goes))
 
 -- with a control word
 pub word_short : (plan : Plan) (told : Answers) (row : WirePlan) (place : EndPlace) (binding : Binding) (payload : List ℕ) (edge : EdgeState) (calls : List LinkCall) (out given : List Effect) → (length payload == 0) ≡ true → given ≡ out ++ Dropped cause.Short ∷ []
@@ -269,7 +299,8 @@ word_short plan told row place binding payload edge calls out given empty gave =
     dropped_at cause.Short edge calls out given gave
     ∙ sym (ap (λ (b : Bool). cond b (drops cause.Short work) (cond (is_channel payload) (verifies_in told place row Header binding payload work) (enters plan told row place payload work))) empty)
 
-pub word_channel : (plan : Plan) (told : Answers) (row : WirePlan) (place : EndPlace) (binding : Binding) (remote : Option Binding) (payload : List ℕ) (work x : Work) → (length payload == 0) ≡ false → is_channel payload ≡ true → remote ≡ Some binding
+pub word_channel : (plan : Plan) (told : Answers) (row : WirePlan) (place : EndPlace) (binding : Binding) (remote : Option Binding) (payload : List ℕ) (work x : Work)
+    → (length payload == 0) ≡ false → is_channel payload ≡ true → remote ≡ Some binding
     → x ≡ verified_by told place row Header remote payload work → x ≡ by_control_word plan told row place binding payload work
 word_channel plan told row place binding remote payload work x some channel held same =
     same
@@ -277,7 +308,8 @@ word_channel plan told row place binding remote payload work x some channel held
     ∙ sym (ap (λ (b : Bool). cond b (drops cause.Short work) (cond (is_channel payload) (verifies_in told place row Header binding payload work) (enters plan told row place payload work))) some
     ∙ ap (λ (b : Bool). cond b (verifies_in told place row Header binding payload work) (enters plan told row place payload work)) channel))
 
-pub word_frame : (plan : Plan) (told : Answers) (row : WirePlan) (place : EndPlace) (binding : Binding) (payload : List ℕ) (work x : Work) → (length payload == 0) ≡ false → is_channel payload ≡ false → x ≡ enters plan told row place payload work
+pub word_frame : (plan : Plan) (told : Answers) (row : WirePlan) (place : EndPlace) (binding : Binding) (payload : List ℕ) (work x : Work) → (length payload == 0) ≡ false
+    → is_channel payload ≡ false → x ≡ enters plan told row place payload work
     → x ≡ by_control_word plan told row place binding payload work
 word_frame plan told row place binding payload work x some plain is =
     is
@@ -299,7 +331,8 @@ enters_not plan told row place payload down edge calls out given is some gave =
     ap (λ (l : List Effect). record { edge = edge; calls = calls; effects = l; idle = false }) gave
     ∙ sym (ap (λ (b : Bool). cond b (bridges_frame plan told row place payload work) (drops cause.Down work)) (ap is_up (sym is) ∙ up_not down some))
 
-pub enters_here : (c : EdgeLists) (told : Answers) (row : WirePlan) (slot : ℕ) (payload : List ℕ) (down : Option Down) (calls : List LinkCall) (out : List Effect) (x : Work) → down ≡ down_at c.plan (seen c) (place_of c.ends slot) → is_some down ≡ false
+pub enters_here : (c : EdgeLists) (told : Answers) (row : WirePlan) (slot : ℕ) (payload : List ℕ) (down : Option Down) (calls : List LinkCall) (out : List Effect) (x : Work) → down
+    ≡ down_at c.plan (seen c) (place_of c.ends slot) → is_some down ≡ false
     → x ≡ bridges_frame c.plan told row (place_of c.ends slot) payload (at_edge (seen c) calls out)
     → x ≡ enters c.plan told row (place_of c.ends slot) payload (at_edge (seen c) calls out)
 enters_here c told row slot payload down calls out x is none same =
@@ -318,11 +351,13 @@ bridged_payload c told row slot at service port payload calls out x is of found 
     same
     ∙ (ap (λ (p : EndPlace). received c.plan told (arrival.Wire p.wire) service port (unpacked_at c.plan row c.me payload) (at_edge (seen c) calls out)) is
     ∙ (ap (λ (p : Option ℕ). received c.plan told (arrival.Wire place.wire) service p (unpacked_at c.plan row c.me payload) (at_edge (seen c) calls out)) found
-    ∙ ap (λ (s : ServiceId). received c.plan told (arrival.Wire place.wire) s (position (is_wire_port place.wire) (ports_of c.plan s c.me)) (unpacked_at c.plan row c.me payload) (at_edge (seen c) calls out)) of))
+    ∙ ap (λ (s : ServiceId). received c.plan told (arrival.Wire place.wire) s (position (is_wire_port place.wire) (ports_of c.plan s c.me)) (unpacked_at c.plan row c.me payload)
+    (at_edge (seen c) calls out)) of))
 
 -- ---- the frame is read by the edge's own offer
 
-pub read_by : (plan : Plan) (row : WirePlan) (me : EdgeId) (offer : Offer) (service : ServiceId) (mtu : ℕ) (payload : List ℕ) → offer ≡ offer_of row me.0 → service ≡ row.service → mtu_of plan service ≡ Some mtu
+pub read_by : (plan : Plan) (row : WirePlan) (me : EdgeId) (offer : Offer) (service : ServiceId) (mtu : ℕ) (payload : List ℕ) → offer ≡ offer_of row me.0 → service ≡ row.service
+    → mtu_of plan service ≡ Some mtu
     → unpacked offer.cword offer.tagged mtu payload ≡ unpacked_at plan row me payload
 read_by plan row me offer service mtu payload offers of known =
     ap (λ (o : Offer). unpacked o.cword o.tagged mtu payload) offers

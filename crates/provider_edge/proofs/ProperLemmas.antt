@@ -20,14 +20,16 @@ use Rattle.peer_dialogue.specs.Peering.{peers_between}
 joined_apart : (plan : Plan) (rows : List WirePlan) (a b : ℕ) → All (IsWireOf plan) rows → list_any (λ (row : WirePlan). joins a b row.path) rows ≡ true → nat_eq a b ≡ false
 joined_apart plan [] a b all joined = absurd (cc (joined))
 joined_apart plan (x ∷ rows) a b all joined = by (joins a b x.path) refl joined (λ rest. joined_apart plan rows a b (λ i d within. all (suc i) d (omega arith)) rest) where
-  by : (here : Bool) → joins a b x.path ≡ here → here || list_any (λ (row : WirePlan). joins a b row.path) rows ≡ true → (list_any (λ (row : WirePlan). joins a b row.path) rows ≡ true → nat_eq a b ≡ false) → nat_eq a b ≡ false
+  by : (here : Bool) → joins a b x.path ≡ here → here || list_any (λ (row : WirePlan). joins a b row.path) rows ≡ true
+      → (list_any (λ (row : WirePlan). joins a b row.path) rows ≡ true → nat_eq a b ≡ false) → nat_eq a b ≡ false
   by true here any rest = joins_apart x.path a b ((all 0 x (omega arith)).once) here
   by false here any rest = rest any
 
 row_at : (rows : List EdgePlan) (k : ℕ) (row : EdgePlan) (d : EdgePlan) → slice_get rows k ≡ Some row → slice_index_or rows k d ≡ row
 row_at rows k row d is = get_or_from_slice_get rows k row d is
 
-pub proper_between : (plan : Plan) (me peer : ℕ) (found : Option Peers) (peers : Peers) → IsChecked plan → are_joined plan me peer ≡ true → found ≡ peers_between (slice_get plan.edges me) (slice_get plan.edges peer) → found ≡ Some peers → IsProper peers
+pub proper_between : (plan : Plan) (me peer : ℕ) (found : Option Peers) (peers : Peers) → IsChecked plan → are_joined plan me peer ≡ true → found
+    ≡ peers_between (slice_get plan.edges me) (slice_get plan.edges peer) → found ≡ Some peers → IsProper peers
 proper_between plan me peer found peers checked joined is some = by (slice_get plan.edges me) (slice_get plan.edges peer) refl refl (sym is ∙ some) where
   apart : (own other : EdgePlan) → slice_get plan.edges me ≡ Some own → slice_get plan.edges peer ≡ Some other → bytes_eq own.address.0 other.address.0 ≡ false
   apart own other at there = elim (cases_order me peer) [
@@ -35,11 +37,13 @@ proper_between plan me peer found peers checked joined is some = by (slice_get p
     | inr rest ↦ elim rest [
       | inl less ↦
           subst (λ (e : EdgePlan). bytes_eq own.address.0 e.address.0 ≡ false) (row_at plan.edges peer other own there)
-          (subst (λ (e : EdgePlan). bytes_eq e.address.0 (slice_index_or plan.edges peer own).address.0 ≡ false) (row_at plan.edges me own own at) (checked.addresses me peer own less (slice_get_within plan.edges peer other there)))
+          (subst (λ (e : EdgePlan). bytes_eq e.address.0 (slice_index_or plan.edges peer own).address.0 ≡ false) (row_at plan.edges me own own at)
+          (checked.addresses me peer own less (slice_get_within plan.edges peer other there)))
       | inr more ↦
           bytes_eq-sym own.address.0 other.address.0
           ∙ subst (λ (e : EdgePlan). bytes_eq other.address.0 e.address.0 ≡ false) (row_at plan.edges me own own at)
-          (subst (λ (e : EdgePlan). bytes_eq e.address.0 (slice_index_or plan.edges me own).address.0 ≡ false) (row_at plan.edges peer other own there) (checked.addresses peer me own more (slice_get_within plan.edges me own at)))
+          (subst (λ (e : EdgePlan). bytes_eq e.address.0 (slice_index_or plan.edges me own).address.0 ≡ false) (row_at plan.edges peer other own there)
+          (checked.addresses peer me own more (slice_get_within plan.edges me own at)))
     ]
   ]
 

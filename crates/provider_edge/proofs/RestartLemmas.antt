@@ -36,18 +36,22 @@ alone v = record v { peerings = map gone v.peerings; marks = None }
 holds_alone : (v : EdgeLists) → v.stopped ≡ true → IsEdge v → IsEdge (alone v)
 holds_alone v working is = holds_peerings v (map gone v.peerings) (length-map v.peerings gone) (few_gone v.peerings) working is
 
-pub restart_holds : (v : EdgeLists) (peerings : List (Option Peering)) (ends : EndLists) (pings : List ℕ) (spokes : SpokeLists) (told new : ForwardingLists) → v.stopped ≡ true → IsEdge v → AreForgotten v peerings ends pings spokes told new
+pub restart_holds : (v : EdgeLists) (peerings : List (Option Peering)) (ends : EndLists) (pings : List ℕ) (spokes : SpokeLists) (told new : ForwardingLists) → v.stopped ≡ true
+    → IsEdge v → AreForgotten v peerings ends pings spokes told new
     → IsEdge (record v { peerings = peerings; ends = ends; pings = pings; spokes = spokes; forwarding = new; marks = None })
 restart_holds v peerings ends pings spokes told new working is are =
     subst (λ (kept : List (Option Peering)). IsEdge (record v { peerings = kept; ends = ends; pings = pings; spokes = spokes; forwarding = new; marks = None })) (sym are.peerings)
     (holds_forwarding (record (alone v) { ends = ends; pings = pings; spokes = spokes; forwarding = told; marks = None }) new are.clears working
     (holds_forgotten (alone v) ends pings spokes told are.places are.pings are.spokes are.closes working (holds_alone v working is)))
 
-pub restart_seen : (v : EdgeLists) (peerings : List (Option Peering)) (ends : EndLists) (pings : List ℕ) (spokes : SpokeLists) (told new : ForwardingLists) → v.stopped ≡ true → IsEdge v → AreForgotten v peerings ends pings spokes told new
-    → seen (record v { peerings = peerings; ends = ends; pings = pings; spokes = spokes; forwarding = new; marks = None }) ≡ with_learned (λ service. []) (without_ends (keeping_all (without_peerings (seen v))))
+pub restart_seen : (v : EdgeLists) (peerings : List (Option Peering)) (ends : EndLists) (pings : List ℕ) (spokes : SpokeLists) (told new : ForwardingLists) → v.stopped ≡ true
+    → IsEdge v → AreForgotten v peerings ends pings spokes told new
+    → seen (record v { peerings = peerings; ends = ends; pings = pings; spokes = spokes; forwarding = new; marks = None })
+    ≡ with_learned (λ service. []) (without_ends (keeping_all (without_peerings (seen v))))
 restart_seen v peerings ends pings spokes told new working is are =
     ap (λ (kept : List (Option Peering)). seen (record v { peerings = kept; ends = ends; pings = pings; spokes = spokes; forwarding = new; marks = None })) are.peerings
     ∙ (seen_forwarding (with_learned (λ service. [])) (record (alone v) { ends = ends; pings = pings; spokes = spokes; forwarding = told; marks = None }) new
     (holds_forgotten (alone v) ends pings spokes told are.places are.pings are.spokes are.closes working (holds_alone v working is)) are.clears are.unlearned
     ∙ ap (with_learned (λ service. []))
-    (ends_forgotten (alone v) ends pings spokes told working (holds_alone v working is) are.places are.pings are.spokes are.closes are.ends are.next are.labels are.untold ∙ ap (λ (e : EdgeState). without_ends (keeping_all e)) (seen_gone v)))
+    (ends_forgotten (alone v) ends pings spokes told working (holds_alone v working is) are.places are.pings are.spokes are.closes are.ends are.next are.labels are.untold
+    ∙ ap (λ (e : EdgeState). without_ends (keeping_all e)) (seen_gone v)))

@@ -95,7 +95,8 @@ module _ (plan : Plan) (place : EndPlace) (old new : EdgeState) (alike : SeesAli
         ap (λ (held : ℕ → Option Binding). held_from held (mate_of new.me place (wire_row plan place.wire))) held_alike
         ∙ ap (λ (me : EdgeId). held_from (held_of old place.wire) (mate_of me place (wire_row plan place.wire))) alike.me
 
-    by : (terminal : Bool) → place.terminal ≡ terminal → cond terminal (own_status plan new place) (passed_status (held_beyond plan new place)) ≡ cond terminal (own_status plan old place) (passed_status (held_beyond plan old place))
+    by : (terminal : Bool) → place.terminal ≡ terminal → cond terminal (own_status plan new place) (passed_status (held_beyond plan new place))
+        ≡ cond terminal (own_status plan old place) (passed_status (held_beyond plan old place))
     by true terminal = own terminal
     by false switching = ap passed_status beyond
 
@@ -129,7 +130,8 @@ module _ (plan : Plan) (place : EndPlace) (old new : EdgeState) (alike : SeesAli
   mended_alike is =
       ap (λ (o : Option Told). tells_wish place o (not (is_some (label_to_give new))) (end_at new place).local) wish_alike
       ∙ (ap (λ (e : EndState). tells_wish place (wish plan old place) (not (is_some (label_to_give new))) e.local) alike.end
-      ∙ fewer place (wish plan old place) (not (is_some (label_to_give old))) (not (is_some (label_to_give new))) (end_at old place).local (none_is (label_to_give old) (label_to_give new) alike.labels) is)
+      ∙ fewer place (wish plan old place) (not (is_some (label_to_give old))) (not (is_some (label_to_give new))) (end_at old place).local
+      (none_is (label_to_give old) (label_to_give new) alike.labels) is)
 
   told_alike : is_told plan old place ≡ true → is_told plan new place ≡ true
   told_alike is =
@@ -494,7 +496,8 @@ passes_front mend (place ∷ places) (suc n) m still =
     ap (each_end mend places) (said_still m (mend place) (still zero (omega arith) (omega arith)))
     ∙ passes_front mend places n m (λ slot front below. still (suc slot) (below_next slot n front) (below_next slot (length places) below))
 
-passes_all : (mend : EndPlace → Work → Spoken) (places : List EndPlace) (m : Spoken) → ((slot : ℕ) → slot < length places → mend (place_at places slot) m.work ≡ stays m.work) → each_end mend places m ≡ m
+passes_all : (mend : EndPlace → Work → Spoken) (places : List EndPlace) (m : Spoken) → ((slot : ℕ) → slot < length places → mend (place_at places slot) m.work ≡ stays m.work)
+    → each_end mend places m ≡ m
 passes_all mend [] m still = refl
 passes_all mend (place ∷ places) m still =
     ap (each_end mend places) (said_still m (mend place) (still zero (omega arith))) ∙ passes_all mend places m (λ slot below. still (suc slot) (below_next slot (length places) below))
@@ -561,7 +564,8 @@ settles_passed plan (place ∷ places) (suc n) work settled =
 settles_none : (plan : Plan) (places : List EndPlace) (work : Work) → ((slot : ℕ) → slot < length places → IsSettled plan work.edge (place_at places slot)) → settles_downs plan places work ≡ work
 settles_none plan [] work settled = refl
 settles_none plan (place ∷ places) work settled =
-    ap (settles_downs plan places) (settles_still plan place work (settled zero (omega arith))) ∙ settles_none plan places work (λ slot below. settled (suc slot) (below_next slot (length places) below))
+    ap (settles_downs plan places) (settles_still plan place work (settled zero (omega arith)))
+    ∙ settles_none plan places work (λ slot below. settled (suc slot) (below_next slot (length places) below))
 
 settles_left : (plan : Plan) (places : List EndPlace) (n : ℕ) (work : Work) → ((slot : ℕ) → n ≤ slot → slot < length places → IsSettled plan work.edge (place_at places slot))
     → settles_downs plan (drop n places) work ≡ work
@@ -602,7 +606,8 @@ pub record IsBeside (plan : Plan) (peer : ℕ) (old new : EdgeState) : Type 0 wh
   pub ends : (wire k : ℕ) → nat_eq k peer ≡ false → new.ends wire k ≡ old.ends wire k
   pub absent : (wire : ℕ) → HasNoEnd plan old.me wire peer → new.ends wire peer ≡ old.ends wire peer
 
-beside_sees : (plan : Plan) (peer : ℕ) (place : EndPlace) (old new : EdgeState) → IsBeside plan peer old new → HasNoEnd plan old.me place.wire.0 peer → nat_eq place.peer.0 peer ≡ false → SeesAlike plan place old new
+beside_sees : (plan : Plan) (peer : ℕ) (place : EndPlace) (old new : EdgeState) → IsBeside plan peer old new → HasNoEnd plan old.me place.wire.0 peer → nat_eq place.peer.0 peer ≡ false
+    → SeesAlike plan place old new
 beside_sees plan peer place old new beside none away = record {
   me = beside.me;
   on = ap (λ (m : ℕ → Bool). m place.wire.0) beside.on;
@@ -630,7 +635,8 @@ pub tidy_beside : (plan : Plan) (peer : ℕ) (old new : EdgeState) (before after
 tidy_beside plan peer old new before after tidy marked beside =
     marked_tidy plan old new (MarksBeside (end_places plan old.me) peer) before after tidy marked
     (λ marks holds known. tidy_alike plan old new marks beside.me
-    (λ slot below free. beside_sees plan peer (at slot) old new beside (λ other within same. holds slot other below within free same) (apart_test (at slot).peer.0 peer (holds slot slot below below free refl)))
+    (λ slot below free. beside_sees plan peer (at slot) old new beside (λ other within same. holds slot other below within free same)
+    (apart_test (at slot).peer.0 peer (holds slot slot below below free refl)))
     (λ slot below free. by_spoke (at slot) (apart_test (at slot).peer.0 peer (holds slot slot below below free refl)))
     (λ service passed is. ap (λ (c : ℕ → Option WireId). c service) beside.chosen ∙ is)
     known)
@@ -689,7 +695,8 @@ fresh_else c placed = λ wire peer none. by wire peer none (position (is_at wire
       (beside_within c.ends wire peer (Some slot) is) (ap (λ (x : WireId). x.0) w) (ap (λ (x : EdgeId). x.0) p))
 
 -- each end beside the peer is changed, and of one that is not there nothing is told
-pub beside_ends : (plan : Plan) (peer : EdgeId) (change : EndState → EndState) (edge : EdgeState) → change fresh ≡ fresh → AreFreshElse plan edge → IsBeside plan peer.0 edge (with_ends_beside peer change edge)
+pub beside_ends : (plan : Plan) (peer : EdgeId) (change : EndState → EndState) (edge : EdgeState) → change fresh ≡ fresh → AreFreshElse plan edge
+    → IsBeside plan peer.0 edge (with_ends_beside peer change edge)
 unfolding with_ends_beside
 beside_ends plan peer change edge stays_fresh else = record {
   me = refl;
@@ -747,7 +754,8 @@ unfolding with_peering
 fresh_peering plan peer kept edge else = else
 
 -- the ends beside the peer are lost where no session with it stands
-pub beside_cleared : (plan : Plan) (peer : EdgeId) (put new : EdgeState) → AreFreshElse plan put → ((calls : List LinkCall) (out : List Effect) → at_edge new calls out ≡ clears_ends peer (at_edge put calls out))
+pub beside_cleared : (plan : Plan) (peer : EdgeId) (put new : EdgeState) → AreFreshElse plan put
+    → ((calls : List LinkCall) (out : List Effect) → at_edge new calls out ≡ clears_ends peer (at_edge put calls out))
     → IsBeside plan peer.0 put new
 unfolding at_edge changes
 beside_cleared plan peer put new else clears = subst (IsBeside plan peer.0 put) (sym (ap (λ (w : Work). w.edge) (clears [] []))) (by (has_end put peer)) where
@@ -759,15 +767,18 @@ beside_cleared plan peer put new else clears = subst (IsBeside plan peer.0 put) 
   by false = beside_lost plan peer put else
 
 -- a session was taken out, and another one or none put in its place
-peering_put : (peer : EdgeId) (left : Option Peering) (old mid put : EdgeState) → mid ≡ with_peering peer None old → put ≡ with_peering peer left mid → put ≡ with_peering peer left (with_peering peer None old)
+peering_put : (peer : EdgeId) (left : Option Peering) (old mid put : EdgeState) → mid ≡ with_peering peer None old → put ≡ with_peering peer left mid → put
+    ≡ with_peering peer left (with_peering peer None old)
 peering_put peer left old mid put took puts = puts ∙ ap (with_peering peer left) took
 
 pub beside_put : (plan : Plan) (peer : EdgeId) (left : Option Peering) (old mid put : EdgeState) → mid ≡ with_peering peer None old → put ≡ with_peering peer left mid → IsBeside plan peer.0 old put
 beside_put plan peer left old mid put took puts =
     subst (IsBeside plan peer.0 old) (sym (peering_put peer left old mid put took puts))
-    (beside_then plan peer.0 old (with_peering peer None old) (with_peering peer left (with_peering peer None old)) (beside_peering plan peer None old) (beside_peering plan peer left (with_peering peer None old)))
+    (beside_then plan peer.0 old (with_peering peer None old) (with_peering peer left (with_peering peer None old)) (beside_peering plan peer None old)
+    (beside_peering plan peer left (with_peering peer None old)))
 
-pub fresh_put : (plan : Plan) (peer : EdgeId) (left : Option Peering) (old mid put : EdgeState) → mid ≡ with_peering peer None old → put ≡ with_peering peer left mid → AreFreshElse plan old → AreFreshElse plan put
+pub fresh_put : (plan : Plan) (peer : EdgeId) (left : Option Peering) (old mid put : EdgeState) → mid ≡ with_peering peer None old → put ≡ with_peering peer left mid
+    → AreFreshElse plan old → AreFreshElse plan put
 fresh_put plan peer left old mid put took puts else =
     subst (AreFreshElse plan) (sym (peering_put peer left old mid put took puts)) (fresh_peering plan peer left (with_peering peer None old) (fresh_peering plan peer None old else))
 
@@ -819,7 +830,8 @@ chosen_sees plan place old service chosen end apart = record {
 }
   where
     by : place.terminal ≡ true → (b : Bool) → nat_eq end.row.service.0 service ≡ b
-        → end_role_of end.row old.me (is_chosen_wire place.wire (cond (nat_eq end.row.service.0 service) chosen (old.chosen end.row.service.0))) ≡ end_role_of end.row old.me (is_chosen_wire place.wire (old.chosen end.row.service.0))
+        → end_role_of end.row old.me (is_chosen_wire place.wire (cond (nat_eq end.row.service.0 service) chosen (old.chosen end.row.service.0)))
+        ≡ end_role_of end.row old.me (is_chosen_wire place.wire (old.chosen end.row.service.0))
     by terminal true mine =
         other_role end.row old.me service mine (sym end.terminal ∙ terminal) (sym (ap (is_spoke_row (record { 0 = service }) old.me) end.is) ∙ apart)
         (is_chosen_wire place.wire (cond (nat_eq end.row.service.0 service) chosen (old.chosen end.row.service.0))) (is_chosen_wire place.wire (old.chosen end.row.service.0))
@@ -848,7 +860,8 @@ tidy_chosen plan service chosen old new before after tidy marked is chose =
     subst (λ (e : EdgeState). IfSome after (IsTidy plan e)) (sym chose)
     (marked_tidy plan old next (MarksEach (end_places plan old.me) (starts_spoke plan old.me (record { 0 = service }))) before after tidy marked
     (λ marks holds known. tidy_alike plan old next marks (chosen_me old (put_at old.chosen service chosen))
-    (λ slot below free. chosen_sees plan (place_at (end_places plan old.me) slot) old service chosen (all_at (IsEndOf plan old.me) (end_places plan old.me) (places_are plan old.me) slot below) (holds slot below free))
+    (λ slot below free. chosen_sees plan (place_at (end_places plan old.me) slot) old service chosen
+    (all_at (IsEndOf plan old.me) (end_places plan old.me) (places_are plan old.me) slot below) (holds slot below free))
     (λ slot below free. chosen_spoke (place_at (end_places plan old.me) slot) old (put_at old.chosen service chosen))
     (λ k passed had. chosen_now plan old service chosen k is had)
     known))

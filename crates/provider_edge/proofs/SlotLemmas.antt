@@ -50,7 +50,8 @@ new_there now before chosen was is so had = ap not had ∙ ap (λ (b : Bool). b 
 pub new_away : (now before chosen : Bool) → chosen ≡ now → chosen ≡ false → chosen ≡ (now && not before)
 new_away now before chosen is so = so ∙ ap (λ (b : Bool). b && not before) (sym (sym is ∙ so))
 
-pub new_read : (c now : EdgeLists) (slot : ℕ) (place : EndPlace) (row : WirePlan) (before : ℕ → Option WireId) (new : Bool) → c ≡ now → place ≡ place_of now.ends slot → wire_row c.plan place.wire ≡ Some row
+pub new_read : (c now : EdgeLists) (slot : ℕ) (place : EndPlace) (row : WirePlan) (before : ℕ → Option WireId) (new : Bool) → c ≡ now → place ≡ place_of now.ends slot
+    → wire_row c.plan place.wire ≡ Some row
     → new ≡ (is_chosen_wire place.wire ((seen now).chosen row.service.0) && not (is_chosen_wire place.wire (before row.service.0)))
     → new ≡ is_new_choice before (seen now).chosen (place_of now.ends slot).wire (wire_row now.plan (place_of now.ends slot).wire)
 new_read c now slot place row before new same at found is =
@@ -60,7 +61,8 @@ new_read c now slot place row before new same at found is =
 
 -- ---- the first end of which something holds
 
-pub slot_found : (c : EdgeLists) (test : EndPlace → Bool) (found : Option ℕ) (slot : ℕ) → IsEdge c → found ≡ position test c.ends.places → found ≡ Some slot → find test (end_places c.plan c.me) ≡ Some (place_of c.ends slot)
+pub slot_found : (c : EdgeLists) (test : EndPlace → Bool) (found : Option ℕ) (slot : ℕ) → IsEdge c → found ≡ position test c.ends.places → found ≡ Some slot
+    → find test (end_places c.plan c.me) ≡ Some (place_of c.ends slot)
 slot_found c test found slot is at some =
     ap (find test) (sym is.places)
     ∙ subst (λ (o : Option ℕ). IfSome o (λ n. find test c.ends.places ≡ Some (place_of c.ends n))) some (named_if test c.ends.places found at)
@@ -83,7 +85,8 @@ end_none c now test found same is at none =
 pub slot_place : (c now : EdgeLists) (test : EndPlace → Bool) (found : Option ℕ) (slot : ℕ) (place : EndPlace) → c ≡ now → IsEdge c → found ≡ position test c.ends.places → found ≡ Some slot
     → find test (end_places now.plan now.me) ≡ Some place → place_of now.ends slot ≡ place
 slot_place c now test found slot place same is at some here =
-    let first : find test (end_places now.plan now.me) ≡ Some (place_of now.ends slot) = subst (λ (n : EdgeLists). find test (end_places n.plan n.me) ≡ Some (place_of n.ends slot)) same (slot_found c test found slot is at some) in
+    let first : find test (end_places now.plan now.me) ≡ Some (place_of now.ends slot) =
+    subst (λ (n : EdgeLists). find test (end_places n.plan n.me) ≡ Some (place_of n.ends slot)) same (slot_found c test found slot is at some) in
     cc (first, here)
 
 pub no_place : (c now : EdgeLists) (test : EndPlace → Bool) (found : Option ℕ) (place : EndPlace) → c ≡ now → IsEdge c → found ≡ position test c.ends.places → found ≡ None

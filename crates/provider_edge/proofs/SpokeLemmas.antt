@@ -66,7 +66,8 @@ where_more test p place places = by (test place) where
   by false = refl
 
 -- the slot of one place more
-pub slots_next : (test : EndPlace → Bool) (places : List EndPlace) (i : ℕ) (place : EndPlace) (slots more whole : List ℕ) (starts : Bool) → i < length places → place ≡ slice_index_or places i place → starts ≡ test place
+pub slots_next : (test : EndPlace → Bool) (places : List EndPlace) (i : ℕ) (place : EndPlace) (slots more whole : List ℕ) (starts : Bool) → i < length places → place
+    ≡ slice_index_or places i place → starts ≡ test place
     → slots ++ slots_where test i (drop i places) ≡ whole → more ≡ slots ++ cond starts (i ∷ []) [] → more ++ slots_where test (i + 1) (drop (i + 1) places) ≡ whole
 slots_next test places i place slots more whole starts below read tested so_far pushed =
     ap (λ (l : List ℕ). l ++ slots_where test (i + 1) (drop (i + 1) places)) (pushed ∙ ap (λ (b : Bool). slots ++ cond b (i ∷ []) []) tested)
@@ -97,7 +98,8 @@ priorities_end rows i priorities past so_far =
 -- ---- slots name the places that pass the test
 
 -- a slot is one of the edge's
-pub slots_below : (test : EndPlace → Bool) (p n : ℕ) (places : List EndPlace) (i d : ℕ) → p + length places ≤ n → i < length (slots_where test p places) → slice_index_or (slots_where test p places) i d < n
+pub slots_below : (test : EndPlace → Bool) (p n : ℕ) (places : List EndPlace) (i d : ℕ) → p + length places ≤ n → i < length (slots_where test p places)
+    → slice_index_or (slots_where test p places) i d < n
 slots_below test p n [] i d within below = absurd (omega arith)
 slots_below test p n (x ∷ places) i d within below = by (test x) i below (λ k h. slots_below test (p + 1) n places k d (omega arith) h) where
   rest : List ℕ
@@ -109,7 +111,8 @@ slots_below test p n (x ∷ places) i d within below = by (test x) i below (λ k
   by false k h later = later k h
 
 -- what is made of each such place is what is made of its slot
-pub by_slots : {X : Type 0} (f : EndPlace → X) (test : EndPlace → Bool) (all : List EndPlace) (p : ℕ) (places : List EndPlace) → ((k : ℕ) → k < length places → slice_index_or all (p + k) no_place ≡ slice_index_or places k no_place)
+pub by_slots : {X : Type 0} (f : EndPlace → X) (test : EndPlace → Bool) (all : List EndPlace) (p : ℕ) (places : List EndPlace)
+    → ((k : ℕ) → k < length places → slice_index_or all (p + k) no_place ≡ slice_index_or places k no_place)
     → map (λ slot. f (slice_index_or all slot no_place)) (slots_where test p places) ≡ map f (filter test places)
 by_slots f test all p [] same = refl
 by_slots {X = X} f test all p (x ∷ places) same = by (test x) (by_slots f test all (p + 1) places later) where
@@ -128,7 +131,8 @@ by_slots {X = X} f test all p (x ∷ places) same = by (test x) (by_slots f test
   by false rest = rest
 
 -- the same of all places
-pub by_all_slots : {X : Type 0} (f : EndPlace → X) (test : EndPlace → Bool) (places : List EndPlace) → map (λ slot. f (slice_index_or places slot no_place)) (slots_where test 0 places) ≡ map f (filter test places)
+pub by_all_slots : {X : Type 0} (f : EndPlace → X) (test : EndPlace → Bool) (places : List EndPlace) → map (λ slot. f (slice_index_or places slot no_place)) (slots_where test 0 places)
+    ≡ map f (filter test places)
 by_all_slots f test places = by_slots f test places 0 places (λ k below. let place : 0 + k ≡ k = omega arith in ap (λ (n : ℕ). slice_index_or places n no_place) place)
 
 got_map : {X Y : Type 0} (f : X → Y) (xs : List X) (i : ℕ) (d : X) → i < length xs → slice_get (map f xs) i ≡ Some (f (slice_index_or xs i d))
@@ -186,7 +190,8 @@ chosen_none plan edge = λ i. record edge { chosen = λ service. ap (λ (b : Boo
   above : (service : ℕ) → false ≡ nat_lt service 0
   above service = grind (arith, nat_tests)
 
-pub chosen_more : (plan : Plan) (n : ℕ) (old mid new : EdgeState) (wire : Option WireId) → mid ≡ choosing_to n plan old → wire ≡ choice plan mid (record { 0 = n }) → new ≡ with_chosen (put_at mid.chosen n wire) mid
+pub chosen_more : (plan : Plan) (n : ℕ) (old mid new : EdgeState) (wire : Option WireId) → mid ≡ choosing_to n plan old → wire ≡ choice plan mid (record { 0 = n }) → new
+    ≡ with_chosen (put_at mid.chosen n wire) mid
     → new ≡ choosing_to (n + 1) plan old
 unfolding with_chosen
 chosen_more plan n old mid new wire so_far chosen puts =
@@ -209,7 +214,8 @@ chosen_more plan n old mid new wire so_far chosen puts =
     one k false other = rw other (ap (λ (b : Bool). cond b (by_now k) (old.chosen k)) (apart k other))
 
 -- for the services past those it has chosen what it would choose
-pub chosen_all : (plan : Plan) (n : ℕ) (old new : EdgeState) → ((service : ℕ) → n ≤ service → old.chosen service ≡ choice plan old (record { 0 = service })) → new ≡ choosing_to n plan old → new ≡ choosing plan old
+pub chosen_all : (plan : Plan) (n : ℕ) (old new : EdgeState) → ((service : ℕ) → n ≤ service → old.chosen service ≡ choice plan old (record { 0 = service })) → new
+    ≡ choosing_to n plan old → new ≡ choosing plan old
 unfolding with_chosen
 chosen_all plan n old new past is = is ∙ (λ i. record old { chosen = λ service. one service (nat_lt service n) refl i }) where
   above : (service : ℕ) → nat_lt service n ≡ false → n ≤ service
@@ -246,13 +252,15 @@ usable_read c slot place bits end why free at bit read is so =
     twice false = refl
 
 -- a slot is one of the edge's
-pub slot_below : (plan : Plan) (me : EdgeId) (places : List EndPlace) (service : ℕ) (slots : List ℕ) (i d : ℕ) → slots ≡ slots_for plan me places service → i < length slots → slice_index_or slots i d < length places
+pub slot_below : (plan : Plan) (me : EdgeId) (places : List EndPlace) (service : ℕ) (slots : List ℕ) (i d : ℕ) → slots ≡ slots_for plan me places service → i < length slots
+    → slice_index_or slots i d < length places
 slot_below plan me places service slots i d are below =
     subst (λ (l : List ℕ). slice_index_or l i d < length places) (sym are)
     (slots_below (starts_spoke plan me (record { 0 = service })) 0 (length places) places i d (omega arith) (subst (λ (l : List ℕ). i < length l) are below))
 
 -- the wire of a slot is that of the place
-pub wire_named : (plan : Plan) (me : EdgeId) (ends : EndLists) (service : ℕ) (slots : List ℕ) (i d : ℕ) (place : EndPlace) → ends.places ≡ end_places plan me → slots ≡ slots_for plan me ends.places service → i < length (slots_for plan me ends.places service)
+pub wire_named : (plan : Plan) (me : EdgeId) (ends : EndLists) (service : ℕ) (slots : List ℕ) (i d : ℕ) (place : EndPlace) → ends.places ≡ end_places plan me → slots
+    ≡ slots_for plan me ends.places service → i < length (slots_for plan me ends.places service)
     → place ≡ place_of ends (slice_index_or slots i d) → option_map (λ (end : EndPlace). end.wire) (slice_get (spoke_places plan me (record { 0 = service })) i) ≡ Some place.wire
 wire_named plan me ends service slots i d place placed are below at =
     ap (λ (l : List EndPlace). option_map (λ (end : EndPlace). end.wire) (slice_get (filter (starts_spoke plan me (record { 0 = service })) l) i)) (sym placed)
@@ -260,7 +268,8 @@ wire_named plan me ends service slots i d place placed are below at =
     ∙ ap (λ (p : EndPlace). Some p.wire) (sym (at ∙ ap (λ (l : List ℕ). place_of ends (slice_index_or l i d)) are)))
 
 -- one spoke more
-pub spokes_more : (f : ℕ → Spoke) (slots : List ℕ) (i d : ℕ) (spokes now : List Spoke) (one : Spoke) → i < length slots → spokes ++ map f (drop i slots) ≡ map f slots → one ≡ f (slice_index_or slots i d) → now ≡ spokes ++ one ∷ []
+pub spokes_more : (f : ℕ → Spoke) (slots : List ℕ) (i d : ℕ) (spokes now : List Spoke) (one : Spoke) → i < length slots → spokes ++ map f (drop i slots) ≡ map f slots → one
+    ≡ f (slice_index_or slots i d) → now ≡ spokes ++ one ∷ []
     → now ++ map f (drop (i + 1) slots) ≡ map f slots
 spokes_more f slots i d spokes now one below so_far is pushed =
     ap (λ (l : List Spoke). l ++ map f (drop (i + 1) slots)) (pushed ∙ ap (λ (s : Spoke). spokes ++ s ∷ []) is)

@@ -23,4 +23,5 @@ pub ruleset stitch_steps = (all_more, all_fails, all_end)
 -- the places of the slots are those of the plan
 pub stitched_is : (c now : EdgeLists) (wire : WireId) → c ≡ now → IsEdge c → list_all (is_joined_place (seen now) wire) now.ends.places ≡ is_stitched now.plan (seen now) wire
 unfolding seen
-stitched_is c now wire same is = subst (λ (n : EdgeLists). list_all (is_joined_place (seen n) wire) n.ends.places ≡ is_stitched n.plan (seen n) wire) same (ap (list_all (is_joined_place (seen c) wire)) is.places)
+stitched_is c now wire same is = subst (λ (n : EdgeLists). list_all (is_joined_place (seen n) wire) n.ends.places ≡ is_stitched n.plan (seen n) wire) same
+    (ap (list_all (is_joined_place (seen c) wire)) is.places)

@@ -65,7 +65,8 @@ module _ (c : EdgeLists) (told : Answers) (octets : List ℕ) (entry : StackEntr
   unfolding seen at_edge
   ends_of = refl
 
-  to_mate : (to : EdgeId) → found ≡ Some to → switched_under told octets entry place to (label_onward (seen_ends c.ends place.wire.0 to.0).remote entry.ttl) work ≡ switched c.plan told octets entry place work
+  to_mate : (to : EdgeId) → found ≡ Some to → switched_under told octets entry place to (label_onward (seen_ends c.ends place.wire.0 to.0).remote entry.ttl) work
+      ≡ switched c.plan told octets entry place work
   to_mate to some =
       ap (λ (ends : ℕ → ℕ → EndState). switched_under told octets entry place to (label_onward (ends place.wire.0 to.0).remote entry.ttl) work) (sym ends_of)
       ∙ (ap (λ (f : Option EdgeId). switched_to told octets entry place f work) (sym some) ∙ by_mate)
@@ -89,11 +90,13 @@ module _ (c : EdgeLists) (told : Answers) (octets : List ℕ) (entry : StackEntr
       ∙ (ap (λ (p : EdgeId). switched_under told octets entry place p (label_onward (seen_ends c.ends place.wire.0 p.0).remote entry.ttl) work) peer
       ∙ to_mate to some)))
     where
-      posted : (at : EndPlace) (to : EdgeId) (bytes : List ℕ) (taken : Bool) → at.wire ≡ place.wire → had_posted (towards to at) (arrival.Wire at.wire) bytes taken work ≡ had_posted (towards to place) (arrival.Wire place.wire) bytes taken work
+      posted : (at : EndPlace) (to : EdgeId) (bytes : List ℕ) (taken : Bool) → at.wire ≡ place.wire → had_posted (towards to at) (arrival.Wire at.wire) bytes taken work
+          ≡ had_posted (towards to place) (arrival.Wire place.wire) bytes taken work
       posted at to bytes true same = ap (λ (w : WireId). gives (Sent to w (arrival.Wire w) bytes) (posts to bytes true work)) same
       posted at to bytes false same = refl
 
-      alike : (at : EndPlace) (to : EdgeId) (label : Result ℕ SwapDrop) → at.wire ≡ place.wire → switched_under told octets entry at to label work ≡ switched_under told octets entry place to label work
+      alike : (at : EndPlace) (to : EdgeId) (label : Result ℕ SwapDrop) → at.wire ≡ place.wire → switched_under told octets entry at to label work
+          ≡ switched_under told octets entry place to label work
       alike at to (Err why) same = refl
       alike at to (Ok label) same = posted at to (relabelled label (entry.ttl - 1) octets) (next_answer told work) same
 

@@ -52,7 +52,8 @@ one_end : (wire : WireId) (place : EndPlace) → place.wire.0 ≡ wire.0 → pla
 one_end wire place same terminal = or_left (is_end_of_wire wire place) false (and_from (nat_eq place.wire.0 wire.0) place.terminal (eq-eqb place.wire.0 wire.0 same) terminal)
 
 -- an edge at one side of a segment has an end there
-at_one : (wire : WireId) (row : WirePlan) (me : EdgeId) (segment : ℕ) (first next : EdgeId) → is_terminal row me ≡ true → (nat_eq me.0 first.0 || nat_eq me.0 next.0) ≡ true → has_end_in wire (places_at wire row me segment first next) ≡ true
+at_one : (wire : WireId) (row : WirePlan) (me : EdgeId) (segment : ℕ) (first next : EdgeId) → is_terminal row me ≡ true → (nat_eq me.0 first.0 || nat_eq me.0 next.0) ≡ true
+    → has_end_in wire (places_at wire row me segment first next) ≡ true
 at_one wire row me segment first next terminal one = by (nat_eq me.0 first.0) (nat_eq me.0 next.0) one where
   by : (a b : Bool) → (a || b) ≡ true → has_end_in wire (cond a (end_place_at wire row me segment 0 next ∷ []) (cond b (end_place_at wire row me segment 1 first ∷ []) [])) ≡ true
   by true b one = one_end wire (end_place_at wire row me segment 0 next) refl terminal
@@ -60,7 +61,8 @@ at_one wire row me segment first next terminal one = by (nat_eq me.0 first.0) (n
   by false false one = absurd (cc (one))
 
 -- the last edge of a path has an end at its last segment
-at_last : (wire : WireId) (row : WirePlan) (me : EdgeId) (segment : ℕ) (path : List EdgeId) → is_terminal row me ≡ true → 2 ≤ length path → is_last me.0 path ≡ true → has_end_in wire (places_along wire row me segment path) ≡ true
+at_last : (wire : WireId) (row : WirePlan) (me : EdgeId) (segment : ℕ) (path : List EdgeId) → is_terminal row me ≡ true → 2 ≤ length path → is_last me.0 path ≡ true
+    → has_end_in wire (places_along wire row me segment path) ≡ true
 at_last wire row me segment [] terminal least last = absurd (omega (arith, least))
 at_last wire row me segment (x ∷ []) terminal least last = absurd (omega (arith, least))
 at_last wire row me segment (x ∷ y ∷ []) terminal least last =
@@ -68,11 +70,13 @@ at_last wire row me segment (x ∷ y ∷ []) terminal least last =
 at_last wire row me segment (x ∷ y ∷ z ∷ rest) terminal least last =
     joined_right wire (places_at wire row me segment x y) (places_along wire row me (segment + 1) (y ∷ z ∷ rest)) (at_last wire row me (segment + 1) (y ∷ z ∷ rest) terminal (omega arith) last)
 
-at_first : (wire : WireId) (row : WirePlan) (me : EdgeId) (segment : ℕ) (path : List EdgeId) → is_terminal row me ≡ true → 2 ≤ length path → is_first me.0 path ≡ true → has_end_in wire (places_along wire row me segment path) ≡ true
+at_first : (wire : WireId) (row : WirePlan) (me : EdgeId) (segment : ℕ) (path : List EdgeId) → is_terminal row me ≡ true → 2 ≤ length path → is_first me.0 path ≡ true
+    → has_end_in wire (places_along wire row me segment path) ≡ true
 at_first wire row me segment [] terminal least first = absurd (omega (arith, least))
 at_first wire row me segment (x ∷ []) terminal least first = absurd (omega (arith, least))
 at_first wire row me segment (x ∷ y ∷ rest) terminal least first =
-    joined_left wire (places_at wire row me segment x y) (places_along wire row me (segment + 1) (y ∷ rest)) (at_one wire row me segment x y terminal (or_left (nat_eq me.0 x.0) (nat_eq me.0 y.0) first))
+    joined_left wire (places_at wire row me segment x y) (places_along wire row me (segment + 1) (y ∷ rest))
+    (at_one wire row me segment x y terminal (or_left (nat_eq me.0 x.0) (nat_eq me.0 y.0) first))
 
 has_end_along : (wire : WireId) (row : WirePlan) (me : EdgeId) → is_terminal row me ≡ true → 2 ≤ length row.path → has_end_in wire (places_along wire row me 0 row.path) ≡ true
 has_end_along wire row me terminal least = elim (or_cases (is_first me.0 row.path) (is_last me.0 row.path) terminal) [
@@ -80,7 +84,8 @@ has_end_along wire row me terminal least = elim (or_cases (is_first me.0 row.pat
   | inr last ↦ at_last wire row me 0 row.path terminal least last
 ]
 
-has_end_from : (me : EdgeId) (k n w : ℕ) (rows : List WirePlan) (row : WirePlan) → w ≡ k + n → slice_get rows n ≡ Some row → is_terminal row me ≡ true → 2 ≤ length row.path → has_end_in (record { 0 = w }) (places_from me k rows) ≡ true
+has_end_from : (me : EdgeId) (k n w : ℕ) (rows : List WirePlan) (row : WirePlan) → w ≡ k + n → slice_get rows n ≡ Some row → is_terminal row me ≡ true → 2 ≤ length row.path
+    → has_end_in (record { 0 = w }) (places_from me k rows) ≡ true
 has_end_from me k n w [] row place is terminal least = absurd (cc (is))
 has_end_from me k zero w (x ∷ rows) row place is terminal least =
     let same : x ≡ row = cc (is) in
@@ -94,7 +99,8 @@ has_end_from me k (suc n) w (x ∷ rows) row place is terminal least =
 -- ---- what was told of an end is why it does not forward
 
 -- a wire that ends at the edge forwards where nothing was told of a cause
-wire_opens : (plan : Plan) (edge : EdgeState) (service : ServiceId) (mesh : Bool) (wire : WireId) → IsChecked plan → InSync plan edge → IsWired plan.wires service edge.me mesh wire.0 → is_up (edge.told_down wire.0) ≡ end_forwards plan edge wire
+wire_opens : (plan : Plan) (edge : EdgeState) (service : ServiceId) (mesh : Bool) (wire : WireId) → IsChecked plan → InSync plan edge → IsWired plan.wires service edge.me mesh wire.0
+    → is_up (edge.told_down wire.0) ≡ end_forwards plan edge wire
 wire_opens plan edge service mesh wire checked synced wired =
     let row : IsWireOf plan wired.row = row_holds (IsWireOf plan) plan.wires wire.0 wired.row wired.is checked.wires in
     let terminal : is_terminal wired.row edge.me ≡ true = second_holds _ (is_terminal wired.row edge.me) wired.ends in
@@ -126,10 +132,12 @@ pub open_forwards : (c : EdgeLists) (service : ServiceId) → IsEdge c → InSyn
     → open_ports c.forwarding service ≡ port_forwards c.plan (seen c) (ports_of c.plan service c.me)
 open_forwards c service is synced =
     open_in c service is
-    ∙ same_tests (port_opens (circuits_in c.forwarding) (told_in c.forwarding) (ports_of c.plan service c.me)) (port_forwards c.plan (seen c) (ports_of c.plan service c.me)) (λ p. forwards_in c service p is synced)
+    ∙ same_tests (port_opens (circuits_in c.forwarding) (told_in c.forwarding) (ports_of c.plan service c.me)) (port_forwards c.plan (seen c) (ports_of c.plan service c.me))
+    (λ p. forwards_in c service p is synced)
 
 -- a port forwards as it did where an address was learned
-pub forwards_hearing : (plan : Plan) (edge : EdgeState) (service : ServiceId) (frame : List ℕ) (arrival : ℕ) (ports : List Port) (p : ℕ) → port_forwards plan (hearing service frame arrival edge) ports p ≡ port_forwards plan edge ports p
+pub forwards_hearing : (plan : Plan) (edge : EdgeState) (service : ServiceId) (frame : List ℕ) (arrival : ℕ) (ports : List Port) (p : ℕ)
+    → port_forwards plan (hearing service frame arrival edge) ports p ≡ port_forwards plan edge ports p
 unfolding with_addresses
 forwards_hearing plan edge service frame arrival ports p = by (slice_get ports p) where
   by : (x : Option Port) → forwards plan (hearing service frame arrival edge) x ≡ forwards plan edge x

@@ -70,7 +70,8 @@ tidy_slots plan old new (Some marks) same each chosen tidy = record {
       (λ within. each slot within (tidy.ends slot unmarked within));
   chosen = λ service passed. chosen service
       (tidy.chosen service
-      (subst (λ (me : EdgeId). (slot : ℕ) → slot < length (end_places plan me) → starts_spoke plan me (record { 0 = service }) (place_at (end_places plan me) slot) ≡ true → IsUnmarked marks slot) same passed));
+      (subst (λ (me : EdgeId). (slot : ℕ) → slot < length (end_places plan me) → starts_spoke plan me (record { 0 = service }) (place_at (end_places plan me) slot) ≡ true
+      → IsUnmarked marks slot) same passed));
 }
 
 -- whatever end it is
@@ -82,7 +83,8 @@ tidy_each plan old new marks same each chosen = tidy_slots plan old new marks sa
 -- ---- the numbers that are kept to be given again
 
 -- where no label is left to be given none is then
-pub tidy_rekept : (plan : Plan) (edge : EdgeState) (kept : List Kept) (marks : Option EndMarks) → (label_to_give edge ≡ None → label_to_give (with_kept kept edge) ≡ None) → IfSome marks (IsTidy plan edge)
+pub tidy_rekept : (plan : Plan) (edge : EdgeState) (kept : List Kept) (marks : Option EndMarks) → (label_to_give edge ≡ None → label_to_give (with_kept kept edge) ≡ None)
+    → IfSome marks (IsTidy plan edge)
     → IfSome marks (IsTidy plan (with_kept kept edge))
 unfolding with_kept
 tidy_rekept plan edge kept marks leaves =
@@ -108,13 +110,15 @@ tidy_ticked plan edge ticks marks =
     tidy_each plan edge (record edge { ticks = ticks }) marks refl
     (λ place is. record { mended = is.mended; told = is.told; forgotten = is.forgotten; down = is.down }) (λ service is. is)
 
-pub tidy_pinged : (plan : Plan) (edge : EdgeState) (wire : WireId) (sequence : ℕ) (marks : Option EndMarks) → IfSome marks (IsTidy plan edge) → IfSome marks (IsTidy plan (with_next_ping wire sequence edge))
+pub tidy_pinged : (plan : Plan) (edge : EdgeState) (wire : WireId) (sequence : ℕ) (marks : Option EndMarks) → IfSome marks (IsTidy plan edge)
+    → IfSome marks (IsTidy plan (with_next_ping wire sequence edge))
 unfolding with_next_ping
 tidy_pinged plan edge wire sequence marks =
     tidy_each plan edge (record edge { next_ping = put_at edge.next_ping wire.0 sequence }) marks refl
     (λ place is. record { mended = is.mended; told = is.told; forgotten = is.forgotten; down = is.down }) (λ service is. is)
 
-pub tidy_circuit : (plan : Plan) (edge : EdgeState) (circuit : CircuitId) (on : Bool) (marks : Option EndMarks) → IfSome marks (IsTidy plan edge) → IfSome marks (IsTidy plan (with_circuit circuit on edge))
+pub tidy_circuit : (plan : Plan) (edge : EdgeState) (circuit : CircuitId) (on : Bool) (marks : Option EndMarks) → IfSome marks (IsTidy plan edge)
+    → IfSome marks (IsTidy plan (with_circuit circuit on edge))
 unfolding with_circuit
 tidy_circuit plan edge circuit on marks =
     tidy_each plan edge (record edge { circuit_on = put_at edge.circuit_on circuit.0 on }) marks refl
@@ -237,7 +241,8 @@ mended_up plan edge peering place ups = by (end_at edge place).local where
   by (Advertised label content) = ap (λ (wished : Option Told). stands place content wished) same
   by (Withdrawing label) = refl
 
-pub tidy_up : (plan : Plan) (edge : EdgeState) (peering : ℕ → Option Peering) (marks : Option EndMarks) → ((k : ℕ) → is_up_with (peering k) ≡ is_up_with (edge.peering k)) → IfSome marks (IsTidy plan edge)
+pub tidy_up : (plan : Plan) (edge : EdgeState) (peering : ℕ → Option Peering) (marks : Option EndMarks) → ((k : ℕ) → is_up_with (peering k) ≡ is_up_with (edge.peering k))
+    → IfSome marks (IsTidy plan edge)
     → IfSome marks (IsTidy plan (record edge { peering = peering }))
 tidy_up plan edge peering marks ups =
     tidy_each plan edge (record edge { peering = peering }) marks refl
@@ -295,7 +300,8 @@ stands_up up None stands = absurd (cc (stands))
 stands_up true (Some kept) stands = stands
 stands_up false (Some kept) stands = not-true (was_up (Some kept)) stands
 
-cleared_there : (peer : EdgeId) (put new : EdgeState) → ((calls : List LinkCall) (out : List Effect) → at_edge new calls out ≡ clears_ends peer (at_edge put calls out)) → has_end put peer ≡ true → new ≡ put
+cleared_there : (peer : EdgeId) (put new : EdgeState) → ((calls : List LinkCall) (out : List Effect) → at_edge new calls out ≡ clears_ends peer (at_edge put calls out))
+    → has_end put peer ≡ true → new ≡ put
 unfolding at_edge
 cleared_there peer put new clears there =
     let here : Work = record { edge = put; calls = []; effects = []; idle = false } in
@@ -306,7 +312,8 @@ unfolding with_peering
 there_put peer left mid put puts there = ap (λ (e : EdgeState). has_end e peer) puts ∙ (ap (λ (b : Bool). is_there (cond b left (mid.peering peer.0))) (same_number peer.0) ∙ there)
 
 -- an event happened to a session, which stands as it did
-pub tidy_happened : (plan : Plan) (peer : EdgeId) (before left : Option Peering) (up : Bool) (old mid put new : EdgeState) (marks : Option EndMarks) → IfSome marks (IsTidy plan old) → up ≡ was_up (old.peering peer.0)
+pub tidy_happened : (plan : Plan) (peer : EdgeId) (before left : Option Peering) (up : Bool) (old mid put new : EdgeState) (marks : Option EndMarks) → IfSome marks (IsTidy plan old)
+    → up ≡ was_up (old.peering peer.0)
     → before ≡ old.peering peer.0 → mid ≡ with_peering peer None old → put ≡ with_peering peer left mid
     → ((calls : List LinkCall) (out : List Effect) → at_edge new calls out ≡ clears_ends peer (at_edge put calls out)) → stands_as up left ≡ true → IfSome marks (IsTidy plan new)
 tidy_happened plan peer before left up old mid put new marks tidy at read took puts clears stands =

@@ -18,10 +18,12 @@ use Rattle.edge_model.specs.Work.{Work}
 
 -- ---- one piece
 
-pub piece_idle : (told : Answers) (place : EndPlace) (addresses : List Mac) (work : Work) (declined : Bool) → (end_at work.edge place).local ≡ Idle declined → stays work ≡ tells_piece told place addresses work
+pub piece_idle : (told : Answers) (place : EndPlace) (addresses : List Mac) (work : Work) (declined : Bool) → (end_at work.edge place).local ≡ Idle declined → stays work
+    ≡ tells_piece told place addresses work
 piece_idle told place addresses work declined is = sym (ap (λ (l : LocalPart). tells_piece_by told place addresses l work) is)
 
-pub piece_withdrawing : (told : Answers) (place : EndPlace) (addresses : List Mac) (work : Work) (label : ℕ) → (end_at work.edge place).local ≡ Withdrawing label → stays work ≡ tells_piece told place addresses work
+pub piece_withdrawing : (told : Answers) (place : EndPlace) (addresses : List Mac) (work : Work) (label : ℕ) → (end_at work.edge place).local ≡ Withdrawing label → stays work
+    ≡ tells_piece told place addresses work
 piece_withdrawing told place addresses work label is = sym (ap (λ (l : LocalPart). tells_piece_by told place addresses l work) is)
 
 pub piece_put : (told : Answers) (place : EndPlace) (addresses : List Mac) (work : Work) (label : ℕ) (content : Told) (put : Spoken) → (end_at work.edge place).local ≡ Advertised label content
@@ -68,7 +70,8 @@ pieces_more told place n i addresses work below =
     (ap (λ (l : List Mac). tells_pieces told place (pieces_from (n - (i + 1)) l) (tells_piece told place (take 30 (drop (30 * i) addresses)) work).work)
     (drop_both (30 * i) 30 addresses ∙ ap (λ (k : ℕ). drop k addresses) next))
 
-pub pieces_next : (told : Answers) (place at : EndPlace) (n i : ℕ) (addresses piece : List Mac) (work next whole : Work) (failed : Bool) → i < n → at ≡ place → piece ≡ take 30 (drop (30 * i) addresses)
+pub pieces_next : (told : Answers) (place at : EndPlace) (n i : ℕ) (addresses piece : List Mac) (work next whole : Work) (failed : Bool) → i < n → at ≡ place → piece
+    ≡ take 30 (drop (30 * i) addresses)
     → whole ≡ tells_pieces told place (pieces_from (n - i) (drop (30 * i) addresses)) work → record { work = next; failed = failed } ≡ tells_piece told at piece work
     → whole ≡ tells_pieces told place (pieces_from (n - (i + 1)) (drop (30 * (i + 1)) addresses)) next
 pieces_next told place at n i addresses piece work next whole failed below same is so_far one =
@@ -77,7 +80,8 @@ pieces_next told place at n i addresses piece work next whole failed below same 
     ∙ ap (tells_pieces told place (pieces_from (n - (i + 1)) (drop (30 * (i + 1)) addresses)))
     (sym (ap (λ (s : Spoken). s.work) one ∙ (ap (λ (p : EndPlace). (tells_piece told p piece work).work) same ∙ ap (λ (l : List Mac). (tells_piece told place l work).work) is))))
 
-pub pieces_end : (told : Answers) (place : EndPlace) (n i : ℕ) (addresses : List Mac) (work whole : Work) → n ≤ i → whole ≡ tells_pieces told place (pieces_from (n - i) (drop (30 * i) addresses)) work → work ≡ whole
+pub pieces_end : (told : Answers) (place : EndPlace) (n i : ℕ) (addresses : List Mac) (work whole : Work) → n ≤ i → whole
+    ≡ tells_pieces told place (pieces_from (n - i) (drop (30 * i) addresses)) work → work ≡ whole
 pieces_end told place n i addresses work whole past so_far =
     let none : n - i ≡ 0 = omega arith in
     sym (so_far ∙ ap (λ (k : ℕ). tells_pieces told place (pieces_from k (drop (30 * i) addresses)) work) none)

@@ -38,7 +38,8 @@ other_seen : (e : EdgeLists) (row : CircuitPlan) → own_service e.me (Some row)
 unfolding seen
 other_seen e row none = other_row e.me row none
 
-pub circuit_other : (e : EdgeLists) (told : Answers) (circuit : CircuitId) (on : Bool) (row : Option CircuitPlan) (calls : List LinkCall) → own_service e.me row ≡ None → worked e calls (no_effects true) ≡ circuit_input e.plan told circuit on row (beginning (seen e) calls)
+pub circuit_other : (e : EdgeLists) (told : Answers) (circuit : CircuitId) (on : Bool) (row : Option CircuitPlan) (calls : List LinkCall) → own_service e.me row ≡ None
+    → worked e calls (no_effects true) ≡ circuit_input e.plan told circuit on row (beginning (seen e) calls)
 unfolding worked idles
 circuit_other e told circuit on None calls none = refl
 circuit_other e told circuit on (Some row) calls none = rw (other_seen e row none) refl
@@ -55,7 +56,8 @@ other_before true false other = refl
 other_before false true other = refl
 other_before false false other = absurd (cc (other))
 
-pub circuit_already : (e : EdgeLists) (told : Answers) (circuit : CircuitId) (on : Bool) (row : Option CircuitPlan) (service : ServiceId) (calls : List LinkCall) → own_service e.me row ≡ Some service → beq (is_on (seen e) circuit) on ≡ true
+pub circuit_already : (e : EdgeLists) (told : Answers) (circuit : CircuitId) (on : Bool) (row : Option CircuitPlan) (service : ServiceId) (calls : List LinkCall) → own_service e.me row
+    ≡ Some service → beq (is_on (seen e) circuit) on ≡ true
     → worked e calls (no_effects true) ≡ circuit_input e.plan told circuit on row (beginning (seen e) calls)
 unfolding worked idles
 circuit_already e told circuit on row service calls own same =
@@ -71,17 +73,20 @@ circuit_done e told circuit on row service calls work found other is =
     rw (found.is, own_seen e found.circuit found.own, before) is
 
 -- an edge's own circuit stays its own
-pub still_own : (e mid : EdgeLists) (circuit : CircuitId) (service : ServiceId) → own_service e.me (circuit_row e.plan circuit) ≡ Some service → Keeps e mid → own_service mid.me (circuit_row mid.plan circuit) ≡ Some service
+pub still_own : (e mid : EdgeLists) (circuit : CircuitId) (service : ServiceId) → own_service e.me (circuit_row e.plan circuit) ≡ Some service → Keeps e mid
+    → own_service mid.me (circuit_row mid.plan circuit) ≡ Some service
 still_own e mid circuit service own keeps =
     ap (λ (p : Plan). own_service mid.me (circuit_row p circuit)) keeps.plan ∙ (ap (λ (m : EdgeId). own_service m (circuit_row e.plan circuit)) keeps.me ∙ own)
 
 forgets : (e : EdgeLists) (circuit : CircuitId) (row : CircuitPlan) (service : ServiceId) → row.service ≡ service
-    → with_addresses service (without_port (position (is_circuit_port circuit) (ports_of e.plan service e.me)) (addresses_of (with_circuit circuit false (seen e)) service)) (with_circuit circuit false (seen e)) ≡ turned e.plan circuit row false (seen e)
+    → with_addresses service (without_port (position (is_circuit_port circuit) (ports_of e.plan service e.me)) (addresses_of (with_circuit circuit false (seen e)) service))
+    (with_circuit circuit false (seen e)) ≡ turned e.plan circuit row false (seen e)
 unfolding seen with_circuit
 forgets e circuit row service same =
     ap (λ (at : ServiceId). with_addresses at (without_port (position (is_circuit_port circuit) (ports_of e.plan at e.me)) (addresses_of (seen e) at)) (with_circuit circuit false (seen e))) (sym same)
 
-pub turned_off : (e mid now : EdgeLists) (circuit : CircuitId) (on : Bool) (row : CircuitPlan) (service : ServiceId) → own_service e.me (circuit_row e.plan circuit) ≡ Some service → circuit_row e.plan circuit ≡ Some row → on ≡ false
+pub turned_off : (e mid now : EdgeLists) (circuit : CircuitId) (on : Bool) (row : CircuitPlan) (service : ServiceId) → own_service e.me (circuit_row e.plan circuit) ≡ Some service
+    → circuit_row e.plan circuit ≡ Some row → on ≡ false
     → Keeps e mid → seen mid ≡ with_circuit circuit on (seen e)
     → seen now ≡ with_addresses service (without_port (position (is_circuit_port circuit) (ports_of mid.plan service mid.me)) (addresses_of (seen mid) service)) (seen mid)
     → seen now ≡ turned e.plan circuit row on (seen e)
@@ -97,26 +102,30 @@ turned_off e mid now circuit false row service own at here keeps turns is =
 
 -- ---- frames
 
-pub frame_other : (e : EdgeLists) (told : Answers) (circuit : CircuitId) (octets : List ℕ) (row : Option CircuitPlan) (calls : List LinkCall) → own_service e.me row ≡ None → worked e calls (no_effects true) ≡ frame_input e.plan told circuit octets row (beginning (seen e) calls)
+pub frame_other : (e : EdgeLists) (told : Answers) (circuit : CircuitId) (octets : List ℕ) (row : Option CircuitPlan) (calls : List LinkCall) → own_service e.me row ≡ None
+    → worked e calls (no_effects true) ≡ frame_input e.plan told circuit octets row (beginning (seen e) calls)
 unfolding worked idles
 frame_other e told circuit octets None calls none = refl
 frame_other e told circuit octets (Some row) calls none = rw (other_seen e row none) refl
 
-pub frame_off : (e : EdgeLists) (told : Answers) (circuit : CircuitId) (octets : List ℕ) (row : Option CircuitPlan) (service : ServiceId) (calls : List LinkCall) → own_service e.me row ≡ Some service → is_on (seen e) circuit ≡ false
+pub frame_off : (e : EdgeLists) (told : Answers) (circuit : CircuitId) (octets : List ℕ) (row : Option CircuitPlan) (service : ServiceId) (calls : List LinkCall) → own_service e.me row
+    ≡ Some service → is_on (seen e) circuit ≡ false
     → worked e calls (no_effects true) ≡ frame_input e.plan told circuit octets row (beginning (seen e) calls)
 unfolding worked idles
 frame_off e told circuit octets row service calls own off =
     let found = own_row e.me row service own in
     rw (found.is, own_seen e found.circuit found.own, off) refl
 
-pub frame_on : (e : EdgeLists) (told : Answers) (circuit : CircuitId) (octets : List ℕ) (row : Option CircuitPlan) (service : ServiceId) (calls : List LinkCall) (work : Work) → own_service e.me row ≡ Some service → is_on (seen e) circuit ≡ true
+pub frame_on : (e : EdgeLists) (told : Answers) (circuit : CircuitId) (octets : List ℕ) (row : Option CircuitPlan) (service : ServiceId) (calls : List LinkCall) (work : Work)
+    → own_service e.me row ≡ Some service → is_on (seen e) circuit ≡ true
     → work ≡ received e.plan told (arrival.Circuit circuit) service (position (is_circuit_port circuit) (ports_of e.plan service e.me)) (inner_at e.plan circuit octets) (beginning (seen e) calls)
     → work ≡ frame_input e.plan told circuit octets row (beginning (seen e) calls)
 unfolding seen
 frame_on e told circuit octets row service calls work own on is =
     let found = own_row e.me row service own in
     rw (found.is, found.own, on)
-    (is ∙ ap (λ (at : ServiceId). received e.plan told (arrival.Circuit circuit) at (position (is_circuit_port circuit) (ports_of e.plan at e.me)) (inner_at e.plan circuit octets) (beginning (seen e) calls)) (sym found.same))
+    (is ∙ ap (λ (at : ServiceId). received e.plan told (arrival.Circuit circuit) at (position (is_circuit_port circuit) (ports_of e.plan at e.me)) (inner_at e.plan circuit octets)
+    (beginning (seen e) calls)) (sym found.same))
 
 -- ---- one input of many
 

@@ -47,9 +47,11 @@ answered : (old mid now : NetLists) (me : EdgeId) (work : Work) (effects : Effec
     → HasStepped mid now (record { state = absorb_all me 0 0 effects.list (seen mid); entries = all_entries_of me 0 0 effects.list (seen mid) })
     → HasStepped old now (answer me 0 0 work (seen old))
 answered old mid now me work effects driven idle absorbed = record {
-  state = absorbed.state ∙ (ap (λ (n : NetworkState). absorb_all me 0 0 effects.list n) driven.state ∙ (ap (λ (es : List Effect). absorb_all me 0 0 es (with_edge me work.edge (seen old))) driven.effects_are ∙ sym (ap (λ (s : Stepped). s.state) event)));
+  state = absorbed.state ∙ (ap (λ (n : NetworkState). absorb_all me 0 0 effects.list n) driven.state
+      ∙ (ap (λ (es : List Effect). absorb_all me 0 0 es (with_edge me work.edge (seen old))) driven.effects_are ∙ sym (ap (λ (s : Stepped). s.state) event)));
   told = absorbed.told ∙ (ap (λ (t : List Entry). t ++ all_entries_of me 0 0 effects.list (seen mid)) driven.told
-      ∙ ap (λ (es : List Entry). old.trace ++ es) (ap (λ (n : NetworkState). all_entries_of me 0 0 effects.list n) driven.state ∙ (ap (λ (es : List Effect). all_entries_of me 0 0 es (with_edge me work.edge (seen old))) driven.effects_are ∙ sym (ap (λ (s : Stepped). s.entries) event))));
+      ∙ ap (λ (es : List Entry). old.trace ++ es) (ap (λ (n : NetworkState). all_entries_of me 0 0 effects.list n) driven.state
+      ∙ (ap (λ (es : List Effect). all_entries_of me 0 0 es (with_edge me work.edge (seen old))) driven.effects_are ∙ sym (ap (λ (s : Stepped). s.entries) event))));
 } where
   event : answer me 0 0 work (seen old) ≡ absorb me 0 0 work (seen old)
   event = let e : work.idle ≡ false = sym driven.idle_is ∙ idle in rw e refl
@@ -60,7 +62,8 @@ answer_stepped : (old now : NetLists) (me : EdgeId) (work : Work) → (work.idle
 answer_stepped old now me work still has = by has.effects.idle refl has.step
   where
     by : (b : Bool) → has.effects.idle ≡ b
-        → HasStepped has.mid now (if b then idle_event (seen has.mid) else (record { state = absorb_all me 0 0 has.effects.list (seen has.mid); entries = all_entries_of me 0 0 has.effects.list (seen has.mid) }))
+        → HasStepped has.mid now (if b then idle_event (seen has.mid) else
+        (record { state = absorb_all me 0 0 has.effects.list (seen has.mid); entries = all_entries_of me 0 0 has.effects.list (seen has.mid) }))
         → HasStepped old now (answer me 0 0 work (seen old))
     by true idle step = answered_idle old has.mid now me work has.effects has.driven idle still step.state step.told
     by false idle step = answered old has.mid now me work has.effects has.driven idle step
@@ -109,6 +112,7 @@ ping_still plan told wire work begins idle = by (ping_outcome plan told wire wor
       let wrong : true ≡ false = sym idle ∙ (only.idle ∙ begins) in
       absurd (cc (wrong))
 
-pub ping_stepped : (old now : NetLists) (wire : WireId) (me : EdgeId) → HasAnswered me old now (ping_input old.plan taken_all wire (begin_at (seen old) me)) → HasStepped old now (ping_event old.plan me wire (seen old))
+pub ping_stepped : (old now : NetLists) (wire : WireId) (me : EdgeId) → HasAnswered me old now (ping_input old.plan taken_all wire (begin_at (seen old) me))
+    → HasStepped old now (ping_event old.plan me wire (seen old))
 ping_stepped old now wire me has =
     answer_stepped old now me (ping_input old.plan taken_all wire (begin_at (seen old) me)) (ping_still old.plan taken_all wire (begin_at (seen old) me) refl) has

@@ -13,7 +13,8 @@ use Rattle.network_model.specs.Step.{brings, step}
 use Rattle.psn_net.specs.Lists.{HasStepped, NetLists, seen}
 
 -- an event that was told has brought about what its row says
-pub brought : (old mid now : NetLists) (result : Result (Unit {0}) NoMemory) (copy event case : Event) → copy ≡ event → event ≡ case → mid.plan ≡ old.plan → seen mid ≡ seen old → mid.trace ≡ old.trace ++ Did copy ∷ []
+pub brought : (old mid now : NetLists) (result : Result (Unit {0}) NoMemory) (copy event case : Event) → copy ≡ event → event ≡ case → mid.plan ≡ old.plan → seen mid ≡ seen old
+    → mid.trace ≡ old.trace ++ Did copy ∷ []
     → OnOk result (HasStepped mid now (brings mid.plan case (seen mid))) → OnOk result (HasStepped old now (step old.plan (seen old) event))
 brought old mid now (Ok done) copy event case copied is plan state trace stepped = record {
   state = stepped.state ∙ ap (λ (s : Stepped). s.state) same;

@@ -30,7 +30,8 @@ below_fails test (suc n) i within fails = elim (cases_order i n) [
 
 -- ---- wires
 
-pub any_found : (test : ℕ → WirePlan → Bool) (place : ℕ) (rows : List WirePlan) (row : WirePlan) → place < length rows → test place (get_or rows place row) ≡ true → any_wire test place (drop place rows) ≡ true
+pub any_found : (test : ℕ → WirePlan → Bool) (place : ℕ) (rows : List WirePlan) (row : WirePlan) → place < length rows → test place (get_or rows place row) ≡ true
+    → any_wire test place (drop place rows) ≡ true
 any_found test place rows row within passes = ap (any_wire test place) (drop_more rows place row within) ∙ ap (λ b. b || any_wire test (place + 1) (drop (place + 1) rows)) passes
 
 pub any_later : (test : ℕ → WirePlan → Bool) (place : ℕ) (rows : List WirePlan) (row : WirePlan) → place < length rows → test place (get_or rows place row) ≡ false

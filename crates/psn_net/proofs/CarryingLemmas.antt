@@ -111,7 +111,8 @@ last_forwards_is plan network wire (first ∷ next ∷ rest) = last_forwards_is 
 rest_of : (plan : Plan) (path : List EdgeId) (first : EdgeId) (rest : List EdgeId) → path ≡ first ∷ rest → list_all (is_edge_of plan) path ≡ true → list_all (is_edge_of plan) rest ≡ true
 rest_of plan path first rest at all = (and_parts (is_edge_of plan first) (list_all (is_edge_of plan) rest) (ap (list_all (is_edge_of plan)) (sym at) ∙ all)).1
 
-pub rest_within : (plan : Plan) (wire : ℕ) (row : WirePlan) (first : EdgeId) (rest : List EdgeId) → IsChecked plan → slice_get plan.wires wire ≡ Some row → row.path ≡ first ∷ rest → list_all (is_edge_of plan) rest ≡ true
+pub rest_within : (plan : Plan) (wire : ℕ) (row : WirePlan) (first : EdgeId) (rest : List EdgeId) → IsChecked plan → slice_get plan.wires wire ≡ Some row → row.path ≡ first ∷ rest
+    → list_all (is_edge_of plan) rest ≡ true
 rest_within plan wire row first rest checked is at = rest_of plan row.path first rest at (row_of plan wire row checked is).edges
 
 -- one of them is an edge of the plan
@@ -126,7 +127,8 @@ each_within plan path place d all within = each_of plan path place d all (omega 
 module _ (plan : Plan) (network : NetworkState) (wire : ℕ) where
   -- one edge that is not the last, and those behind it
   inner_at : (path : List EdgeId) (place : ℕ) (d : EdgeId) → place < length path - 1
-      → inner_stitched plan network wire (drop place path) ≡ (is_stitched plan (network.edges (get_or path place d).0) (record { 0 = wire }) && inner_stitched plan network wire (drop (place + 1) path))
+      → inner_stitched plan network wire (drop place path)
+      ≡ (is_stitched plan (network.edges (get_or path place d).0) (record { 0 = wire }) && inner_stitched plan network wire (drop (place + 1) path))
   inner_at path place d within =
       let point : EdgeId = get_or path place d in
       let next : drop (place + 1) path ≡ get_or path (place + 1) d ∷ drop (place + 1 + 1) path = drop_more path (place + 1) d (omega (arith, within)) in
@@ -167,14 +169,16 @@ one_end : (wire : WireId) (place : EndPlace) → place.wire.0 ≡ wire.0 → pla
 one_end wire place same terminal = or_left (is_end_of_wire wire place) false (and_from (nat_eq place.wire.0 wire.0) place.terminal (eq-eqb place.wire.0 wire.0 same) terminal)
 
 -- an edge at one side of a segment has an end there
-at_one : (wire : WireId) (row : WirePlan) (me : EdgeId) (segment : ℕ) (first next : EdgeId) → is_terminal row me ≡ true → (nat_eq me.0 first.0 || nat_eq me.0 next.0) ≡ true → has_end wire (places_at wire row me segment first next) ≡ true
+at_one : (wire : WireId) (row : WirePlan) (me : EdgeId) (segment : ℕ) (first next : EdgeId) → is_terminal row me ≡ true → (nat_eq me.0 first.0 || nat_eq me.0 next.0) ≡ true
+    → has_end wire (places_at wire row me segment first next) ≡ true
 at_one wire row me segment first next terminal one = by (nat_eq me.0 first.0) (nat_eq me.0 next.0) one where
   by : (a b : Bool) → (a || b) ≡ true → has_end wire (cond a (end_place_at wire row me segment 0 next ∷ []) (cond b (end_place_at wire row me segment 1 first ∷ []) [])) ≡ true
   by true b one = one_end wire (end_place_at wire row me segment 0 next) refl terminal
   by false true one = one_end wire (end_place_at wire row me segment 1 first) refl terminal
   by false false one = absurd (cc (one))
 
-at_last : (wire : WireId) (row : WirePlan) (me : EdgeId) (segment : ℕ) (path : List EdgeId) → is_terminal row me ≡ true → 2 ≤ length path → is_last me.0 path ≡ true → has_end wire (places_along wire row me segment path) ≡ true
+at_last : (wire : WireId) (row : WirePlan) (me : EdgeId) (segment : ℕ) (path : List EdgeId) → is_terminal row me ≡ true → 2 ≤ length path → is_last me.0 path ≡ true
+    → has_end wire (places_along wire row me segment path) ≡ true
 at_last wire row me segment [] terminal least last = absurd (omega (arith, least))
 at_last wire row me segment (x ∷ []) terminal least last = absurd (omega (arith, least))
 at_last wire row me segment (x ∷ y ∷ []) terminal least last =
@@ -182,11 +186,13 @@ at_last wire row me segment (x ∷ y ∷ []) terminal least last =
 at_last wire row me segment (x ∷ y ∷ z ∷ rest) terminal least last =
     joined_right wire (places_at wire row me segment x y) (places_along wire row me (segment + 1) (y ∷ z ∷ rest)) (at_last wire row me (segment + 1) (y ∷ z ∷ rest) terminal (omega arith) last)
 
-at_first : (wire : WireId) (row : WirePlan) (me : EdgeId) (segment : ℕ) (path : List EdgeId) → is_terminal row me ≡ true → 2 ≤ length path → is_first me.0 path ≡ true → has_end wire (places_along wire row me segment path) ≡ true
+at_first : (wire : WireId) (row : WirePlan) (me : EdgeId) (segment : ℕ) (path : List EdgeId) → is_terminal row me ≡ true → 2 ≤ length path → is_first me.0 path ≡ true
+    → has_end wire (places_along wire row me segment path) ≡ true
 at_first wire row me segment [] terminal least first = absurd (omega (arith, least))
 at_first wire row me segment (x ∷ []) terminal least first = absurd (omega (arith, least))
 at_first wire row me segment (x ∷ y ∷ rest) terminal least first =
-    joined_left wire (places_at wire row me segment x y) (places_along wire row me (segment + 1) (y ∷ rest)) (at_one wire row me segment x y terminal (or_left (nat_eq me.0 x.0) (nat_eq me.0 y.0) first))
+    joined_left wire (places_at wire row me segment x y) (places_along wire row me (segment + 1) (y ∷ rest))
+    (at_one wire row me segment x y terminal (or_left (nat_eq me.0 x.0) (nat_eq me.0 y.0) first))
 
 at_either : (wire : WireId) (row : WirePlan) (me : EdgeId) → is_terminal row me ≡ true → 2 ≤ length row.path → has_end wire (places_along wire row me 0 row.path) ≡ true
 at_either wire row me terminal least = elim (cases_Bool (is_first me.0 row.path)) [
@@ -194,7 +200,8 @@ at_either wire row me terminal least = elim (cases_Bool (is_first me.0 row.path)
   | inr other ↦ at_last wire row me 0 row.path terminal least (sym (ap (λ b. b || is_last me.0 row.path) other) ∙ terminal)
 ]
 
-has_end_from : (me : EdgeId) (k n w : ℕ) (rows : List WirePlan) (row : WirePlan) → w ≡ k + n → slice_get rows n ≡ Some row → is_terminal row me ≡ true → 2 ≤ length row.path → has_end (record { 0 = w }) (places_from me k rows) ≡ true
+has_end_from : (me : EdgeId) (k n w : ℕ) (rows : List WirePlan) (row : WirePlan) → w ≡ k + n → slice_get rows n ≡ Some row → is_terminal row me ≡ true → 2 ≤ length row.path
+    → has_end (record { 0 = w }) (places_from me k rows) ≡ true
 has_end_from me k n w [] row place is terminal least = absurd (cc (is))
 has_end_from me k zero w (x ∷ rows) row place is terminal least =
     let same : x ≡ row = cc (is) in
@@ -220,7 +227,8 @@ terminal_forwards edge wire row down checked is terminal told = by (wire_end edg
   by (Some place) some told = ap is_up told
 
 -- an edge that is no terminal edge of a wire does not forward it
-pub not_elsewhere : (edge : EdgeLists) (wire : WireId) (row : WirePlan) → slice_get edge.plan.wires wire.0 ≡ Some row → is_terminal row edge.me ≡ false → end_forwards edge.plan (seen edge) wire ≡ false
+pub not_elsewhere : (edge : EdgeLists) (wire : WireId) (row : WirePlan) → slice_get edge.plan.wires wire.0 ≡ Some row → is_terminal row edge.me ≡ false
+    → end_forwards edge.plan (seen edge) wire ≡ false
 unfolding seen
 not_elsewhere edge wire row is elsewhere = by (wire_end edge.plan edge.me wire) refl where
   by : (place : Option EndPlace) → wire_end edge.plan edge.me wire ≡ place → forwards_at edge.plan (seen edge) place ≡ false

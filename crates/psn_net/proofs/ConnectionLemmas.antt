@@ -111,7 +111,8 @@ connect_stepped old one two three now from to first second given given2 apart pl
 
   both : all_entries_of from 0 0 given (seen two) ++ all_entries_of to 0 0 given2 (seen three)
       ≡ (connecting from work to work2 (seen old)).entries
-  both = ap (λ (es : List Entry). es ++ all_entries_of to 0 0 given2 (seen three)) (ap (λ (es : List Effect). all_entries_of from 0 0 es (seen two)) firsts ∙ ap (λ (n : NetworkState). all_entries_of from 0 0 work.effects n) ends)
+  both = ap (λ (es : List Entry). es ++ all_entries_of to 0 0 given2 (seen three))
+      (ap (λ (es : List Effect). all_entries_of from 0 0 es (seen two)) firsts ∙ ap (λ (n : NetworkState). all_entries_of from 0 0 work.effects n) ends)
       ∙ ap (λ (es : List Entry). all_entries_of from 0 0 work.effects (with_edge to work2.edge (with_edge from work.edge (seen old))) ++ es)
       (ap (λ (es : List Effect). all_entries_of to 0 0 es (seen three)) seconds ∙ ap (λ (n : NetworkState). all_entries_of to 0 0 work2.effects n) middle)
 
@@ -125,7 +126,8 @@ pub absorbed_stepped : (old mid now : NetLists) (me : EdgeId) (origin hops : ℕ
 absorbed_stepped old mid now me origin hops work effects before told is state absorbed = record {
   state = absorbed.state ∙ (ap (λ (es : List Effect). absorb_all me origin hops es (seen mid)) is ∙ ap (λ (n : NetworkState). absorb_all me origin hops work.effects n) state);
   told = absorbed.told ∙ (ap (λ (t : List Entry). t ++ all_entries_of me origin hops effects.list (seen mid)) told
-      ∙ ap (λ (es : List Entry). old.trace ++ es) (ap (λ (es : List Effect). all_entries_of me origin hops es (seen mid)) is ∙ ap (λ (n : NetworkState). all_entries_of me origin hops work.effects n) state));
+      ∙ ap (λ (es : List Entry). old.trace ++ es) (ap (λ (es : List Effect). all_entries_of me origin hops es (seen mid)) is
+      ∙ ap (λ (n : NetworkState). all_entries_of me origin hops work.effects n) state));
 }
 
 pub hearing : (n now : NetLists) (from to : EdgeId) (count : ℕ) (bytes : List ℕ) (effects : Effects) → bytes ≡ take count (pipes_of n.pipes from.0 to.0)

@@ -98,14 +98,16 @@ marked_each n me old new marked = record {
   by false false x y fit mark e f = refl
 
 -- what a delivery sets, and a restart
-pub marked_delivery : (n : NetLists) (event : Event) (from to : EdgeId) (count : ℕ) (old new : IndexLists) → event ≡ Deliver from to count → HasMarkedPair n from.0 to.0 old new → AreMarkedAnew n (is_set event) old new
+pub marked_delivery : (n : NetLists) (event : Event) (from to : EdgeId) (count : ℕ) (old new : IndexLists) → event ≡ Deliver from to count → HasMarkedPair n from.0 to.0 old new
+    → AreMarkedAnew n (is_set event) old new
 marked_delivery n event from to count old new is pair = subst (λ (e : Event). AreMarkedAnew n (is_set e) old new) (sym is) (record { each = (marked_two n from.0 to.0 old new pair).each })
 
 pub marked_restart : (n : NetLists) (event : Event) (me : EdgeId) (old new : IndexLists) → event ≡ Restart me → IsMarked n me.0 old new → AreMarkedAnew n (is_set event) old new
 marked_restart n event me old new is marked = subst (λ (e : Event). AreMarkedAnew n (is_set e) old new) (sym is) (record { each = (marked_each n me.0 old new marked).each })
 
 -- an index that is right beside these pairs and others is right beside the others, once the marks of these are made anew
-marked_some : (n : NetLists) (these others : ℕ → ℕ → Bool) (old new : IndexLists) → IsIndexedBeside n old (λ i j. these i j || others i j) → AreMarkedAnew n these old new → IsIndexedBeside n new others
+marked_some : (n : NetLists) (these others : ℕ → ℕ → Bool) (old new : IndexLists) → IsIndexedBeside n old (λ i j. these i j || others i j) → AreMarkedAnew n these old new
+    → IsIndexedBeside n new others
 marked_some n these others old new beside marked = record {
   each = λ i j a b h. marked.each i j a b ∙ by (these i j) (others i j) (is_deliverable (seen n) i j) (has_mark old i j) h (beside.each i j a b);
 } where

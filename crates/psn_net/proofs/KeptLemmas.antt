@@ -104,7 +104,8 @@ silent_to me k origin hops (effect.Session peer state ∷ es) n none =
     rw away (silent_to me k origin hops es n both.1)
 silent_to me k origin hops (e ∷ es) n none = silent_to me k origin hops es (absorb_one me origin hops e n) none
 
-silent_at : (me : EdgeId) (origin hops : ℕ) (es : List Effect) (n : NetworkState) (i j : ℕ) → is_told (all_entries_of me origin hops es n) i j ≡ false → nat_eq i me.0 ≡ true → are_all (is_silent j) es ≡ true
+silent_at : (me : EdgeId) (origin hops : ℕ) (es : List Effect) (n : NetworkState) (i j : ℕ) → is_told (all_entries_of me origin hops es n) i j ≡ false → nat_eq i me.0 ≡ true
+    → are_all (is_silent j) es ≡ true
 silent_at me origin hops es n i j none here =
     silent_to me j origin hops es n (ap (λ (k : ℕ). is_told (all_entries_of me origin hops es n) k j) (sym (eqb-true i me.0 here)) ∙ none)
 
@@ -184,7 +185,8 @@ answer_at me origin hops work n i j tells = by work.idle where
 
 -- ---- connections
 
-connecting_at : (from to : EdgeId) (first second : Work) (n : NetworkState) (i j : ℕ) → TellsAll (n.edges from.0) first → TellsAll (n.edges to.0) second → KeepsUntold i j n (connecting from first to second n)
+connecting_at : (from to : EdgeId) (first second : Work) (n : NetworkState) (i j : ℕ) → TellsAll (n.edges from.0) first → TellsAll (n.edges to.0) second
+    → KeepsUntold i j n (connecting from first to second n)
 unfolding with_edge
 connecting_at from to first second n i j one other none = record {
   there = edges i j ∙ both_stood i j (silent_at from 0 0 first.effects both i j parts.0) (silent_at to 0 0 second.effects given i j parts.1);

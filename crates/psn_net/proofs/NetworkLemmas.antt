@@ -164,7 +164,8 @@ frame_idle plan circuit octets (Some row) me network at idle =
     work : Work
     work = frame_input plan taken_all circuit octets (Some row) (begin_at network row.edge)
 
-    here : work.idle ≡ true → (with_edge row.edge work.edge network ≡ (frame_event plan circuit octets (Some row) network).state) × ((frame_event plan circuit octets (Some row) network).entries ≡ Idle ∷ [])
+    here : work.idle ≡ true → (with_edge row.edge work.edge network ≡ (frame_event plan circuit octets (Some row) network).state)
+        × ((frame_event plan circuit octets (Some row) network).entries ≡ Idle ∷ [])
     here e = (
       edge_stays network row.edge work.edge (frame_still plan taken_all circuit octets (Some row) (begin_at network row.edge) refl e) ∙ rw e refl,
       rw e refl,
@@ -177,7 +178,8 @@ frame_taken : (plan : Plan) (circuit : CircuitId) (octets : List ℕ) (row : Opt
 frame_taken plan circuit octets None me network at idle = absurd (cc (at))
 frame_taken plan circuit octets (Some row) me network at idle =
     subst (λ (e : EdgeId). (frame_input plan taken_all circuit octets (Some row) (begin_at network e)).idle ≡ false
-    → frame_event plan circuit octets (Some row) network ≡ entering_at network circuit octets e (frame_input plan taken_all circuit octets (Some row) (begin_at network e))) (some_edge row me at) (λ e. rw e refl) idle
+    → frame_event plan circuit octets (Some row) network ≡ entering_at network circuit octets e (frame_input plan taken_all circuit octets (Some row) (begin_at network e)))
+    (some_edge row me at) (λ e. rw e refl) idle
 
 pub frame_idle_stepped : (old mid now : NetLists) (circuit : CircuitId) (octets : List ℕ) (me : EdgeId) (effects : Effects)
     → edge_of (circuit_row old.plan circuit) ≡ Some me
@@ -199,7 +201,8 @@ pub frame_stepped : (old mid in_ now : NetLists) (circuit : CircuitId) (octets :
     → HasStepped old now (frame_event old.plan circuit octets (circuit_row old.plan circuit) (seen old))
 unfolding with_edge with_frame
 frame_stepped old mid in_ now circuit octets me effects origin at driven idle entered absorbed = record {
-  state = absorbed.state ∙ (ap (λ (n : NetworkState). absorb_all me origin 0 effects.list n) network ∙ (ap (λ (o : ℕ). absorb_all me o 0 effects.list (with_edge me work.edge (with_frame (seen old)))) number
+  state = absorbed.state ∙ (ap (λ (n : NetworkState). absorb_all me origin 0 effects.list n) network
+      ∙ (ap (λ (o : ℕ). absorb_all me o 0 effects.list (with_edge me work.edge (with_frame (seen old)))) number
       ∙ (ap (λ (es : List Effect). absorb_all me (next_origin (seen old)) 0 es (with_edge me work.edge (with_frame (seen old)))) driven.effects_are ∙ sym (ap (λ (s : Stepped). s.state) event))));
   told = absorbed.told ∙ (ap (λ (t : List Entry). t ++ all_entries_of me origin 0 effects.list (seen in_)) (entered.told ∙ ap (λ (t : List Entry). t ++ In circuit origin octets ∷ []) driven.told)
       ∙ (append_assoc old.trace (In circuit origin octets ∷ []) (all_entries_of me origin 0 effects.list (seen in_)) ∙ ap (λ (es : List Entry). old.trace ++ es) entries));

@@ -213,7 +213,8 @@ not_after : (a b : Sending) → is_gt (sending_order a b) ≡ false → (a.since
 not_after a b h = (grind (arith, nat_tests, h), λ same. grind (arith, nat_tests, h, same))
 
 -- what the set has is kept: it was sent, and fewer than 64 ticks ago
-pub sent_young : (t l : ℕ) (es : List (ℕ × Carried)) (ss : List Sending) (s : Sending) → AreKept t l es → IsIndex es ss → list_any (is_at (sending_order s)) ss ≡ true → (s.since ≤ t) × (t < s.since + 64)
+pub sent_young : (t l : ℕ) (es : List (ℕ × Carried)) (ss : List Sending) (s : Sending) → AreKept t l es → IsIndex es ss → list_any (is_at (sending_order s)) ss ≡ true → (s.since ≤ t)
+    × (t < s.since + 64)
 sent_young t l es ss s kept index has = by (kept_under s.number es) (sym (index.each s) ∙ has) (kept_young t l s.number es kept) where
   by : (o : Option Carried) → is_since s.since o ≡ true → IfSome o (λ c. (c.since ≤ t) × (t < c.since + 64)) → (s.since ≤ t) × (t < s.since + 64)
   by None sent young = absurd (cc (sent))
@@ -318,7 +319,8 @@ seen_added t l c es es2 u seen kept added =
     ∙ ap (λ (v : UnderWay). record { list = v.list ++ packet_of v.ticks (v.last + 1, c) ∷ []; last = v.last + 1; ticks = v.ticks }) seen
 
 -- the packet with a number is the one that is kept under it
-pub seen_found : (t l n : ℕ) (es : List (ℕ × Carried)) (u : UnderWay) → seen_packets t l es ≡ u → AreKept t l es → find (is_numbered n) u.list ≡ option_map (λ c. packet_of u.ticks (n, c)) (kept_under n es)
+pub seen_found : (t l n : ℕ) (es : List (ℕ × Carried)) (u : UnderWay) → seen_packets t l es ≡ u → AreKept t l es → find (is_numbered n) u.list
+    ≡ option_map (λ c. packet_of u.ticks (n, c)) (kept_under n es)
 seen_found t l n es u seen kept = subst (λ (v : UnderWay). find (is_numbered n) v.list ≡ option_map (λ c. packet_of v.ticks (n, c)) (kept_under n es)) seen (found_kept t l n es kept)
 
 pub found_young : (t l n : ℕ) (c : Carried) (es : List (ℕ × Carried)) → AreKept t l es → Some c ≡ kept_under n es → (c.since ≤ t) × (t < c.since + 64)

@@ -13,7 +13,8 @@ place_end test place n h = let e : n - place ≡ 0 = omega arith in rw e refl
 
 pub ruleset place_steps = (place_found, place_more, place_end)
 
-pub pair_more : (test : ℕ → ℕ → Bool) (size place n : ℕ) → place < n → first_pair test size place (n - place) ≡ pair_or place (first_from (test place) 0 size) (first_pair test size (place + 1) (n - (place + 1)))
+pub pair_more : (test : ℕ → ℕ → Bool) (size place n : ℕ) → place < n → first_pair test size place (n - place)
+    ≡ pair_or place (first_from (test place) 0 size) (first_pair test size (place + 1) (n - (place + 1)))
 pair_more test size place n h = let e : n - place ≡ suc (n - (place + 1)) = omega arith in rw e refl
 
 pub pair_found : (test : ℕ → ℕ → Bool) (size place n to : ℕ) → place < n → first_from (test place) 0 size ≡ Some to → first_pair test size place (n - place) ≡ Some (place, to)

@@ -52,7 +52,8 @@ halts_first plan old now event es (TooMuch weight number) stops = refused_first 
 halts_first plan old now event es NoMemory stops = tt
 
 -- the same of one event alone
-pub ran_one : (plan : Plan) (old now : NetLists) (event : Event) → stop_at old.trace (length (seen old).under_way) event ≡ None → seen now ≡ (step plan (seen old) event).state → now.trace ≡ old.trace ++ (step plan (seen old) event).entries
+pub ran_one : (plan : Plan) (old now : NetLists) (event : Event) → stop_at old.trace (length (seen old).under_way) event ≡ None → seen now ≡ (step plan (seen old) event).state
+    → now.trace ≡ old.trace ++ (step plan (seen old) event).entries
     → ended now None ≡ ran plan (seen old) old.trace (event ∷ [])
 ran_one plan old now event none state trace = ran_first plan old now event [] none state trace
 
@@ -79,7 +80,8 @@ run_cut plan s t [] n x h =
 run_cut plan s t (e ∷ es) n x h = by (stop_at t (length s.under_way) e) refl h (run_cut plan (step plan s e).state (t ++ (step plan s e).entries) es n x)
   where
     by : (o : Option NetStop) → stop_at t (length s.under_way) e ≡ o → ended n (Some x) ≡ unless o s t (ran plan (step plan s e).state (t ++ (step plan s e).entries) es)
-        → (ended n (Some x) ≡ ran plan (step plan s e).state (t ++ (step plan s e).entries) es → IsRunOf plan (step plan s e).state (t ++ (step plan s e).entries) es n (Some x)) → IsRunOf plan s t (e ∷ es) n (Some x)
+        → (ended n (Some x) ≡ ran plan (step plan s e).state (t ++ (step plan s e).entries) es → IsRunOf plan (step plan s e).state (t ++ (step plan s e).entries) es n (Some x))
+        → IsRunOf plan s t (e ∷ es) n (Some x)
     by None o q rest = let r = rest q in record {
       done = e ∷ r.done;
       are_done = record { event = r.are_done.event; rest = r.are_done.rest; split = ap (λ (l : List Event). e ∷ l) r.are_done.split; refused = r.are_done.refused };

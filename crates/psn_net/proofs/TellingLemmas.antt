@@ -76,7 +76,8 @@ tells_not k work = record { more = []; given = sym (append-nil work.effects); th
 all_split : (test : Effect → Bool) (xs ys : List Effect) → are_all test (xs ++ ys) ≡ true → (are_all test xs ≡ true) × (are_all test ys ≡ true)
 all_split test [] ys h = (refl, h)
 all_split test (x ∷ xs) ys h = by (test x) h (λ own. all_split test xs ys own) where
-  by : (b : Bool) → b && are_all test (xs ++ ys) ≡ true → (are_all test (xs ++ ys) ≡ true → (are_all test xs ≡ true) × (are_all test ys ≡ true)) → (b && are_all test xs ≡ true) × (are_all test ys ≡ true)
+  by : (b : Bool) → b && are_all test (xs ++ ys) ≡ true → (are_all test (xs ++ ys) ≡ true → (are_all test xs ≡ true) × (are_all test ys ≡ true)) → (b && are_all test xs ≡ true)
+      × (are_all test ys ≡ true)
   by true own rest = rest own
   by false own rest = absurd (cc (own))
 
@@ -204,7 +205,8 @@ went_on_tells k peer old new put = by put.failed where
   by true = ends_tells k peer reason.LinkFault put.work
   by false = changed_tells k peer old new put.work
 
-comes_of_tells : (told : Answers) (k : ℕ) (peer : EdgeId) (kept : Peering) (outcome : Outcome) (work : Work) → work.edge.peering peer.0 ≡ Some kept → TellsOf k work (comes_of told peer kept outcome work)
+comes_of_tells : (told : Answers) (k : ℕ) (peer : EdgeId) (kept : Peering) (outcome : Outcome) (work : Work) → work.edge.peering peer.0 ≡ Some kept
+    → TellsOf k work (comes_of told peer kept outcome work)
 comes_of_tells told k peer kept Stay work is = tells_not k work
 comes_of_tells told k peer kept (Goes next replies) work is =
     let gone : Work = changes (with_peering peer (Some (with_session next kept))) work in
@@ -302,7 +304,8 @@ hear_steps plan told k = record {
   released = λ peer fec label work there.
       same_tells k (λ edge. with_released label (end_of_fec plan edge peer fec) edge) work (released_keeps label (end_of_fec plan work.edge peer fec) work.edge);
   states = λ peer fec status work there.
-      same_tells k (with_named plan peer fec (stated status) (group_stated fec.group status) fec.pw_id) work (named_keeps plan peer fec (stated status) (group_stated fec.group status) fec.pw_id work.edge);
+      same_tells k (with_named plan peer fec (stated status) (group_stated fec.group status) fec.pw_id) work
+      (named_keeps plan peer fec (stated status) (group_stated fec.group status) fec.pw_id work.edge);
   clears = λ service addresses from work. same_tells k (withdrawing_at service addresses from) work refl;
 }
 

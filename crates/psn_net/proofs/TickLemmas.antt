@@ -8,7 +8,8 @@ use Rattle.network_model.specs.State.{NetworkState}
 use Rattle.network_model.specs.Tick.{tick_at, tick_event, ticks_from}
 use Rattle.psn_net.specs.Lists.{HasStepped, NetLists, seen}
 
-pub ticks_more : (plan : Plan) (i n : ℕ) (network : NetworkState) → i < n → ticks_from plan i (n - i) network ≡ and_then (tick_at plan (record { 0 = i }) network) (ticks_from plan (i + 1) (n - (i + 1)))
+pub ticks_more : (plan : Plan) (i n : ℕ) (network : NetworkState) → i < n → ticks_from plan i (n - i) network
+    ≡ and_then (tick_at plan (record { 0 = i }) network) (ticks_from plan (i + 1) (n - (i + 1)))
 ticks_more plan i n network h = let e : n - i ≡ suc (n - (i + 1)) = omega arith in rw e refl
 
 pub ticks_end : (plan : Plan) (i n : ℕ) (network : NetworkState) → n ≤ i → ticks_from plan i (n - i) network ≡ network_stays network

@@ -172,7 +172,8 @@ pub ruleset discard_steps = (discard_idle_stepped, discard_stepped)
 
 -- ---- one is repeated
 
-pub again_stepped : (old mid now : NetLists) (number copy : ℕ) → Some copy ≡ option_map (λ packet. (seen old).sent + 1) (packet_at (seen old) number) → seen mid ≡ copied (packet_at (seen old) number) (seen old)
+pub again_stepped : (old mid now : NetLists) (number copy : ℕ) → Some copy ≡ option_map (λ packet. (seen old).sent + 1) (packet_at (seen old) number) → seen mid
+    ≡ copied (packet_at (seen old) number) (seen old)
     → mid.trace ≡ old.trace → seen now ≡ seen mid → now.trace ≡ mid.trace ++ Copied copy number ∷ [] → HasStepped old now (again_event (packet_at (seen old) number) (seen old))
 again_stepped old mid now number copy given state same kept told = by (packet_at (seen old) number) refl given state where
   next : ℕ
@@ -189,7 +190,8 @@ again_stepped old mid now number copy given state same kept told = by (packet_at
             ∙ ap (λ (m : ℕ). old.trace ++ Copied next m ∷ []) (sym (found_number number (seen old).under_way p found))));
       }
 
-pub again_idle_stepped : (old mid now : NetLists) (number : ℕ) → None ≡ option_map (λ packet. (seen old).sent + 1) (packet_at (seen old) number) → seen mid ≡ copied (packet_at (seen old) number) (seen old)
+pub again_idle_stepped : (old mid now : NetLists) (number : ℕ) → None ≡ option_map (λ packet. (seen old).sent + 1) (packet_at (seen old) number) → seen mid
+    ≡ copied (packet_at (seen old) number) (seen old)
     → mid.trace ≡ old.trace → seen now ≡ seen mid → now.trace ≡ mid.trace ++ Idle ∷ [] → HasStepped old now (again_event (packet_at (seen old) number) (seen old))
 again_idle_stepped old mid now number given state same kept told = by (packet_at (seen old) number) given state where
   next : ℕ

@@ -20,7 +20,8 @@ pub counted_more : (trace : List Entry) (entry : Entry) (weight events octets on
     → IsCounted trace weight events → octets + 64 ≡ entry_weight entry → one ≡ cond (is_event entry) 1 0
     → IsCounted (trace ++ entry ∷ []) (min (weight + min (octets + 64) (2 ^ 64 - 1)) (2 ^ 64 - 1)) (min (events + one) (2 ^ 64 - 1))
 counted_more trace entry weight events octets one counted w e = record {
-  weighs = saturates (total_weight trace) (entry_weight entry) (2 ^ 64 - 1) weight (min (octets + 64) (2 ^ 64 - 1)) (total_weight (trace ++ entry ∷ [])) counted.weighs (ap (λ (n : ℕ). min n (2 ^ 64 - 1)) w) (total-append trace entry);
+  weighs = saturates (total_weight trace) (entry_weight entry) (2 ^ 64 - 1) weight (min (octets + 64) (2 ^ 64 - 1)) (total_weight (trace ++ entry ∷ [])) counted.weighs
+      (ap (λ (n : ℕ). min n (2 ^ 64 - 1)) w) (total-append trace entry);
   counts = adds (events_in trace) (cond (is_event entry) 1 0) (2 ^ 64 - 1) events one (events_in (trace ++ entry ∷ [])) counted.counts e (events-append trace entry);
 } where
   saturates : (a b top x y sum : ℕ) → x ≡ min a top → y ≡ min b top → sum ≡ a + b → min (x + y) top ≡ min sum top
@@ -40,7 +41,8 @@ unfolding stop_at
 stops_at n event (Crowded count number) met = (met, refl)
 stops_at n event (TooMuch weight number) met = (met, refl)
 stops_at n event NoMemory met = none_refused (nat_lt most_weight (weight_of n.trace)) (may_send event && nat_le most_packets (counted_packets (length (seen n).under_way))) met where
-  none_refused : (a b : Bool) → cond a (Some (TooMuch (weight_of n.trace) (next_event n.trace))) (cond b (Some (Crowded (counted_packets (length (seen n).under_way)) (next_event n.trace))) None) ≡ Some NoMemory
+  none_refused : (a b : Bool) → cond a (Some (TooMuch (weight_of n.trace) (next_event n.trace)))
+      (cond b (Some (Crowded (counted_packets (length (seen n).under_way)) (next_event n.trace))) None) ≡ Some NoMemory
       → n.failed ≡ true
   none_refused true b e = absurd (cc (e))
   none_refused false true e = absurd (cc (e))

@@ -39,14 +39,16 @@ module _ (lists : EndLists) (label : ℕ) (apart : AreApart lists.places) (count
       ap (λ (end : EndState). advertises_label label end.local) (seen_at lists slot apart count within)
       ∙ false_from_ne_true (advertises_label label (get_or lists.ends slot fresh).local) (λ told. true≢false (sym (advertises_own label (get_or lists.ends slot fresh).local told) ∙ other))
 
-  pub advertiser_found : (slot : ℕ) → position (owns_label label) lists.ends ≡ Some slot → advertises_label label (end_in lists slot).local ≡ true → Some (place_of lists slot) ≡ find tells lists.places
+  pub advertiser_found : (slot : ℕ) → position (owns_label label) lists.ends ≡ Some slot → advertises_label label (end_in lists slot).local ≡ true → Some (place_of lists slot)
+      ≡ find tells lists.places
   advertiser_found slot owner told =
       let found = position-Some (owns_label label) lists.ends slot fresh owner in
       let within : slot < length lists.places = omega (arith, found.0, count) in
       sym (find_is tells lists.places slot no_place within told (λ i below. quiet i (omega (arith, below, within)) (found.2 i below)))
 
   -- the end that owns the label has withdrawn it
-  pub advertiser_left : OwnApart (map own_of lists.ends) → (slot : ℕ) → position (owns_label label) lists.ends ≡ Some slot → advertises_label label (end_in lists slot).local ≡ false → None ≡ find tells lists.places
+  pub advertiser_left : OwnApart (map own_of lists.ends) → (slot : ℕ) → position (owns_label label) lists.ends ≡ Some slot → advertises_label label (end_in lists slot).local ≡ false
+      → None ≡ find tells lists.places
   advertiser_left own_apart slot owner silent =
       let found = position-Some (owns_label label) lists.ends slot fresh owner in
       sym (find_none tells lists.places no_place (λ i within. elim (cases_order i slot) [
@@ -60,7 +62,8 @@ module _ (lists : EndLists) (label : ℕ) (apart : AreApart lists.places) (count
       later : (i : ℕ) → owns_label label (get_or lists.ends slot fresh) ≡ true → slot < i → i < length lists.ends → owns_label label (get_or lists.ends i fresh) ≡ false
       later i here above within =
           let own : get_or (map own_of lists.ends) slot None ≡ Some label = own_at lists.ends slot ∙ label_is label (own_of (get_or lists.ends slot fresh)) here in
-          let differ : Differ (get_or (map own_of lists.ends) slot None) (get_or (map own_of lists.ends) i None) = differ_at (map own_of lists.ends) slot i own_apart above (omega (arith, within, count_own lists.ends)) in
+          let differ : Differ (get_or (map own_of lists.ends) slot None) (get_or (map own_of lists.ends) i None) =
+          differ_at (map own_of lists.ends) slot i own_apart above (omega (arith, within, count_own lists.ends)) in
           ap (is_label label) (sym (own_at lists.ends i)) ∙ away label (get_or (map own_of lists.ends) i None) (subst (λ (o : Option ℕ). Differ o (get_or (map own_of lists.ends) i None)) own differ)
 
   pub advertiser_none : position (owns_label label) lists.ends ≡ None → None ≡ find tells lists.places

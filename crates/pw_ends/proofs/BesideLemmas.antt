@@ -33,7 +33,8 @@ mapped k n false = refl
 slot_further : (p : EndPlace → Bool) (k : ℕ) (xs : List EndPlace) → slot_from k p xs ≡ option_map (λ n. k + n) (position p xs)
 slot_further p k xs = slot_from_position k p xs ∙ mapped k (position_or_len p xs) (nat_lt (position_or_len p xs) (length xs))
 
-passed_over : (p : EndPlace → Bool) (k : ℕ) (xs : List EndPlace) → k ≤ length xs → ((n : ℕ) (d : EndPlace) → n < k → p (get_or xs n d) ≡ false) → position p xs ≡ option_map (λ n. k + n) (position p (drop k xs))
+passed_over : (p : EndPlace → Bool) (k : ℕ) (xs : List EndPlace) → k ≤ length xs → ((n : ℕ) (d : EndPlace) → n < k → p (get_or xs n d) ≡ false) → position p xs
+    ≡ option_map (λ n. k + n) (position p (drop k xs))
 passed_over p k xs bound before = sym (slot_from_start p xs) ∙ (slot_passed p 0 k xs bound before ∙ (ap (λ n. slot_from n p (drop k xs)) (zero-add k) ∙ slot_further p k (drop k xs)))
 
 pub earlier : (wire : WireId) (x y : EndPlace) → PrecedesEnd x y → end_precedes_wire wire y ≡ true → end_precedes_wire wire x ≡ true
@@ -60,7 +61,8 @@ same_wire a b same = λ i. record { 0 = same i }
 same_edge : (a b : EdgeId) → a.0 ≡ b.0 → a ≡ b
 same_edge a b same = λ i. record { 0 = same i }
 
-pub beside_place : (lists : EndLists) (wire : WireId) (peer : EdgeId) (found : Option ℕ) → found ≡ position (is_at wire.0 peer.0) lists.places → IfSome found (λ slot. (place_of lists slot).wire ≡ wire)
+pub beside_place : (lists : EndLists) (wire : WireId) (peer : EdgeId) (found : Option ℕ) → found ≡ position (is_at wire.0 peer.0) lists.places
+    → IfSome found (λ slot. (place_of lists slot).wire ≡ wire)
 beside_place lists wire peer None is = tt
 beside_place lists wire peer (Some slot) is =
     let here = position-Some (is_at wire.0 peer.0) lists.places slot no_place (sym is) in
@@ -83,7 +85,8 @@ look_none [] ends wire peer none = refl
 look_none (place ∷ places) [] wire peer none = refl
 look_none (place ∷ places) (end ∷ ends) wire peer none = by (is_at wire peer place) none (look_none places ends wire peer)
   where
-    by : (b : Bool) → cond b (Some place) (find (is_at wire peer) places) ≡ None → (find (is_at wire peer) places ≡ None → look places ends wire peer ≡ fresh) → cond b end (look places ends wire peer) ≡ fresh
+    by : (b : Bool) → cond b (Some place) (find (is_at wire peer) places) ≡ None → (find (is_at wire peer) places ≡ None → look places ends wire peer ≡ fresh)
+        → cond b end (look places ends wire peer) ≡ fresh
     by true is rest = absurd (cc (is))
     by false is rest = rest is
 

@@ -18,7 +18,8 @@ pub bit_set : (marks now : PeerMarks) (peer k : ℕ) → peer < 64 → now.word 
 unfolding has_mark
 bit_set marks now peer k within is = elim (cases_Bool (k == peer)) [
   | inl same ↦ rw same (ap (λ (word : ℕ). not (nat_lt k 64) || nat_eq (bit_at word k) 1) is ∙ at_peer (equal same))
-  | inr apart ↦ rw apart (ap (λ (word : ℕ). not (nat_lt k 64) || nat_eq (bit_at word k) 1) is ∙ ap (λ (n : ℕ). not (nat_lt k 64) || nat_eq n 1) (bit_at_set_other w64 marks.word peer within k (unequal apart)))
+  | inr apart ↦ rw apart (ap (λ (word : ℕ). not (nat_lt k 64) || nat_eq (bit_at word k) 1) is
+      ∙ ap (λ (n : ℕ). not (nat_lt k 64) || nat_eq n 1) (bit_at_set_other w64 marks.word peer within k (unequal apart)))
 ]
   where
     equal : (k == peer) ≡ true → k ≡ peer
@@ -49,7 +50,8 @@ bit_past marks peer k past = elim (cases_Bool (k == peer)) [
     first false b is = refl
 
 -- one bit is cleared
-pub bit_cleared : (marks now : PeerMarks) (peer k : ℕ) → peer < 64 → now.word ≡ bit_and marks.word (bit_not w64 (1 * 2 ^ peer % 2 ^ 64)) → has_mark now k ≡ cond (k == peer) (not (nat_lt k 64)) (has_mark marks k)
+pub bit_cleared : (marks now : PeerMarks) (peer k : ℕ) → peer < 64 → now.word ≡ bit_and marks.word (bit_not w64 (1 * 2 ^ peer % 2 ^ 64)) → has_mark now k
+    ≡ cond (k == peer) (not (nat_lt k 64)) (has_mark marks k)
 unfolding has_mark
 bit_cleared marks now peer k within is = elim (cases_Bool (k == peer)) [
   | inl same ↦ rw same (ap (λ (word : ℕ). not (nat_lt k 64) || nat_eq (bit_at word k) 1) is ∙ at_peer (equal same))

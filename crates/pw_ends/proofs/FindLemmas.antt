@@ -8,12 +8,14 @@ use Rattle.label_space.specs.Kept.{put_by}
 
 module _ {X : Type 0} (number : X → ℕ) where
   -- an item of a number that none has is found, and all others as before
-  pub find_put : (new : X) (xs : List X) → find (λ x. number x == number new) xs ≡ None → (n : ℕ) → find (λ x. number x == n) (put_by number new xs) ≡ cond (number new == n) (Some new) (find (λ x. number x == n) xs)
+  pub find_put : (new : X) (xs : List X) → find (λ x. number x == number new) xs ≡ None → (n : ℕ) → find (λ x. number x == n) (put_by number new xs)
+      ≡ cond (number new == n) (Some new) (find (λ x. number x == n) xs)
   find_put new [] none n = refl
   find_put new (x ∷ xs) none n = elim (cases_Bool (number x == number new)) [
     | inl here ↦ absurd (something x (rw here at none))
     | inr other ↦
-        elim (nat_lt (number x) (number new)) as (λ v. find (λ y. number y == n) (cond v (x ∷ put_by number new xs) (new ∷ x ∷ xs)) ≡ cond (number new == n) (Some new) (find (λ y. number y == n) (x ∷ xs))) [
+        elim (nat_lt (number x) (number new)) as (λ v. find (λ y. number y == n) (cond v (x ∷ put_by number new xs) (new ∷ x ∷ xs))
+        ≡ cond (number new == n) (Some new) (find (λ y. number y == n) (x ∷ xs))) [
           | true ↦ by (number x == n) refl other (find_put new xs (rw other at none) n)
           | false ↦ refl
         ]
@@ -47,14 +49,16 @@ module _ {X : Type 0} (number : X → ℕ) where
   -- the numbers of what is left, and of one more
   pub numbers_left : (p : ℕ → Bool) (xs : List X) → map number (filter (λ x. p (number x)) xs) ≡ filter p (map number xs)
   numbers_left p [] = refl
-  numbers_left p (x ∷ xs) = elim (p (number x)) as (λ b. map number (cond b (x ∷ filter (λ y. p (number y)) xs) (filter (λ y. p (number y)) xs)) ≡ cond b (number x ∷ filter p (map number xs)) (filter p (map number xs))) [
-    | true ↦ ap (λ (l : List ℕ). number x ∷ l) (numbers_left p xs)
-    | false ↦ numbers_left p xs
-  ]
+  numbers_left p (x ∷ xs) = elim (p (number x)) as
+      (λ b. map number (cond b (x ∷ filter (λ y. p (number y)) xs) (filter (λ y. p (number y)) xs)) ≡ cond b (number x ∷ filter p (map number xs)) (filter p (map number xs))) [
+        | true ↦ ap (λ (l : List ℕ). number x ∷ l) (numbers_left p xs)
+        | false ↦ numbers_left p xs
+      ]
 
   pub numbers_put : (new : X) (xs : List X) → map number (put_by number new xs) ≡ put_by (λ (n : ℕ). n) (number new) (map number xs)
   numbers_put new [] = refl
-  numbers_put new (x ∷ xs) = elim (nat_lt (number x) (number new)) as (λ v. map number (cond v (x ∷ put_by number new xs) (new ∷ x ∷ xs)) ≡ cond v (number x ∷ put_by (λ (n : ℕ). n) (number new) (map number xs)) (number new ∷ number x ∷ map number xs)) [
-    | true ↦ ap (λ (l : List ℕ). number x ∷ l) (numbers_put new xs)
-    | false ↦ refl
-  ]
+  numbers_put new (x ∷ xs) = elim (nat_lt (number x) (number new)) as
+      (λ v. map number (cond v (x ∷ put_by number new xs) (new ∷ x ∷ xs)) ≡ cond v (number x ∷ put_by (λ (n : ℕ). n) (number new) (map number xs)) (number new ∷ number x ∷ map number xs)) [
+        | true ↦ ap (λ (l : List ℕ). number x ∷ l) (numbers_put new xs)
+        | false ↦ refl
+      ]

@@ -44,13 +44,15 @@ holds_stay place change.Lost e holds = tt
 
 -- ---- all ends
 
-pub holding_set : (places : List EndPlace) (ends : List EndState) (slot : ℕ) (end : EndState) → AreHolding places ends → Holds (get_or places slot no_place) end.remote → AreHolding places (set ends slot end)
+pub holding_set : (places : List EndPlace) (ends : List EndState) (slot : ℕ) (end : EndState) → AreHolding places ends → Holds (get_or places slot no_place) end.remote
+    → AreHolding places (set ends slot end)
 holding_set [] ends slot end holding holds = tt
 holding_set (p ∷ ps) [] slot end holding holds = tt
 holding_set (p ∷ ps) (e ∷ es) zero end holding holds = (holds, holding.1)
 holding_set (p ∷ ps) (e ∷ es) (suc slot) end holding holds = (holding.0, holding_set ps es slot end holding.1 holds)
 
-pub holding_at : (places : List EndPlace) (ends : List EndState) (slot : ℕ) → AreHolding places ends → slot < length places → slot < length ends → Holds (get_or places slot no_place) (get_or ends slot fresh).remote
+pub holding_at : (places : List EndPlace) (ends : List EndState) (slot : ℕ) → AreHolding places ends → slot < length places → slot < length ends
+    → Holds (get_or places slot no_place) (get_or ends slot fresh).remote
 holding_at [] ends slot holding within short = absurd (omega (arith, within))
 holding_at (p ∷ ps) [] slot holding within short = absurd (omega (arith, short))
 holding_at (p ∷ ps) (e ∷ es) zero holding within short = holding.0

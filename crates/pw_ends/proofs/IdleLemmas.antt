@@ -6,7 +6,8 @@ use Rattle.pw_signalling.specs.End.{EndState, fresh}
 use Rattle.pw_ends.proofs.KeptLemmas.{all_seen}
 
 -- one end more is idle
-pub idle_more : (ends : List PwEnd) (slot : ℕ) (end : PwEnd) → slot < length ends → end_of end ≡ fresh → take slot (map end_of ends) ≡ replicate slot fresh → take (slot + 1) (map end_of (set ends slot end)) ≡ replicate (slot + 1) fresh
+pub idle_more : (ends : List PwEnd) (slot : ℕ) (end : PwEnd) → slot < length ends → end_of end ≡ fresh → take slot (map end_of ends) ≡ replicate slot fresh
+    → take (slot + 1) (map end_of (set ends slot end)) ≡ replicate (slot + 1) fresh
 idle_more ends slot end within is so_far =
     let next : slot + 1 ≡ suc slot = omega arith in
     rw next (by ends slot end within is so_far)
@@ -20,11 +21,13 @@ idle_more ends slot end within is so_far =
     two : {x y : EndState} {xs ys : List EndState} → x ≡ y → xs ≡ ys → (x ∷ xs) ≡ (y ∷ ys)
     two first rest = λ i. first i ∷ rest i
 
-    by : (ends : List PwEnd) (slot : ℕ) (end : PwEnd) → slot < length ends → end_of end ≡ fresh → take slot (map end_of ends) ≡ replicate slot fresh → take (suc slot) (map end_of (set ends slot end)) ≡ replicate (suc slot) fresh
+    by : (ends : List PwEnd) (slot : ℕ) (end : PwEnd) → slot < length ends → end_of end ≡ fresh → take slot (map end_of ends) ≡ replicate slot fresh
+        → take (suc slot) (map end_of (set ends slot end)) ≡ replicate (suc slot) fresh
     by [] slot end within is so_far = absurd (omega (arith, within))
     by (e ∷ es) zero end within is so_far = two is refl
     by (e ∷ es) (suc slot) end within is so_far =
-        two (heads (end_of e) fresh (take slot (map end_of es)) (replicate slot fresh) so_far) (by es slot end (omega (arith, within)) is (tails (end_of e) fresh (take slot (map end_of es)) (replicate slot fresh) so_far))
+        two (heads (end_of e) fresh (take slot (map end_of es)) (replicate slot fresh) so_far)
+        (by es slot end (omega (arith, within)) is (tails (end_of e) fresh (take slot (map end_of es)) (replicate slot fresh) so_far))
 
 -- all are
 pub idle_all : (ends : List PwEnd) (slot count : ℕ) → length ends ≡ count → count ≤ slot → slot ≤ count → take slot (map end_of ends) ≡ replicate slot fresh → map end_of ends ≡ replicate count fresh

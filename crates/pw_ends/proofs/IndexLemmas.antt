@@ -34,7 +34,8 @@ finds_more i j places key old new within next is finds updates = record {
   slot = λ peer pw_id.
       let place : EndPlace = get_or places i no_place in
       let parted : drop i places ≡ place ∷ drop (i + 1) places = drop_more places i no_place within in
-      let rest : lookup (is_name peer pw_id) old ≡ slot_from (i + 1) (has_name peer pw_id) (drop (i + 1) places) = finds.slot peer pw_id ∙ ap (λ n. slot_from n (has_name peer pw_id) (drop n places)) (sym next) in
+      let rest : lookup (is_name peer pw_id) old ≡ slot_from (i + 1) (has_name peer pw_id) (drop (i + 1) places) =
+      finds.slot peer pw_id ∙ ap (λ n. slot_from n (has_name peer pw_id) (drop n places)) (sym next) in
       updates (peer, pw_id) ∙ ap (λ (k : ℕ × ℕ). cond (k.0 == peer && k.1 == pw_id) (Some i) (lookup (is_name peer pw_id) old)) is
       ∙ ap (λ o. cond (has_name peer pw_id place) (Some i) o) rest ∙ ap (λ xs. slot_from i (has_name peer pw_id) xs) (sym parted);
 }

@@ -88,12 +88,14 @@ all_set P [] slot x all is = tt
 all_set P (y ∷ ys) zero x all is = (is, all.1)
 all_set P (y ∷ ys) (suc slot) x all is = (all.0, all_set P ys slot x all.1 is)
 
-all_freed : (owners : List Owner) (label : ℕ) (owns_list : List (Option ℕ)) → AllByRecursion (Differ (Some label)) owns_list → AllByRecursion (IsOwned owners) owns_list → AllByRecursion (IsOwned (filter (λ o. not (owns label o)) owners)) owns_list
+all_freed : (owners : List Owner) (label : ℕ) (owns_list : List (Option ℕ)) → AllByRecursion (Differ (Some label)) owns_list → AllByRecursion (IsOwned owners) owns_list
+    → AllByRecursion (IsOwned (filter (λ o. not (owns label o)) owners)) owns_list
 all_freed owners label [] differ owned = tt
 all_freed owners label (o ∷ os) differ owned = (freed_owned owners label o differ.0 owned.0, all_freed owners label os differ.1 owned.1)
 
 -- each other end's label stays owned
-set_freed : (owners : List Owner) (label : ℕ) (own_list : List (Option ℕ)) (slot : ℕ) → OwnApart own_list → AllByRecursion (IsOwned owners) own_list → slot < length own_list → get_or own_list slot None ≡ Some label → AllByRecursion (IsOwned (filter (λ o. not (owns label o)) owners)) (set own_list slot None)
+set_freed : (owners : List Owner) (label : ℕ) (own_list : List (Option ℕ)) (slot : ℕ) → OwnApart own_list → AllByRecursion (IsOwned owners) own_list → slot < length own_list
+    → get_or own_list slot None ≡ Some label → AllByRecursion (IsOwned (filter (λ o. not (owns label o)) owners)) (set own_list slot None)
 set_freed owners label [] slot apart owned within at = absurd (omega (arith, within))
 set_freed owners label (o ∷ os) zero apart owned within at = (tt, all_freed owners label os (rw at at apart.0) owned.1)
 set_freed owners label (o ∷ os) (suc slot) apart owned within at =
@@ -114,14 +116,16 @@ apart_none (o ∷ os) zero apart = (all_none os, apart.1)
 apart_none (o ∷ os) (suc slot) apart = (all_set (Differ o) os slot None apart.0 (differ_none o), apart_none os slot apart.1)
 
 -- the end at a slot owns its label no longer
-theirs_freed : (own_list : List (Option ℕ)) (labels : LabelNumbers) (slot : ℕ) (label : ℕ) → OwnTheirs own_list labels → slot < length own_list → get_or own_list slot None ≡ Some label → OwnTheirs (set own_list slot None) (freed label labels)
+theirs_freed : (own_list : List (Option ℕ)) (labels : LabelNumbers) (slot : ℕ) (label : ℕ) → OwnTheirs own_list labels → slot < length own_list → get_or own_list slot None ≡ Some label
+    → OwnTheirs (set own_list slot None) (freed label labels)
 theirs_freed own_list labels slot label theirs within at =
     let some : owner_of label labels.owners ≢ None = rw at at (all_at (IsOwned labels.owners) own_list slot theirs.owned within) in
     let count : count_owned (set own_list slot None) + 1 ≡ count_owned own_list + 0 = rw at at (count_set own_list slot None within) in
     let numbers : AreNumbersApart (freed label labels) = labels_are_used_again.apart labels (Free label ∷ []) theirs.numbers in
     by some count (find (owns label) labels.owners) refl numbers
   where
-    by : owner_of label labels.owners ≢ None → count_owned (set own_list slot None) + 1 ≡ count_owned own_list + 0 → (r : Option Owner) → find (owns label) labels.owners ≡ r → AreNumbersApart (freed_of label r labels) → OwnTheirs (set own_list slot None) (freed_of label r labels)
+    by : owner_of label labels.owners ≢ None → count_owned (set own_list slot None) + 1 ≡ count_owned own_list + 0 → (r : Option Owner) → find (owns label) labels.owners ≡ r
+        → AreNumbersApart (freed_of label r labels) → OwnTheirs (set own_list slot None) (freed_of label r labels)
     by some count None none numbers = absurd (some (owner_of-find label labels.owners ∙ rw none refl))
     by some count (Some owner) found numbers = record {
       owned = set_freed labels.owners label own_list slot theirs.apart theirs.owned within at;
@@ -136,7 +140,8 @@ issued_owned : (owners : List Owner) (owner : Owner) (own : Option ℕ) → owne
 issued_owned owners owner None none owned = tt
 issued_owned owners owner (Some label) none owned = put_some label owners owner none owned
 
-all_issued : (owners : List Owner) (owner : Owner) (own_list : List (Option ℕ)) → owner_of owner.label owners ≡ None → AllByRecursion (IsOwned owners) own_list → AllByRecursion (IsOwned (put_by owned_label owner owners)) own_list
+all_issued : (owners : List Owner) (owner : Owner) (own_list : List (Option ℕ)) → owner_of owner.label owners ≡ None → AllByRecursion (IsOwned owners) own_list
+    → AllByRecursion (IsOwned (put_by owned_label owner owners)) own_list
 all_issued owners owner [] none owned = tt
 all_issued owners owner (o ∷ os) none owned = (issued_owned owners owner o none owned.0, all_issued owners owner os none owned.1)
 
@@ -149,10 +154,12 @@ all_new : (owners : List Owner) (label : ℕ) (own_list : List (Option ℕ)) →
 all_new owners label [] none owned = tt
 all_new owners label (o ∷ os) none owned = (differ_sym o (Some label) (differ_new owners label o none owned.0), all_new owners label os none owned.1)
 
-apart_new : (owners : List Owner) (label : ℕ) (own_list : List (Option ℕ)) (slot : ℕ) → owner_of label owners ≡ None → AllByRecursion (IsOwned owners) own_list → OwnApart own_list → OwnApart (set own_list slot (Some label))
+apart_new : (owners : List Owner) (label : ℕ) (own_list : List (Option ℕ)) (slot : ℕ) → owner_of label owners ≡ None → AllByRecursion (IsOwned owners) own_list → OwnApart own_list
+    → OwnApart (set own_list slot (Some label))
 apart_new owners label [] slot none owned apart = tt
 apart_new owners label (o ∷ os) zero none owned apart = (all_new owners label os none owned.1, apart.1)
-apart_new owners label (o ∷ os) (suc slot) none owned apart = (all_set (Differ o) os slot (Some label) apart.0 (differ_new owners label o none owned.0), apart_new owners label os slot none owned.1 apart.1)
+apart_new owners label (o ∷ os) (suc slot) none owned apart =
+    (all_set (Differ o) os slot (Some label) apart.0 (differ_new owners label o none owned.0), apart_new owners label os slot none owned.1 apart.1)
 
 -- a label that is given is nobody's
 given_unowned : (labels : LabelNumbers) (label : ℕ) → AreNumbersApart labels → number_to_give labels.next labels.kept ≡ Some label → owner_of label labels.owners ≡ None
@@ -166,7 +173,8 @@ given_unowned labels label apart given =
     no_peer = record { 0 = 0 }
 
 -- an end that owned none owns the label
-theirs_issued : (own_list : List (Option ℕ)) (labels : LabelNumbers) (slot label : ℕ) (key : SegKey) (side : ℕ) (peer : EdgeId) → OwnTheirs own_list labels → slot < length own_list → get_or own_list slot None ≡ None → number_to_give labels.next labels.kept ≡ Some label
+theirs_issued : (own_list : List (Option ℕ)) (labels : LabelNumbers) (slot label : ℕ) (key : SegKey) (side : ℕ) (peer : EdgeId) → OwnTheirs own_list labels → slot < length own_list
+    → get_or own_list slot None ≡ None → number_to_give labels.next labels.kept ≡ Some label
     → OwnTheirs (set own_list slot (Some label)) (given_to key side peer (Some label) labels)
 theirs_issued own_list labels slot label key side peer theirs within at given =
     let owner : Owner = record { label = label; key = key; side = side; peer = peer } in
@@ -174,7 +182,8 @@ theirs_issued own_list labels slot label key side peer theirs within at given =
     let count : count_owned (set own_list slot (Some label)) + 0 ≡ count_owned own_list + 1 = rw at at (count_set own_list slot (Some label) within) in
     let is : owner_of label (put_by owned_label owner labels.owners) ≡ Some (key, side) = owner_of-put owner labels.owners none label ∙ rw (same_number label) refl in
     record {
-      owned = all_set (IsOwned (put_by owned_label owner labels.owners)) own_list slot (Some label) (all_issued labels.owners owner own_list none theirs.owned) (λ gone. something {X = SegKey × ℕ} (key, side) (sym is ∙ gone));
+      owned = all_set (IsOwned (put_by owned_label owner labels.owners)) own_list slot (Some label) (all_issued labels.owners owner own_list none theirs.owned)
+          (λ gone. something {X = SegKey × ℕ} (key, side) (sym is ∙ gone));
       apart = apart_new labels.owners label own_list slot none theirs.owned theirs.apart;
       few = omega (arith, theirs.few, count, long_put owned_label owner labels.owners);
       numbers = subst (λ (r : Option ℕ). AreNumbersApart (given_to key side peer r labels)) given (labels_are_used_again.apart labels (Issue key side peer ∷ []) theirs.numbers);
@@ -282,20 +291,23 @@ own_at (e ∷ es) zero = refl
 own_at (e ∷ es) (suc slot) = own_at es slot
 
 -- the label space has what the end of a slot owns as the label of its segment and side
-pub owner_seen : (lists : EndLists) (index : OwnedList) (slot : ℕ) → AreKept lists.places lists.ends lists.labels index → slot < length lists.places → IsOwner lists.labels.owners (place_of lists slot) (own_label (end_in lists slot).local)
+pub owner_seen : (lists : EndLists) (index : OwnedList) (slot : ℕ) → AreKept lists.places lists.ends lists.labels index → slot < length lists.places
+    → IsOwner lists.labels.owners (place_of lists slot) (own_label (end_in lists slot).local)
 owner_seen lists index slot kept within =
     let short : slot < length (map own_of lists.ends) = subst (λ (n : ℕ). slot < n) (sym (count_own lists.ends ∙ kept.count)) within in
     let own : get_or (map own_of lists.ends) slot None ≡ own_label (end_in lists slot).local = own_at lists.ends slot ∙ ap own_of (sym (seen_at lists slot kept.apart kept.count within)) in
     subst (IsOwner lists.labels.owners (place_of lists slot)) own (owner_in lists.labels.owners lists.places (map own_of lists.ends) slot kept.owners within short)
 
 -- what the end of a slot holds can be told on
-pub holding_seen : (lists : EndLists) (index : OwnedList) (slot : ℕ) → AreKept lists.places lists.ends lists.labels index → slot < length lists.places → Holds (place_of lists slot) (end_in lists slot).remote
+pub holding_seen : (lists : EndLists) (index : OwnedList) (slot : ℕ) → AreKept lists.places lists.ends lists.labels index → slot < length lists.places
+    → Holds (place_of lists slot) (end_in lists slot).remote
 holding_seen lists index slot kept within =
     subst (λ (end : EndState). Holds (place_of lists slot) end.remote) (sym (seen_at lists slot kept.apart kept.count within))
     (holding_at lists.places lists.ends slot kept.holds within (subst (λ (n : ℕ). slot < n) (sym kept.count) within))
 
 -- after a change the ends own what is left in the label space
-theirs_changed : (own_list : List (Option ℕ)) (labels : LabelNumbers) (slot : ℕ) (before after : Option ℕ) → OwnTheirs own_list labels → slot < length own_list → get_or own_list slot None ≡ before → (after ≡ before) ⊎ (after ≡ None) → OwnTheirs (set own_list slot after) (freed_one (left_label before after) labels)
+theirs_changed : (own_list : List (Option ℕ)) (labels : LabelNumbers) (slot : ℕ) (before after : Option ℕ) → OwnTheirs own_list labels → slot < length own_list
+    → get_or own_list slot None ≡ before → (after ≡ before) ⊎ (after ≡ None) → OwnTheirs (set own_list slot after) (freed_one (left_label before after) labels)
 theirs_changed own_list labels slot None None theirs within at either = rw (set_same own_list slot None None within (sym at)) theirs
 theirs_changed own_list labels slot None (Some label) theirs within at (inl same) = absurd (something {X = ℕ} label same)
 theirs_changed own_list labels slot None (Some label) theirs within at (inr none) = absurd (something {X = ℕ} label none)
@@ -312,7 +324,8 @@ pub seen_count : (ends : List PwEnd) (places : List EndPlace) → length (map en
 seen_count ends places count = sym (all_seen ends) ∙ count
 
 -- a slot is one of the ends
-pub slot_within : (places : List EndPlace) (ends : List PwEnd) (labels : LabelNumbers) (index : OwnedList) (slot : ℕ) → AreKept places (map end_of ends) labels index → slot < length places → slot < length ends
+pub slot_within : (places : List EndPlace) (ends : List PwEnd) (labels : LabelNumbers) (index : OwnedList) (slot : ℕ) → AreKept places (map end_of ends) labels index
+    → slot < length places → slot < length ends
 slot_within places ends labels index slot kept within = subst (λ (n : ℕ). slot < n) (sym (seen_count ends places kept.count)) within
 
 freed_room : (left : Option ℕ) (labels : LabelNumbers) → (freed_one left labels).room ≡ labels.room
@@ -339,7 +352,8 @@ kept_changed c places ends labels index slot kept within =
     let now : get_or (changed_in (changed c) slot ends) slot fresh ≡ changed c old = set_at ends slot (changed c old) short in
     let theirs = theirs_changed (map own_of ends) labels slot (own_of old) (own_of (changed c old)) kept.owns short_own (own_at ends slot) (stays_or_none c old) in
     let owners = owners_changed (map own_of ends) labels places slot (own_of old) (own_of (changed c old)) kept.owns.apart kept.owners short_own (own_at ends slot) (stays_or_none c old) in
-    let slots = index_changed (map own_of ends) labels index slot (own_of old) (own_of (changed c old)) kept.slots kept.owns.apart (subst (IsOwned labels.owners) (own_at ends slot) (all_at (IsOwned labels.owners) (map own_of ends) slot kept.owns.owned short_own)) short_own (own_at ends slot) (stays_or_none c old) in
+    let slots = index_changed (map own_of ends) labels index slot (own_of old) (own_of (changed c old)) kept.slots kept.owns.apart
+    (subst (IsOwned labels.owners) (own_at ends slot) (all_at (IsOwned labels.owners) (map own_of ends) slot kept.owns.owned short_own)) short_own (own_at ends slot) (stays_or_none c old) in
     let owned : map own_of (changed_in (changed c) slot ends) ≡ set (map own_of ends) slot (own_of (changed c old)) = map-set own_of ends slot (changed c old) in
     rw now (record {
       count = length-set ends slot (changed c old) ∙ kept.count;
@@ -358,18 +372,21 @@ kept_changed c places ends labels index slot kept within =
     set_at (x ∷ xs) (suc i) e less = set_at xs i e (omega (arith, less))
 
 -- the same of what the code has: the label before and after
-pub kept_moved : (c : EndChange) (places : List EndPlace) (ends now : List EndState) (labels left : LabelNumbers) (index others : OwnedList) (slot : ℕ) (before after : Option ℕ) → AreKept places ends labels index → slot < length places → now ≡ changed_in (changed c) slot ends → before ≡ own_of (get_or ends slot fresh) → after ≡ own_of (get_or now slot fresh)
+pub kept_moved : (c : EndChange) (places : List EndPlace) (ends now : List EndState) (labels left : LabelNumbers) (index others : OwnedList) (slot : ℕ) (before after : Option ℕ)
+    → AreKept places ends labels index → slot < length places → now ≡ changed_in (changed c) slot ends → before ≡ own_of (get_or ends slot fresh) → after ≡ own_of (get_or now slot fresh)
     → left ≡ freed_one (left_label before after) labels → others ≡ without_one (left_label before after) index → AreKept places now left others
 kept_moved c places ends now labels left index others slot before after kept within is first last freed_is without_is =
     rw (freed_is, without_is, first, last, is) (kept_changed c places ends labels index slot kept within)
 
 -- an end that is bound owns the same label as before
-pub kept_bound : (binding : Binding) (places : List EndPlace) (ends now : List EndState) (labels : LabelNumbers) (index : OwnedList) (slot : ℕ) → AreKept places ends labels index → slot < length places → now ≡ changed_in (bound binding) slot ends → CanHold (get_or places slot no_place) binding.told → AreKept places now labels index
+pub kept_bound : (binding : Binding) (places : List EndPlace) (ends now : List EndState) (labels : LabelNumbers) (index : OwnedList) (slot : ℕ) → AreKept places ends labels index
+    → slot < length places → now ≡ changed_in (bound binding) slot ends → CanHold (get_or places slot no_place) binding.told → AreKept places now labels index
 kept_bound binding places ends now labels index slot kept within is holds =
     let old : EndState = get_or ends slot fresh in
     let short : slot < length ends = subst (λ (n : ℕ). slot < n) (sym kept.count) within in
     let short_own : slot < length (map own_of ends) = subst (λ (n : ℕ). slot < n) (sym (count_own ends)) short in
-    let same : map own_of (changed_in (bound binding) slot ends) ≡ map own_of ends = map-set own_of ends slot (bound binding old) ∙ set_same (map own_of ends) slot None (own_of old) short_own (sym (own_at ends slot)) in
+    let same : map own_of (changed_in (bound binding) slot ends) ≡ map own_of ends =
+    map-set own_of ends slot (bound binding old) ∙ set_same (map own_of ends) slot None (own_of old) short_own (sym (own_at ends slot)) in
     rw is (record {
       count = length-set ends slot (bound binding old) ∙ kept.count;
       apart = kept.apart;
@@ -389,7 +406,8 @@ idle_none (Advertised label told) idle = absurd idle
 idle_none (Withdrawing label) idle = absurd idle
 
 -- an idle end leaves room for its label
-pub room_for : (places : List EndPlace) (ends : List EndState) (labels : LabelNumbers) (index : OwnedList) (slot : ℕ) → AreKept places ends labels index → slot < length places → IsIdle (get_or ends slot fresh).local → length labels.owners < labels.room
+pub room_for : (places : List EndPlace) (ends : List EndState) (labels : LabelNumbers) (index : OwnedList) (slot : ℕ) → AreKept places ends labels index → slot < length places
+    → IsIdle (get_or ends slot fresh).local → length labels.owners < labels.room
 room_for places ends labels index slot kept within idle =
     let short : slot < length (map own_of ends) = subst (λ (n : ℕ). slot < n) (sym (count_own ends ∙ kept.count)) within in
     let none : get_or (map own_of ends) slot None ≡ None = own_at ends slot ∙ idle_none (get_or ends slot fresh).local idle in
@@ -397,11 +415,14 @@ room_for places ends labels index slot kept within idle =
     omega (arith, kept.owns.few, less, count_own ends, kept.count, kept.room)
 
 -- and room among the labels with their slots
-pub index_room : (places : List EndPlace) (ends : List EndState) (labels : LabelNumbers) (index : OwnedList) (slot : ℕ) → AreKept places ends labels index → slot < length places → IsIdle (get_or ends slot fresh).local → length index.labels < index.room
-index_room places ends labels index slot kept within idle = omega (arith, room_for places ends labels index slot kept within idle, index_count (map own_of ends) labels index kept.slots, kept.slots.room)
+pub index_room : (places : List EndPlace) (ends : List EndState) (labels : LabelNumbers) (index : OwnedList) (slot : ℕ) → AreKept places ends labels index → slot < length places
+    → IsIdle (get_or ends slot fresh).local → length index.labels < index.room
+index_room places ends labels index slot kept within idle =
+    omega (arith, room_for places ends labels index slot kept within idle, index_count (map own_of ends) labels index kept.slots, kept.slots.room)
 
 -- a label that is given has no slot yet
-pub index_unowned : (places : List EndPlace) (ends : List EndState) (labels : LabelNumbers) (index : OwnedList) (label : ℕ) → AreKept places ends labels index → number_to_give labels.next labels.kept ≡ Some label → slot_of label index.labels ≡ None
+pub index_unowned : (places : List EndPlace) (ends : List EndState) (labels : LabelNumbers) (index : OwnedList) (label : ℕ) → AreKept places ends labels index
+    → number_to_give labels.next labels.kept ≡ Some label → slot_of label index.labels ≡ None
 index_unowned places ends labels index label kept given = unindexed label index.labels labels.owners kept.slots.same (given_unowned labels label kept.owns.numbers given)
 
 advertised_own : (label : ℕ) (told : Told) (local : LocalPart) → IsIdle local → own_label (advertise_part label told local) ≡ Some label
@@ -415,7 +436,8 @@ advertised_kind label told (Advertised own t) idle kind = absurd idle
 advertised_kind label told (Withdrawing own) idle kind = absurd idle
 
 pub kept_issued : (key : SegKey) (side : ℕ) (peer : EdgeId) (label : ℕ) (told : Told) (places : List EndPlace) (ends : List EndState) (labels : LabelNumbers) (index : OwnedList) (slot : ℕ) → AreKept places ends labels index → slot < length places → IsIdle (get_or ends slot fresh).local → told.kind ≤ 0x7FFF → number_to_give labels.next labels.kept ≡ Some label
-    → key ≡ segment_of (get_or places slot no_place) → side ≡ (get_or places slot no_place).side → peer ≡ (get_or places slot no_place).peer → AreKept places (changed_in (advertised label told) slot ends) (given_to key side peer (Some label) labels) (with_owner label slot index)
+    → key ≡ segment_of (get_or places slot no_place) → side ≡ (get_or places slot no_place).side → peer ≡ (get_or places slot no_place).peer
+    → AreKept places (changed_in (advertised label told) slot ends) (given_to key side peer (Some label) labels) (with_owner label slot index)
 kept_issued key side peer label told places ends labels index slot kept within idle kind given of_segment of_side of_peer =
     let old : EndState = get_or ends slot fresh in
     let new : EndState = advertised label told old in
@@ -432,25 +454,30 @@ kept_issued key side peer label told places ends labels index slot kept within i
       owns = rw owned (theirs_issued (map own_of ends) labels slot label key side peer kept.owns short_own none given);
       owners = rw (owned, of_segment, of_side, of_peer) (owners_issued (map own_of ends) labels places slot label kept.owners (none_found label labels.owners nobody));
       kinds = all_set (λ (end : EndState). HasKind end.local) ends slot new kept.kinds (advertised_kind label told old.local idle kind);
-      slots = rw owned (index_issued (map own_of ends) labels index slot label key side peer kept.slots (all_new labels.owners label (map own_of ends) nobody kept.owns.owned) (index_unowned places ends labels index label kept given) short_own none);
+      slots = rw owned (index_issued (map own_of ends) labels index slot label key side peer kept.slots (all_new labels.owners label (map own_of ends) nobody kept.owns.owned)
+          (index_unowned places ends labels index label kept given) short_own none);
       holds = holding_set places ends slot new kept.holds (holding_at places ends slot kept.holds within short);
     }
 
-issued_is : (key : SegKey) (side : ℕ) (peer : EdgeId) (labels : LabelNumbers) (label : ℕ) → number_to_give labels.next labels.kept ≡ Some label → issued key side peer labels ≡ given_to key side peer (Some label) labels
+issued_is : (key : SegKey) (side : ℕ) (peer : EdgeId) (labels : LabelNumbers) (label : ℕ) → number_to_give labels.next labels.kept ≡ Some label → issued key side peer labels
+    ≡ given_to key side peer (Some label) labels
 issued_is key side peer labels label given = ap (λ (r : Option ℕ). given_to key side peer r labels) given
 
 -- the same of what the code has
 pub kept_advertised : (key : SegKey) (side : ℕ) (peer : EdgeId) (told : Told) (places : List EndPlace) (ends now : List EndState) (labels left : LabelNumbers) (index more : OwnedList) (slot label : ℕ) → AreKept places ends labels index → slot < length places → IsIdle (get_or ends slot fresh).local → told.kind ≤ 0x7FFF → number_to_give labels.next labels.kept ≡ Some label
-    → now ≡ changed_in (advertised label told) slot ends → left ≡ issued key side peer labels → more ≡ with_owner label slot index → key ≡ segment_of (get_or places slot no_place) → side ≡ (get_or places slot no_place).side → peer ≡ (get_or places slot no_place).peer
+    → now ≡ changed_in (advertised label told) slot ends → left ≡ issued key side peer labels → more ≡ with_owner label slot index → key ≡ segment_of (get_or places slot no_place)
+    → side ≡ (get_or places slot no_place).side → peer ≡ (get_or places slot no_place).peer
     → AreKept places now left more
 kept_advertised key side peer told places ends now labels left index more slot label kept within idle kind given is left_is with_is of_segment of_side of_peer =
     rw (left_is ∙ issued_is key side peer labels label given, with_is, is) (kept_issued key side peer label told places ends labels index slot kept within idle kind given of_segment of_side of_peer)
 
 -- what is given next after that, and what is kept
-pub given_next : (key : SegKey) (side : ℕ) (peer : EdgeId) (labels left : LabelNumbers) (label : ℕ) → number_to_give labels.next labels.kept ≡ Some label → left ≡ issued key side peer labels → left.next ≡ next_after labels.next
+pub given_next : (key : SegKey) (side : ℕ) (peer : EdgeId) (labels left : LabelNumbers) (label : ℕ) → number_to_give labels.next labels.kept ≡ Some label → left
+    ≡ issued key side peer labels → left.next ≡ next_after labels.next
 given_next key side peer labels left label given is = ap (λ (l : LabelNumbers). l.next) (is ∙ issued_is key side peer labels label given)
 
-pub given_kept : (key : SegKey) (side : ℕ) (peer : EdgeId) (labels left : LabelNumbers) (label : ℕ) → number_to_give labels.next labels.kept ≡ Some label → left ≡ issued key side peer labels → left.kept ≡ without label labels.kept
+pub given_kept : (key : SegKey) (side : ℕ) (peer : EdgeId) (labels left : LabelNumbers) (label : ℕ) → number_to_give labels.next labels.kept ≡ Some label → left
+    ≡ issued key side peer labels → left.kept ≡ without label labels.kept
 given_kept key side peer labels left label given is = ap (λ (l : LabelNumbers). l.kept) (is ∙ issued_is key side peer labels label given)
 
 pub ruleset given_steps = (given_next, given_kept)
@@ -458,7 +485,8 @@ pub ruleset given_steps = (given_next, given_kept)
 -- ---- connections and ticks
 
 -- other numbers are kept, of the same owners
-kept_numbers : (places : List EndPlace) (ends : List EndState) (labels : LabelNumbers) (more : List Kept) (index : OwnedList) → AreKept places ends labels index → AreNumbersApart (record labels { kept = more }) → AreKept places ends (record labels { kept = more }) index
+kept_numbers : (places : List EndPlace) (ends : List EndState) (labels : LabelNumbers) (more : List Kept) (index : OwnedList) → AreKept places ends labels index
+    → AreNumbersApart (record labels { kept = more }) → AreKept places ends (record labels { kept = more }) index
 kept_numbers places ends labels more index kept numbers = record {
   count = kept.count;
   apart = kept.apart;
@@ -470,10 +498,12 @@ kept_numbers places ends labels more index kept numbers = record {
   holds = kept.holds;
 }
 
-pub kept_met : (peer : EdgeId) (places : List EndPlace) (ends : List EndState) (labels now : LabelNumbers) (index : OwnedList) → AreKept places ends labels index → now ≡ meeting peer labels → AreKept places ends now index
+pub kept_met : (peer : EdgeId) (places : List EndPlace) (ends : List EndState) (labels now : LabelNumbers) (index : OwnedList) → AreKept places ends labels index → now
+    ≡ meeting peer labels → AreKept places ends now index
 kept_met peer places ends labels now index kept is = rw is (kept_numbers places ends labels (met peer labels.kept) index kept (labels_are_used_again.apart labels (Met peer ∷ []) kept.owns.numbers))
 
-pub kept_ticked : (places : List EndPlace) (ends : List EndState) (labels now : LabelNumbers) (index : OwnedList) → AreKept places ends labels index → now ≡ ticking labels → AreKept places ends now index
+pub kept_ticked : (places : List EndPlace) (ends : List EndState) (labels now : LabelNumbers) (index : OwnedList) → AreKept places ends labels index → now ≡ ticking labels
+    → AreKept places ends now index
 kept_ticked places ends labels now index kept is = rw is (kept_numbers places ends labels (ticked labels.kept) index kept (labels_are_used_again.apart labels (Tick ∷ []) kept.owns.numbers))
 
 -- ---- opened
@@ -502,7 +532,8 @@ pub count_fresh : (count : ℕ) → length (replicate count fresh) ≡ count
 count_fresh zero = refl
 count_fresh (suc count) = ap suc (count_fresh count)
 
-pub kept_opened : (places : List EndPlace) (first : ℕ) → first ≤ numbers_end → AreApart places → AreKept places (replicate (length places) fresh) (opened_space first (length places)) (record { room = length places; labels = [] })
+pub kept_opened : (places : List EndPlace) (first : ℕ) → first ≤ numbers_end → AreApart places
+    → AreKept places (replicate (length places) fresh) (opened_space first (length places)) (record { room = length places; labels = [] })
 kept_opened places first below apart = record {
   count = count_fresh (length places);
   apart = apart;

@@ -65,4 +65,5 @@ module _ (lists : EndLists) (index : OwnedList) (kept : AreKept lists.places lis
           let here : owning (get_or lists.places slot no_place) ≡ true = seen slot within ∙ found.1 in
           let own : own_label (end_in lists slot).local ≡ Some label = label_is label (own_label (end_in lists slot).local) here in
           let owner : IsOwner lists.labels.owners (place_of lists slot) (Some label) = subst (IsOwner lists.labels.owners (place_of lists slot)) own (owner_seen lists index slot kept within) in
-          owner_of-find label lists.labels.owners ∙ ap (option_map (λ o. (o.key, o.side))) owner ∙ ap (option_map named) (sym (find_is owning lists.places slot no_place within here (λ i below. seen i (omega (arith, below, within)) ∙ found.2 i below)))
+          owner_of-find label lists.labels.owners ∙ ap (option_map (λ o. (o.key, o.side))) owner
+          ∙ ap (option_map named) (sym (find_is owning lists.places slot no_place within here (λ i below. seen i (omega (arith, below, within)) ∙ found.2 i below)))

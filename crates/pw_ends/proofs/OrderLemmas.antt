@@ -40,7 +40,8 @@ along_of : (wire : WireId) (row : WirePlan) (me : EdgeId) (segment : ℕ) (path 
 along_of wire row me segment [] = All-nil (IsOf wire.0 (is_terminal row me))
 along_of wire row me segment (last ∷ []) = All-nil (IsOf wire.0 (is_terminal row me))
 along_of wire row me segment (first ∷ next ∷ rest) =
-    All-append (IsOf wire.0 (is_terminal row me)) (places_at wire row me segment first next) (places_along wire row me (segment + 1) (next ∷ rest)) (at_of wire row me segment first next) (along_of wire row me (segment + 1) (next ∷ rest))
+    All-append (IsOf wire.0 (is_terminal row me)) (places_at wire row me segment first next) (places_along wire row me (segment + 1) (next ∷ rest))
+    (at_of wire row me segment first next) (along_of wire row me (segment + 1) (next ∷ rest))
 
 -- ---- the ends of several wires
 

@@ -35,7 +35,8 @@ unlike_all label (x ∷ xs) none = elim (cases_Bool (has_label label x)) [
 ]
 
 -- one more stands at its place
-pub held_put : (new : OwnedLabel) (room reserved now : ℕ) (xs ys : List OwnedLabel) → IsOwnedList room reserved xs → length xs < room → slot_of new.label xs ≡ None → ys ≡ put_by label_in new xs → now ≡ reserved → IsOwnedList room now ys
+pub held_put : (new : OwnedLabel) (room reserved now : ℕ) (xs ys : List OwnedLabel) → IsOwnedList room reserved xs → length xs < room → slot_of new.label xs ≡ None → ys
+    ≡ put_by label_in new xs → now ≡ reserved → IsOwnedList room now ys
 held_put new room reserved now xs ys held more none is equal = rw (is, equal) (record {
   within = omega (arith, more, long_put label_in new xs);
   has_room = held.has_room;

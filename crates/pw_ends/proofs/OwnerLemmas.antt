@@ -46,12 +46,14 @@ found_none None none = refl
 found_none (Some x) none = absurd (something x.slot none)
 
 -- a label has the slot that it comes with, and all others keep theirs
-slot_put : (label slot : ℕ) (xs : List OwnedLabel) → slot_of label xs ≡ None → (other : ℕ) → slot_of other (put_by label_in (record { label = label; slot = slot }) xs) ≡ cond (label == other) (Some slot) (slot_of other xs)
+slot_put : (label slot : ℕ) (xs : List OwnedLabel) → slot_of label xs ≡ None → (other : ℕ) → slot_of other (put_by label_in (record { label = label; slot = slot }) xs)
+    ≡ cond (label == other) (Some slot) (slot_of other xs)
 slot_put label slot xs none other =
     let new : OwnedLabel = record { label = label; slot = slot } in
     ap (option_map (λ (o : OwnedLabel). o.slot)) (find_put label_in new xs (found_none (find (has_label label) xs) none) other) ∙ by (label == other)
   where
-    by : (b : Bool) → option_map (λ (o : OwnedLabel). o.slot) (cond b (Some (record { label = label; slot = slot })) (find (has_label other) xs)) ≡ cond b (Some slot) (option_map (λ (o : OwnedLabel). o.slot) (find (has_label other) xs))
+    by : (b : Bool) → option_map (λ (o : OwnedLabel). o.slot) (cond b (Some (record { label = label; slot = slot })) (find (has_label other) xs))
+        ≡ cond b (Some slot) (option_map (λ (o : OwnedLabel). o.slot) (find (has_label other) xs))
     by true = refl
     by false = refl
 
@@ -62,13 +64,15 @@ pub away : (label : ℕ) (own : Option ℕ) → Differ (Some label) own → is_l
 away label None differ = refl
 away label (Some other) differ = ne_eqb other label (λ is. differ (sym is))
 
-number_set : (label : ℕ) (owns : List (Option ℕ)) (slot : ℕ) (own : Option ℕ) → slot < length owns → is_label label own ≡ is_label label (get_or owns slot None) → position_or_len (is_label label) (set owns slot own) ≡ position_or_len (is_label label) owns
+number_set : (label : ℕ) (owns : List (Option ℕ)) (slot : ℕ) (own : Option ℕ) → slot < length owns → is_label label own ≡ is_label label (get_or owns slot None)
+    → position_or_len (is_label label) (set owns slot own) ≡ position_or_len (is_label label) owns
 number_set label [] slot own within alike = absurd (omega (arith, within))
 number_set label (o ∷ os) zero own within alike = ap (λ (b : Bool). cond (not b) (1 + position_or_len (is_label label) os) 0) alike
 number_set label (o ∷ os) (suc slot) own within alike = ap (λ (n : ℕ). cond (not (is_label label o)) (1 + n) 0) (number_set label os slot own (omega (arith, within)) alike)
 
 -- an end that owned no such label, and does not own it now
-position_set : (label : ℕ) (owns : List (Option ℕ)) (slot : ℕ) (own : Option ℕ) → slot < length owns → is_label label own ≡ is_label label (get_or owns slot None) → position (is_label label) (set owns slot own) ≡ position (is_label label) owns
+position_set : (label : ℕ) (owns : List (Option ℕ)) (slot : ℕ) (own : Option ℕ) → slot < length owns → is_label label own ≡ is_label label (get_or owns slot None)
+    → position (is_label label) (set owns slot own) ≡ position (is_label label) owns
 position_set label owns slot own within alike = rw (number_set label owns slot own within alike, length-set owns slot own) refl
 
 number_put : (label : ℕ) (owns : List (Option ℕ)) (slot : ℕ) → AllByRecursion (Differ (Some label)) owns → slot < length owns → position_or_len (is_label label) (set owns slot (Some label)) ≡ slot
@@ -98,7 +102,8 @@ number_away label (o ∷ os) away =
 pub position_away : (label : ℕ) (owns : List (Option ℕ)) → AllByRecursion (λ own. is_label label own ≡ false) owns → position (is_label label) owns ≡ None
 position_away label owns away = rw (number_away label owns away, not_below_itself (length owns)) refl
 
-number_left : (label : ℕ) (owns : List (Option ℕ)) (slot : ℕ) → OwnApart owns → slot < length owns → get_or owns slot None ≡ Some label → position_or_len (is_label label) (set owns slot None) ≡ length owns
+number_left : (label : ℕ) (owns : List (Option ℕ)) (slot : ℕ) → OwnApart owns → slot < length owns → get_or owns slot None ≡ Some label
+    → position_or_len (is_label label) (set owns slot None) ≡ length owns
 number_left label [] slot apart within at = absurd (omega (arith, within))
 number_left label (o ∷ os) zero apart within at =
     let rest : position_or_len (is_label label) os ≡ length os = number_none label os (subst (λ (own : Option ℕ). AllByRecursion (Differ own) os) at apart.0) in
@@ -145,7 +150,8 @@ unindexed label (x ∷ xs) (o ∷ owners) same none =
           rw away (unindexed label xs owners tail (rw other at none)))
     ]
 
-pub index_issued : (own_list : List (Option ℕ)) (labels : LabelNumbers) (index : OwnedList) (slot label : ℕ) (key : SegKey) (side : ℕ) (peer : EdgeId) → IsIndex own_list labels index → AllByRecursion (Differ (Some label)) own_list → slot_of label index.labels ≡ None → slot < length own_list → get_or own_list slot None ≡ None
+pub index_issued : (own_list : List (Option ℕ)) (labels : LabelNumbers) (index : OwnedList) (slot label : ℕ) (key : SegKey) (side : ℕ) (peer : EdgeId) → IsIndex own_list labels index
+    → AllByRecursion (Differ (Some label)) own_list → slot_of label index.labels ≡ None → slot < length own_list → get_or own_list slot None ≡ None
     → IsIndex (set own_list slot (Some label)) (given_to key side peer (Some label) labels) (with_owner label slot index)
 index_issued own_list labels index slot label key side peer is differ unowned within at = record {
   room = is.room;
@@ -163,7 +169,8 @@ index_issued own_list labels index slot label key side peer is differ unowned wi
 
 -- ---- a label is freed
 
-index_freed : (own_list : List (Option ℕ)) (labels : LabelNumbers) (index : OwnedList) (slot label : ℕ) → IsIndex own_list labels index → OwnApart own_list → IsOwned labels.owners (Some label) → slot < length own_list → get_or own_list slot None ≡ Some label → IsIndex (set own_list slot None) (freed label labels) (without label index)
+index_freed : (own_list : List (Option ℕ)) (labels : LabelNumbers) (index : OwnedList) (slot label : ℕ) → IsIndex own_list labels index → OwnApart own_list
+    → IsOwned labels.owners (Some label) → slot < length own_list → get_or own_list slot None ≡ Some label → IsIndex (set own_list slot None) (freed label labels) (without label index)
 index_freed own_list labels index slot label is apart owned within at = of_found (find (owns label) labels.owners) refl where
   same_left : map (λ o. o.label) (filter (λ o. not (has_label label o)) index.labels) ≡ map (λ o. o.label) (filter (λ o. not (owns label o)) labels.owners)
   same_left =
@@ -184,7 +191,8 @@ index_freed own_list labels index slot label is apart owned within at = of_found
   of_found (Some owner) found = record { room = is.room; same = same_left; slot = λ other. by other (cases_Bool (label == other)) }
 
 -- after a change each label that is left has its slot
-pub index_changed : (own_list : List (Option ℕ)) (labels : LabelNumbers) (index : OwnedList) (slot : ℕ) (before after : Option ℕ) → IsIndex own_list labels index → OwnApart own_list → IsOwned labels.owners before → slot < length own_list → get_or own_list slot None ≡ before → (after ≡ before) ⊎ (after ≡ None)
+pub index_changed : (own_list : List (Option ℕ)) (labels : LabelNumbers) (index : OwnedList) (slot : ℕ) (before after : Option ℕ) → IsIndex own_list labels index → OwnApart own_list
+    → IsOwned labels.owners before → slot < length own_list → get_or own_list slot None ≡ before → (after ≡ before) ⊎ (after ≡ None)
     → IsIndex (set own_list slot after) (freed_one (left_label before after) labels) (without_one (left_label before after) index)
 index_changed own_list labels index slot None None is apart owned within at either = rw (set_same own_list slot None None within (sym at)) is
 index_changed own_list labels index slot None (Some label) is apart owned within at (inl same) = absurd (something {X = ℕ} label same)
@@ -212,10 +220,12 @@ count_own [] = refl
 count_own (e ∷ es) = ap suc (count_own es)
 
 -- the end of the slot is the first one that owns the label
-pub owner_found : (label : ℕ) (ends : List EndState) (labels : LabelNumbers) (index : OwnedList) → IsIndex (map own_of ends) labels index → slot_of label index.labels ≡ position (owns_label label) ends
+pub owner_found : (label : ℕ) (ends : List EndState) (labels : LabelNumbers) (index : OwnedList) → IsIndex (map own_of ends) labels index → slot_of label index.labels
+    ≡ position (owns_label label) ends
 owner_found label ends labels index is = is.slot label ∙ rw (number_own label ends, count_own ends) refl
 
 -- it is one of the slots
-pub owner_within : (label : ℕ) (places : List EndPlace) (ends : List EndState) (found : Option ℕ) → length ends ≡ length places → found ≡ position (owns_label label) ends → IfSome found (λ slot. slot < length places)
+pub owner_within : (label : ℕ) (places : List EndPlace) (ends : List EndState) (found : Option ℕ) → length ends ≡ length places → found ≡ position (owns_label label) ends
+    → IfSome found (λ slot. slot < length places)
 owner_within label places ends None count is = tt
 owner_within label places ends (Some slot) count is = omega (arith, count, (position-Some (owns_label label) ends slot fresh (sym is)).0)

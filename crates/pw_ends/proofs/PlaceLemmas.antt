@@ -33,7 +33,8 @@ none_along wire row me segment (first ∷ next ∷ rest) away =
     rw (one, two) (none_along wire row me (segment + 1) (next ∷ rest) more)
 
 -- the ends beyond a segment whose second edge is this one
-beyond : (wire : WireId) (row : WirePlan) (me first next : EdgeId) (segment : ℕ) (rest : List EdgeId) → (me.0 == next.0) ≡ true → has_repeat (first ∷ next ∷ rest) ≡ false → AreApart (end_place_at wire row me segment 1 first ∷ places_along wire row me (segment + 1) (next ∷ rest))
+beyond : (wire : WireId) (row : WirePlan) (me first next : EdgeId) (segment : ℕ) (rest : List EdgeId) → (me.0 == next.0) ≡ true → has_repeat (first ∷ next ∷ rest) ≡ false
+    → AreApart (end_place_at wire row me segment 1 first ∷ places_along wire row me (segment + 1) (next ∷ rest))
 beyond wire row me first next segment [] here once = (tt, tt)
 beyond wire row me first next segment (r ∷ rs) here once =
     let more : has_repeat (next ∷ r ∷ rs) ≡ false = second_fails (stands first.0 (next ∷ r ∷ rs)) (has_repeat (next ∷ r ∷ rs)) once in
@@ -74,30 +75,34 @@ all_weaker P Q [] weaker all = tt
 all_weaker P Q (x ∷ xs) weaker all = (weaker x all.0, all_weaker P Q xs weaker all.1)
 
 at_of_wire : (wire : WireId) (row : WirePlan) (me : EdgeId) (segment : ℕ) (first next : EdgeId) → AllByRecursion (λ (p : EndPlace). p.wire.0 ≡ wire.0) (places_at wire row me segment first next)
-at_of_wire wire row me segment first next = elim (me.0 == first.0) as (λ a. AllByRecursion (λ (p : EndPlace). p.wire.0 ≡ wire.0) (cond a (end_place_at wire row me segment 0 next ∷ []) (cond (me.0 == next.0) (end_place_at wire row me segment 1 first ∷ []) []))) [
-  | true ↦ (refl, tt)
-  | false ↦ elim (me.0 == next.0) as (λ b. AllByRecursion (λ (p : EndPlace). p.wire.0 ≡ wire.0) (cond b (end_place_at wire row me segment 1 first ∷ []) [])) [
-    | true ↦ (refl, tt)
-    | false ↦ tt
-  ]
-]
+at_of_wire wire row me segment first next = elim (me.0 == first.0) as
+    (λ a. AllByRecursion (λ (p : EndPlace). p.wire.0 ≡ wire.0) (cond a (end_place_at wire row me segment 0 next ∷ []) (cond (me.0 == next.0) (end_place_at wire row me segment 1 first ∷ []) []))) [
+      | true ↦ (refl, tt)
+      | false ↦ elim (me.0 == next.0) as (λ b. AllByRecursion (λ (p : EndPlace). p.wire.0 ≡ wire.0) (cond b (end_place_at wire row me segment 1 first ∷ []) [])) [
+        | true ↦ (refl, tt)
+        | false ↦ tt
+      ]
+    ]
 
 along_of_wire : (wire : WireId) (row : WirePlan) (me : EdgeId) (segment : ℕ) (path : List EdgeId) → AllByRecursion (λ (p : EndPlace). p.wire.0 ≡ wire.0) (places_along wire row me segment path)
 along_of_wire wire row me segment [] = tt
 along_of_wire wire row me segment (last ∷ []) = tt
 along_of_wire wire row me segment (first ∷ next ∷ rest) =
-    all_append (λ p. p.wire.0 ≡ wire.0) (places_at wire row me segment first next) (places_along wire row me (segment + 1) (next ∷ rest)) (at_of_wire wire row me segment first next) (along_of_wire wire row me (segment + 1) (next ∷ rest))
+    all_append (λ p. p.wire.0 ≡ wire.0) (places_at wire row me segment first next) (places_along wire row me (segment + 1) (next ∷ rest)) (at_of_wire wire row me segment first next)
+    (along_of_wire wire row me (segment + 1) (next ∷ rest))
 
 -- the ends of the wires from a place on are of no earlier wire
 pub from_later : (me : EdgeId) (wire : ℕ) (rows : List WirePlan) → AllByRecursion (λ (p : EndPlace). wire ≤ p.wire.0) (places_from me wire rows)
 from_later me wire [] = tt
 from_later me wire (row ∷ rows) =
     all_append (λ p. wire ≤ p.wire.0) (places_along (record { 0 = wire }) row me 0 row.path) (places_from me (wire + 1) rows)
-    (all_weaker (λ p. p.wire.0 ≡ wire) (λ p. wire ≤ p.wire.0) (places_along (record { 0 = wire }) row me 0 row.path) (λ p same. omega (arith, same)) (along_of_wire (record { 0 = wire }) row me 0 row.path))
+    (all_weaker (λ p. p.wire.0 ≡ wire) (λ p. wire ≤ p.wire.0) (places_along (record { 0 = wire }) row me 0 row.path) (λ p same. omega (arith, same))
+    (along_of_wire (record { 0 = wire }) row me 0 row.path))
     (all_weaker (λ p. wire + 1 ≤ p.wire.0) (λ p. wire ≤ p.wire.0) (places_from me (wire + 1) rows) (λ p later. omega (arith, later)) (from_later me (wire + 1) rows))
 
 -- ends of one wire are apart from those of later ones
-later_apart : (wire : ℕ) (place : EndPlace) (ys : List EndPlace) → place.wire.0 ≡ wire → AllByRecursion (λ (p : EndPlace). wire + 1 ≤ p.wire.0) ys → AllByRecursion (λ (other : EndPlace). is_at other.wire.0 other.peer.0 place ≡ false) ys
+later_apart : (wire : ℕ) (place : EndPlace) (ys : List EndPlace) → place.wire.0 ≡ wire → AllByRecursion (λ (p : EndPlace). wire + 1 ≤ p.wire.0) ys
+    → AllByRecursion (λ (other : EndPlace). is_at other.wire.0 other.peer.0 place ≡ false) ys
 later_apart wire place [] same later = tt
 later_apart wire place (y ∷ ys) same later =
     let differ : (y.wire.0 == place.wire.0) ≡ false = unlike y.wire.0 place.wire.0 wire same later.0 in
@@ -106,7 +111,8 @@ later_apart wire place (y ∷ ys) same later =
     unlike : (a b wire : ℕ) → b ≡ wire → wire + 1 ≤ a → (a == b) ≡ false
     unlike a b wire same later = grind (arith, nat_tests)
 
-append_apart : (wire : ℕ) (xs ys : List EndPlace) → AreApart xs → AreApart ys → AllByRecursion (λ (p : EndPlace). p.wire.0 ≡ wire) xs → AllByRecursion (λ (p : EndPlace). wire + 1 ≤ p.wire.0) ys → AreApart (xs ++ ys)
+append_apart : (wire : ℕ) (xs ys : List EndPlace) → AreApart xs → AreApart ys → AllByRecursion (λ (p : EndPlace). p.wire.0 ≡ wire) xs
+    → AllByRecursion (λ (p : EndPlace). wire + 1 ≤ p.wire.0) ys → AreApart (xs ++ ys)
 append_apart wire [] ys first second of_it later = second
 append_apart wire (x ∷ xs) ys first second of_it later =
     (all_append (λ other. is_at other.wire.0 other.peer.0 x ≡ false) xs ys first.0 (later_apart wire x ys of_it.0 later), append_apart wire xs ys first.1 second of_it.1 later)
@@ -124,26 +130,29 @@ pub places_apart : (plan : Plan) (me : EdgeId) → IsChecked plan → AreApart (
 places_apart plan me checked = from_apart plan me 0 plan.wires checked.wires
 
 -- the first label of an edge of the plan
-first_in : (rows : List EdgePlan) (place : ℕ) (row : EdgePlan) → All IsEdgePlan rows → place < length rows → (16 ≤ (get_or rows place row).first_label) × ((get_or rows place row).first_label ≤ numbers_end)
+first_in : (rows : List EdgePlan) (place : ℕ) (row : EdgePlan) → All IsEdgePlan rows → place < length rows → (16 ≤ (get_or rows place row).first_label)
+    × ((get_or rows place row).first_label ≤ numbers_end)
 first_in [] place row good within = absurd (omega (arith, within))
 first_in (r ∷ rs) zero row good within =
     let is : IsEdgePlan r = All-head IsEdgePlan r rs good in
     (is.first_label.0, omega (arith, is.first_label.1))
 first_in (r ∷ rs) (suc place) row good within = first_in rs place row (All-tail IsEdgePlan r rs good) (omega (arith, within))
 
-pub first_in_range : (plan : Plan) (me : ℕ) (row : EdgePlan) → IsChecked plan → me < length plan.edges → (16 ≤ (get_or plan.edges me row).first_label) × ((get_or plan.edges me row).first_label ≤ numbers_end)
+pub first_in_range : (plan : Plan) (me : ℕ) (row : EdgePlan) → IsChecked plan → me < length plan.edges → (16 ≤ (get_or plan.edges me row).first_label)
+    × ((get_or plan.edges me row).first_label ≤ numbers_end)
 first_in_range plan me row checked within = first_in plan.edges me row checked.edges within
 
 -- ---- how many there are
 
 at_most : (wire : WireId) (row : WirePlan) (me : EdgeId) (segment : ℕ) (first next : EdgeId) → length (places_at wire row me segment first next) ≤ 1
-at_most wire row me segment first next = elim (me.0 == first.0) as (λ a. length (cond a (end_place_at wire row me segment 0 next ∷ []) (cond (me.0 == next.0) (end_place_at wire row me segment 1 first ∷ []) [])) ≤ 1) [
-  | true ↦ omega arith
-  | false ↦ elim (me.0 == next.0) as (λ b. length (cond b (end_place_at wire row me segment 1 first ∷ []) []) ≤ 1) [
-    | true ↦ omega arith
-    | false ↦ omega arith
-  ]
-]
+at_most wire row me segment first next = elim (me.0 == first.0) as
+    (λ a. length (cond a (end_place_at wire row me segment 0 next ∷ []) (cond (me.0 == next.0) (end_place_at wire row me segment 1 first ∷ []) [])) ≤ 1) [
+      | true ↦ omega arith
+      | false ↦ elim (me.0 == next.0) as (λ b. length (cond b (end_place_at wire row me segment 1 first ∷ []) []) ≤ 1) [
+        | true ↦ omega arith
+        | false ↦ omega arith
+      ]
+    ]
 
 both_count : (xs ys : List EndPlace) → length (xs ++ ys) ≡ length xs + length ys
 both_count [] ys = omega arith
@@ -153,7 +162,12 @@ along_most : (wire : WireId) (row : WirePlan) (me : EdgeId) (segment : ℕ) (pat
 along_most wire row me segment [] = omega arith
 along_most wire row me segment (last ∷ []) = omega arith
 along_most wire row me segment (first ∷ next ∷ rest) =
-    omega (arith, both_count (places_at wire row me segment first next) (places_along wire row me (segment + 1) (next ∷ rest)), at_most wire row me segment first next, along_most wire row me (segment + 1) (next ∷ rest))
+    omega (
+      arith,
+      both_count (places_at wire row me segment first next) (places_along wire row me (segment + 1) (next ∷ rest)),
+      at_most wire row me segment first next,
+      along_most wire row me (segment + 1) (next ∷ rest),
+    )
 
 from_most : (plan : Plan) (me : EdgeId) (wire : ℕ) (rows : List WirePlan) → All (IsWireOf plan) rows → length (places_from me wire rows) ≤ 5 * length rows
 from_most plan me wire [] good = omega arith

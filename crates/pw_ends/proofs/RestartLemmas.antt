@@ -50,7 +50,8 @@ pub owners_same : (from to : ℕ) (xs ys : List Owner) → AreRisingBy owned_lab
 owners_same from to [] [] rising others found = refl
 owners_same from to [] (y ∷ ys) rising others found = absurd (something y (sym (first_found y ys) ∙ sym (found y.label)))
 owners_same from to (x ∷ xs) [] rising others found = absurd (something x (sym (first_found x xs) ∙ found x.label))
-owners_same from to (x ∷ xs) (y ∷ ys) rising others found = two (one (cases_order x.label y.label)) (owners_same (x.label + 1) (y.label + 1) xs ys rising.1 others.1 (λ label. rest label (owns label x) refl))
+owners_same from to (x ∷ xs) (y ∷ ys) rising others found =
+    two (one (cases_order x.label y.label)) (owners_same (x.label + 1) (y.label + 1) xs ys rising.1 others.1 (λ label. rest label (owns label x) refl))
   where
     equal : x.label ≡ y.label → x ≡ y
     equal is = same_Some x y (sym (first_found x xs) ∙ (found x.label ∙ (ap (λ (n : ℕ). find (owns n) (y ∷ ys)) is ∙ first_found y ys)))
@@ -103,7 +104,8 @@ found_in label (p ∷ ps) (None ∷ os) apart = found_in label ps os apart.1
 found_in label (p ∷ ps) (Some own ∷ os) apart =
     find_put owned_label (owner_at p own) (owners_in ps os) (found_in own ps os apart.1 ∙ for_none own ps os apart.0) label ∙ by (own == label) refl (found_in label ps os apart.1)
   where
-    by : (b : Bool) → (own == label) ≡ b → find (owns label) (owners_in ps os) ≡ owner_for label ps os → cond b (Some (owner_at p own)) (find (owns label) (owners_in ps os)) ≡ cond b (Some (owner_at p label)) (owner_for label ps os)
+    by : (b : Bool) → (own == label) ≡ b → find (owns label) (owners_in ps os) ≡ owner_for label ps os → cond b (Some (owner_at p own)) (find (owns label) (owners_in ps os))
+        ≡ cond b (Some (owner_at p label)) (owner_for label ps os)
     by true here rest = ap (λ (n : ℕ). Some (owner_at p n)) (eqb-true own label here)
     by false other rest = rest
 
@@ -116,13 +118,15 @@ rising_in (p ∷ ps) (Some own ∷ os) apart =
     rising_put owned_label (owner_at p own) 0 (owners_in ps os) (apart_owners own (owners_in ps os) none) (omega arith) (rising_in ps os apart.1)
 
 -- what the label space has of a label is the end that owns it
-for_found : (label : ℕ) (owners : List Owner) (places : List EndPlace) (own_list : List (Option ℕ)) → AreOwners owners places own_list → length own_list ≡ length places → (AllByRecursion (λ own. is_label label own ≡ false) own_list → find (owns label) owners ≡ None)
+for_found : (label : ℕ) (owners : List Owner) (places : List EndPlace) (own_list : List (Option ℕ)) → AreOwners owners places own_list → length own_list ≡ length places
+    → (AllByRecursion (λ own. is_label label own ≡ false) own_list → find (owns label) owners ≡ None)
     → owner_for label places own_list ≡ find (owns label) owners
 for_found label owners [] [] are count none = sym (none tt)
 for_found label owners [] (o ∷ os) are count none = absurd (omega (arith, count))
 for_found label owners (p ∷ ps) [] are count none = absurd (omega (arith, count))
 for_found label owners (p ∷ ps) (o ∷ os) are count none = by (is_label label o) refl (λ away. for_found label owners ps os are.1 (omega (arith, count)) away) where
-  by : (b : Bool) → is_label label o ≡ b → ((AllByRecursion (λ own. is_label label own ≡ false) os → find (owns label) owners ≡ None) → owner_for label ps os ≡ find (owns label) owners) → cond b (Some (owner_at p label)) (owner_for label ps os) ≡ find (owns label) owners
+  by : (b : Bool) → is_label label o ≡ b → ((AllByRecursion (λ own. is_label label own ≡ false) os → find (owns label) owners ≡ None) → owner_for label ps os
+      ≡ find (owns label) owners) → cond b (Some (owner_at p label)) (owner_for label ps os) ≡ find (owns label) owners
   by true here rest = sym (subst (IsOwner owners p) (label_is label o here) are.0)
   by false other rest = rest (λ away. none (other, away))
 
@@ -137,7 +141,8 @@ owners_are places ends labels index kept =
 
 -- ---- what is kept
 
-pub kept_restarted : (inside : EndLists) (old : EndLists) (now : LabelNumbers) (index : OwnedList) → AreKept inside.places inside.ends inside.labels index → inside ≡ old → now ≡ emptied inside.labels → now.kept ≡ keeps_owned (owners_of (seen_ends old) old.places) old.labels.kept
+pub kept_restarted : (inside : EndLists) (old : EndLists) (now : LabelNumbers) (index : OwnedList) → AreKept inside.places inside.ends inside.labels index → inside ≡ old → now
+    ≡ emptied inside.labels → now.kept ≡ keeps_owned (owners_of (seen_ends old) old.places) old.labels.kept
 unfolding seen_ends
 kept_restarted inside old now index kept view is =
     ap (λ (l : LabelNumbers). l.kept) is
@@ -147,7 +152,8 @@ kept_restarted inside old now index kept view is =
 
 -- ---- what always holds, after it
 
-idle_kept : (places : List EndPlace) (ends : List EndState) (labels : LabelNumbers) (index : OwnedList) → AreKept places ends labels index → AreKept places (replicate (length places) fresh) (emptied labels) (record { room = index.room; labels = [] })
+idle_kept : (places : List EndPlace) (ends : List EndState) (labels : LabelNumbers) (index : OwnedList) → AreKept places ends labels index
+    → AreKept places (replicate (length places) fresh) (emptied labels) (record { room = index.room; labels = [] })
 idle_kept places ends labels index kept = record {
   count = count_fresh (length places);
   apart = kept.apart;
@@ -165,7 +171,8 @@ idle_kept places ends labels index kept = record {
 }
 
 -- the same of what the code has
-pub marked_idle : (marks now_marks : ℕ → Bool) (places : List EndPlace) (ends now : List PwEnd) (labels left : LabelNumbers) (index none : OwnedList) → AreMarked places (map end_of ends) labels index marks → map end_of now ≡ replicate (length ends) fresh → left ≡ emptied labels → none ≡ record { room = index.room; labels = [] }
+pub marked_idle : (marks now_marks : ℕ → Bool) (places : List EndPlace) (ends now : List PwEnd) (labels left : LabelNumbers) (index none : OwnedList)
+    → AreMarked places (map end_of ends) labels index marks → map end_of now ≡ replicate (length ends) fresh → left ≡ emptied labels → none ≡ record { room = index.room; labels = [] }
     → AreMarked places (map end_of now) left none now_marks
 marked_idle marks now_marks places ends now labels left index none marked is left_is none_is =
     let idle : map end_of now ≡ replicate (length places) fresh = is ∙ ap (λ n. replicate n fresh) (seen_count ends places marked.kept.count) in

@@ -28,12 +28,14 @@ owner_put : (xs : List Owner) (owner : Owner) (place : EndPlace) (own : Option �
 owner_put xs owner place None none is = tt
 owner_put xs owner place (Some label) none is = put_same label xs owner (owner_at place label) none is
 
-owners_put : (xs : List Owner) (owner : Owner) (places : List EndPlace) (own_list : List (Option ℕ)) → find (owns owner.label) xs ≡ None → AreOwners xs places own_list → AreOwners (put_by owned_label owner xs) places own_list
+owners_put : (xs : List Owner) (owner : Owner) (places : List EndPlace) (own_list : List (Option ℕ)) → find (owns owner.label) xs ≡ None → AreOwners xs places own_list
+    → AreOwners (put_by owned_label owner xs) places own_list
 owners_put xs owner [] own_list none are = tt
 owners_put xs owner (p ∷ ps) [] none are = tt
 owners_put xs owner (p ∷ ps) (o ∷ os) none are = (owner_put xs owner p o none are.0, owners_put xs owner ps os none are.1)
 
-owners_set : (xs : List Owner) (places : List EndPlace) (own_list : List (Option ℕ)) (slot label : ℕ) → AreOwners xs places own_list → find (owns label) xs ≡ Some (owner_at (get_or places slot no_place) label)
+owners_set : (xs : List Owner) (places : List EndPlace) (own_list : List (Option ℕ)) (slot label : ℕ) → AreOwners xs places own_list → find (owns label) xs
+    ≡ Some (owner_at (get_or places slot no_place) label)
     → AreOwners xs places (set own_list slot (Some label))
 owners_set xs [] own_list slot label are is = tt
 owners_set xs (p ∷ ps) [] slot label are is = tt
@@ -54,13 +56,15 @@ owner_left : (xs : List Owner) (label : ℕ) (place : EndPlace) (own : Option �
 owner_left xs label place None differ is = tt
 owner_left xs label place (Some other) differ is = find_left_other owned_label label other xs (ne_eqb label other differ) ∙ is
 
-owners_left : (xs : List Owner) (label : ℕ) (places : List EndPlace) (own_list : List (Option ℕ)) → AllByRecursion (Differ (Some label)) own_list → AreOwners xs places own_list → AreOwners (filter (λ o. not (owns label o)) xs) places own_list
+owners_left : (xs : List Owner) (label : ℕ) (places : List EndPlace) (own_list : List (Option ℕ)) → AllByRecursion (Differ (Some label)) own_list → AreOwners xs places own_list
+    → AreOwners (filter (λ o. not (owns label o)) xs) places own_list
 owners_left xs label [] own_list differ are = tt
 owners_left xs label (p ∷ ps) [] differ are = tt
 owners_left xs label (p ∷ ps) (o ∷ os) differ are = (owner_left xs label p o differ.0 are.0, owners_left xs label ps os differ.1 are.1)
 
 -- each other end's label keeps its owner
-owners_freed : (xs : List Owner) (label : ℕ) (places : List EndPlace) (own_list : List (Option ℕ)) (slot : ℕ) → OwnApart own_list → AreOwners xs places own_list → slot < length own_list → get_or own_list slot None ≡ Some label
+owners_freed : (xs : List Owner) (label : ℕ) (places : List EndPlace) (own_list : List (Option ℕ)) (slot : ℕ) → OwnApart own_list → AreOwners xs places own_list
+    → slot < length own_list → get_or own_list slot None ≡ Some label
     → AreOwners (filter (λ o. not (owns label o)) xs) places (set own_list slot None)
 owners_freed xs label [] own_list slot apart are within at = tt
 owners_freed xs label (p ∷ ps) [] slot apart are within at = tt
@@ -76,16 +80,17 @@ owners_unset xs (p ∷ ps) (o ∷ os) zero are = (tt, are.1)
 owners_unset xs (p ∷ ps) (o ∷ os) (suc slot) are = (are.0, owners_unset xs ps os slot are.1)
 
 -- after a change each label that is left has its owner
-pub owners_changed : (own_list : List (Option ℕ)) (labels : LabelNumbers) (places : List EndPlace) (slot : ℕ) (before after : Option ℕ) → OwnApart own_list → AreOwners labels.owners places own_list → slot < length own_list → get_or own_list slot None ≡ before → (after ≡ before) ⊎ (after ≡ None)
+pub owners_changed : (own_list : List (Option ℕ)) (labels : LabelNumbers) (places : List EndPlace) (slot : ℕ) (before after : Option ℕ) → OwnApart own_list
+    → AreOwners labels.owners places own_list → slot < length own_list → get_or own_list slot None ≡ before → (after ≡ before) ⊎ (after ≡ None)
     → AreOwners (freed_one (left_label before after) labels).owners places (set own_list slot after)
 owners_changed own_list labels places slot None None apart are within at either = rw (set_same own_list slot None None within (sym at)) are
-owners_changed own_list labels places slot None (Some label) apart are within at (inl same_number) = absurd (something {X = ℕ} label same_number)
+owners_changed own_list labels places slot None (Some label) apart are within at (inl same) = absurd (something {X = ℕ} label same)
 owners_changed own_list labels places slot None (Some label) apart are within at (inr none) = absurd (something {X = ℕ} label none)
 owners_changed own_list labels places slot (Some label) None apart are within at either = by (find (owns label) labels.owners) refl where
   by : (r : Option Owner) → find (owns label) labels.owners ≡ r → AreOwners (freed_of label r labels).owners places (set own_list slot None)
   by None none = owners_unset labels.owners places own_list slot are
   by (Some owner) found = owners_freed labels.owners label places own_list slot apart are within at
-owners_changed own_list labels places slot (Some label) (Some other) apart are within at (inl same_number) = rw (set_same own_list slot None (Some other) within (same_number ∙ sym at)) are
+owners_changed own_list labels places slot (Some label) (Some other) apart are within at (inl same) = rw (set_same own_list slot None (Some other) within (same ∙ sym at)) are
 owners_changed own_list labels places slot (Some label) (Some other) apart are within at (inr none) = absurd (something {X = ℕ} other none)
 
 -- ---- opened
@@ -98,7 +103,8 @@ owners_none owners (p ∷ ps) (suc count) = (tt, owners_none owners ps count)
 -- ---- what the owners say
 
 -- the owner of the label that the end of a slot owns
-pub owner_in : (owners : List Owner) (places : List EndPlace) (own_list : List (Option ℕ)) (slot : ℕ) → AreOwners owners places own_list → slot < length places → slot < length own_list → IsOwner owners (get_or places slot no_place) (get_or own_list slot None)
+pub owner_in : (owners : List Owner) (places : List EndPlace) (own_list : List (Option ℕ)) (slot : ℕ) → AreOwners owners places own_list → slot < length places → slot < length own_list
+    → IsOwner owners (get_or places slot no_place) (get_or own_list slot None)
 owner_in owners [] own_list slot are within short = absurd (omega (arith, within))
 owner_in owners (p ∷ ps) [] slot are within short = absurd (omega (arith, short))
 owner_in owners (p ∷ ps) (o ∷ os) zero are within short = are.0

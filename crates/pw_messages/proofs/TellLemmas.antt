@@ -28,7 +28,8 @@ pub offers_vlan : (offer : Offer) → IsOffer offer → has_vlan offer.vlan ≡ 
 offers_vlan offer is = vlan_within offer.vlan is.vlan
 
 -- a mapping whose FEC and switching points are short
-pub mapping_short : (id : ℕ) (pw : PwFec) (given : ℕ) (state : Option PwStatus) (points : List Point) → length (written_fec pw) ≤ 106 → length (flat_map spell_tlv (point_tlvs points)) ≤ 66 → 6 + length (message_octets (LabelMapping id pw given state points)) ≤ 256
+pub mapping_short : (id : ℕ) (pw : PwFec) (given : ℕ) (state : Option PwStatus) (points : List Point) → length (written_fec pw) ≤ 106
+    → length (flat_map spell_tlv (point_tlvs points)) ≤ 66 → 6 + length (message_octets (LabelMapping id pw given state points)) ≤ 256
 mapping_short id pw given state points fec_fits points_fit =
     let last = both_length (status_tlvs state) (point_tlvs points) in
     let second = first_length (tlv label (four given)) (status_tlvs state ++ point_tlvs points) in
@@ -36,7 +37,8 @@ mapping_short id pw given state points fec_fits points_fit =
     omega (arith, first, second, last, states_short state, fec_fits, points_fit)
 
 -- a MAC withdraw of few addresses
-pub withdrawal_short : (id pw_id : ℕ) (told : Told) (pw : PwFec) (addresses : List Mac) → pw ≡ bare_fec_of pw_id told → length (mac_octets addresses) ≤ 180 → 6 + length (message_octets (AddressWithdraw id None (Some pw) (Some addresses))) ≤ 256
+pub withdrawal_short : (id pw_id : ℕ) (told : Told) (pw : PwFec) (addresses : List Mac) → pw ≡ bare_fec_of pw_id told → length (mac_octets addresses) ≤ 180
+    → 6 + length (message_octets (AddressWithdraw id None (Some pw) (Some addresses))) ≤ 256
 withdrawal_short id pw_id told pw addresses same few =
     let bare_fits : length (written_fec (bare_fec_of pw_id told)) ≡ 12 = refl in
     let fec_fits : length (written_fec pw) ≡ 12 = ap (λ (p : PwFec). length (written_fec p)) same ∙ bare_fits in

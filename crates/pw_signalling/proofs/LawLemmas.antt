@@ -80,14 +80,16 @@ release e label other = ap (λ (l : LocalPart). record { local = l; remote = e.r
 -- the label after each change of the local part
 keeps_released : (given : Option ℕ) (local : LocalPart) (label : ℕ) → own_label local ≡ Some label → (own_label (release_part given local) ≡ Some label) ⊎ (own_label (release_part given local) ≡ None)
 keeps_released given (Idle declined) label own = inr refl
-keeps_released given (Advertised given_label told) label own = elim (names given given_label) as (λ v. (own_label (cond v (Idle true) (Advertised given_label told)) ≡ Some label) ⊎ (own_label (cond v (Idle true) (Advertised given_label told)) ≡ None)) [
-  | true ↦ inr refl
-  | false ↦ inl own
-]
-keeps_released given (Withdrawing given_label) label own = elim (names given given_label) as (λ v. (own_label (cond v (Idle false) (Withdrawing given_label)) ≡ Some label) ⊎ (own_label (cond v (Idle false) (Withdrawing given_label)) ≡ None)) [
-  | true ↦ inr refl
-  | false ↦ inl own
-]
+keeps_released given (Advertised given_label told) label own =
+    elim (names given given_label) as (λ v. (own_label (cond v (Idle true) (Advertised given_label told)) ≡ Some label) ⊎ (own_label (cond v (Idle true) (Advertised given_label told)) ≡ None)) [
+      | true ↦ inr refl
+      | false ↦ inl own
+    ]
+keeps_released given (Withdrawing given_label) label own =
+    elim (names given given_label) as (λ v. (own_label (cond v (Idle false) (Withdrawing given_label)) ≡ Some label) ⊎ (own_label (cond v (Idle false) (Withdrawing given_label)) ≡ None)) [
+      | true ↦ inr refl
+      | false ↦ inl own
+    ]
 
 advertised_label : (given : ℕ) (told : Told) (local : LocalPart) (label : ℕ) → own_label local ≡ Some label → own_label (advertise_part given told local) ≡ Some label
 advertised_label given told (Idle declined) label own = absurd (cc)
@@ -260,7 +262,8 @@ agree role bits own far none =
     let third = passed (mtus_differ own.mtu far.mtu) _ _ second.1 in
     (same_bits own.c far.c first.0, same_numbers own.kind far.kind second.0, same_mtus own.mtu far.mtu third.0)
 
-both_agree : (role : EndRole) (bits : ℕ) (local : LocalPart) (remote : Option Binding) → down role bits (record { local = local; remote = remote }) ≡ None → BothAgree (record { local = local; remote = remote })
+both_agree : (role : EndRole) (bits : ℕ) (local : LocalPart) (remote : Option Binding) → down role bits (record { local = local; remote = remote }) ≡ None
+    → BothAgree (record { local = local; remote = remote })
 unfolding down
 both_agree role bits (Idle declined) remote none = absurd (cc)
 both_agree role bits (Withdrawing own) remote none = absurd (cc)

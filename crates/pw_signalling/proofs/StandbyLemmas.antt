@@ -46,8 +46,10 @@ others own bits e first second other same = by e.local e.remote where
   by (Withdrawing label) remote = refl
   by (Advertised label told) None = refl
   by (Advertised label told) (Some binding) =
-      ap (λ (fails : Bool). first_of (differ told.c binding.told.c) (not (told.kind == binding.told.kind)) (mtus_differ told.mtu binding.told.mtu) (not (bits == 0)) fails (stands_by own (Some first))) (same_failure first second same)
-      ∙ ap (λ (stands : Bool). first_of (differ told.c binding.told.c) (not (told.kind == binding.told.kind)) (mtus_differ told.mtu binding.told.mtu) (not (bits == 0)) (is_failure second) stands) (same_standing own first second other)
+      ap (λ (fails : Bool). first_of (differ told.c binding.told.c) (not (told.kind == binding.told.kind)) (mtus_differ told.mtu binding.told.mtu) (not (bits == 0)) fails
+      (stands_by own (Some first))) (same_failure first second same)
+      ∙ ap (λ (stands : Bool). first_of (differ told.c binding.told.c) (not (told.kind == binding.told.kind)) (mtus_differ told.mtu binding.told.mtu) (not (bits == 0))
+      (is_failure second) stands) (same_standing own first second other)
 
 -- what alone is left is that the end stands by
 alone : (c kind mtu own far : Bool) → first_of c kind mtu own far false ≡ None → first_of c kind mtu own far true ≡ Some cause.Standby

@@ -21,7 +21,8 @@ bit : (n : ℕ) → n % 2 < 2
 bit n = omega arith
 
 failure_of : (n : ℕ) → is_failure (record { 0 = n }) ≡ not (n % 32 == 0)
-failure_of n = sym (five (n / 1 % 2) (n / 2 % 2) (n / 4 % 2) (n / 8 % 2) (n / 16 % 2) (bit (n / 1)) (bit (n / 2)) (bit (n / 4)) (bit (n / 8)) (bit (n / 16))) ∙ ap (λ (v : ℕ). not (v == 0)) (sym (low_bits n))
+failure_of n = sym (five (n / 1 % 2) (n / 2 % 2) (n / 4 % 2) (n / 8 % 2) (n / 16 % 2) (bit (n / 1)) (bit (n / 2)) (bit (n / 4)) (bit (n / 8)) (bit (n / 16)))
+    ∙ ap (λ (v : ℕ). not (v == 0)) (sym (low_bits n))
 
 -- the mask of the five bits leaves nothing exactly where none of them is set
 pub failure_is : (status : PwStatus) → not (bit_and status.0 31 == 0) ≡ is_failure status

@@ -98,7 +98,8 @@ module _ (one other : Told) where
   back h =
       joined (joined (joined (joined ((booleans_Decides one.c other.c).1 (ap (λ (t : Told). t.c) h)) ((Decides-eqb one.kind other.kind).1 (ap (λ (t : Told). t.kind) h)))
       ((Decides-eqb one.group other.group).1 (ap (λ (t : Told). t.group) h)))
-      (joined (joined ((options_decide are_same_channels channels_decide one.vccv other.vccv).1 (ap (λ (t : Told). t.vccv) h)) ((bytes_eq-Decides one.description other.description).1 (ap (λ (t : Told). t.description) h)))
+      (joined (joined ((options_decide are_same_channels channels_decide one.vccv other.vccv).1 (ap (λ (t : Told). t.vccv) h))
+      ((bytes_eq-Decides one.description other.description).1 (ap (λ (t : Told). t.description) h)))
       (joined ((options_decide nat_eq Decides-eqb one.mtu other.mtu).1 (ap (λ (t : Told). t.mtu) h)) ((options_decide nat_eq Decides-eqb one.vlan other.vlan).1 (ap (λ (t : Told). t.vlan) h)))))
       ((pointwise_decides points_decide one.points other.points).1 (ap (λ (t : Told). t.points) h))
 

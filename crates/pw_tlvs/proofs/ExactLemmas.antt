@@ -7,7 +7,8 @@ use Rattle.pw_tlvs.proofs.FaultLemmas.{one_first}
 
 module _ {V : Type 0} (Is : V → Type 0) (Named : FieldFault → Type 0) where
   -- a value is answered exactly where it holds
-  pub exact_ok : (one : (a b : V) → Is a → Is b → a ≡ b) (never : (a : V) (f : FieldFault) → Is a → Named f → ⊥) (r : Result V FieldFault) → IfOk r Is → IfErr r (IsFirstIn Named) → (a : V) → (r ≡ Ok a) ↔ Is a
+  pub exact_ok : (one : (a b : V) → Is a → Is b → a ≡ b) (never : (a : V) (f : FieldFault) → Is a → Named f → ⊥) (r : Result V FieldFault) → IfOk r Is → IfErr r (IsFirstIn Named)
+      → (a : V) → (r ≡ Ok a) ↔ Is a
   exact_ok one never (Ok b) ok err a = (λ e. let same : b ≡ a = cc (e) in subst Is same ok, λ is. ap Ok (one b a ok is))
   exact_ok one never (Err g) ok err a = (λ e. absurd (cc (e)), λ is. absurd (never a g is err.named))
 

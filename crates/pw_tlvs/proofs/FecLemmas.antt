@@ -28,7 +28,8 @@ parameter_first octets f begun long some whole inner = record { named = paramete
     first g (parameter begun' long' some' whole' named) = inner.first g named
 
 -- an element without parameters has no fault
-pub element_bare : (octets : List ℕ) → IsPwid octets → (IsTooShort (information_length octets) → ⊥) → length octets ≡ 8 + information_length octets → length octets < 12 → (f : FieldFault) → IsFecFault octets f → ⊥
+pub element_bare : (octets : List ℕ) → IsPwid octets → (IsTooShort (information_length octets) → ⊥) → length octets ≡ 8 + information_length octets → length octets < 12
+    → (f : FieldFault) → IsFecFault octets f → ⊥
 element_bare octets begun long whole few f (empty none e) = let h = begun.header in omega arith
 element_bare octets begun long whole few f (short some first less e) = let h = begun.header in omega arith
 element_bare octets begun long whole few f (too_short begun' low e) = long low
@@ -36,7 +37,8 @@ element_bare octets begun long whole few f (past_end begun' far e) = omega arith
 element_bare octets begun long whole few f (parameter begun' long' some whole' named) = long (some, omega (arith, whole, few))
 
 -- the first fault of parameters is that of their element
-pub element_first : (octets back : List ℕ) (r : Option FieldFault) → IsPwid octets → (IsTooShort (information_length octets) → ⊥) → length octets ≡ 8 + information_length octets → 12 ≤ length octets → back ≡ drop 12 octets
+pub element_first : (octets back : List ℕ) (r : Option FieldFault) → IsPwid octets → (IsTooShort (information_length octets) → ⊥) → length octets ≡ 8 + information_length octets
+    → 12 ≤ length octets → back ≡ drop 12 octets
     → IfSome r (IsFirstIn (IsNamed InterfaceParameter 12 back)) → IfSome r (IsFirstIn (IsFecFault octets))
 element_first octets back None begun long whole enough is first = tt
 element_first octets back (Some f) begun long whole enough is first =

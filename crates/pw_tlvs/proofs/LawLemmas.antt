@@ -43,7 +43,8 @@ point_again point within =
     let two = good_told SwitchingPointPart a 0x03 (option_map (λ (x : Addr). x.0) point.local) one none3 (good_address 0x03 point.local refl within.local) in
     let none4 = values_both 0x04 a b (values_told 0x04 0x01 (option_map (λ (n : ℕ). big_bytes 4 n) point.pw_id) refl) (values_told 0x04 0x03 (option_map (λ (x : Addr). x.0) point.local) refl) in
     let three = good_told SwitchingPointPart (a ++ b) 0x04 (option_map (λ (x : Addr). x.0) point.remote) two none4 (good_address 0x04 point.remote refl within.remote) in
-    let says1 = said_past 0x01 0x04 (a ++ b) (option_map (λ (x : Addr). x.0) point.remote) refl ∙ (said_past 0x01 0x03 a (option_map (λ (x : Addr). x.0) point.local) refl ∙ said_told 0x01 [] (option_map (λ (n : ℕ). big_bytes 4 n) point.pw_id) refl) in
+    let says1 = said_past 0x01 0x04 (a ++ b) (option_map (λ (x : Addr). x.0) point.remote) refl
+    ∙ (said_past 0x01 0x03 a (option_map (λ (x : Addr). x.0) point.local) refl ∙ said_told 0x01 [] (option_map (λ (n : ℕ). big_bytes 4 n) point.pw_id) refl) in
     let says3 = said_past 0x03 0x04 (a ++ b) (option_map (λ (x : Addr). x.0) point.remote) refl ∙ said_told 0x03 a (option_map (λ (x : Addr). x.0) point.local) none3 in
     let says4 = said_told 0x04 (a ++ b) (option_map (λ (x : Addr). x.0) point.remote) none4 in
     record {
@@ -89,7 +90,8 @@ vlan_again None below = refl
 vlan_again (Some n) below = ap Some (sym (number_two n [] (omega (arith, below))))
 
 -- written parameters are those parameters
-pub parameters_again : (params : IfParams) → IfSome params.mtu (λ mtu. mtu < 2 ^ 16) → length params.description ≤ 80 → IfSome params.vlan (λ vlan. vlan ≤ 4095) → AreParameters (written_parameters params) params
+pub parameters_again : (params : IfParams) → IfSome params.mtu (λ mtu. mtu < 2 ^ 16) → length params.description ≤ 80 → IfSome params.vlan (λ vlan. vlan ≤ 4095)
+    → AreParameters (written_parameters params) params
 parameters_again params mtu description vlan =
     let o1 = option_map (λ (n : ℕ). big_bytes 2 n) params.mtu in
     let o3 = description_value params.description in
@@ -100,9 +102,11 @@ parameters_again params mtu description vlan =
     let g3 = good_told InterfaceParameter (told 0x01 o1) 0x03 o3 g1 n3 (good_description params.description description) in
     let n6 = values_both 0x06 (told 0x01 o1) (told 0x03 o3) (values_told 0x06 0x01 o1 refl) (values_told 0x06 0x03 o3 refl) in
     let g6 = good_told InterfaceParameter (told 0x01 o1 ++ told 0x03 o3) 0x06 o6 g3 n6 (good_vlan params.vlan vlan) in
-    let n12 = values_both 0x0C (told 0x01 o1 ++ told 0x03 o3) (told 0x06 o6) (values_both 0x0C (told 0x01 o1) (told 0x03 o3) (values_told 0x0C 0x01 o1 refl) (values_told 0x0C 0x03 o3 refl)) (values_told 0x0C 0x06 o6 refl) in
+    let n12 = values_both 0x0C (told 0x01 o1 ++ told 0x03 o3) (told 0x06 o6)
+    (values_both 0x0C (told 0x01 o1) (told 0x03 o3) (values_told 0x0C 0x01 o1 refl) (values_told 0x0C 0x03 o3 refl)) (values_told 0x0C 0x06 o6 refl) in
     let g12 = good_told InterfaceParameter ((told 0x01 o1 ++ told 0x03 o3) ++ told 0x06 o6) 0x0C o12 g6 n12 (good_vccv params.vccv) in
-    let says1 = said_past 0x01 0x0C ((told 0x01 o1 ++ told 0x03 o3) ++ told 0x06 o6) o12 refl ∙ (said_past 0x01 0x06 (told 0x01 o1 ++ told 0x03 o3) o6 refl ∙ (said_past 0x01 0x03 (told 0x01 o1) o3 refl ∙ said_told 0x01 [] o1 refl)) in
+    let says1 = said_past 0x01 0x0C ((told 0x01 o1 ++ told 0x03 o3) ++ told 0x06 o6) o12 refl
+    ∙ (said_past 0x01 0x06 (told 0x01 o1 ++ told 0x03 o3) o6 refl ∙ (said_past 0x01 0x03 (told 0x01 o1) o3 refl ∙ said_told 0x01 [] o1 refl)) in
     let says3 = said_past 0x03 0x0C ((told 0x01 o1 ++ told 0x03 o3) ++ told 0x06 o6) o12 refl ∙ (said_past 0x03 0x06 (told 0x01 o1 ++ told 0x03 o3) o6 refl ∙ said_told 0x03 (told 0x01 o1) o3 n3) in
     let says6 = said_past 0x06 0x0C ((told 0x01 o1 ++ told 0x03 o3) ++ told 0x06 o6) o12 refl ∙ said_told 0x06 (told 0x01 o1 ++ told 0x03 o3) o6 n6 in
     let says12 = said_told 0x0C ((told 0x01 o1 ++ told 0x03 o3) ++ told 0x06 o6) o12 n12 in
@@ -133,7 +137,8 @@ kind_again : (c : Bool) (kind : ℕ) (more : List ℕ) → kind ≤ 0x7FFF → k
 kind_again true kind more below = let n = number_two (0x8000 + kind) more (omega (arith, below)) in omega (arith, n, below)
 kind_again false kind more below = let n = number_two kind more (omega (arith, below)) in omega (arith, n, below)
 
-information_again : (pw_id : Option ℕ) (params : IfParams) → IfSome pw_id (λ n. n < 2 ^ 32) → IfNone pw_id (params ≡ no_params) → AreParameters (written_parameters params) params → IsInformation (information pw_id params) pw_id params
+information_again : (pw_id : Option ℕ) (params : IfParams) → IfSome pw_id (λ n. n < 2 ^ 32) → IfNone pw_id (params ≡ no_params) → AreParameters (written_parameters params) params
+    → IsInformation (information pw_id params) pw_id params
 information_again None params below none are = (refl, none)
 information_again (Some pw_id) params below none are = (omega arith, sym (number_four pw_id (written_parameters params) below), are)
 

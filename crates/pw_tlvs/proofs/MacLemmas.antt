@@ -70,7 +70,8 @@ written_more list mac count at end old new newer done six is written = record {
   sixes = let h = done.sixes in omega arith;
   is = let h = done.is in let more = ap length (octets_more list mac) in let parts = length-append (mac_octets list) mac.0 in omega arith;
   octets =
-      let front : take at new ≡ mac_octets list = ap (λ (l : List ℕ). take at l) done.octets ∙ (ap (λ (n : ℕ). take n (mac_octets list ++ drop at old)) done.is ∙ take-append_seam (mac_octets list) (drop at old)) in
+      let front : take at new ≡ mac_octets list = ap (λ (l : List ℕ). take at l) done.octets
+      ∙ (ap (λ (n : ℕ). take n (mac_octets list ++ drop at old)) done.is ∙ take-append_seam (mac_octets list) (drop at old)) in
       let back : drop end new ≡ drop end old = ap (λ (l : List ℕ). drop end l) done.octets ∙ drop-append-drop at old (mac_octets list) end (omega arith) (sym done.is) in
       written ∙ ((λ i. (front i ++ mac.0) ++ back i) ∙ ap (λ (l : List ℕ). l ++ drop end old) (sym (octets_more list mac)));
 }

@@ -37,19 +37,23 @@ read_fault registry begin octets at place subs f upto is wrong =
     first_named registry begin octets subs (drop at octets) f (split_at registry octets at subs upto) upto.good (subst (λ (n : ℕ). IsFirstWrong registry subs (drop at octets) n f) there wrong)
 
 -- where the place is the end, nothing is at fault
-pub none_named : (registry : Registry) (begin : ℕ) (octets : List ℕ) (at : ℕ) (subs : List SubTlv) → AreReadUpTo registry octets at subs → length octets ≤ at → (f : FieldFault) → IsNamed registry begin octets f → ⊥
+pub none_named : (registry : Registry) (begin : ℕ) (octets : List ℕ) (at : ℕ) (subs : List SubTlv) → AreReadUpTo registry octets at subs → length octets ≤ at → (f : FieldFault)
+    → IsNamed registry begin octets f → ⊥
 none_named registry begin octets at subs upto all f named =
-    let joined : octets ≡ flat_map (spell registry) subs = split_at registry octets at subs upto ∙ (ap (λ (l : List ℕ). flat_map (spell registry) subs ++ l) (drop_all at octets all) ∙ append-nil (flat_map (spell registry) subs)) in
+    let joined : octets ≡ flat_map (spell registry) subs =
+    split_at registry octets at subs upto ∙ (ap (λ (l : List ℕ). flat_map (spell registry) subs ++ l) (drop_all at octets all) ∙ append-nil (flat_map (spell registry) subs)) in
     never_both registry begin octets subs f (record { joined = joined; good = upto.good }) named
 
 -- one more stands before a later place
-pub read_more : (registry : Registry) (octets : List ℕ) (at size : ℕ) (subs : List SubTlv) (s : SubTlv) (more : List ℕ) → AreReadUpTo registry octets at subs → drop at octets ≡ spell registry s ++ more
+pub read_more : (registry : Registry) (octets : List ℕ) (at size : ℕ) (subs : List SubTlv) (s : SubTlv) (more : List ℕ) → AreReadUpTo registry octets at subs → drop at octets
+    ≡ spell registry s ++ more
     → size ≡ 2 + length s.value → AreGood registry (subs ++ s ∷ []) → AreReadUpTo registry octets (at + size) (subs ++ s ∷ [])
 read_more registry octets at size subs s more upto next is good = record {
   within = omega (arith, length-drop at octets, ap length next, length-append s.value more, is, upto.within);
   front =
       let here : take size (drop at octets) ≡ spell registry s = ap (take size) next ∙ take_at (spell registry s) more size (omega (arith, is)) in
-      take-add at size octets ∙ ((λ i. upto.front i ++ here i) ∙ (ap (λ (l : List ℕ). flat_map (spell registry) subs ++ l) (sym (append-nil (spell registry s))) ∙ sym (flat_map-append (spell registry) subs (s ∷ []))));
+      take-add at size octets ∙ ((λ i. upto.front i ++ here i)
+      ∙ (ap (λ (l : List ℕ). flat_map (spell registry) subs ++ l) (sym (append-nil (spell registry s))) ∙ sym (flat_map-append (spell registry) subs (s ∷ []))));
   good = good;
 }
 

@@ -66,7 +66,8 @@ extent_of registry kind size tail = elim (cases_lt size (counted_in registry)) [
 ]
 
 -- the length of a switching point's part that reaches past the end
-outside_first_part : (before : List SubTlv) (rest : List ℕ) (at : ℕ) → 2 ≤ length rest → IsOutside SwitchingPointPart rest → IsFirstWrong SwitchingPointPart before rest at (outside_fault SwitchingPointPart at)
+outside_first_part : (before : List SubTlv) (rest : List ℕ) (at : ℕ) → 2 ≤ length rest → IsOutside SwitchingPointPart rest
+    → IsFirstWrong SwitchingPointPart before rest at (outside_fault SwitchingPointPart at)
 outside_first_part before rest at two far = record {
   wrong = outside two far refl;
   first = earliest;
@@ -146,7 +147,8 @@ step_split registry octets rest more before s split e =
     ∙ ap (λ (l : List ℕ). l ++ more) (ap (λ (l : List ℕ). flat_map (spell registry) before ++ l) (sym (append-nil (spell registry s))) ∙ sym (flat_map-append (spell registry) before (s ∷ [])))))
 
 -- octets behind good sub-TLVs are more of them, or have a first fault; `fuel` octets at most are left
-subs_from : (fuel : ℕ) (registry : Registry) (begin : ℕ) (octets rest : List ℕ) (before : List SubTlv) → length rest ≤ fuel → octets ≡ flat_map (spell registry) before ++ rest → AreGood registry before
+subs_from : (fuel : ℕ) (registry : Registry) (begin : ℕ) (octets rest : List ℕ) (before : List SubTlv) → length rest ≤ fuel → octets ≡ flat_map (spell registry) before ++ rest
+    → AreGood registry before
     → Reading (AreSubTlvs registry octets) (IsNamed registry begin octets)
 subs_from fuel registry begin octets [] before few split fine = told before (record { joined = split ∙ append-nil (flat_map (spell registry) before); good = fine })
 subs_from zero registry begin octets (x ∷ rest) before few split fine = absurd (omega arith)
@@ -155,7 +157,8 @@ subs_from (suc fuel) registry begin octets (x ∷ rest) before few split fine =
       | good s more e one fresh ↦
           let len : length (x ∷ rest) ≡ suc (suc (length (s.value ++ more))) = ap length e in
           let parts = length-append s.value more in
-          subs_from fuel registry begin octets more (before ++ s ∷ []) (omega (arith, len, parts, few)) (step_split registry octets (x ∷ rest) more before s split e) (good_more registry before s fine one fresh)
+          subs_from fuel registry begin octets more (before ++ s ∷ []) (omega (arith, len, parts, few)) (step_split registry octets (x ∷ rest) more before s split e)
+          (good_more registry before s fine one fresh)
       | wrong fault first ↦ refused fault (first_named registry begin octets before (x ∷ rest) fault split fine first)
     ]
 
@@ -174,7 +177,12 @@ point_reading octets = elim (subs_reading SwitchingPointPart 0 octets) [
 -- octets are interface parameters, or have a first fault
 pub parameters_reading : (octets : List ℕ) → Reading (AreParameters octets) (IsNamed InterfaceParameter 12 octets)
 parameters_reading octets = elim (subs_reading InterfaceParameter 12 octets) [
-  | told subs are ↦ told (record { mtu = option_map (λ value. big_number 2 value) (said 0x01 subs); description = text_of (said 0x03 subs); vlan = option_map (λ value. big_number 2 value) (said 0x06 subs); vccv = option_map vccv_of (said 0x0C subs) })
+  | told subs are ↦ told (record {
+    mtu = option_map (λ value. big_number 2 value) (said 0x01 subs);
+    description = text_of (said 0x03 subs);
+    vlan = option_map (λ value. big_number 2 value) (said 0x06 subs);
+    vccv = option_map vccv_of (said 0x0C subs);
+  })
       (record { subs = subs; are = are; mtu = refl; description = refl; vlan = refl; vccv = refl })
   | refused fault first ↦ refused fault first
 ]
@@ -232,7 +240,8 @@ short_fec octets few g (past_end begun far e) = let h = begun.header in absurd (
 short_fec octets few g (parameter begun long some whole named) = let h = begun.header in absurd (omega arith)
 
 -- an information length that does not fit
-length_fec : (octets : List ℕ) → 8 ≤ length octets → (IsTooShort (information_length octets) ⊎ (length octets < 8 + information_length octets)) → (g : FieldFault) → IsFecFault octets g → g ≡ Value 3 field.InfoLength
+length_fec : (octets : List ℕ) → 8 ≤ length octets → (IsTooShort (information_length octets) ⊎ (length octets < 8 + information_length octets)) → (g : FieldFault) → IsFecFault octets g
+    → g ≡ Value 3 field.InfoLength
 length_fec octets eight bad g (empty none e) = absurd (omega arith)
 length_fec octets eight bad g (short some first few e) = absurd (omega arith)
 length_fec octets eight bad g (too_short begun low e) = e
@@ -241,7 +250,8 @@ length_fec octets eight (inl low) g (parameter begun long some whole named) = ab
 length_fec octets eight (inr far) g (parameter begun long some whole named) = absurd (omega arith)
 
 -- an element with this information
-element_with : (octets : List ℕ) (pw_id : Option ℕ) (params : IfParams) → IsPwid octets → length octets ≡ 8 + information_length octets → IsInformation (drop 8 octets) pw_id params → Reading (IsFecValue octets) (IsFecFault octets)
+element_with : (octets : List ℕ) (pw_id : Option ℕ) (params : IfParams) → IsPwid octets → length octets ≡ 8 + information_length octets → IsInformation (drop 8 octets) pw_id params
+    → Reading (IsFecValue octets) (IsFecFault octets)
 element_with octets pw_id params begun whole information =
     told (Pw (record { c = nat_le 0x8000 (big_number 2 (drop 1 octets)); kind = big_number 2 (drop 1 octets) % 0x8000; group = big_number 4 (drop 4 octets); pw_id = pw_id; params = params }))
     (record { begun = begun; c = refl; kind = refl; whole = whole; group = refl; information = information })
@@ -266,7 +276,8 @@ pwid_reading octets begun = elim (cases_lt (length octets) (8 + information_leng
   | inl far ↦ refused (Value 3 field.InfoLength) (first_alone (Value 3 field.InfoLength) (past_end begun far refl) (length_fec octets begun.header (inr far)))
   | inr enough ↦ elim (cases_lt (information_length octets) 4) [
     | inl few ↦ elim (cases_lt 0 (information_length octets)) [
-      | inl some ↦ refused (Value 3 field.InfoLength) (first_alone (Value 3 field.InfoLength) (too_short begun (omega (arith, some), omega (arith, few)) refl) (length_fec octets begun.header (inl (omega (arith, some), omega (arith, few)))))
+      | inl some ↦ refused (Value 3 field.InfoLength)
+          (first_alone (Value 3 field.InfoLength) (too_short begun (omega (arith, some), omega (arith, few)) refl) (length_fec octets begun.header (inl (omega (arith, some), omega (arith, few)))))
       | inr none ↦ long_reading octets begun (λ low. omega (arith, low.0, none)) enough
     ]
     | inr four ↦ long_reading octets begun (λ low. omega (arith, low.1, four)) enough

@@ -43,7 +43,8 @@ fronts registry (p ∷ a) (q ∷ b) x y e =
     subst (λ (r : SubTlv). Fronts registry (p ∷ a) (r ∷ b) x y) same (fronts_cons registry p a b x y (fronts registry a b x y rest))
 
 pub values-append : (k : ℕ) (a b : List SubTlv) → values k (a ++ b) ≡ values k a ++ values k b
-values-append k a b = ap (map (λ (s : SubTlv). s.value)) (filter-append (λ (s : SubTlv). s.kind == k) a b) ∙ map-append (λ (s : SubTlv). s.value) (filter (λ (s : SubTlv). s.kind == k) a) (filter (λ (s : SubTlv). s.kind == k) b)
+values-append k a b = ap (map (λ (s : SubTlv). s.value)) (filter-append (λ (s : SubTlv). s.kind == k) a b)
+    ∙ map-append (λ (s : SubTlv). s.value) (filter (λ (s : SubTlv). s.kind == k) a) (filter (λ (s : SubTlv). s.kind == k) b)
 
 values-own : (p : SubTlv) (more : List SubTlv) → values p.kind (p ∷ more) ≡ p.value ∷ values p.kind more
 values-own p more = let own : (p.kind == p.kind) ≡ true = eq-eqb p.kind p.kind refl in rw own refl
@@ -113,13 +114,16 @@ pub never_both : (registry : Registry) (begin : ℕ) (octets : List ℕ) (subs :
 never_both registry begin octets subs f are named = both (fronts registry subs named.before [] named.rest (append-nil (flat_map (spell registry) subs) ∙ (sym are.joined ∙ named.split)))
   where
     both : Fronts registry subs named.before [] named.rest → ⊥
-    both (longer [] same rest) = none_wrong registry named.before (begin + length (flat_map (spell registry) named.before)) f (subst (λ (l : List ℕ). IsWrong registry named.before l (begin + length (flat_map (spell registry) named.before)) f) (sym rest) named.wrong)
+    both (longer [] same rest) = none_wrong registry named.before (begin + length (flat_map (spell registry) named.before)) f
+        (subst (λ (l : List ℕ). IsWrong registry named.before l (begin + length (flat_map (spell registry) named.before)) f) (sym rest) named.wrong)
     both (longer (p ∷ more) same rest) = absurd (cc (rest))
-    both (shorter p more same rest) = good_not_wrong registry named.before p more (flat_map (spell registry) more ++ []) named.rest (begin + length (flat_map (spell registry) named.before)) f (subst (AreGood registry) same are.good) rest named.wrong
+    both (shorter p more same rest) = good_not_wrong registry named.before p more (flat_map (spell registry) more ++ []) named.rest
+        (begin + length (flat_map (spell registry) named.before)) f (subst (AreGood registry) same are.good) rest named.wrong
 
 -- two readings of the same octets are one
 pub one_joining : (registry : Registry) (octets : List ℕ) (a b : List SubTlv) → AreSubTlvs registry octets a → AreSubTlvs registry octets b → a ≡ b
-one_joining registry octets a b one other = same (fronts registry a b [] [] (append-nil (flat_map (spell registry) a) ∙ (sym one.joined ∙ (other.joined ∙ sym (append-nil (flat_map (spell registry) b))))))
+one_joining registry octets a b one other = same (fronts registry a b [] []
+    (append-nil (flat_map (spell registry) a) ∙ (sym one.joined ∙ (other.joined ∙ sym (append-nil (flat_map (spell registry) b))))))
   where
     same : Fronts registry a b [] [] → a ≡ b
     same (longer [] e rest) = sym (append-nil a) ∙ sym e
@@ -146,14 +150,17 @@ first_named registry begin octets before rest f split good wrong = record {
         let more_parts = length-append (spell registry p) (flat_map (spell registry) more) in
         let close = wrong.within p (flat_map (spell registry) more ++ named.rest) (e ∙ append_assoc (spell registry p) (flat_map (spell registry) more) named.rest) in
         inl (omega (arith, from, len, parts, more_parts, close))
-    earliest other named (shorter p more same e) = absurd (good_not_wrong registry named.before p more (flat_map (spell registry) more ++ rest) named.rest (begin + length (flat_map (spell registry) named.before)) other (subst (AreGood registry) same good) e named.wrong)
+    earliest other named (shorter p more same e) =
+        absurd (good_not_wrong registry named.before p more (flat_map (spell registry) more ++ rest) named.rest (begin + length (flat_map (spell registry) named.before)) other
+        (subst (AreGood registry) same good) e named.wrong)
 
 all_more : (registry : Registry) (subs : List SubTlv) (s : SubTlv) → AllByRecursion (IsGood registry) subs → IsGood registry s → AllByRecursion (IsGood registry) (subs ++ s ∷ [])
 all_more registry [] s all one = (one, tt)
 all_more registry (q ∷ subs) s all one = (all.0, all_more registry subs s all.1 one)
 
 -- one more good sub-TLV, of which no other of a known type stood before
-pub good_more : (registry : Registry) (subs : List SubTlv) (s : SubTlv) → AreGood registry subs → IsGood registry s → (IsSome (sub_tlv_row registry s.kind) → values s.kind subs ≡ []) → AreGood registry (subs ++ s ∷ [])
+pub good_more : (registry : Registry) (subs : List SubTlv) (s : SubTlv) → AreGood registry subs → IsGood registry s → (IsSome (sub_tlv_row registry s.kind) → values s.kind subs ≡ [])
+    → AreGood registry (subs ++ s ∷ [])
 good_more registry subs s good one fresh = record { good = all_more registry subs s good.good one; once = once }
   where
     once : (kind : ℕ) → IsSome (sub_tlv_row registry kind) → length (values kind (subs ++ s ∷ [])) ≤ 1

@@ -28,7 +28,8 @@ said_past k kind subs (Some value) other = said_other k kind subs value other
 pub good_none : (registry : Registry) → AreGood registry []
 good_none registry = record { good = tt; once = λ kind known. omega arith }
 
-pub good_told : (registry : Registry) (subs : List SubTlv) (kind : ℕ) (o : Option (List ℕ)) → AreGood registry subs → values kind subs ≡ [] → IfSome o (λ value. IsGood registry (record { kind = kind; value = value })) → AreGood registry (subs ++ told kind o)
+pub good_told : (registry : Registry) (subs : List SubTlv) (kind : ℕ) (o : Option (List ℕ)) → AreGood registry subs → values kind subs ≡ []
+    → IfSome o (λ value. IsGood registry (record { kind = kind; value = value })) → AreGood registry (subs ++ told kind o)
 good_told registry subs kind None good none one = subst (AreGood registry) (sym (append-nil subs)) good
 good_told registry subs kind (Some value) good none one = good_more registry subs (record { kind = kind; value = value }) good one (λ known. none)
 

@@ -43,7 +43,9 @@ spelled_inside registry s more rest e (inr high) =
     let parts = length-append s.value more in omega arith
 
 -- the rows of parameters have fields behind the one of parameters as a whole
-parameter_rank : (a b c d : Bool) (row : Row) → (if a then Some (record { field = field.Mtu; least = 4; most = 4 }) else if b then Some (record { field = field.Description; least = 2; most = 82 }) else if c then Some (record { field = field.Vlan; least = 4; most = 4 }) else if d then Some (record { field = field.Vccv; least = 4; most = 4 }) else None) ≡ Some row → 12 ≤ field_rank row.field
+parameter_rank : (a b c d : Bool) (row : Row) → (if a then Some (record { field = field.Mtu; least = 4; most = 4 }) else if b then Some
+    (record { field = field.Description; least = 2; most = 82 }) else if c then Some (record { field = field.Vlan; least = 4; most = 4 }) else if d then Some
+    (record { field = field.Vccv; least = 4; most = 4 }) else None) ≡ Some row → 12 ≤ field_rank row.field
 parameter_rank true b c d row e = let same : record { field = field.Mtu; least = 4; most = 4 } ≡ row = cc (e) in let rank = ap (λ (r : Row). field_rank r.field) same in omega arith
 parameter_rank false true c d row e = let same : record { field = field.Description; least = 2; most = 82 } ≡ row = cc (e) in let rank = ap (λ (r : Row). field_rank r.field) same in omega arith
 parameter_rank false false true d row e = let same : record { field = field.Vlan; least = 4; most = 4 } ≡ row = cc (e) in let rank = ap (λ (r : Row). field_rank r.field) same in omega arith
@@ -54,7 +56,8 @@ row_rank : (k : ℕ) (row : Row) → parameter_row k ≡ Some row → field_rank
 row_rank k row e = parameter_rank (k == 0x01) (k == 0x03) (k == 0x06) (k == 0x0C) row e
 
 -- what is allowed for a known type; what is not is a VLAN ID of two octets
-excess_length : (registry : Registry) (row : Row) (s : SubTlv) → sub_tlv_row registry s.kind ≡ Some row → row_fits row (counted_in registry + length s.value) ≡ true → allows registry s.kind s.value ≡ false → 1 ≤ length s.value
+excess_length : (registry : Registry) (row : Row) (s : SubTlv) → sub_tlv_row registry s.kind ≡ Some row → row_fits row (counted_in registry + length s.value) ≡ true
+    → allows registry s.kind s.value ≡ false → 1 ≤ length s.value
 excess_length SwitchingPointPart row s known fit bad = absurd (cc (bad))
 excess_length InterfaceParameter row s known fit bad = elim (eqb_tells s.kind 6) [
   | inl own ↦
@@ -86,7 +89,8 @@ lone_first registry before rest at one = record {
     ]
 
 -- what is known, whole of its length octet and stood before: other faults of the place come later
-pub again_first : (registry : Registry) (before : List SubTlv) (rest : List ℕ) (at : ℕ) (row : Row) → 2 ≤ length rest → ((IsOutside registry rest → ⊥) ⊎ (registry ≡ InterfaceParameter)) → sub_tlv_row registry (slice_index rest 0) ≡ Some row
+pub again_first : (registry : Registry) (before : List SubTlv) (rest : List ℕ) (at : ℕ) (row : Row) → 2 ≤ length rest
+    → ((IsOutside registry rest → ⊥) ⊎ (registry ≡ InterfaceParameter)) → sub_tlv_row registry (slice_index rest 0) ≡ Some row
     → 1 ≤ length (values (slice_index rest 0) before) → IsFirstWrong registry before rest at (Repeated at row.field)
 again_first registry before rest at row two inside known stood = record {
   wrong = again row (omega arith) known stood refl;
@@ -130,8 +134,10 @@ outside_first_fec before rest at two far fresh = record {
     earliest other (again row some known stood e) = absurd (none_before before (slice_index rest 0) (fresh (some_of InterfaceParameter (slice_index rest 0) row known)) stood)
 
 -- a known type of another length
-pub misfit_first : (registry : Registry) (before : List SubTlv) (rest : List ℕ) (at : ℕ) (row : Row) → 2 ≤ length rest → (IsOutside registry rest → ⊥) → sub_tlv_row registry (slice_index rest 0) ≡ Some row
-    → row_fits row (slice_index rest 1) ≡ false → (IsSome (sub_tlv_row registry (slice_index rest 0)) → values (slice_index rest 0) before ≡ []) → IsFirstWrong registry before rest at (Value (at + 1) row.field)
+pub misfit_first : (registry : Registry) (before : List SubTlv) (rest : List ℕ) (at : ℕ) (row : Row) → 2 ≤ length rest → (IsOutside registry rest → ⊥)
+    → sub_tlv_row registry (slice_index rest 0) ≡ Some row
+    → row_fits row (slice_index rest 1) ≡ false → (IsSome (sub_tlv_row registry (slice_index rest 0)) → values (slice_index rest 0) before ≡ [])
+    → IsFirstWrong registry before rest at (Value (at + 1) row.field)
 misfit_first registry before rest at row two inside known bad fresh = record {
   wrong = misfit row two known bad refl;
   first = earliest;
@@ -148,8 +154,10 @@ misfit_first registry before rest at row two inside known bad fresh = record {
     earliest other (again row' some known' stood e) = absurd (none_before before (slice_index rest 0) (fresh (some_of registry (slice_index rest 0) row known)) stood)
 
 -- a value that is not allowed
-pub excess_first : (registry : Registry) (before : List SubTlv) (rest : List ℕ) (at : ℕ) (row : Row) (s : SubTlv) (more : List ℕ) → rest ≡ spell registry s ++ more → sub_tlv_row registry s.kind ≡ Some row
-    → row_fits row (counted_in registry + length s.value) ≡ true → allows registry s.kind s.value ≡ false → (IsSome (sub_tlv_row registry s.kind) → values s.kind before ≡ []) → IsFirstWrong registry before rest at (Value (at + 2) row.field)
+pub excess_first : (registry : Registry) (before : List SubTlv) (rest : List ℕ) (at : ℕ) (row : Row) (s : SubTlv) (more : List ℕ) → rest ≡ spell registry s ++ more
+    → sub_tlv_row registry s.kind ≡ Some row
+    → row_fits row (counted_in registry + length s.value) ≡ true → allows registry s.kind s.value ≡ false → (IsSome (sub_tlv_row registry s.kind) → values s.kind before ≡ [])
+    → IsFirstWrong registry before rest at (Value (at + 2) row.field)
 excess_first registry before rest at row s more spelled known fit bad fresh = record {
   wrong = excess row s more spelled known fit bad refl;
   first = earliest;
@@ -187,7 +195,8 @@ stood_no registry before k stood is fact = subst (λ (b : Bool). Stood registry 
 
 -- the exit of a known type that stood before
 pub again_exit : (registry : Registry) (before : List SubTlv) (rest : List ℕ) (at : ℕ) (row : Row) (stood far : Bool) → 2 ≤ length rest → sub_tlv_row registry (slice_index rest 0) ≡ Some row
-    → (far ≡ false → IsOutside registry rest → ⊥) → (registry ≡ SwitchingPointPart → far ≡ false) → stood ≡ true → Stood registry before (slice_index rest 0) stood → IsFirstWrong registry before rest at (Repeated at row.field)
+    → (far ≡ false → IsOutside registry rest → ⊥) → (registry ≡ SwitchingPointPart → far ≡ false) → stood ≡ true → Stood registry before (slice_index rest 0) stood
+    → IsFirstWrong registry before rest at (Repeated at row.field)
 again_exit InterfaceParameter before rest at row stood far two known near part is fact =
     again_first InterfaceParameter before rest at row two (inr refl) known (stood_yes InterfaceParameter before (slice_index rest 0) stood is fact)
 again_exit SwitchingPointPart before rest at row stood far two known near part is fact =
@@ -195,9 +204,11 @@ again_exit SwitchingPointPart before rest at row stood far two known near part i
 
 -- the exit of a known type whose length counts too little or too much
 pub outside_exit : (registry : Registry) (before : List SubTlv) (rest : List ℕ) (at : ℕ) (row : Row) (stood far : Bool) (f : FieldFault) → 2 ≤ length rest
-    → (far ≡ true → IsOutside registry rest) → (registry ≡ SwitchingPointPart → far ≡ false) → stood ≡ false → far ≡ true → f ≡ outside_fault registry at → Stood registry before (slice_index rest 0) stood → IsFirstWrong registry before rest at f
+    → (far ≡ true → IsOutside registry rest) → (registry ≡ SwitchingPointPart → far ≡ false) → stood ≡ false → far ≡ true → f ≡ outside_fault registry at
+    → Stood registry before (slice_index rest 0) stood → IsFirstWrong registry before rest at f
 outside_exit InterfaceParameter before rest at row stood far f two outer part is out e fact =
-    subst (λ (x : FieldFault). IsFirstWrong InterfaceParameter before rest at x) (sym e) (outside_first_fec before rest at two (outer out) (stood_no InterfaceParameter before (slice_index rest 0) stood is fact))
+    subst (λ (x : FieldFault). IsFirstWrong InterfaceParameter before rest at x) (sym e)
+    (outside_first_fec before rest at two (outer out) (stood_no InterfaceParameter before (slice_index rest 0) stood is fact))
 outside_exit SwitchingPointPart before rest at row stood far f two outer part is out e fact = let near = part refl in absurd (cc (near, out))
 
 -- what is wrong is within the octets

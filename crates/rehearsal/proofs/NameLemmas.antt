@@ -22,7 +22,8 @@ first_allowed : (x : ℕ) → IsName (x ∷ []) → is_name_octet_of x ≡ true
 first_allowed x name = allowed (is_name_octet_of x) name
 
 name_of : (text : List ℕ) → 1 ≤ length text → length text ≤ 32 → list_all is_name_octet_of text ≡ true → IsName text
-name_of text some fits all = let low : nat_le 1 (length text) ≡ true = grind (arith, nat_tests) in let high : nat_le (length text) 32 ≡ true = grind (arith, nat_tests) in rw low (rw high (rw all refl))
+name_of text some fits all = let low : nat_le 1 (length text) ≡ true = grind (arith, nat_tests) in let high : nat_le (length text) 32 ≡ true = grind (arith, nat_tests) in
+    rw low (rw high (rw all refl))
 
 pub numbered_name : (letter : List ℕ) (number : ℕ) → IsName letter → length letter ≡ 1 → number < 2 ^ 16 → IsName (letter ++ decimal number)
 numbered_name [] number name one small = absurd (omega arith)

@@ -41,26 +41,38 @@ named_edge number name = record { name = name; address = record { 0 = 10 ∷ 0 �
 pub edge_named : (name : List ℕ) (number : ℕ) → name ≡ codes "e" ++ decimal number → named_edge number name ≡ edge_row number
 edge_named name number is = ap (named_edge number) is
 
-pub edges_more : (old new all : List EdgePlan) (row : EdgePlan) (number : ℕ) → number < 17 → row ≡ edge_row number → new ≡ old ++ row ∷ [] → old ++ edges_from (17 - number) number ≡ all → new ++ edges_from (17 - (number + 1)) (number + 1) ≡ all
+pub edges_more : (old new all : List EdgePlan) (row : EdgePlan) (number : ℕ) → number < 17 → row ≡ edge_row number → new ≡ old ++ row ∷ [] → old ++ edges_from (17 - number) number
+    ≡ all → new ++ edges_from (17 - (number + 1)) (number + 1) ≡ all
 edges_more old new all row number within is pushed e =
-    added old new (edge_row number ∷ []) (edges_from (17 - (number + 1)) (number + 1)) (edges_from (17 - number) number) all (pushed ∙ ap (λ (r : EdgePlan). old ++ r ∷ []) is) (edges_next number within) e
+    added old new (edge_row number ∷ []) (edges_from (17 - (number + 1)) (number + 1)) (edges_from (17 - number) number) all (pushed ∙ ap (λ (r : EdgePlan). old ++ r ∷ []) is)
+    (edges_next number within) e
 
-pub circuits_more : (old new all : List CircuitPlan) (row : CircuitPlan) (number : ℕ) → number < 17 → row ≡ circuit_row number → new ≡ old ++ row ∷ [] → old ++ circuits_from (17 - number) number ≡ all → new ++ circuits_from (17 - (number + 1)) (number + 1) ≡ all
+pub circuits_more : (old new all : List CircuitPlan) (row : CircuitPlan) (number : ℕ) → number < 17 → row ≡ circuit_row number → new ≡ old ++ row ∷ []
+    → old ++ circuits_from (17 - number) number ≡ all → new ++ circuits_from (17 - (number + 1)) (number + 1) ≡ all
 circuits_more old new all row number within is pushed e =
-    added old new (circuit_row number ∷ []) (circuits_from (17 - (number + 1)) (number + 1)) (circuits_from (17 - number) number) all (pushed ∙ ap (λ (r : CircuitPlan). old ++ r ∷ []) is) (circuits_next number within) e
+    added old new (circuit_row number ∷ []) (circuits_from (17 - (number + 1)) (number + 1)) (circuits_from (17 - number) number) all
+    (pushed ∙ ap (λ (r : CircuitPlan). old ++ r ∷ []) is) (circuits_next number within) e
 
-pub mesh_more : (old new all : List WirePlan) (row : WirePlan) (from to number next : ℕ) → to < 9 → next ≡ number + 1 → row ≡ mesh_wire from to number → new ≡ old ++ row ∷ [] → old ++ mesh_beside (9 - to) from to number ≡ all → new ++ mesh_beside (9 - (to + 1)) from (to + 1) next ≡ all
+pub mesh_more : (old new all : List WirePlan) (row : WirePlan) (from to number next : ℕ) → to < 9 → next ≡ number + 1 → row ≡ mesh_wire from to number → new ≡ old ++ row ∷ []
+    → old ++ mesh_beside (9 - to) from to number ≡ all → new ++ mesh_beside (9 - (to + 1)) from (to + 1) next ≡ all
 mesh_more old new all row from to number next within follows is pushed e =
-    rw follows (added old new (mesh_wire from to number ∷ []) (mesh_beside (9 - (to + 1)) from (to + 1) (number + 1)) (mesh_beside (9 - to) from to number) all (pushed ∙ ap (λ (r : WirePlan). old ++ r ∷ []) is) (mesh_next from to number within) e)
+    rw follows (added old new (mesh_wire from to number ∷ []) (mesh_beside (9 - (to + 1)) from (to + 1) (number + 1)) (mesh_beside (9 - to) from to number) all
+    (pushed ∙ ap (λ (r : WirePlan). old ++ r ∷ []) is) (mesh_next from to number within) e)
 
-pub among_more : (old new all : List WirePlan) (from number next : ℕ) → from < 9 → next ≡ number + (8 - from) → new ≡ old ++ mesh_beside (8 - from) from (from + 1) number → old ++ mesh_among (9 - from) from number ≡ all → new ++ mesh_among (9 - (from + 1)) (from + 1) next ≡ all
+pub among_more : (old new all : List WirePlan) (from number next : ℕ) → from < 9 → next ≡ number + (8 - from) → new ≡ old ++ mesh_beside (8 - from) from (from + 1) number
+    → old ++ mesh_among (9 - from) from number ≡ all → new ++ mesh_among (9 - (from + 1)) (from + 1) next ≡ all
 among_more old new all from number next within follows gained e =
-    rw follows (added old new (mesh_beside (8 - from) from (from + 1) number) (mesh_among (9 - (from + 1)) (from + 1) (number + (8 - from))) (mesh_among (9 - from) from number) all gained (among_next from number within) e)
+    rw follows (added old new (mesh_beside (8 - from) from (from + 1) number) (mesh_among (9 - (from + 1)) (from + 1) (number + (8 - from)))
+    (mesh_among (9 - from) from number) all gained (among_next from number within) e)
 
-pub spokes_more : (old new all : List WirePlan) (place : ℕ) → place < 8 → new ≡ (old ++ first_spoke place ∷ []) ++ second_spoke place ∷ [] → old ++ spokes_from (8 - place) place ≡ all → new ++ spokes_from (8 - (place + 1)) (place + 1) ≡ all
+pub spokes_more : (old new all : List WirePlan) (place : ℕ) → place < 8 → new ≡ (old ++ first_spoke place ∷ []) ++ second_spoke place ∷ [] → old ++ spokes_from (8 - place) place ≡ all
+    → new ++ spokes_from (8 - (place + 1)) (place + 1) ≡ all
 spokes_more old new all place within gained e =
-    added old new (first_spoke place ∷ second_spoke place ∷ []) (spokes_from (8 - (place + 1)) (place + 1)) (spokes_from (8 - place) place) all (gained ∙ append_assoc old (first_spoke place ∷ []) (second_spoke place ∷ [])) (spokes_next place within) e
+    added old new (first_spoke place ∷ second_spoke place ∷ []) (spokes_from (8 - (place + 1)) (place + 1)) (spokes_from (8 - place) place) all
+    (gained ∙ append_assoc old (first_spoke place ∷ []) (second_spoke place ∷ [])) (spokes_next place within) e
 
-pub frames_more : (old new all : List Command) (count done number next : ℕ) → done < count → next ≡ next_number (next_number number) → new ≡ old ++ frames_from 1 number → old ++ frames_from (count - done) number ≡ all → new ++ frames_from (count - (done + 1)) next ≡ all
+pub frames_more : (old new all : List Command) (count done number next : ℕ) → done < count → next ≡ next_number (next_number number) → new ≡ old ++ frames_from 1 number
+    → old ++ frames_from (count - done) number ≡ all → new ++ frames_from (count - (done + 1)) next ≡ all
 frames_more old new all count done number next within follows gained e =
-    rw follows (added old new (frames_from 1 number) (frames_from (count - (done + 1)) (next_number (next_number number))) (frames_from (count - done) number) all gained (frames_next count done number within) e)
+    rw follows (added old new (frames_from 1 number) (frames_from (count - (done + 1)) (next_number (next_number number))) (frames_from (count - done) number) all gained
+    (frames_next count done number within) e)

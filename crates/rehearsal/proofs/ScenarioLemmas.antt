@@ -87,7 +87,8 @@ connect_planned (from ∷ to ∷ more ∷ rest) e = All-nil (IsPlanned plan)
 connects_planned : (rows : List WirePlan) → All (IsWireOf plan) rows → All (IsPlanned plan) (connects rows)
 connects_planned [] all = All-nil (IsPlanned plan)
 connects_planned (row ∷ rows) all =
-    All-append (IsPlanned plan) (connect row.path) (connects rows) (connect_planned row.path (All-head (IsWireOf plan) row rows all).edges) (connects_planned rows (All-tail (IsWireOf plan) row rows all))
+    All-append (IsPlanned plan) (connect row.path) (connects rows) (connect_planned row.path (All-head (IsWireOf plan) row rows all).edges)
+    (connects_planned rows (All-tail (IsWireOf plan) row rows all))
 
 -- a frame is as long, whether it goes to everybody or to a station
 either_length : (to_all : Bool) (from to : ℕ) → length (((if to_all then 255 ∷ 255 ∷ 255 ∷ 255 ∷ 255 ∷ 255 ∷ [] else station to) ++ station from) ++ payload) ≡ 60
@@ -111,7 +112,8 @@ frames_planned (suc count) number =
     let size = frame_length (drawn 16 first + 1) (drawn 17 second) in
     let rest = frames_planned count second in
     let flows : All (IsPlanned plan) (Flow 1000 ∷ frames_from count second) = All-cons (IsPlanned plan) (Flow 1000) (frames_from count second) (omega arith, omega arith) rest in
-    All-cons (IsPlanned plan) (One (Frame (record { 0 = drawn 16 first }) (frame (drawn 16 first + 1) (drawn 17 second)))) (Flow 1000 ∷ frames_from count second) (drawn_within first, omega (arith, size)) flows
+    All-cons (IsPlanned plan) (One (Frame (record { 0 = drawn 16 first }) (frame (drawn 16 first + 1) (drawn 17 second)))) (Flow 1000 ∷ frames_from count second)
+    (drawn_within first, omega (arith, size)) flows
 
 wires_are : All (IsWireOf plan) wires
 unfolding plan

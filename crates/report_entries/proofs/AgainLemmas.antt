@@ -167,7 +167,8 @@ module _ (plan : Plan) where
   packet_again : (words : List (List ℕ)) → IfSome (packet_in words) (λ n. decimal n ∷ [] ≡ words)
   unfolding packet_in
   packet_again [] = tt
-  packet_again (w0 ∷ []) = weaker (λ n. decimal n ≡ w0) (λ n. decimal n ∷ [] ≡ w0 ∷ []) (decimal_from 1 18446744073709551615 w0) (λ n at. ap (λ (w : List ℕ). w ∷ []) at) (decimal_again 1 18446744073709551615 w0 (omega arith))
+  packet_again (w0 ∷ []) = weaker (λ n. decimal n ≡ w0) (λ n. decimal n ∷ [] ≡ w0 ∷ []) (decimal_from 1 18446744073709551615 w0) (λ n at. ap (λ (w : List ℕ). w ∷ []) at)
+      (decimal_again 1 18446744073709551615 w0 (omega arith))
   packet_again (w0 ∷ w1 ∷ rest) = tt
 
   connect_again : (words : List (List ℕ)) → IfSome (connect_in (names_of plan) words) (λ e. event_words plan e ≡ codes "connect" ∷ words)
@@ -500,4 +501,5 @@ line_told plan line = by (entry_in (names_of plan) line) (entry_again plan line)
 pub reads_line_of : (plan : Plan) (line : List ℕ) (names : PlanNames) (words : List (List ℕ)) (result : Result Entry Unread) → names ≡ names_of plan → words ≡ line_words line
     → Reads result (words_entry names words) → Reads result (line_entry plan line)
 unfolding entry_in
-reads_line_of plan line names words result named cut reads = subst (Reads result) (ap (λ (n : PlanNames). words_entry n words) named ∙ (ap (words_entry (names_of plan)) cut ∙ sym (line_told plan line))) reads
+reads_line_of plan line names words result named cut reads =
+    subst (Reads result) (ap (λ (n : PlanNames). words_entry n words) named ∙ (ap (words_entry (names_of plan)) cut ∙ sym (line_told plan line))) reads

@@ -16,7 +16,8 @@ fewer_behind mark (c ∷ cs) more is = by (nat_eq c mark) is (fewer_behind mark 
   by true at rest = let whole : cs ≡ more = cc at in omega (arith, ap length whole)
   by false at rest = omega (arith, rest at)
 
-pub has_begun : (text : List ℕ) (front rest : Bor (List ℕ)) (behind : Option (Bor (List ℕ))) (tally : Tally) (page : List ℕ) → front.now ≡ before_mark 10 text → option_map (λ r. r.now) behind ≡ behind_mark 10 text → behind ≡ Some rest
+pub has_begun : (text : List ℕ) (front rest : Bor (List ℕ)) (behind : Option (Bor (List ℕ))) (tally : Tally) (page : List ℕ) → front.now ≡ before_mark 10 text
+    → option_map (λ r. r.now) behind ≡ behind_mark 10 text → behind ≡ Some rest
     → bytes_eq front.now (codes "vplsnet 1") ≡ true → tally ≡ first_counts → page ≡ [] → HasBegun text (record { tally = tally; rest = rest.now; waits = page })
 unfolding told_of
 has_begun text front rest behind tally page before back found first counts none =

@@ -163,9 +163,11 @@ module _ (plan : Plan) (names : HasNames plan) where
   event_found (event.Ping edge wire) is = rw (edge_found edge is.0, wire_found wire is.1) refl
 
 -- a word that is no name has no place among them
-no_place : {Y : Type 0} (f : Y → List ℕ) (rows : List Y) (word : List ℕ) → ((i : ℕ) → i < length rows → bytes_eq word (name_or_empty (option_map f (slice_get rows i))) ≡ false) → place_in (map f rows) word ≡ None
+no_place : {Y : Type 0} (f : Y → List ℕ) (rows : List Y) (word : List ℕ) → ((i : ℕ) → i < length rows → bytes_eq word (name_or_empty (option_map f (slice_get rows i))) ≡ false)
+    → place_in (map f rows) word ≡ None
 no_place f rows word none = place_of_none (bytes_eq word) (map f rows) (all_apart f rows word none) where
-  all_apart : {Y : Type 0} (f : Y → List ℕ) (rows : List Y) (word : List ℕ) → ((i : ℕ) → i < length rows → bytes_eq word (name_or_empty (option_map f (slice_get rows i))) ≡ false) → position_or_len (bytes_eq word) (map f rows) ≡ length (map f rows)
+  all_apart : {Y : Type 0} (f : Y → List ℕ) (rows : List Y) (word : List ℕ) → ((i : ℕ) → i < length rows → bytes_eq word (name_or_empty (option_map f (slice_get rows i))) ≡ false)
+      → position_or_len (bytes_eq word) (map f rows) ≡ length (map f rows)
   all_apart f [] word none = refl
   all_apart f (row ∷ rows) word none = rw (none 0 (omega arith)) (omega (arith, all_apart f rows word (λ i lt. none (suc i) (omega (arith, lt)))))
 

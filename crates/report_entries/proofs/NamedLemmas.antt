@@ -34,7 +34,8 @@ by_word Q false x y first second = second
 
 -- ---- words
 
-placed : {A : Type 0} (P : A → Type 0) (make : ℕ → A) (o : Option ℕ) (count rows : ℕ) → ((n : ℕ) → n < rows → P (make n)) → count ≡ rows → IfSome o (λ place. place < count) → IfSome (option_map make o) P
+placed : {A : Type 0} (P : A → Type 0) (make : ℕ → A) (o : Option ℕ) (count rows : ℕ) → ((n : ℕ) → n < rows → P (make n)) → count ≡ rows → IfSome o (λ place. place < count)
+    → IfSome (option_map make o) P
 placed P make None count rows each same within = tt
 placed P make (Some n) count rows each same within = each n (omega (arith, same, within))
 
@@ -102,7 +103,9 @@ module _ (plan : Plan) where
   deliver_is [] = tt
   deliver_is (w0 ∷ []) = tt
   deliver_is (w0 ∷ w1 ∷ []) = tt
-  deliver_is (w0 ∷ w1 ∷ w2 ∷ []) = then (IsEdge plan) (IsNamedEvent plan) _ _ (edge_is w0) (λ from is_from. then (IsEdge plan) (IsNamedEvent plan) _ _ (edge_is w1) (λ to is_to. then (IsWithin 1 65535) (IsNamedEvent plan) _ _ (decimal_within 1 65535 w2) (λ count is_count. (is_from, (is_to, is_count)))))
+  deliver_is (w0 ∷ w1 ∷ w2 ∷ []) = then (IsEdge plan) (IsNamedEvent plan) _ _ (edge_is w0)
+      (λ from is_from. then (IsEdge plan) (IsNamedEvent plan) _ _ (edge_is w1)
+      (λ to is_to. then (IsWithin 1 65535) (IsNamedEvent plan) _ _ (decimal_within 1 65535 w2) (λ count is_count. (is_from, (is_to, is_count)))))
   deliver_is (w0 ∷ w1 ∷ w2 ∷ w3 ∷ rest) = tt
 
   lose_is : (words : List (List ℕ)) → IfSome (lose_in (names_of plan) words) (IsNamedEvent plan)
@@ -133,7 +136,9 @@ module _ (plan : Plan) where
   unfolding frame_in
   frame_is [] = tt
   frame_is (w0 ∷ []) = tt
-  frame_is (w0 ∷ w1 ∷ []) = then (IsCircuit plan) (IsNamedEvent plan) _ _ (circuit_is w0) (λ circuit is_circuit. then (AreOctets) (IsNamedEvent plan) _ _ (octets_are w1) (λ octets is_octets. then (λ frame. AreOctets frame × IsFrame frame) (IsNamedEvent plan) _ _ (sized octets is_octets) (λ frame is_frame. (is_circuit, is_frame))))
+  frame_is (w0 ∷ w1 ∷ []) = then (IsCircuit plan) (IsNamedEvent plan) _ _ (circuit_is w0)
+      (λ circuit is_circuit. then (AreOctets) (IsNamedEvent plan) _ _ (octets_are w1)
+      (λ octets is_octets. then (λ frame. AreOctets frame × IsFrame frame) (IsNamedEvent plan) _ _ (sized octets is_octets) (λ frame is_frame. (is_circuit, is_frame))))
   frame_is (w0 ∷ w1 ∷ w2 ∷ rest) = tt
 
   packet_is : (words : List (List ℕ)) → IfSome (packet_in words) IsPacket
@@ -147,14 +152,17 @@ module _ (plan : Plan) where
   wire_switch_is [] = tt
   wire_switch_is (w0 ∷ []) = tt
   wire_switch_is (w0 ∷ w1 ∷ []) = tt
-  wire_switch_is (w0 ∷ w1 ∷ w2 ∷ []) = then (IsEdge plan) (IsNamedEvent plan) _ _ (edge_is w0) (λ edge is_edge. then (IsWire plan) (IsNamedEvent plan) _ _ (wire_is w1) (λ wire is_wire. then (λ x. Unit {0}) (IsNamedEvent plan) _ _ (anything (switch_in w2)) (λ on is_on. (is_edge, is_wire))))
+  wire_switch_is (w0 ∷ w1 ∷ w2 ∷ []) = then (IsEdge plan) (IsNamedEvent plan) _ _ (edge_is w0)
+      (λ edge is_edge. then (IsWire plan) (IsNamedEvent plan) _ _ (wire_is w1)
+      (λ wire is_wire. then (λ x. Unit {0}) (IsNamedEvent plan) _ _ (anything (switch_in w2)) (λ on is_on. (is_edge, is_wire))))
   wire_switch_is (w0 ∷ w1 ∷ w2 ∷ w3 ∷ rest) = tt
 
   circuit_switch_is : (words : List (List ℕ)) → IfSome (circuit_switch_in (names_of plan) words) (IsNamedEvent plan)
   unfolding circuit_switch_in
   circuit_switch_is [] = tt
   circuit_switch_is (w0 ∷ []) = tt
-  circuit_switch_is (w0 ∷ w1 ∷ []) = then (IsCircuit plan) (IsNamedEvent plan) _ _ (circuit_is w0) (λ circuit is_circuit. then (λ x. Unit {0}) (IsNamedEvent plan) _ _ (anything (switch_in w1)) (λ on is_on. is_circuit))
+  circuit_switch_is (w0 ∷ w1 ∷ []) = then (IsCircuit plan) (IsNamedEvent plan) _ _ (circuit_is w0)
+      (λ circuit is_circuit. then (λ x. Unit {0}) (IsNamedEvent plan) _ _ (anything (switch_in w1)) (λ on is_on. is_circuit))
   circuit_switch_is (w0 ∷ w1 ∷ w2 ∷ rest) = tt
 
   status_is : (words : List (List ℕ)) → IfSome (status_in (names_of plan) words) (IsNamedEvent plan)
@@ -162,7 +170,9 @@ module _ (plan : Plan) where
   status_is [] = tt
   status_is (w0 ∷ []) = tt
   status_is (w0 ∷ w1 ∷ []) = tt
-  status_is (w0 ∷ w1 ∷ w2 ∷ []) = then (IsEdge plan) (IsNamedEvent plan) _ _ (edge_is w0) (λ edge is_edge. then (IsWire plan) (IsNamedEvent plan) _ _ (wire_is w1) (λ wire is_wire. then (IsWithin 0 31) (IsNamedEvent plan) _ _ (decimal_within 0 31 w2) (λ bits is_bits. (is_edge, (is_wire, is_bits)))))
+  status_is (w0 ∷ w1 ∷ w2 ∷ []) = then (IsEdge plan) (IsNamedEvent plan) _ _ (edge_is w0)
+      (λ edge is_edge. then (IsWire plan) (IsNamedEvent plan) _ _ (wire_is w1)
+      (λ wire is_wire. then (IsWithin 0 31) (IsNamedEvent plan) _ _ (decimal_within 0 31 w2) (λ bits is_bits. (is_edge, (is_wire, is_bits)))))
   status_is (w0 ∷ w1 ∷ w2 ∷ w3 ∷ rest) = tt
 
   priority_is : (words : List (List ℕ)) → IfSome (priority_in (names_of plan) words) (IsNamedEvent plan)
@@ -170,7 +180,9 @@ module _ (plan : Plan) where
   priority_is [] = tt
   priority_is (w0 ∷ []) = tt
   priority_is (w0 ∷ w1 ∷ []) = tt
-  priority_is (w0 ∷ w1 ∷ w2 ∷ []) = then (IsEdge plan) (IsNamedEvent plan) _ _ (edge_is w0) (λ edge is_edge. then (IsWire plan) (IsNamedEvent plan) _ _ (wire_is w1) (λ wire is_wire. then (IsWithin 0 255) (IsNamedEvent plan) _ _ (decimal_within 0 255 w2) (λ priority is_priority. (is_edge, (is_wire, is_priority)))))
+  priority_is (w0 ∷ w1 ∷ w2 ∷ []) = then (IsEdge plan) (IsNamedEvent plan) _ _ (edge_is w0)
+      (λ edge is_edge. then (IsWire plan) (IsNamedEvent plan) _ _ (wire_is w1)
+      (λ wire is_wire. then (IsWithin 0 255) (IsNamedEvent plan) _ _ (decimal_within 0 255 w2) (λ priority is_priority. (is_edge, (is_wire, is_priority)))))
   priority_is (w0 ∷ w1 ∷ w2 ∷ w3 ∷ rest) = tt
 
   ping_is : (words : List (List ℕ)) → IfSome (ping_in (names_of plan) words) (IsNamedEvent plan)
@@ -214,7 +226,8 @@ module _ (plan : Plan) where
   said_is [] = tt
   said_is (w0 ∷ []) = tt
   said_is (w0 ∷ w1 ∷ []) = tt
-  said_is (w0 ∷ w1 ∷ w2 ∷ []) = then (IsEdge plan) (IsNamed plan) _ _ (edge_is w0) (λ from is_from. then (IsEdge plan) (IsNamed plan) _ _ (edge_is w1) (λ to is_to. then (AreOctets) (IsNamed plan) _ _ (octets_are w2) (λ octets is_octets. (is_from, (is_to, is_octets)))))
+  said_is (w0 ∷ w1 ∷ w2 ∷ []) = then (IsEdge plan) (IsNamed plan) _ _ (edge_is w0)
+      (λ from is_from. then (IsEdge plan) (IsNamed plan) _ _ (edge_is w1) (λ to is_to. then (AreOctets) (IsNamed plan) _ _ (octets_are w2) (λ octets is_octets. (is_from, (is_to, is_octets)))))
   said_is (w0 ∷ w1 ∷ w2 ∷ w3 ∷ rest) = tt
 
   entered_is : (words : List (List ℕ)) → IfSome (entered_in (names_of plan) words) (IsNamed plan)
@@ -222,7 +235,9 @@ module _ (plan : Plan) where
   entered_is [] = tt
   entered_is (w0 ∷ []) = tt
   entered_is (w0 ∷ w1 ∷ []) = tt
-  entered_is (w0 ∷ w1 ∷ w2 ∷ []) = then (IsCircuit plan) (IsNamed plan) _ _ (circuit_is w0) (λ circuit is_circuit. then (IsNumber) (IsNamed plan) _ _ (number_is w1) (λ number is_number. then (AreOctets) (IsNamed plan) _ _ (octets_are w2) (λ octets is_octets. (is_circuit, (is_number, is_octets)))))
+  entered_is (w0 ∷ w1 ∷ w2 ∷ []) = then (IsCircuit plan) (IsNamed plan) _ _ (circuit_is w0)
+      (λ circuit is_circuit. then (IsNumber) (IsNamed plan) _ _ (number_is w1)
+      (λ number is_number. then (AreOctets) (IsNamed plan) _ _ (octets_are w2) (λ octets is_octets. (is_circuit, (is_number, is_octets)))))
   entered_is (w0 ∷ w1 ∷ w2 ∷ w3 ∷ rest) = tt
 
   passed_is : (words : List (List ℕ)) → IfSome (passed_in words) IsPassed
@@ -230,21 +245,26 @@ module _ (plan : Plan) where
   passed_is [] = tt
   passed_is (w0 ∷ []) = tt
   passed_is (w0 ∷ w1 ∷ []) = tt
-  passed_is (w0 ∷ w1 ∷ w2 ∷ []) = then (IsNumber) IsPassed _ _ (number_is w0) (λ origin is_origin. then (IsNumber) IsPassed _ _ (number_is w1) (λ hops is_hops. then (AreOctets) IsPassed _ _ (octets_are w2) (λ octets is_octets. (is_origin, (is_hops, is_octets)))))
+  passed_is (w0 ∷ w1 ∷ w2 ∷ []) = then (IsNumber) IsPassed _ _ (number_is w0)
+      (λ origin is_origin. then (IsNumber) IsPassed _ _ (number_is w1) (λ hops is_hops. then (AreOctets) IsPassed _ _ (octets_are w2) (λ octets is_octets. (is_origin, (is_hops, is_octets)))))
   passed_is (w0 ∷ w1 ∷ w2 ∷ w3 ∷ rest) = tt
 
   carried_is : (words : List (List ℕ)) → IfSome (carried_in (names_of plan) words) IsCarried
   unfolding carried_in
   carried_is [] = tt
   carried_is (w0 ∷ []) = tt
-  carried_is (w0 ∷ w1 ∷ words) = then (IsWire plan) IsCarried _ _ (wire_is w0) (λ wire is_wire. then (IsArrival plan) IsCarried _ _ (arrival_is w1) (λ came is_came. then (IsPassed) IsCarried _ _ (passed_is words) (λ passed is_passed. (is_wire, (is_came, is_passed)))))
+  carried_is (w0 ∷ w1 ∷ words) = then (IsWire plan) IsCarried _ _ (wire_is w0)
+      (λ wire is_wire. then (IsArrival plan) IsCarried _ _ (arrival_is w1) (λ came is_came. then (IsPassed) IsCarried _ _ (passed_is words) (λ passed is_passed. (is_wire, (is_came, is_passed)))))
 
   sent_is : (words : List (List ℕ)) → IfSome (sent_in (names_of plan) words) (IsNamed plan)
   unfolding sent_in
   sent_is [] = tt
   sent_is (w0 ∷ []) = tt
   sent_is (w0 ∷ w1 ∷ []) = tt
-  sent_is (w0 ∷ w1 ∷ w2 ∷ words) = then (IsNumber) (IsNamed plan) _ _ (number_is w0) (λ packet is_packet. then (IsEdge plan) (IsNamed plan) _ _ (edge_is w1) (λ from is_from. then (IsEdge plan) (IsNamed plan) _ _ (edge_is w2) (λ to is_to. then (IsCarried) (IsNamed plan) _ _ (carried_is words) (λ carried is_carried. (is_from, (is_to, (is_carried.0, (is_carried.1.0, (is_packet, is_carried.1.1)))))))))
+  sent_is (w0 ∷ w1 ∷ w2 ∷ words) = then (IsNumber) (IsNamed plan) _ _ (number_is w0)
+      (λ packet is_packet. then (IsEdge plan) (IsNamed plan) _ _ (edge_is w1)
+      (λ from is_from. then (IsEdge plan) (IsNamed plan) _ _ (edge_is w2)
+      (λ to is_to. then (IsCarried) (IsNamed plan) _ _ (carried_is words) (λ carried is_carried. (is_from, (is_to, (is_carried.0, (is_carried.1.0, (is_packet, is_carried.1.1)))))))))
 
   copied_is : (words : List (List ℕ)) → IfSome (copied_in words) (IsNamed plan)
   unfolding copied_in
@@ -262,14 +282,16 @@ module _ (plan : Plan) where
   left_is : (words : List (List ℕ)) → IfSome (left_in (names_of plan) words) (IsNamed plan)
   unfolding left_in
   left_is [] = tt
-  left_is (w0 ∷ words) = then (IsCircuit plan) (IsNamed plan) _ _ (circuit_is w0) (λ circuit is_circuit. then (IsPassed) (IsNamed plan) _ _ (passed_is words) (λ passed is_passed. (is_circuit, is_passed)))
+  left_is (w0 ∷ words) = then (IsCircuit plan) (IsNamed plan) _ _ (circuit_is w0)
+      (λ circuit is_circuit. then (IsPassed) (IsNamed plan) _ _ (passed_is words) (λ passed is_passed. (is_circuit, is_passed)))
 
   dropped_is : (words : List (List ℕ)) → IfSome (dropped_in (names_of plan) words) (IsNamed plan)
   unfolding dropped_in
   dropped_is [] = tt
   dropped_is (w0 ∷ []) = tt
   dropped_is (w0 ∷ w1 ∷ []) = tt
-  dropped_is (w0 ∷ w1 ∷ w2 ∷ []) = then (IsEdge plan) (IsNamed plan) _ _ (edge_is w0) (λ edge is_edge. then (IsNumber) (IsNamed plan) _ _ (number_is w1) (λ origin is_origin. then (λ x. Unit {0}) (IsNamed plan) _ _ (anything (cause_in w2)) (λ why is_why. (is_edge, is_origin))))
+  dropped_is (w0 ∷ w1 ∷ w2 ∷ []) = then (IsEdge plan) (IsNamed plan) _ _ (edge_is w0)
+      (λ edge is_edge. then (IsNumber) (IsNamed plan) _ _ (number_is w1) (λ origin is_origin. then (λ x. Unit {0}) (IsNamed plan) _ _ (anything (cause_in w2)) (λ why is_why. (is_edge, is_origin))))
   dropped_is (w0 ∷ w1 ∷ w2 ∷ w3 ∷ rest) = tt
 
   session_is : (words : List (List ℕ)) → IfSome (session_in (names_of plan) words) (IsNamed plan)
@@ -277,7 +299,8 @@ module _ (plan : Plan) where
   session_is [] = tt
   session_is (w0 ∷ []) = tt
   session_is (w0 ∷ w1 ∷ []) = tt
-  session_is (w0 ∷ w1 ∷ w2 ∷ []) = then (IsEdge plan) (IsNamed plan) _ _ (edge_is w0) (λ edge is_edge. then (IsEdge plan) (IsNamed plan) _ _ (edge_is w1) (λ peer is_peer. then (λ x. Unit {0}) (IsNamed plan) _ _ (anything (state_in w2)) (λ name is_name. (is_edge, is_peer))))
+  session_is (w0 ∷ w1 ∷ w2 ∷ []) = then (IsEdge plan) (IsNamed plan) _ _ (edge_is w0)
+      (λ edge is_edge. then (IsEdge plan) (IsNamed plan) _ _ (edge_is w1) (λ peer is_peer. then (λ x. Unit {0}) (IsNamed plan) _ _ (anything (state_in w2)) (λ name is_name. (is_edge, is_peer))))
   session_is (w0 ∷ w1 ∷ w2 ∷ w3 ∷ rest) = tt
 
   wire_told_is : (words : List (List ℕ)) → IfSome (wire_told_in (names_of plan) words) (IsNamed plan)
@@ -285,7 +308,8 @@ module _ (plan : Plan) where
   wire_told_is [] = tt
   wire_told_is (w0 ∷ []) = tt
   wire_told_is (w0 ∷ w1 ∷ []) = tt
-  wire_told_is (w0 ∷ w1 ∷ w2 ∷ []) = then (IsEdge plan) (IsNamed plan) _ _ (edge_is w0) (λ edge is_edge. then (IsWire plan) (IsNamed plan) _ _ (wire_is w1) (λ wire is_wire. then (λ x. Unit {0}) (IsNamed plan) _ _ (anything (wire_end_in w2)) (λ down is_down. (is_edge, is_wire))))
+  wire_told_is (w0 ∷ w1 ∷ w2 ∷ []) = then (IsEdge plan) (IsNamed plan) _ _ (edge_is w0)
+      (λ edge is_edge. then (IsWire plan) (IsNamed plan) _ _ (wire_is w1) (λ wire is_wire. then (λ x. Unit {0}) (IsNamed plan) _ _ (anything (wire_end_in w2)) (λ down is_down. (is_edge, is_wire))))
   wire_told_is (w0 ∷ w1 ∷ w2 ∷ w3 ∷ rest) = tt
 
   pong_is : (words : List (List ℕ)) → IfSome (pong_in (names_of plan) words) (IsNamed plan)
@@ -293,7 +317,9 @@ module _ (plan : Plan) where
   pong_is [] = tt
   pong_is (w0 ∷ []) = tt
   pong_is (w0 ∷ w1 ∷ []) = tt
-  pong_is (w0 ∷ w1 ∷ w2 ∷ []) = then (IsEdge plan) (IsNamed plan) _ _ (edge_is w0) (λ edge is_edge. then (IsWire plan) (IsNamed plan) _ _ (wire_is w1) (λ wire is_wire. then (IsWithin 0 65535) (IsNamed plan) _ _ (sequence_is w2) (λ sequence is_sequence. (is_edge, (is_wire, is_sequence)))))
+  pong_is (w0 ∷ w1 ∷ w2 ∷ []) = then (IsEdge plan) (IsNamed plan) _ _ (edge_is w0)
+      (λ edge is_edge. then (IsWire plan) (IsNamed plan) _ _ (wire_is w1)
+      (λ wire is_wire. then (IsWithin 0 65535) (IsNamed plan) _ _ (sequence_is w2) (λ sequence is_sequence. (is_edge, (is_wire, is_sequence)))))
   pong_is (w0 ∷ w1 ∷ w2 ∷ w3 ∷ rest) = tt
 
   did_is : (words : List (List ℕ)) → IfSome (did_in (names_of plan) words) (IsNamed plan)

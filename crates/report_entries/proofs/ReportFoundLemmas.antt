@@ -59,7 +59,8 @@ module _ (plan : Plan) (names : HasNames plan) (apart : HasNamesApart plan) wher
       let more = many_lines xs rest named.1 in
       omega (arith, more, length-append (entry_lines plan xs) rest, length-append (entry_lines plan (x ∷ xs)) rest, length-append (entry_line plan x) (entry_lines plan xs), ap length own.is, length-append own.line (codes "\n"))
 
-  lines_read : (trace : List Entry) (most : ℕ) (tally : Tally) (last : List ℕ) → AllByRecursion (IsNamed plan) trace → length trace < most → IsFreeOf 10 last → is_last (counted_all tally trace) last ≡ true
+  lines_read : (trace : List Entry) (most : ℕ) (tally : Tally) (last : List ℕ) → AllByRecursion (IsNamed plan) trace → length trace < most → IsFreeOf 10 last
+      → is_last (counted_all tally trace) last ≡ true
       → goes_on most plan tally (entry_lines plan trace ++ (last ++ codes "\n")) ≡ Ok trace
   lines_read trace zero tally last named few free right = absurd (omega (arith, few))
   lines_read [] (suc most) tally last named few free right = rw (behind_one 10 last [] free, before_one 10 last [] free, right) refl
@@ -73,7 +74,8 @@ module _ (plan : Plan) (names : HasNames plan) (apart : HasNamesApart plan) wher
       ∙ rw (behind_one 10 own.line rest fits.free, before_one 10 own.line rest fits.free, is_none plan own.line x fits.words tally, line_found plan names apart x own.line named.0 own.is)
       (ap (with_entry x) (lines_read xs most (counted x tally) last named.1 (omega (arith, few)) free right))
 
-pub report_read : (plan : Plan) (trace : List Entry) (last : List ℕ) → IsChecked plan → HasNames plan → AllByRecursion (IsNamed plan) trace → IsFreeOf 10 last → is_last (counted_all first_counts trace) last ≡ true
+pub report_read : (plan : Plan) (trace : List Entry) (last : List ℕ) → IsChecked plan → HasNames plan → AllByRecursion (IsNamed plan) trace → IsFreeOf 10 last
+    → is_last (counted_all first_counts trace) last ≡ true
     → told_of plan ((codes "vplsnet 1\n" ++ entry_lines plan trace) ++ (last ++ codes "\n")) ≡ Ok trace
 unfolding told_of
 report_read plan trace last checked names named free right =

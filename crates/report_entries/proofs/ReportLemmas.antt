@@ -40,5 +40,6 @@ parts_same written front back line is long = by (bytes_eq front line) (bytes_eq 
   by false b first last = octets_apart_test written (line ++ codes "\n") (λ same. octets_unlike front line first (parted front back line (codes "\n") long (sym is ∙ same)).0)
 
 pub same_line : (written front back line : List ℕ) → length written ≡ length line + 1 → front ≡ take (length line) written → back ≡ drop (length line) written → bytes_eq written (line ++ codes "\n") ≡ (bytes_eq front line && bytes_eq back (codes "\n"))
-same_line written front back line long first last = parts_same written front back line (joined_again (length line) written ∙ (ap (λ (l : List ℕ). l ++ drop (length line) written) (sym first) ∙ ap (λ (l : List ℕ). front ++ l) (sym last)))
+same_line written front back line long first last =
+    parts_same written front back line (joined_again (length line) written ∙ (ap (λ (l : List ℕ). l ++ drop (length line) written) (sym first) ∙ ap (λ (l : List ℕ). front ++ l) (sym last)))
     (ap length first ∙ front_length (length line) written (omega (arith, long)))

@@ -49,7 +49,9 @@ events_more (entry.Pong edge wire sequence) tally = omega arith
 
 events_all : (tally : Tally) (trace : List Entry) → (counted_all tally trace).events ≡ tally.events + count_by (is_counted kind.Event) trace
 events_all tally [] = omega arith
-events_all tally (x ∷ xs) = one_more tally.events (cond (is_counted kind.Event x) 1 0) (count_by (is_counted kind.Event) xs) (counted x tally).events (counted_all (counted x tally) xs).events (events_all (counted x tally) xs) (events_more x tally) ∙ ap (λ (n : ℕ). tally.events + n) (sym (sum_by-cons (λ e. cond (is_counted kind.Event e) 1 0) x xs))
+events_all tally (x ∷ xs) = one_more tally.events (cond (is_counted kind.Event x) 1 0) (count_by (is_counted kind.Event) xs) (counted x tally).events
+    (counted_all (counted x tally) xs).events (events_all (counted x tally) xs) (events_more x tally)
+    ∙ ap (λ (n : ℕ). tally.events + n) (sym (sum_by-cons (λ e. cond (is_counted kind.Event e) 1 0) x xs))
 
 events_first : (trace : List Entry) → (counted_all first_counts trace).events ≡ count_by (is_counted kind.Event) trace
 events_first trace = omega (arith, events_all first_counts trace)
@@ -71,7 +73,9 @@ entered_more (entry.Pong edge wire sequence) tally = omega arith
 
 entered_all : (tally : Tally) (trace : List Entry) → (counted_all tally trace).entered ≡ tally.entered + count_by (is_counted kind.Entered) trace
 entered_all tally [] = omega arith
-entered_all tally (x ∷ xs) = one_more tally.entered (cond (is_counted kind.Entered x) 1 0) (count_by (is_counted kind.Entered) xs) (counted x tally).entered (counted_all (counted x tally) xs).entered (entered_all (counted x tally) xs) (entered_more x tally) ∙ ap (λ (n : ℕ). tally.entered + n) (sym (sum_by-cons (λ e. cond (is_counted kind.Entered e) 1 0) x xs))
+entered_all tally (x ∷ xs) = one_more tally.entered (cond (is_counted kind.Entered x) 1 0) (count_by (is_counted kind.Entered) xs) (counted x tally).entered
+    (counted_all (counted x tally) xs).entered (entered_all (counted x tally) xs) (entered_more x tally)
+    ∙ ap (λ (n : ℕ). tally.entered + n) (sym (sum_by-cons (λ e. cond (is_counted kind.Entered e) 1 0) x xs))
 
 entered_first : (trace : List Entry) → (counted_all first_counts trace).entered ≡ count_by (is_counted kind.Entered) trace
 entered_first trace = omega (arith, entered_all first_counts trace)
@@ -93,7 +97,8 @@ left_more (entry.Pong edge wire sequence) tally = omega arith
 
 left_all : (tally : Tally) (trace : List Entry) → (counted_all tally trace).left ≡ tally.left + count_by (is_counted kind.Left) trace
 left_all tally [] = omega arith
-left_all tally (x ∷ xs) = one_more tally.left (cond (is_counted kind.Left x) 1 0) (count_by (is_counted kind.Left) xs) (counted x tally).left (counted_all (counted x tally) xs).left (left_all (counted x tally) xs) (left_more x tally) ∙ ap (λ (n : ℕ). tally.left + n) (sym (sum_by-cons (λ e. cond (is_counted kind.Left e) 1 0) x xs))
+left_all tally (x ∷ xs) = one_more tally.left (cond (is_counted kind.Left x) 1 0) (count_by (is_counted kind.Left) xs) (counted x tally).left (counted_all (counted x tally) xs).left
+    (left_all (counted x tally) xs) (left_more x tally) ∙ ap (λ (n : ℕ). tally.left + n) (sym (sum_by-cons (λ e. cond (is_counted kind.Left e) 1 0) x xs))
 
 left_first : (trace : List Entry) → (counted_all first_counts trace).left ≡ count_by (is_counted kind.Left) trace
 left_first trace = omega (arith, left_all first_counts trace)
@@ -115,7 +120,8 @@ sent_more (entry.Pong edge wire sequence) tally = omega arith
 
 sent_all : (tally : Tally) (trace : List Entry) → (counted_all tally trace).sent ≡ tally.sent + count_by (is_counted kind.Sent) trace
 sent_all tally [] = omega arith
-sent_all tally (x ∷ xs) = one_more tally.sent (cond (is_counted kind.Sent x) 1 0) (count_by (is_counted kind.Sent) xs) (counted x tally).sent (counted_all (counted x tally) xs).sent (sent_all (counted x tally) xs) (sent_more x tally) ∙ ap (λ (n : ℕ). tally.sent + n) (sym (sum_by-cons (λ e. cond (is_counted kind.Sent e) 1 0) x xs))
+sent_all tally (x ∷ xs) = one_more tally.sent (cond (is_counted kind.Sent x) 1 0) (count_by (is_counted kind.Sent) xs) (counted x tally).sent (counted_all (counted x tally) xs).sent
+    (sent_all (counted x tally) xs) (sent_more x tally) ∙ ap (λ (n : ℕ). tally.sent + n) (sym (sum_by-cons (λ e. cond (is_counted kind.Sent e) 1 0) x xs))
 
 sent_first : (trace : List Entry) → (counted_all first_counts trace).sent ≡ count_by (is_counted kind.Sent) trace
 sent_first trace = omega (arith, sent_all first_counts trace)
@@ -137,7 +143,9 @@ dropped_more (entry.Pong edge wire sequence) tally = omega arith
 
 dropped_all : (tally : Tally) (trace : List Entry) → (counted_all tally trace).dropped ≡ tally.dropped + count_by (is_counted kind.Dropped) trace
 dropped_all tally [] = omega arith
-dropped_all tally (x ∷ xs) = one_more tally.dropped (cond (is_counted kind.Dropped x) 1 0) (count_by (is_counted kind.Dropped) xs) (counted x tally).dropped (counted_all (counted x tally) xs).dropped (dropped_all (counted x tally) xs) (dropped_more x tally) ∙ ap (λ (n : ℕ). tally.dropped + n) (sym (sum_by-cons (λ e. cond (is_counted kind.Dropped e) 1 0) x xs))
+dropped_all tally (x ∷ xs) = one_more tally.dropped (cond (is_counted kind.Dropped x) 1 0) (count_by (is_counted kind.Dropped) xs) (counted x tally).dropped
+    (counted_all (counted x tally) xs).dropped (dropped_all (counted x tally) xs) (dropped_more x tally)
+    ∙ ap (λ (n : ℕ). tally.dropped + n) (sym (sum_by-cons (λ e. cond (is_counted kind.Dropped e) 1 0) x xs))
 
 dropped_first : (trace : List Entry) → (counted_all first_counts trace).dropped ≡ count_by (is_counted kind.Dropped) trace
 dropped_first trace = omega (arith, dropped_all first_counts trace)
@@ -182,7 +190,8 @@ last_told trace ending few ends = by (last_words trace ending) refl (last_plain 
     line = joined word words;
     is = ap line_of at ∙ line_joined word words;
     free = joined_free word words plain;
-    right = ap (is_last_of (counted_all first_counts trace) (joined word words)) (words_found 9 word words (omega (arith, short)) plain ∙ sym at) ∙ right_words trace ending (joined word words) ends (ap line_of at ∙ line_joined word words);
+    right = ap (is_last_of (counted_all first_counts trace) (joined word words)) (words_found 9 word words (omega (arith, short)) plain ∙ sym at)
+        ∙ right_words trace ending (joined word words) ends (ap line_of at ∙ line_joined word words);
   }
 
 -- the report of a trace tells it

@@ -28,7 +28,8 @@ no_error line x e = absurd (cc e)
 pub cut_joined : (mark : ℕ) (text more : List ℕ) → behind_mark mark text ≡ Some more → text ≡ before_mark mark text ++ mark ∷ more
 cut_joined mark [] more is = absurd (cc is)
 cut_joined mark (c ∷ cs) more is = by (nat_eq c mark) refl is (cut_joined mark cs more) where
-  by : (b : Bool) → nat_eq c mark ≡ b → cond b (Some cs) (behind_mark mark cs) ≡ Some more → (behind_mark mark cs ≡ Some more → cs ≡ before_mark mark cs ++ mark ∷ more) → c ∷ cs ≡ cond b [] (c ∷ before_mark mark cs) ++ mark ∷ more
+  by : (b : Bool) → nat_eq c mark ≡ b → cond b (Some cs) (behind_mark mark cs) ≡ Some more → (behind_mark mark cs ≡ Some more → cs ≡ before_mark mark cs ++ mark ∷ more) → c ∷ cs
+      ≡ cond b [] (c ∷ before_mark mark cs) ++ mark ∷ more
   by true same at rest =
       let whole : cs ≡ more = cc at in
       ap (λ (n : ℕ). n ∷ cs) (eqb-true c mark same) ∙ ap (λ (l : List ℕ). mark ∷ l) whole
@@ -58,7 +59,8 @@ record IsReadOn (plan : Plan) (tally : Tally) (text : List ℕ) (trace : List En
 ok_same : {x y : List Entry} → known x ≡ known y → x ≡ y
 ok_same e = cc e
 
-no_more : (plan : Plan) (tally : Tally) (text more : List ℕ) (trace : List Entry) → trace ≡ [] → behind_mark 10 text ≡ Some more → is_last tally (before_mark 10 text) ≡ true → more ≡ [] → IsReadOn plan tally text trace
+no_more : (plan : Plan) (tally : Tally) (text more : List ℕ) (trace : List Entry) → trace ≡ [] → behind_mark 10 text ≡ Some more → is_last tally (before_mark 10 text) ≡ true → more
+    ≡ [] → IsReadOn plan tally text trace
 no_more plan tally text more [] is cut right none = record {
   line = before_mark 10 text;
   is = cut_joined 10 text more cut ∙ ap (λ (l : List ℕ). before_mark 10 text ++ 10 ∷ l) none;
@@ -66,13 +68,15 @@ no_more plan tally text more [] is cut right none = record {
 }
 no_more plan tally text more (x ∷ xs) is cut right none = absurd (cc is)
 
-one_line : (plan : Plan) (tally : Tally) (text more : List ℕ) (trace : List Entry) → behind_mark 10 text ≡ Some more → is_last tally (before_mark 10 text) ≡ true → cond (nat_eq (length more) 0) (Ok []) (Err (tally.lines + 2)) ≡ Ok trace → IsReadOn plan tally text trace
+one_line : (plan : Plan) (tally : Tally) (text more : List ℕ) (trace : List Entry) → behind_mark 10 text ≡ Some more → is_last tally (before_mark 10 text) ≡ true
+    → cond (nat_eq (length more) 0) (Ok []) (Err (tally.lines + 2)) ≡ Ok trace → IsReadOn plan tally text trace
 one_line plan tally text more trace cut right ends = by (nat_eq (length more) 0) refl ends where
   by : (b : Bool) → nat_eq (length more) 0 ≡ b → cond b (Ok []) (Err (tally.lines + 2)) ≡ Ok trace → IsReadOn plan tally text trace
   by true none at = no_more plan tally text more trace (sym (ok_same at)) cut right (empty_of_test more none)
   by false some at = no_error (tally.lines + 2) trace at
 
-one_more : (plan : Plan) (tally : Tally) (text more : List ℕ) (entry : Entry) (trace : List Entry) → behind_mark 10 text ≡ Some more → line_entry plan (before_mark 10 text) ≡ Some entry → IsReadOn plan (counted entry tally) more trace → IsReadOn plan tally text (entry ∷ trace)
+one_more : (plan : Plan) (tally : Tally) (text more : List ℕ) (entry : Entry) (trace : List Entry) → behind_mark 10 text ≡ Some more → line_entry plan (before_mark 10 text)
+    ≡ Some entry → IsReadOn plan (counted entry tally) more trace → IsReadOn plan tally text (entry ∷ trace)
 one_more plan tally text more entry trace cut reads rest = record {
   line = rest.line;
   is = cut_joined 10 text more cut
@@ -95,7 +99,8 @@ told_behind entry (Err line) trace is = no_error line trace is
 goes_read : (most : ℕ) (plan : Plan) (tally : Tally) (text : List ℕ) (trace : List Entry) → goes_on most plan tally text ≡ Ok trace → IsReadOn plan tally text trace
 goes_read zero plan tally text trace is = no_error (tally.lines + 1) trace is
 goes_read (suc most) plan tally text trace is = behind (behind_mark 10 text) refl is (λ more entry es at. goes_read most plan (counted entry tally) more es at) where
-  entry_by : (more : List ℕ) → behind_mark 10 text ≡ Some more → (o : Option Entry) → line_entry plan (before_mark 10 text) ≡ o → found (tally.lines + 1) o >>= (λ entry. with_entry entry (goes_on most plan (counted entry tally) more)) ≡ Ok trace
+  entry_by : (more : List ℕ) → behind_mark 10 text ≡ Some more → (o : Option Entry) → line_entry plan (before_mark 10 text) ≡ o
+      → found (tally.lines + 1) o >>= (λ entry. with_entry entry (goes_on most plan (counted entry tally) more)) ≡ Ok trace
       → ((entry : Entry) (es : List Entry) → goes_on most plan (counted entry tally) more ≡ Ok es → IsReadOn plan (counted entry tally) more es) → IsReadOn plan tally text trace
   entry_by more cut None reads at rest = no_error (tally.lines + 1) trace at
   entry_by more cut (Some entry) reads at rest =
@@ -103,13 +108,15 @@ goes_read (suc most) plan tally text trace is = behind (behind_mark 10 text) ref
       subst (IsReadOn plan tally text) (sym told.trace_is) (one_more plan tally text more entry told.entries cut reads (rest entry told.entries told.told_is))
 
   last_by : (more : List ℕ) → behind_mark 10 text ≡ Some more → (b : Bool) → is_last tally (before_mark 10 text) ≡ b
-      → cond b (cond (nat_eq (length more) 0) (Ok []) (Err (tally.lines + 2))) (found (tally.lines + 1) (line_entry plan (before_mark 10 text)) >>= (λ entry. with_entry entry (goes_on most plan (counted entry tally) more))) ≡ Ok trace
+      → cond b (cond (nat_eq (length more) 0) (Ok []) (Err (tally.lines + 2)))
+      (found (tally.lines + 1) (line_entry plan (before_mark 10 text)) >>= (λ entry. with_entry entry (goes_on most plan (counted entry tally) more))) ≡ Ok trace
       → ((entry : Entry) (es : List Entry) → goes_on most plan (counted entry tally) more ≡ Ok es → IsReadOn plan (counted entry tally) more es) → IsReadOn plan tally text trace
   last_by more cut true right at rest = one_line plan tally text more trace cut right at
   last_by more cut false other at rest = entry_by more cut (line_entry plan (before_mark 10 text)) refl at rest
 
   behind : (o : Option (List ℕ)) → behind_mark 10 text ≡ o
-      → found (tally.lines + 1) o >>= (λ more. cond (is_last tally (before_mark 10 text)) (cond (nat_eq (length more) 0) (Ok []) (Err (tally.lines + 2))) (found (tally.lines + 1) (line_entry plan (before_mark 10 text)) >>= (λ entry. with_entry entry (goes_on most plan (counted entry tally) more)))) ≡ Ok trace
+      → found (tally.lines + 1) o >>= (λ more. cond (is_last tally (before_mark 10 text)) (cond (nat_eq (length more) 0) (Ok []) (Err (tally.lines + 2)))
+      (found (tally.lines + 1) (line_entry plan (before_mark 10 text)) >>= (λ entry. with_entry entry (goes_on most plan (counted entry tally) more)))) ≡ Ok trace
       → ((more : List ℕ) (entry : Entry) (es : List Entry) → goes_on most plan (counted entry tally) more ≡ Ok es → IsReadOn plan (counted entry tally) more es) → IsReadOn plan tally text trace
   behind None cut at rest = no_error (tally.lines + 1) trace at
   behind (Some more) cut at rest = last_by more cut (is_last tally (before_mark 10 text)) refl at (rest more)
@@ -117,7 +124,8 @@ goes_read (suc most) plan tally text trace is = behind (behind_mark 10 text) ref
 pub read_tells : (plan : Plan) (text : List ℕ) (trace : List Entry) → told_of plan text ≡ Ok trace → TellsTrace plan text trace
 unfolding told_of
 read_tells plan text trace is = behind (behind_mark 10 text) refl is where
-  first_by : (more : List ℕ) → behind_mark 10 text ≡ Some more → (b : Bool) → is_first (before_mark 10 text) ≡ b → cond b (goes_on (length more) plan first_counts more) (Err 1) ≡ Ok trace → TellsTrace plan text trace
+  first_by : (more : List ℕ) → behind_mark 10 text ≡ Some more → (b : Bool) → is_first (before_mark 10 text) ≡ b → cond b (goes_on (length more) plan first_counts more) (Err 1)
+      ≡ Ok trace → TellsTrace plan text trace
   first_by more cut true first at =
       let rest : IsReadOn plan first_counts more trace = goes_read (length more) plan first_counts more trace at in
       record {
@@ -128,6 +136,7 @@ read_tells plan text trace is = behind (behind_mark 10 text) refl is where
       }
   first_by more cut false other at = no_error 1 trace at
 
-  behind : (o : Option (List ℕ)) → behind_mark 10 text ≡ o → found 1 o >>= (λ more. cond (is_first (before_mark 10 text)) (goes_on (length more) plan first_counts more) (Err 1)) ≡ Ok trace → TellsTrace plan text trace
+  behind : (o : Option (List ℕ)) → behind_mark 10 text ≡ o → found 1 o >>= (λ more. cond (is_first (before_mark 10 text)) (goes_on (length more) plan first_counts more) (Err 1))
+      ≡ Ok trace → TellsTrace plan text trace
   behind None cut at = no_error 1 trace at
   behind (Some more) cut at = first_by more cut (is_first (before_mark 10 text)) refl at

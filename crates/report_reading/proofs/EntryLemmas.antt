@@ -139,7 +139,8 @@ module _ (plan : Plan) (names : HasNames plan) (apart : HasNamesApart plan) wher
       let word_priority : decimal priority ≡ decimal priority' = cc (e) in
       let same_edge : edge ≡ edge' = edge_same plan names edge edge' (is_x.0) (is_y.0) word_edge in
       let same_wire : wire ≡ wire' = wire_same plan names wire wire' (is_x.1.0) (is_y.1.0) word_wire in
-      let same_priority : priority ≡ priority' = number_same priority priority' (within_number 0 255 priority is_x.1.1 (omega arith)) (within_number 0 255 priority' is_y.1.1 (omega arith)) word_priority in
+      let same_priority : priority ≡ priority' = number_same priority priority' (within_number 0 255 priority is_x.1.1 (omega arith))
+      (within_number 0 255 priority' is_y.1.1 (omega arith)) word_priority in
       cc (same_edge, same_wire, same_priority)
   event_same (event.Ping edge wire) (event.Ping edge' wire') is_x is_y e =
       let word_edge : edge_name plan edge ≡ edge_name plan edge' = cc (e) in
@@ -283,6 +284,7 @@ module _ (plan : Plan) (names : HasNames plan) (apart : HasNamesApart plan) wher
       let word_sequence : decimal sequence ≡ decimal sequence' = cc (e) in
       let same_edge : edge ≡ edge' = edge_same plan names edge edge' (is_x.0) (is_y.0) word_edge in
       let same_wire : wire ≡ wire' = wire_same plan names wire wire' (is_x.1.0) (is_y.1.0) word_wire in
-      let same_sequence : sequence ≡ sequence' = number_same sequence sequence' (within_number 0 65535 sequence is_x.1.1 (omega arith)) (within_number 0 65535 sequence' is_y.1.1 (omega arith)) word_sequence in
+      let same_sequence : sequence ≡ sequence' = number_same sequence sequence' (within_number 0 65535 sequence is_x.1.1 (omega arith))
+      (within_number 0 65535 sequence' is_y.1.1 (omega arith)) word_sequence in
       cc (same_edge, same_wire, same_sequence)
   entry_same x y is_x is_y e = other_entry plan x y refl e

@@ -86,7 +86,8 @@ module _ (plan : Plan) (names : HasNames plan) where
 
 -- the kinds in order, and their names
 all_cause : List DropCause
-all_cause = cause.Short ∷ cause.Long ∷ cause.WrongTag ∷ cause.NoTag ∷ cause.BadNibble ∷ cause.NotBottom ∷ cause.Ttl ∷ cause.NoLabel ∷ cause.Down ∷ cause.NoBinding ∷ cause.Expired ∷ cause.Version ∷ cause.Channel ∷ cause.Ip ∷ cause.Checksum ∷ cause.Icmp ∷ cause.NotOffered ∷ cause.LinkFault ∷ []
+all_cause = cause.Short ∷ cause.Long ∷ cause.WrongTag ∷ cause.NoTag ∷ cause.BadNibble ∷ cause.NotBottom ∷ cause.Ttl ∷ cause.NoLabel ∷ cause.Down ∷ cause.NoBinding ∷ cause.Expired
+    ∷ cause.Version ∷ cause.Channel ∷ cause.Ip ∷ cause.Checksum ∷ cause.Icmp ∷ cause.NotOffered ∷ cause.LinkFault ∷ []
 
 words_cause : List (List ℕ)
 words_cause = codes "Short" ∷ codes "Long" ∷ codes "WrongTag" ∷ codes "NoTag" ∷ codes "BadNibble" ∷ codes "NotBottom" ∷ codes "Ttl" ∷ codes "NoLabel" ∷ codes "Down" ∷ codes "NoBinding" ∷ codes "Expired" ∷ codes "Version" ∷ codes "Channel" ∷ codes "Ip" ∷ codes "Checksum" ∷ codes "Icmp" ∷ codes "NotOffered" ∷ codes "LinkFault" ∷ []
@@ -145,7 +146,9 @@ end_same a b e = read_same read_end a b (wire_end_name a) (wire_end_name b) (end
 
 -- the kinds in order, and their names
 all_state : List StateName
-all_state = state.NonExistent ∷ state.Initialized ∷ state.OpenSent ∷ state.OpenRec ∷ state.Operational ∷ (state.Ended reason.BadVersion) ∷ (state.Ended reason.BadReceiver) ∷ (state.Ended reason.ZeroKeepAlive) ∷ (state.Ended reason.Unexpected) ∷ (state.Ended reason.Expired) ∷ (state.Ended reason.PeerShutdown) ∷ (state.Ended reason.PeerFatal) ∷ (state.Ended reason.Decode) ∷ (state.Ended reason.Closed) ∷ (state.Ended reason.LinkFault) ∷ (state.Ended reason.BadIdentifier) ∷ []
+all_state = state.NonExistent ∷ state.Initialized ∷ state.OpenSent ∷ state.OpenRec ∷ state.Operational ∷ (state.Ended reason.BadVersion) ∷ (state.Ended reason.BadReceiver)
+    ∷ (state.Ended reason.ZeroKeepAlive) ∷ (state.Ended reason.Unexpected) ∷ (state.Ended reason.Expired) ∷ (state.Ended reason.PeerShutdown) ∷ (state.Ended reason.PeerFatal)
+    ∷ (state.Ended reason.Decode) ∷ (state.Ended reason.Closed) ∷ (state.Ended reason.LinkFault) ∷ (state.Ended reason.BadIdentifier) ∷ []
 
 words_state : List (List ℕ)
 words_state = codes "NonExistent" ∷ codes "Initialized" ∷ codes "OpenSent" ∷ codes "OpenRec" ∷ codes "Operational" ∷ codes "Ended:BadVersion" ∷ codes "Ended:BadReceiver" ∷ codes "Ended:ZeroKeepAlive" ∷ codes "Ended:Unexpected" ∷ codes "Ended:Expired" ∷ codes "Ended:PeerShutdown" ∷ codes "Ended:PeerFatal" ∷ codes "Ended:Decode" ∷ codes "Ended:Closed" ∷ codes "Ended:LinkFault" ∷ codes "Ended:BadIdentifier" ∷ []

@@ -36,7 +36,8 @@ abbrev AreFound : Members → Arrays → Type 0
 AreFound ms arrays = StandAt ms arrays × AreFew arrays
 
 stand_in : (version : DocumentVersion) (events edges services groups circuits wires : Result Items ScenarioFault)
-    → IfOk (events >>= (λ a. edges >>= (λ b. services >>= (λ c. groups >>= (λ g. circuits >>= (λ d. wires >>= (λ e. Ok (record { version = version; events = a; edges = b; services = c; groups = g; circuits = d; wires = e }))))))))
+    → IfOk (events >>= (λ a. edges >>= (λ b. services >>=
+    (λ c. groups >>= (λ g. circuits >>= (λ d. wires >>= (λ e. Ok (record { version = version; events = a; edges = b; services = c; groups = g; circuits = d; wires = e }))))))))
     (λ (arrays : Arrays). events ≡ Ok arrays.events)
 stand_in version (Err f) edges services groups circuits wires = tt
 stand_in version (Ok a) (Err f) services groups circuits wires = tt
@@ -62,7 +63,9 @@ are_few : (arrays : Arrays) → IfOk (few_in arrays) (λ _. AreFew arrays)
 unfolding few_in
 are_few arrays =
     mapped (few_in arrays) (λ _. nat_le (items_length arrays.events) most_events ≡ true) (λ _. AreFew arrays) (λ b is. leb-true (items_length arrays.events) most_events is)
-    (few_first (nat_le (items_length arrays.events) most_events) (TooMany Events most_events) (few most_edges Edge arrays.edges >>= (λ edges. few most_services Service arrays.services >>= (λ services. few most_groups Group arrays.groups >>= (λ groups. few most_circuits Circuit arrays.circuits >>= (λ circuits. few most_wires Wire arrays.wires))))))
+    (few_first (nat_le (items_length arrays.events) most_events) (TooMany Events most_events)
+    (few most_edges Edge arrays.edges >>= (λ edges. few most_services Service arrays.services >>=
+    (λ services. few most_groups Group arrays.groups >>= (λ groups. few most_circuits Circuit arrays.circuits >>= (λ circuits. few most_wires Wire arrays.wires))))))
 
 are_in : (version : Result DocumentVersion ScenarioFault) (read : DocumentVersion → Result Arrays ScenarioFault) (known : DocumentVersion → Result Bool ScenarioFault) (limits : Arrays → Result Bool ScenarioFault)
     (P Q : Arrays → Type 0) → ((v : DocumentVersion) → IfOk (read v) P) → ((arrays : Arrays) → IfOk (limits arrays) (λ _. Q arrays))

@@ -37,7 +37,8 @@ pub place_of_none : (by : ℕ) (text : List ℕ) → None ≡ position (λ octet
 place_of_none by text e = none_of (nat_lt (place_in by text) (length text)) (place_in by text) (length text) refl (place_le by text) e
 
 -- what is behind the octet behind the first part
-pub rest_behind : (by : ℕ) (text behind rest : List ℕ) (at : ℕ) → at ≡ position_or_len (λ octet. octet == by) text → at < length text → behind ≡ drop at text → rest ≡ drop 1 behind → Some rest ≡ after_part by text
+pub rest_behind : (by : ℕ) (text behind rest : List ℕ) (at : ℕ) → at ≡ position_or_len (λ octet. octet == by) text → at < length text → behind ≡ drop at text → rest ≡ drop 1 behind
+    → Some rest ≡ after_part by text
 rest_behind by text behind rest at is within back last =
     sym (part_after by text (omega (arith, is, within))
     ∙ ap Some (ap (λ n. drop (n + 1) text) (sym is) ∙ sym (drop-drop 1 at text) ∙ ap (drop 1) (sym back) ∙ sym last))
@@ -88,7 +89,8 @@ cut_first by (octet ∷ rest) = elim (cases_Bool (octet == by)) [
   | inr other ↦ later other (cut_first by rest)
 ]
   where
-    at_once : (octet == by) ≡ true → (if octet == by then [] ∷ parted by rest else before_part octet (parted by rest)) ≡ first_and (first_part by (octet ∷ rest)) (parts_of by (after_part by (octet ∷ rest)))
+    at_once : (octet == by) ≡ true → (if octet == by then [] ∷ parted by rest else before_part octet (parted by rest))
+        ≡ first_and (first_part by (octet ∷ rest)) (parts_of by (after_part by (octet ∷ rest)))
     at_once same =
         let here : place_in by (octet ∷ rest) ≡ 0 = rw same refl in
         let after : after_part by (octet ∷ rest) ≡ Some rest = part_after by (octet ∷ rest) (omega (arith, here)) ∙ ap Some (ap (λ n. drop (n + 1) (octet ∷ rest)) here) in

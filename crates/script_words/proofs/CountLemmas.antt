@@ -15,7 +15,8 @@ if_ok : {A : Type 0} (b : Bool) (read : Result A ScriptFault) (fault : ScriptFau
 if_ok true read fault x is = (refl, is)
 if_ok false read fault x is = cc is
 
-more_ok : (number most : ℕ) (head : Result (List (List ℕ)) ScriptFault) (rest : Result (List (List (List ℕ))) ScriptFault) (lines : List (List (List ℕ))) → (head >>= (λ words. lines_with words rest)) ≡ Ok lines
+more_ok : (number most : ℕ) (head : Result (List (List ℕ)) ScriptFault) (rest : Result (List (List (List ℕ))) ScriptFault) (lines : List (List (List ℕ)))
+    → (head >>= (λ words. lines_with words rest)) ≡ Ok lines
     → ((more : List (List (List ℕ))) → rest ≡ Ok more → (number + 1) + length more ≤ most) → number + length lines ≤ most
 more_ok number most (Ok words) (Ok more) lines is bound =
     let same : suc (length more) ≡ length lines = ap count is in

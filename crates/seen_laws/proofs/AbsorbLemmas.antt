@@ -27,7 +27,8 @@ use Rattle.seen_laws.proofs.SeenLemmas.{SeesPackets, ShownBy, all_show, all_way}
 
 -- ---- the pipe of an edge to itself, which has no end
 
-one_own : (me : EdgeId) (origin hops : ℕ) (e : Effect) (network : NetworkState) → stands network me.0 me.0 ≡ false → (absorb_one me origin hops e network).pipes me.0 me.0 ≡ cond (closes me.0 (e ∷ [])) [] (network.pipes me.0 me.0)
+one_own : (me : EdgeId) (origin hops : ℕ) (e : Effect) (network : NetworkState) → stands network me.0 me.0 ≡ false → (absorb_one me origin hops e network).pipes me.0 me.0
+    ≡ cond (closes me.0 (e ∷ [])) [] (network.pipes me.0 me.0)
 unfolding with_packet with_pipe
 one_own me origin hops (effect.Said peer octets) network alone = elim (cases_Bool (nat_eq me.0 peer.0)) [
   | inl same ↦ rw (sym (eqb-true me.0 peer.0 same), alone) refl
@@ -48,7 +49,8 @@ one_own me origin hops (effect.Session peer name) network alone = refl
 one_own me origin hops (effect.Wire wire down) network alone = refl
 one_own me origin hops (effect.Pong wire sequence) network alone = refl
 
-all_own : (me : EdgeId) (origin hops : ℕ) (es : List Effect) (network : NetworkState) → stands network me.0 me.0 ≡ false → (absorb_all me origin hops es network).pipes me.0 me.0 ≡ cond (closes me.0 es) [] (network.pipes me.0 me.0)
+all_own : (me : EdgeId) (origin hops : ℕ) (es : List Effect) (network : NetworkState) → stands network me.0 me.0 ≡ false → (absorb_all me origin hops es network).pipes me.0 me.0
+    ≡ cond (closes me.0 es) [] (network.pipes me.0 me.0)
 all_own me origin hops [] network alone = refl
 all_own me origin hops (e ∷ es) network alone =
     let next : NetworkState = absorb_one me origin hops e network in
@@ -100,7 +102,8 @@ module _ (plan : Plan) (network : NetworkState) (me : EdgeId) (origin hops : ℕ
 
   same_up : (a wire : ℕ) → final.up a wire ≡ is_up ((after.edges a).told_down wire)
   same_up a wire = elim (cases_Bool (nat_eq a me.0)) [
-    | inl same ↦ subst (λ (n : ℕ). final.up n wire ≡ is_up ((after.edges n).told_down wire)) (sym (eqb-true a me.0 same)) (shown.up wire ∙ (ready.up wire ∙ ap (λ (e : EdgeState). is_up (e.told_down wire)) (sym here)))
+    | inl same ↦ subst (λ (n : ℕ). final.up n wire ≡ is_up ((after.edges n).told_down wire)) (sym (eqb-true a me.0 same))
+        (shown.up wire ∙ (ready.up wire ∙ ap (λ (e : EdgeState). is_up (e.told_down wire)) (sym here)))
     | inr apart ↦ shown.ups a wire apart ∙ (ready.ups a wire apart ∙ ap (λ (e : EdgeState). is_up (e.told_down wire)) (sym (there a apart)))
   ]
 
@@ -161,11 +164,13 @@ pub record BeginsFrom (network : NetworkState) (me : EdgeId) (first : Work) : Ty
   pub downs : first.edge.told_down ≡ (network.edges me.0).told_down
 
 abbrev pub OnAfter : Plan → NetworkState → EdgeId → Work → Seen → Type 0
-OnAfter plan network me work seen = (circuit : CircuitId) (row : CircuitPlan) → circuit_row plan circuit ≡ Some row → seen.on circuit.0 ≡ ((with_edge me work.edge network).edges row.edge.0).circuit_on circuit.0
+OnAfter plan network me work seen = (circuit : CircuitId) (row : CircuitPlan) → circuit_row plan circuit ≡ Some row → seen.on circuit.0
+    ≡ ((with_edge me work.edge network).edges row.edge.0).circuit_on circuit.0
 
 -- no circuit was turned on or off
 pub on_still : (plan : Plan) (network : NetworkState) (me : EdgeId) (work : Work) (seen : Seen)
-    → ((circuit : CircuitId) (row : CircuitPlan) → circuit_row plan circuit ≡ Some row → seen.on circuit.0 ≡ (network.edges row.edge.0).circuit_on circuit.0) → work.edge.circuit_on ≡ (network.edges me.0).circuit_on → OnAfter plan network me work seen
+    → ((circuit : CircuitId) (row : CircuitPlan) → circuit_row plan circuit ≡ Some row → seen.on circuit.0 ≡ (network.edges row.edge.0).circuit_on circuit.0) → work.edge.circuit_on
+    ≡ (network.edges me.0).circuit_on → OnAfter plan network me work seen
 on_still plan network me work seen on same circuit row is = on circuit row is ∙ sym (by row.edge.0) where
   by : (a : ℕ) → ((with_edge me work.edge network).edges a).circuit_on circuit.0 ≡ (network.edges a).circuit_on circuit.0
   by a = elim (cases_Bool (nat_eq a me.0)) [
@@ -180,7 +185,8 @@ module _ (plan : Plan) (network : NetworkState) (me : EdgeId) (first work : Work
   effects = tells.given ∙ ap (λ (l : List Effect). l ++ tells.more) begins.effects
 
   stood : (k : ℕ) → is_there (work.edge.peering k) ≡ (is_there ((network.edges me.0).peering k) && not (ended k work.effects))
-  stood k = tells.stands k ∙ (ap (λ (p : ℕ → Option Peering). is_there (p k) && not (ended k tells.more)) begins.peering ∙ ap (λ (es : List Effect). is_there ((network.edges me.0).peering k) && not (ended k es)) (sym effects))
+  stood k = tells.stands k ∙ (ap (λ (p : ℕ → Option Peering). is_there (p k) && not (ended k tells.more)) begins.peering
+      ∙ ap (λ (es : List Effect). is_there ((network.edges me.0).peering k) && not (ended k es)) (sym effects))
 
   -- whatever circuits are seen on
   pub works_ready : IsReady plan network me work (record seen { on = turned })
@@ -192,7 +198,8 @@ module _ (plan : Plan) (network : NetworkState) (me : EdgeId) (first work : Work
     outward = λ a b other. shows.pipes a b;
     rest = λ k. ap (λ (l : List ℕ). cond (ended k work.effects) [] l) (shows.rests me.0 k) ∙ rest_of (ended k work.effects) ((network.edges me.0).peering k) (work.edge.peering k) (stood k) (kept k);
     rests = λ a b apart. shows.rests a b;
-    up = λ wire. rw (shows.up me.0 wire, effects) (sym (tells.up wire ∙ ap (λ (d : ℕ → Option Rattle.net_base.specs.declared.trace.down.Down.Down). up_after wire tells.more (is_up (d wire))) begins.downs));
+    up = λ wire. rw (shows.up me.0 wire, effects) (sym
+        (tells.up wire ∙ ap (λ (d : ℕ → Option Rattle.net_base.specs.declared.trace.down.Down.Down). up_after wire tells.more (is_up (d wire))) begins.downs));
     ups = λ a wire apart. shows.up a wire;
     on = on;
     under_way = shows.under_way;
@@ -200,10 +207,12 @@ module _ (plan : Plan) (network : NetworkState) (me : EdgeId) (first work : Work
   }
 
 -- no edge has an end towards itself then
-pub ready_alone : (plan : Plan) (network : NetworkState) (me : EdgeId) (origin hops : ℕ) (work : Work) (seen : Seen) → IsReady plan network me work seen → ((a : ℕ) → stands network a a ≡ false) → (a : ℕ) → stands (absorb me origin hops work network).state a a ≡ false
+pub ready_alone : (plan : Plan) (network : NetworkState) (me : EdgeId) (origin hops : ℕ) (work : Work) (seen : Seen) → IsReady plan network me work seen
+    → ((a : ℕ) → stands network a a ≡ false) → (a : ℕ) → stands (absorb me origin hops work network).state a a ≡ false
 ready_alone plan network me origin hops work seen ready alone a = elim (cases_Bool (nat_eq a me.0)) [
   | inl same ↦ subst (λ (n : ℕ). stands (absorb me origin hops work network).state n n ≡ false) (sym (eqb-true a me.0 same))
-      (ap (λ (e : ℕ → EdgeState). is_there ((e me.0).peering me.0)) edges ∙ (ap (λ (e : EdgeState). is_there (e.peering me.0)) (edge_there me work.edge network) ∙ (sym (ready.near me.0) ∙ rw ready.alone refl)))
+      (ap (λ (e : ℕ → EdgeState). is_there ((e me.0).peering me.0)) edges
+      ∙ (ap (λ (e : EdgeState). is_there (e.peering me.0)) (edge_there me work.edge network) ∙ (sym (ready.near me.0) ∙ rw ready.alone refl)))
   | inr apart ↦ ap (λ (e : ℕ → EdgeState). is_there ((e a).peering a)) edges ∙ (ap (λ (e : EdgeState). is_there (e.peering a)) (edge_else me work.edge network a apart) ∙ alone a)
 ]
   where

@@ -30,14 +30,16 @@ aged_seen : (least : ℕ) (front : List SeenCopy) (packets : List Packet) (seen 
     → tolds (aged_entries packets) seen ≡ with_copies (front ++ map copy_of (all_older packets)) seen
 unfolding with_copies
 aged_seen least front [] seen rise below is = ap (λ (l : List SeenCopy). with_copies l seen) is
-aged_seen least front (p ∷ ps) seen rise below is = by (lives_on p) (aged_seen p.number (front ++ copy_of p ∷ []) ps seen rise.1 further (is ∙ sym (append_assoc front (copy_of p ∷ []) (map copy_of ps))))
+aged_seen least front (p ∷ ps) seen rise below is =
+    by (lives_on p) (aged_seen p.number (front ++ copy_of p ∷ []) ps seen rise.1 further (is ∙ sym (append_assoc front (copy_of p ∷ []) (map copy_of ps))))
     (aged_seen p.number front ps (with_copies (without_copy p.number seen.under_way) seen) rise.1 (below_more least p.number front (omega (arith, rise.0)) below)
     (ap (without_copy p.number) is ∙ goes_behind least front (copy_of p) (map copy_of ps) below rise.0)) where
       further : AreUpTo p.number (front ++ copy_of p ∷ [])
       further = below_behind p.number front (copy_of p) (below_more least p.number front (omega (arith, rise.0)) below) (omega arith)
 
       by : (b : Bool) → tolds (aged_entries ps) seen ≡ with_copies ((front ++ copy_of p ∷ []) ++ map copy_of (all_older ps)) seen
-          → tolds (aged_entries ps) (with_copies (without_copy p.number seen.under_way) seen) ≡ with_copies (front ++ map copy_of (all_older ps)) (with_copies (without_copy p.number seen.under_way) seen)
+          → tolds (aged_entries ps) (with_copies (without_copy p.number seen.under_way) seen)
+          ≡ with_copies (front ++ map copy_of (all_older ps)) (with_copies (without_copy p.number seen.under_way) seen)
           → tolds (cond b (aged_entries ps) (Aged p.number ∷ aged_entries ps)) seen ≡ with_copies (front ++ map copy_of (cond b (older p ∷ all_older ps) (all_older ps))) seen
       by true lives goes = lives ∙ ap (λ (l : List SeenCopy). with_copies l seen) (append_assoc front (copy_of p ∷ []) (map copy_of (all_older ps)))
       by false lives goes = goes

@@ -26,13 +26,15 @@ below_same zero f g same = refl
 below_same (suc n) f g same = rw (same n, below_same n f g same) refl
 
 -- tests of wires that agree on the rows of a list
-any_same : (f g : ℕ → WirePlan → Bool) (place : ℕ) (rows : List WirePlan) → ((k : ℕ) (row : WirePlan) → slice_get rows k ≡ Some row → f (place + k) row ≡ g (place + k) row) → any_wire f place rows ≡ any_wire g place rows
+any_same : (f g : ℕ → WirePlan → Bool) (place : ℕ) (rows : List WirePlan) → ((k : ℕ) (row : WirePlan) → slice_get rows k ≡ Some row → f (place + k) row ≡ g (place + k) row)
+    → any_wire f place rows ≡ any_wire g place rows
 any_same f g place [] same = refl
 any_same f g place (row ∷ rows) same =
     let here : f place row ≡ g place row = ap (λ (n : ℕ). f n row) (add_zero place) ∙ (same 0 row refl ∙ ap (λ (n : ℕ). g n row) (sym (add_zero place))) in
     rw (here, any_same f g (place + 1) rows (λ k other is. ap (λ (n : ℕ). f n other) (next_place place k) ∙ (same (suc k) other is ∙ ap (λ (n : ℕ). g n other) (sym (next_place place k))))) refl
 
-count_same : (f g : ℕ → WirePlan → Bool) (place : ℕ) (rows : List WirePlan) → ((k : ℕ) (row : WirePlan) → slice_get rows k ≡ Some row → f (place + k) row ≡ g (place + k) row) → count_wires f place rows ≡ count_wires g place rows
+count_same : (f g : ℕ → WirePlan → Bool) (place : ℕ) (rows : List WirePlan) → ((k : ℕ) (row : WirePlan) → slice_get rows k ≡ Some row → f (place + k) row ≡ g (place + k) row)
+    → count_wires f place rows ≡ count_wires g place rows
 count_same f g place [] same = refl
 count_same f g place (row ∷ rows) same =
     let here : f place row ≡ g place row = ap (λ (n : ℕ). f n row) (add_zero place) ∙ (same 0 row refl ∙ ap (λ (n : ℕ). g n row) (sym (add_zero place))) in
@@ -59,27 +61,34 @@ module _ (plan : Plan) (network : NetworkState) (seen : Seen) (service : Service
 
   full_same : is_seen_full plan seen service ≡ is_full plan network service
   full_same = below_same (length plan.edges) _ _ (λ a. below_same (length plan.edges) _ _ (λ b.
-      ap (λ (m : Bool). not (is_core_edge plan service a && is_core_edge plan service b) || (a == b || m)) (any_same (is_seen_mesh seen service a b) (meshes plan network service a b) 0 plan.wires (λ k row is. ap (λ (n : ℕ). is_seen_mesh seen service a b n row) (zero-add k) ∙ (mesh_same a b k row is ∙ ap (λ (n : ℕ). meshes plan network service a b n row) (sym (zero-add k)))))))
+      ap (λ (m : Bool). not (is_core_edge plan service a && is_core_edge plan service b) || (a == b || m))
+      (any_same (is_seen_mesh seen service a b) (meshes plan network service a b) 0 plan.wires
+      (λ k row is. ap (λ (n : ℕ). is_seen_mesh seen service a b n row) (zero-add k) ∙ (mesh_same a b k row is ∙ ap (λ (n : ℕ). meshes plan network service a b n row) (sym (zero-add k)))))))
 
   spokes_same : has_seen_spokes plan seen service ≡ has_live_spokes plan network service
   spokes_same = below_same (length plan.edges) _ _ (λ edge.
-      ap (λ (n : ℕ). not (is_spoke_edge plan service edge) || n == 1) (count_same (is_seen_spoke seen service edge) (is_live_spoke plan network service edge) 0 plan.wires (λ k row is. ap (λ (n : ℕ). is_seen_spoke seen service edge n row) (zero-add k) ∙ (spoke_same edge k row is ∙ ap (λ (n : ℕ). is_live_spoke plan network service edge n row) (sym (zero-add k))))))
+      ap (λ (n : ℕ). not (is_spoke_edge plan service edge) || n == 1)
+      (count_same (is_seen_spoke seen service edge) (is_live_spoke plan network service edge) 0 plan.wires
+      (λ k row is. ap (λ (n : ℕ). is_seen_spoke seen service edge n row) (zero-add k) ∙ (spoke_same edge k row is ∙ ap (λ (n : ℕ). is_live_spoke plan network service edge n row) (sym (zero-add k))))))
 
 -- ---- runs
 
-pub calm_same : (plan : Plan) (events : List Event) (seen : Seen) (service : ServiceId) → IsRun plan events → Shows plan (network_after plan events) seen → is_seen_calm plan seen service ≡ is_calm plan (network_after plan events) service
+pub calm_same : (plan : Plan) (events : List Event) (seen : Seen) (service : ServiceId) → IsRun plan events → Shows plan (network_after plan events) seen
+    → is_seen_calm plan seen service ≡ is_calm plan (network_after plan events) service
 calm_same plan events seen service is shows = by (is_quiet plan network service) refl where
   network : NetworkState
   network = network_after plan events
 
   up_same : is_quiet plan network service ≡ true → (k : ℕ) (row : WirePlan) → slice_get plan.wires k ≡ Some row → is_wire_of service row ≡ true → is_seen_up seen k row ≡ carries plan network k row
   up_same quiet k row at ours =
-      carried plan network service (record { 0 = k }) row is.checked quiet (λ a b joined. runs_settle plan events is service quiet a b joined) at ours (λ me from to mated. runs_tell_across plan events is me from to (record { 0 = k }) row at mated)
+      carried plan network service (record { 0 = k }) row is.checked quiet (λ a b joined. runs_settle plan events is service quiet a b joined) at ours
+      (λ me from to mated. runs_tell_across plan events is me from to (record { 0 = k }) row at mated)
       (run_synced plan events is.checked) seen (λ a. shows.up a k)
 
   by : (b : Bool) → is_quiet plan network service ≡ b → is_seen_calm plan seen service ≡ is_calm plan network service
   by true quiet = rw (quiet_same plan network seen service shows, full_same plan network seen service (up_same quiet), spokes_same plan network seen service (up_same quiet)) refl
   by false noisy = rw (quiet_same plan network seen service shows, noisy) refl
 
-pub run_calm : (plan : Plan) (events : List Event) (service : ServiceId) → IsRun plan events → is_seen_calm plan (seen_in (run plan events).entries) service ≡ is_calm plan (network_after plan events) service
+pub run_calm : (plan : Plan) (events : List Event) (service : ServiceId) → IsRun plan events → is_seen_calm plan (seen_in (run plan events).entries) service
+    ≡ is_calm plan (network_after plan events) service
 run_calm plan events service is = calm_same plan events (seen_in (run plan events).entries) service is (run_shows plan events is)

@@ -52,10 +52,12 @@ record AreAlike (x y : NetworkState) : Type 0 where
   sent : x.sent ≡ y.sent
   ends : (a b : ℕ) → stands x a b ≡ stands y a b
 
-piped_alike : (from to : EdgeId) (left right : List ℕ) (x y : NetworkState) → AreAlike x y → left ≡ right → (b c : Bool) → b ≡ c → AreAlike (cond b (with_pipe from to left x) x) (cond c (with_pipe from to right y) y)
+piped_alike : (from to : EdgeId) (left right : List ℕ) (x y : NetworkState) → AreAlike x y → left ≡ right → (b c : Bool) → b ≡ c
+    → AreAlike (cond b (with_pipe from to left x) x) (cond c (with_pipe from to right y) y)
 unfolding with_pipe
 piped_alike from to left right x y alike same true true both = record { pipes = λ a b. by a b (nat_eq a from.0) (nat_eq b to.0) refl; under_way = alike.under_way; sent = alike.sent; ends = alike.ends } where
-  by : (a b : ℕ) (p q : Bool) → nat_eq a from.0 ≡ p → (cond p (λ k. cond (nat_eq k to.0) left (x.pipes from.0 k)) (x.pipes a)) b ≡ (cond p (λ k. cond (nat_eq k to.0) right (y.pipes from.0 k)) (y.pipes a)) b
+  by : (a b : ℕ) (p q : Bool) → nat_eq a from.0 ≡ p → (cond p (λ k. cond (nat_eq k to.0) left (x.pipes from.0 k)) (x.pipes a)) b
+      ≡ (cond p (λ k. cond (nat_eq k to.0) right (y.pipes from.0 k)) (y.pipes a)) b
   by a b true q is = rw (same, alike.pipes from.0 b) refl
   by a b false q is = alike.pipes a b
 piped_alike from to left right x y alike same false false both = alike
@@ -64,7 +66,9 @@ piped_alike from to left right x y alike same false true both = clash both
 
 one_alike : (me : EdgeId) (origin hops : ℕ) (e : Effect) (x y : NetworkState) → AreAlike x y → AreAlike (absorb_one me origin hops e x) (absorb_one me origin hops e y)
 unfolding with_packet
-one_alike me origin hops (effect.Said peer octets) x y alike = piped_alike me peer (x.pipes me.0 peer.0 ++ octets) (y.pipes me.0 peer.0 ++ octets) x y alike (ap (λ (l : List ℕ). l ++ octets) (alike.pipes me.0 peer.0)) (stands x peer.0 me.0) (stands y peer.0 me.0) (alike.ends peer.0 me.0)
+one_alike me origin hops (effect.Said peer octets) x y alike =
+    piped_alike me peer (x.pipes me.0 peer.0 ++ octets) (y.pipes me.0 peer.0 ++ octets) x y alike (ap (λ (l : List ℕ). l ++ octets) (alike.pipes me.0 peer.0)) (stands x peer.0 me.0)
+    (stands y peer.0 me.0) (alike.ends peer.0 me.0)
 one_alike me origin hops (effect.Closed peer) x y alike = piped_alike peer me [] [] x y alike refl true true refl
 one_alike me origin hops (effect.Sent peer wire came octets) x y alike = record {
   pipes = alike.pipes;
@@ -123,10 +127,13 @@ connects_is : (plan : Plan) (network : NetworkState) (me peer : EdgeId) (one oth
     → Connects network me peer (opened_with one other) (mends plan taken_all (connects taken_all peer (opened_with one other) (begin_at network me)))
 unfolding changes with_kept with_peering
 connects_is plan network me peer one other checked types ordered apart here there none_yet = record {
-  tells = tells_then none first said work (opened_tells peer first) (tells_then none said started work (happens_with_ends_tells none taken_all peer table.Start said) (mends_tell plan taken_all started));
+  tells = tells_then none first said work (opened_tells peer first)
+      (tells_then none said started work (happens_with_ends_tells none taken_all peer table.Start said) (mends_tell plan taken_all started));
   there = λ k. elim (cases_Bool (nat_eq k peer.0)) [
-    | inl same ↦ subst (λ (n : ℕ). is_there (work.edge.peering n) ≡ is_there (first.edge.peering n)) (sym (eqb-true k peer.0 same)) (ap is_there opened.opened.shows.keeps ∙ rw (same_number peer.0) refl)
-    | inr away ↦ mends_stands plan taken_all (record { 0 = k }) started (λ i. refl) ∙ (ap is_there ((connects_works taken_all (λ n. nat_eq n peer.0) peer kept (begin_at network me) (same_number peer.0)).edge.others k away) ∙ rw away refl)
+    | inl same ↦ subst (λ (n : ℕ). is_there (work.edge.peering n) ≡ is_there (first.edge.peering n)) (sym (eqb-true k peer.0 same))
+        (ap is_there opened.opened.shows.keeps ∙ rw (same_number peer.0) refl)
+    | inr away ↦ mends_stands plan taken_all (record { 0 = k }) started (λ i. refl)
+        ∙ (ap is_there ((connects_works taken_all (λ n. nat_eq n peer.0) peer kept (begin_at network me) (same_number peer.0)).edge.others k away) ∙ rw away refl)
   ];
 }
   where
@@ -179,12 +186,14 @@ module _ (network : NetworkState) (me peer : EdgeId) (kept : Peering) (held_none
   ]
 
   told_rest : (k : ℕ) → cond (ended k work.effects) [] (held_by ((network.edges me.0).peering k)) ≡ held_by (work.edge.peering k)
-  told_rest k = ap (λ (l : List ℕ). cond (ended k work.effects) [] l) (sym (first_held k)) ∙ rest_of (ended k work.effects) (first.edge.peering k) (work.edge.peering k) (told_stands k) (on.tells.kept k refl)
+  told_rest k = ap (λ (l : List ℕ). cond (ended k work.effects) [] l) (sym (first_held k))
+      ∙ rest_of (ended k work.effects) (first.edge.peering k) (work.edge.peering k) (told_stands k) (on.tells.kept k refl)
 
   -- it holds the same
   still_held : (k : ℕ) → held_by ((network.edges me.0).peering k) ≡ held_by (work.edge.peering k)
   still_held k = by (first.edge.peering k) (work.edge.peering k) (first_held k) (on.there k) (on.tells.kept k refl) where
-    by : (old new : Option Peering) → held_by old ≡ held_by ((network.edges me.0).peering k) → is_there new ≡ is_there old → (is_there new ≡ true → held_by new ≡ held_by old) → held_by ((network.edges me.0).peering k) ≡ held_by new
+    by : (old new : Option Peering) → held_by old ≡ held_by ((network.edges me.0).peering k) → is_there new ≡ is_there old → (is_there new ≡ true → held_by new ≡ held_by old)
+        → held_by ((network.edges me.0).peering k) ≡ held_by new
     by None None was same keeps = sym was
     by None (Some y) was same keeps = clash (sym same)
     by (Some x) None was same keeps = clash same
@@ -231,25 +240,29 @@ module _ (plan : Plan) (network : NetworkState) (seen : Seen) (shows : Shows pla
 
   both_far : (a b : ℕ) → nat_eq a from.0 ≡ false → both.stands a b ≡ stands start a b
   both_far a b gone = elim (cases_Bool (nat_eq a to.0)) [
-    | inl same ↦ subst (λ (n : ℕ). both.stands n b ≡ stands start n b) (sym (eqb-true a to.0 same)) (to_stands b ∙ (sym (there.there b) ∙ ap (λ (e : EdgeState). is_there (e.peering b)) (sym (edge_there to hybrid network))))
+    | inl same ↦ subst (λ (n : ℕ). both.stands n b ≡ stands start n b) (sym (eqb-true a to.0 same))
+        (to_stands b ∙ (sym (there.there b) ∙ ap (λ (e : EdgeState). is_there (e.peering b)) (sym (edge_there to hybrid network))))
     | inr far ↦ else_stands a b gone far ∙ ap (λ (e : EdgeState). is_there (e.peering b)) (sym (edge_else to hybrid network a far))
   ]
 
   start_held : (a b : ℕ) → held network a b ≡ held start a b
   start_held a b = elim (cases_Bool (nat_eq a to.0)) [
-    | inl same ↦ subst (λ (n : ℕ). held network n b ≡ held start n b) (sym (eqb-true a to.0 same)) (still_held network to from other nothing' two there none_yet' b ∙ ap (λ (e : EdgeState). held_by (e.peering b)) (sym (edge_there to hybrid network)))
+    | inl same ↦ subst (λ (n : ℕ). held network n b ≡ held start n b) (sym (eqb-true a to.0 same))
+        (still_held network to from other nothing' two there none_yet' b ∙ ap (λ (e : EdgeState). held_by (e.peering b)) (sym (edge_there to hybrid network)))
     | inr far ↦ ap (λ (e : EdgeState). held_by (e.peering b)) (sym (edge_else to hybrid network a far))
   ]
 
   start_up : (a wire : ℕ) → is_up ((network.edges a).told_down wire) ≡ is_up ((start.edges a).told_down wire)
   start_up a wire = elim (cases_Bool (nat_eq a to.0)) [
-    | inl same ↦ subst (λ (n : ℕ). is_up ((network.edges n).told_down wire) ≡ is_up ((start.edges n).told_down wire)) (sym (eqb-true a to.0 same)) (ap (λ (e : EdgeState). is_up (e.told_down wire)) (sym (edge_there to hybrid network)))
+    | inl same ↦ subst (λ (n : ℕ). is_up ((network.edges n).told_down wire) ≡ is_up ((start.edges n).told_down wire)) (sym (eqb-true a to.0 same))
+        (ap (λ (e : EdgeState). is_up (e.told_down wire)) (sym (edge_there to hybrid network)))
     | inr far ↦ ap (λ (e : EdgeState). is_up (e.told_down wire)) (sym (edge_else to hybrid network a far))
   ]
 
   start_on : (a c : ℕ) → (network.edges a).circuit_on c ≡ (start.edges a).circuit_on c
   start_on a c = elim (cases_Bool (nat_eq a to.0)) [
-    | inl same ↦ subst (λ (n : ℕ). (network.edges n).circuit_on c ≡ (start.edges n).circuit_on c) (sym (eqb-true a to.0 same)) (ap (λ (e : EdgeState). e.circuit_on c) (sym (edge_there to hybrid network)))
+    | inl same ↦ subst (λ (n : ℕ). (network.edges n).circuit_on c ≡ (start.edges n).circuit_on c) (sym (eqb-true a to.0 same))
+        (ap (λ (e : EdgeState). e.circuit_on c) (sym (edge_there to hybrid network)))
     | inr far ↦ ap (λ (e : EdgeState). e.circuit_on c) (sym (edge_else to hybrid network a far))
   ]
 
@@ -272,7 +285,8 @@ module _ (plan : Plan) (network : NetworkState) (seen : Seen) (shows : Shows pla
     rests = λ a b gone. shows.rests a b ∙ start_held a b;
     up = λ wire. ap (up_after wire one.effects) (shows.up from.0 wire) ∙ sym (told_up network from to kept nothing one here none_yet wire);
     ups = λ a wire gone. shows.up a wire ∙ start_up a wire;
-    on = on_still plan start from one both (λ circuit row is. shows.on circuit row is ∙ start_on row.edge.0 circuit.0) (circuits network from to kept nothing one here none_yet ∙ ap (λ (e : EdgeState). e.circuit_on) (sym start_from));
+    on = on_still plan start from one both (λ circuit row is. shows.on circuit row is ∙ start_on row.edge.0 circuit.0)
+        (circuits network from to kept nothing one here none_yet ∙ ap (λ (e : EdgeState). e.circuit_on) (sym start_from));
     under_way = shows.under_way ∙ ap (map copy_of) (sym start_way);
     counted = subst (λ (n : ℕ). AreUpTo n seen.under_way) (sym (edge_sent to hybrid network)) shows.counted;
   }
@@ -304,7 +318,8 @@ module _ (plan : Plan) (network : NetworkState) (seen : Seen) (shows : Shows pla
   nothing_held false o is = refl
 
   still : (k : ℕ) → (is_there (two.edge.peering k) && not (ended k two.effects)) ≡ is_there (two.edge.peering k)
-  still k = stays_same (is_there (two.edge.peering k)) (is_there ((stood network to from other).edge.peering k)) (ended k two.effects) (there.there k) (told_stands network to from other nothing' two there none_yet' k)
+  still k = stays_same (is_there (two.edge.peering k)) (is_there ((stood network to from other).edge.peering k)) (ended k two.effects) (there.there k)
+      (told_stands network to from other nothing' two there none_yet' k)
 
   at_to : (k : ℕ) → between.stands to.0 k ≡ is_there (two.edge.peering k)
   at_to k = middle_shows.standing to.0 k ∙ ap (λ (e : EdgeState). is_there (e.peering k)) middle_to
@@ -320,9 +335,11 @@ module _ (plan : Plan) (network : NetworkState) (seen : Seen) (shows : Shows pla
     far = λ a b gone. middle_shows.standing a b;
     inward = λ k. rw (middle_shows.pipes k to.0, told_shut network to from other nothing' two there none_yet' k) refl;
     outward = λ a b gone. middle_shows.pipes a b;
-    rest = λ k. ap (λ (l : List ℕ). cond (ended k two.effects) [] l) (middle_shows.rests to.0 k ∙ ap (λ (e : EdgeState). held_by (e.peering k)) middle_to) ∙ nothing_held (ended k two.effects) (two.edge.peering k) (still k);
+    rest = λ k. ap (λ (l : List ℕ). cond (ended k two.effects) [] l) (middle_shows.rests to.0 k ∙ ap (λ (e : EdgeState). held_by (e.peering k)) middle_to)
+        ∙ nothing_held (ended k two.effects) (two.edge.peering k) (still k);
     rests = λ a b gone. middle_shows.rests a b;
-    up = λ wire. ap (up_after wire two.effects) (middle_shows.up to.0 wire ∙ ap (λ (e : EdgeState). is_up (e.told_down wire)) middle_to) ∙ sym (told_up network to from other nothing' two there none_yet' wire);
+    up = λ wire. ap (up_after wire two.effects) (middle_shows.up to.0 wire ∙ ap (λ (e : EdgeState). is_up (e.told_down wire)) middle_to)
+        ∙ sym (told_up network to from other nothing' two there none_yet' wire);
     ups = λ a wire gone. middle_shows.up a wire;
     on = on_still plan middle to two between middle_shows.on (circuits network to from other nothing' two there none_yet' ∙ ap (λ (e : EdgeState). e.circuit_on) (sym middle_to));
     under_way = middle_shows.under_way;
@@ -345,13 +362,15 @@ module _ (plan : Plan) (network : NetworkState) (seen : Seen) (shows : Shows pla
 
   begun_else : (a : ℕ) → nat_eq a to.0 ≡ false → begun.edges a ≡ (with_edge from one.edge start).edges a
   begun_else a far = edge_else to two.edge (with_edge from one.edge network) a far ∙ elim (cases_Bool (nat_eq a from.0)) [
-    | inl same ↦ subst (λ (n : ℕ). (with_edge from one.edge network).edges n ≡ (with_edge from one.edge start).edges n) (sym (eqb-true a from.0 same)) (edge_there from one.edge network ∙ sym (edge_there from one.edge start))
+    | inl same ↦ subst (λ (n : ℕ). (with_edge from one.edge network).edges n ≡ (with_edge from one.edge start).edges n) (sym (eqb-true a from.0 same))
+        (edge_there from one.edge network ∙ sym (edge_there from one.edge start))
     | inr gone ↦ edge_else from one.edge network a gone ∙ (sym (edge_else to hybrid network a far) ∙ sym (edge_else from one.edge start a gone))
   ]
 
   begun_alike : AreAlike begun (with_edge from one.edge start)
   begun_alike = record {
-    pipes = λ a b. ap (λ (p : ℕ → ℕ → List ℕ). p a b) (edge_pipes to two.edge (with_edge from one.edge network) ∙ (edge_pipes from one.edge network ∙ (sym (edge_pipes to hybrid network) ∙ sym (edge_pipes from one.edge start))));
+    pipes = λ a b. ap (λ (p : ℕ → ℕ → List ℕ). p a b)
+        (edge_pipes to two.edge (with_edge from one.edge network) ∙ (edge_pipes from one.edge network ∙ (sym (edge_pipes to hybrid network) ∙ sym (edge_pipes from one.edge start))));
     under_way = same_way;
     sent = same_sent;
     ends = λ a b. elim (cases_Bool (nat_eq a to.0)) [
@@ -431,10 +450,12 @@ module _ (plan : Plan) (network : NetworkState) (seen : Seen) (shows : Shows pla
 
 -- ---- joined edges are edges of the plan
 
-some_joined : (plan : Plan) (a b : ℕ) (rows : List WirePlan) → All (IsWireOf plan) rows → list_any (λ row. joins a b row.path) rows ≡ true → (nat_lt a (length plan.edges) ≡ true) × (nat_lt b (length plan.edges) ≡ true)
+some_joined : (plan : Plan) (a b : ℕ) (rows : List WirePlan) → All (IsWireOf plan) rows → list_any (λ row. joins a b row.path) rows ≡ true → (nat_lt a (length plan.edges) ≡ true)
+    × (nat_lt b (length plan.edges) ≡ true)
 some_joined plan a b [] all some = clash some
 some_joined plan a b (row ∷ rows) all some = by (joins a b row.path) refl some (λ rest. some_joined plan a b rows (All-tail (IsWireOf plan) row rows all) rest) where
-  by : (j : Bool) → joins a b row.path ≡ j → j || list_any (λ r. joins a b r.path) rows ≡ true → (list_any (λ r. joins a b r.path) rows ≡ true → (nat_lt a (length plan.edges) ≡ true) × (nat_lt b (length plan.edges) ≡ true))
+  by : (j : Bool) → joins a b row.path ≡ j → j || list_any (λ r. joins a b r.path) rows ≡ true
+      → (list_any (λ r. joins a b r.path) rows ≡ true → (nat_lt a (length plan.edges) ≡ true) × (nat_lt b (length plan.edges) ≡ true))
       → (nat_lt a (length plan.edges) ≡ true) × (nat_lt b (length plan.edges) ≡ true)
   by true here some rest = both_in plan row.path a b (All-head (IsWireOf plan) row rows all).edges here
   by false not_here some rest = rest some
@@ -448,19 +469,24 @@ no_row (row ∷ rows) (Rattle.std.proofs.Common.suc place) within is = no_row ro
 
 -- ---- the event
 
-pub connect_shown : (plan : Plan) (network : NetworkState) (seen : Seen) → Shows plan network seen → NoneAlone network → IsChecked plan → HasTypes plan → IsOrdered plan network → (from to : EdgeId) → IsShown plan (Connect from to) network seen (connect_event plan from to network)
+pub connect_shown : (plan : Plan) (network : NetworkState) (seen : Seen) → Shows plan network seen → NoneAlone network → IsChecked plan → HasTypes plan → IsOrdered plan network
+    → (from to : EdgeId) → IsShown plan (Connect from to) network seen (connect_event plan from to network)
 connect_shown plan network seen shows alone checked types ordered from to = can (are_joined plan from.0 to.0) (stands network from.0 to.0) (stands network to.0 from.0) refl refl refl where
-  rows : are_joined plan from.0 to.0 ≡ true → (network.edges from.0).peering to.0 ≡ None → (network.edges to.0).peering from.0 ≡ None → (first second : Option EdgePlan) → slice_get plan.edges from.0 ≡ first → slice_get plan.edges to.0 ≡ second
-      → IsShown plan (Connect from to) network seen (connecting from (connects_between plan taken_all to first second (begin_at network from)) to (connects_between plan taken_all from second first (begin_at network to)) network)
+  rows : are_joined plan from.0 to.0 ≡ true → (network.edges from.0).peering to.0 ≡ None → (network.edges to.0).peering from.0 ≡ None → (first second : Option EdgePlan)
+      → slice_get plan.edges from.0 ≡ first → slice_get plan.edges to.0 ≡ second
+      → IsShown plan (Connect from to) network seen
+      (connecting from (connects_between plan taken_all to first second (begin_at network from)) to (connects_between plan taken_all from second first (begin_at network to)) network)
   rows joined none_yet none_yet' (Some one) (Some other) here there =
       let apart = joined_apart plan from.0 to.0 checked joined in
-      connecting_shown plan network seen shows alone from to apart (opened_with one other) (opened_with other one) refl refl _ _ (connects_is plan network from to one other checked types ordered apart here there none_yet)
+      connecting_shown plan network seen shows alone from to apart (opened_with one other) (opened_with other one) refl refl _ _
+      (connects_is plan network from to one other checked types ordered apart here there none_yet)
       (connects_is plan network to from other one checked types ordered (apart_back from.0 to.0 apart) there here none_yet') none_yet none_yet'
   rows joined none_yet none_yet' None second here there = no_row plan.edges from.0 (some_joined plan from.0 to.0 plan.wires checked.wires joined).0 here
   rows joined none_yet none_yet' (Some one) None here there = no_row plan.edges to.0 (some_joined plan from.0 to.0 plan.wires checked.wires joined).1 there
 
   can : (joined one other : Bool) → are_joined plan from.0 to.0 ≡ joined → stands network from.0 to.0 ≡ one → stands network to.0 from.0 ≡ other
-      → IsShown plan (Connect from to) network seen (cond (joined && (not one && not other)) (connecting from (connected_work plan network from to) to (connected_work plan network to from) network) (idle network))
+      → IsShown plan (Connect from to) network seen
+      (cond (joined && (not one && not other)) (connecting from (connected_work plan network from to) to (connected_work plan network to from) network) (idle network))
   can true false false is none_yet none_yet' =
       rw (connected_is plan network from to ordered is none_yet, connected_is plan network to from ordered (sym (joined_turned plan from.0 to.0) ∙ is) none_yet')
       (rows is (none_there ((network.edges from.0).peering to.0) none_yet) (none_there ((network.edges to.0).peering from.0) none_yet')

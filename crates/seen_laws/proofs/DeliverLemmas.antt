@@ -38,9 +38,11 @@ pub record IsHeardBy (plan : Plan) (network : NetworkState) (from to : ℕ) (kep
   pub octets : AreOctets (kept.held ++ network.pipes from to)
   pub most : kept.session.max_pdu ≤ 4096
 
-open_way : (plan : Plan) (network : NetworkState) (from to : ℕ) (kept : Peering) → IsOrdered plan network → nat_eq from to ≡ false → (network.edges to).peering from ≡ Some kept → IsHeardBy plan network from to kept
+open_way : (plan : Plan) (network : NetworkState) (from to : ℕ) (kept : Peering) → IsOrdered plan network → nat_eq from to ≡ false → (network.edges to).peering from ≡ Some kept
+    → IsHeardBy plan network from to kept
 open_way plan network from to kept ordered apart at = record {
-  octets = subst (λ (o : Option Peering). AreOctets (held_by o ++ network.pipes from to)) at (subst AreOctets (sym pair.back_is) (all_octets (ends_at plan from to) pair.answers stands.between.two pair.talk.answered));
+  octets = subst (λ (o : Option Peering). AreOctets (held_by o ++ network.pipes from to)) at
+      (subst AreOctets (sym pair.back_is) (all_octets (ends_at plan from to) pair.answers stands.between.two pair.talk.answered));
   most = stands.most;
 }
   where
@@ -69,7 +71,8 @@ module _ (plan : Plan) (network : NetworkState) (seen : Seen) (shows : Shows pla
   unfolding with_octets with_rest with_pipe
   same_pipes a b = by (nat_eq a from.0) (nat_eq b to.0) refl refl where
     by : (x y : Bool) → nat_eq a from.0 ≡ x → nat_eq b to.0 ≡ y
-        → cond (x && y) (drop count (seen.pipes from.0 to.0)) (seen.pipes a b) ≡ (cond x (λ k. cond (nat_eq k to.0) (drop count (network.pipes from.0 to.0)) (network.pipes from.0 k)) (network.pipes a)) b
+        → cond (x && y) (drop count (seen.pipes from.0 to.0)) (seen.pipes a b)
+        ≡ (cond x (λ k. cond (nat_eq k to.0) (drop count (network.pipes from.0 to.0)) (network.pipes from.0 k)) (network.pipes a)) b
     by true true one other = rw other (ap (drop count) (shows.pipes from.0 to.0))
     by true false one other = rw other (shows.pipes a b ∙ ap (λ (n : ℕ). network.pipes n b) (eqb-true a from.0 one))
     by false y one other = shows.pipes a b
@@ -89,7 +92,8 @@ module _ (plan : Plan) (network : NetworkState) (seen : Seen) (shows : Shows pla
 
     are_octets : AreOctets octets
     are_octets = octets_before octets (drop count (network.pipes from.0 to.0))
-        (subst AreOctets (ap (λ (l : List ℕ). kept.held ++ l) (sym (take-append-drop count (network.pipes from.0 to.0))) ∙ sym (append_assoc kept.held (take count (network.pipes from.0 to.0)) (drop count (network.pipes from.0 to.0)))) fit.octets)
+        (subst AreOctets (ap (λ (l : List ℕ). kept.held ++ l) (sym (take-append-drop count (network.pipes from.0 to.0)))
+        ∙ sym (append_assoc kept.held (take count (network.pipes from.0 to.0)) (drop count (network.pipes from.0 to.0)))) fit.octets)
 
     rest : HoldsRest from octets (begin_at network to) heard
     rest = hears_rest plan taken_all from octets (begin_at network to) are_octets (rw is fit.most)
@@ -109,7 +113,8 @@ module _ (plan : Plan) (network : NetworkState) (seen : Seen) (shows : Shows pla
     closed : (k : ℕ) → closes k work.effects ≡ ended k work.effects
     closed k = ap (closes k) tells.given ∙ (tells.shut k ∙ ap (ended k) (sym tells.given))
 
-    at_peer : (gone : Bool) (new : Option Peering) → is_there new ≡ (is_there ((network.edges to.0).peering from.0) && not gone) → (is_there new ≡ true → held_by new ≡ cut octets) → cond gone [] (cut octets) ≡ held_by new
+    at_peer : (gone : Bool) (new : Option Peering) → is_there new ≡ (is_there ((network.edges to.0).peering from.0) && not gone) → (is_there new ≡ true → held_by new ≡ cut octets)
+        → cond gone [] (cut octets) ≡ held_by new
     at_peer true None there held = refl
     at_peer true (Some x) there held = clash (sym (Rattle.net_values.proofs.BoolLemmas.and_false (is_there ((network.edges to.0).peering from.0))) ∙ sym there)
     at_peer false None there held = clash (there ∙ rw is refl)
@@ -118,8 +123,10 @@ module _ (plan : Plan) (network : NetworkState) (seen : Seen) (shows : Shows pla
     same_rest : (k : ℕ) → cond (ended k work.effects) [] (taken.rests to.0 k) ≡ held_by (work.edge.peering k)
     unfolding with_octets with_rest
     same_rest k = rw (same_number to.0) (by (nat_eq k from.0) refl) where
-      by : (b : Bool) → nat_eq k from.0 ≡ b → cond (ended k work.effects) [] (cond b (cut (seen.rests to.0 from.0 ++ take count (seen.pipes from.0 to.0))) (seen.rests to.0 k)) ≡ held_by (work.edge.peering k)
-      by true same = subst (λ (n : ℕ). cond (ended n work.effects) [] (cut (seen.rests to.0 from.0 ++ take count (seen.pipes from.0 to.0))) ≡ held_by (work.edge.peering n)) (sym (eqb-true k from.0 same))
+      by : (b : Bool) → nat_eq k from.0 ≡ b → cond (ended k work.effects) [] (cond b (cut (seen.rests to.0 from.0 ++ take count (seen.pipes from.0 to.0))) (seen.rests to.0 k))
+          ≡ held_by (work.edge.peering k)
+      by true same = subst (λ (n : ℕ). cond (ended n work.effects) [] (cut (seen.rests to.0 from.0 ++ take count (seen.pipes from.0 to.0))) ≡ held_by (work.edge.peering n))
+          (sym (eqb-true k from.0 same))
           (rw (shows.rests to.0 from.0 ∙ ap held_by is, shows.pipes from.0 to.0)
           (at_peer (ended from.0 work.effects) (work.edge.peering from.0) (stood from.0) (λ there. mended.kept from.0 there ∙ rest.rest (stood_heard from.0 there))))
       by false other = ap (λ (l : List ℕ). cond (ended k work.effects) [] l) (shows.rests to.0 k)
@@ -150,19 +157,24 @@ module _ (plan : Plan) (network : NetworkState) (seen : Seen) (shows : Shows pla
     by : (near : Option Peering) → (network.edges to.0).peering from.0 ≡ near → is_there near ≡ true
         → IsShown plan (Deliver from to count) network seen (absorb to 0 0 (octets_input plan taken_all from (take count (network.pipes from.0 to.0)) near (begin_at network to)) later)
     by None is there = clash there
-    by (Some kept) is there = work_shown plan (Deliver from to count) network later seen to 0 0 (work kept is (open_way plan network from.0 to.0 kept ordered apart is) apart) (heard_ready kept is (open_way plan network from.0 to.0 kept ordered apart is) apart)
+    by (Some kept) is there = work_shown plan (Deliver from to count) network later seen to 0 0 (work kept is (open_way plan network from.0 to.0 kept ordered apart is) apart)
+        (heard_ready kept is (open_way plan network from.0 to.0 kept ordered apart is) apart)
 
   pub deliver_shown : IsOrdered plan network → IsShown plan (Deliver from to count) network seen (deliver_event plan from to count network)
   deliver_shown ordered = by_stand (stands network to.0 from.0) refl where
     some : stands network to.0 from.0 ≡ true → (drained : Bool) → IsShown plan (Deliver from to count) network seen (cond drained (losing plan to from network) (delivering plan from to count network))
-    some standing true = work_shown plan (Deliver from to count) network network seen to 0 0 (losing_work plan network to from) (losing_ready plan network to from seen taken shows drained_but alone standing)
+    some standing true = work_shown plan (Deliver from to count) network network seen to 0 0 (losing_work plan network to from)
+        (losing_ready plan network to from seen taken shows drained_but alone standing)
     some standing false = delivering_shown ordered standing
 
-    which : stands network to.0 from.0 ≡ true → (any : Bool) → IsShown plan (Deliver from to count) network seen (cond any (cond (is_drained_pipe network from.0 to.0) (losing plan to from network) (delivering plan from to count network)) (idle network))
+    which : stands network to.0 from.0 ≡ true → (any : Bool)
+        → IsShown plan (Deliver from to count) network seen (cond any (cond (is_drained_pipe network from.0 to.0) (losing plan to from network) (delivering plan from to count network)) (idle network))
     which standing true = some standing (is_drained_pipe network from.0 to.0)
     which standing false = WasIdle refl
 
     by_stand : (up : Bool) → stands network to.0 from.0 ≡ up
-        → IsShown plan (Deliver from to count) network seen (cond (up && (not (is_drained_pipe network from.0 to.0) || not (stands network from.0 to.0))) (cond (is_drained_pipe network from.0 to.0) (losing plan to from network) (delivering plan from to count network)) (idle network))
+        → IsShown plan (Deliver from to count) network seen
+        (cond (up && (not (is_drained_pipe network from.0 to.0) || not (stands network from.0 to.0)))
+        (cond (is_drained_pipe network from.0 to.0) (losing plan to from network) (delivering plan from to count network)) (idle network))
     by_stand true is = which is _
     by_stand false is = WasIdle refl

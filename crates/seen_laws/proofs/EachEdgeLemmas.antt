@@ -70,7 +70,8 @@ module _ (plan : Plan) (P : ℕ → EdgeState → Type 0) (keeps : HeldByMending
       between : (own other : Option EdgePlan) → P k (connects_between plan taken_all peer own other work).edge
       between None other = idles_mend
       between (Some own) None = idles_mend
-      between (Some own) (Some other) = keeps.mends k (connects taken_all peer (opened_with own other) work) ((connects_works taken_all any peer (opened_with own other) work refl).edge.me ∙ (keeps.me k work.edge mended))
+      between (Some own) (Some other) = keeps.mends k (connects taken_all peer (opened_with own other) work)
+          ((connects_works taken_all any peer (opened_with own other) work refl).edge.me ∙ (keeps.me k work.edge mended))
 
       by : (b : Bool) → P k (cond b (connects_between plan taken_all peer (slice_get plan.edges work.edge.me.0) (slice_get plan.edges peer.0) work) (idles work)).edge
       by true = between (slice_get plan.edges work.edge.me.0) (slice_get plan.edges peer.0)
@@ -78,10 +79,12 @@ module _ (plan : Plan) (P : ℕ → EdgeState → Type 0) (keeps : HeldByMending
 
     octets_mend : (peer : EdgeId) (octets : List ℕ) (kept : Option Peering) → P k (octets_input plan taken_all peer octets kept work).edge
     octets_mend peer octets None = idles_mend
-    octets_mend peer octets (Some kept) = keeps.mends k (hears_on plan taken_all peer octets (Some kept) work) ((hears_on_signals plan taken_all peer octets (Some kept) work).edge.me ∙ (keeps.me k work.edge mended))
+    octets_mend peer octets (Some kept) = keeps.mends k (hears_on plan taken_all peer octets (Some kept) work)
+        ((hears_on_signals plan taken_all peer octets (Some kept) work).edge.me ∙ (keeps.me k work.edge mended))
 
     lost_mend : (peer : EdgeId) → P k (lost_input plan taken_all peer work).edge
-    lost_mend peer = applies_mend (has_end work.edge peer) (happens_with_ends taken_all peer (Closed reason.Closed) work) (happens_with_ends_works taken_all any peer (Closed reason.Closed) work refl).edge.me
+    lost_mend peer = applies_mend (has_end work.edge peer) (happens_with_ends taken_all peer (Closed reason.Closed) work)
+        (happens_with_ends_works taken_all any peer (Closed reason.Closed) work refl).edge.me
 
     restart_mend : P k (restart_input work).edge
     restart_mend = keeps.restarts k work mended
@@ -96,7 +99,8 @@ module _ (plan : Plan) (P : ℕ → EdgeState → Type 0) (keeps : HeldByMending
 
     circuit_mend : (circuit : CircuitId) (on : Bool) (row : Option CircuitPlan) → P k (circuit_input plan taken_all circuit on row work).edge
     circuit_mend circuit on None = idles_mend
-    circuit_mend circuit on (Some row) = applies_mend (is_own work.edge row && not (is_same on (Rattle.edge_model.specs.State.is_on work.edge circuit))) (changes (turned plan circuit row on) work) (turned_me plan circuit on row work)
+    circuit_mend circuit on (Some row) = applies_mend (is_own work.edge row && not (is_same on (Rattle.edge_model.specs.State.is_on work.edge circuit)))
+        (changes (turned plan circuit row on) work) (turned_me plan circuit on row work)
 
     frame_mend : (circuit : CircuitId) (octets : List ℕ) (row : Option CircuitPlan) → P k (frame_input plan taken_all circuit octets row work).edge
     frame_mend circuit octets row = learns_mend (frame_input plan taken_all circuit octets row work).edge (frame_bridges plan taken_all circuit octets row work).edge
@@ -144,7 +148,8 @@ module _ (plan : Plan) (P : ℕ → EdgeState → Type 0) (keeps : HeldByMending
 
   -- ---- connections
 
-  connecting_holds : (from to : EdgeId) (network : NetworkState) → HoldsOfEach P network → HoldsOfEach P (connecting from (connected_work plan network from to) to (connected_work plan network to from) network).state
+  connecting_holds : (from to : EdgeId) (network : NetworkState) → HoldsOfEach P network
+      → HoldsOfEach P (connecting from (connected_work plan network from to) to (connected_work plan network to from) network).state
   connecting_holds from to network holds =
       let first : Work = connected_work plan network from to in
       let second : Work = connected_work plan network to from in

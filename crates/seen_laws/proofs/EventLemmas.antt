@@ -38,25 +38,32 @@ begins_at network me = record { effects = refl; peering = refl; downs = refl }
 -- the work of an edge in a network that is shown
 pub work_shown : (plan : Plan) (event : Event) (network start : NetworkState) (seen : Seen) (me : EdgeId) (origin hops : ℕ) (work : Work) → IsReady plan start me work (happened event seen)
     → IsShown plan event network seen (absorb me origin hops work start)
-work_shown plan event network start seen me origin hops work ready = HasGone (work_told me origin hops work.effects (with_edge me work.edge start)) (absorb_shows plan start me origin hops work (happened event seen) ready)
+work_shown plan event network start seen me origin hops work ready =
+    HasGone (work_told me origin hops work.effects (with_edge me work.edge start)) (absorb_shows plan start me origin hops work (happened event seen) ready)
 
 -- work that tells what it makes of the edge, and turns no circuit on or off
-pub plain_ready : (plan : Plan) (network : NetworkState) (me : EdgeId) (work : Work) (seen : Seen) → Shows plan network seen → NoneAlone network → Tells none (begin_at network me) work → IsReady plan network me work seen
+pub plain_ready : (plan : Plan) (network : NetworkState) (me : EdgeId) (work : Work) (seen : Seen) → Shows plan network seen → NoneAlone network → Tells none (begin_at network me) work
+    → IsReady plan network me work seen
 plain_ready plan network me work seen shows alone tells =
-    works_ready plan network me (begin_at network me) work seen shows (begins_at network me) none tells (λ k there. tells.kept k refl there) (alone me.0) seen.on (on_still plan network me work seen shows.on tells.circuits)
+    works_ready plan network me (begin_at network me) work seen shows (begins_at network me) none tells (λ k there. tells.kept k refl there) (alone me.0) seen.on
+    (on_still plan network me work seen shows.on tells.circuits)
 
 -- ---- an event that may not apply
 
-pub idle_or : (plan : Plan) (event : Event) (network : NetworkState) (seen : Seen) (b : Bool) (after : Stepped) → (b ≡ false → IsShown plan event network seen after) → IsShown plan event network seen (cond b (idle network) after)
+pub idle_or : (plan : Plan) (event : Event) (network : NetworkState) (seen : Seen) (b : Bool) (after : Stepped) → (b ≡ false → IsShown plan event network seen after)
+    → IsShown plan event network seen (cond b (idle network) after)
 idle_or plan event network seen true after goes = WasIdle refl
 idle_or plan event network seen false after goes = goes refl
 
-pub goes_or : (plan : Plan) (event : Event) (network : NetworkState) (seen : Seen) (b : Bool) (after : Stepped) → (b ≡ true → IsShown plan event network seen after) → IsShown plan event network seen (cond b after (idle network))
+pub goes_or : (plan : Plan) (event : Event) (network : NetworkState) (seen : Seen) (b : Bool) (after : Stepped) → (b ≡ true → IsShown plan event network seen after)
+    → IsShown plan event network seen (cond b after (idle network))
 goes_or plan event network seen true after goes = goes refl
 goes_or plan event network seen false after goes = WasIdle refl
 
-pub answer_shown : (plan : Plan) (event : Event) (network : NetworkState) (seen : Seen) (me : EdgeId) (work : Work) → (work.idle ≡ false → IsReady plan network me work (happened event seen)) → IsShown plan event network seen (answer me 0 0 work network)
-answer_shown plan event network seen me work ready = idle_or plan event network seen work.idle (absorb me 0 0 work network) (λ goes. work_shown plan event network network seen me 0 0 work (ready goes))
+pub answer_shown : (plan : Plan) (event : Event) (network : NetworkState) (seen : Seen) (me : EdgeId) (work : Work)
+    → (work.idle ≡ false → IsReady plan network me work (happened event seen)) → IsShown plan event network seen (answer me 0 0 work network)
+answer_shown plan event network seen me work ready =
+    idle_or plan event network seen work.idle (absorb me 0 0 work network) (λ goes. work_shown plan event network network seen me 0 0 work (ready goes))
 
 -- an input that applies, and after which the edge mends
 pub applied : (b : Bool) (done work : Work) (P : Work → Type 0) → P done → (cond b done (idles work)).idle ≡ false → P (cond b done (idles work))
@@ -67,21 +74,26 @@ applied false done work P here goes = clash (sym goes ∙ idles_are work)
 
 module _ (plan : Plan) (network : NetworkState) (seen : Seen) (shows : Shows plan network seen) (alone : NoneAlone network) where
   pub wire_shown : (me : EdgeId) (wire : WireId) (on : Bool) → IsShown plan (Wire me wire on) network seen (wire_event plan me wire on network)
-  wire_shown me wire on = answer_shown plan (Wire me wire on) network seen me _ (applied (passes plan (begin_at network me).edge.me wire && not (is_same on ((begin_at network me).edge.wire_on wire.0))) (mends plan taken_all done) (begin_at network me) (λ w. IsReady plan network me w seen)
+  wire_shown me wire on = answer_shown plan (Wire me wire on) network seen me _
+      (applied (passes plan (begin_at network me).edge.me wire && not (is_same on ((begin_at network me).edge.wire_on wire.0))) (mends plan taken_all done) (begin_at network me)
+      (λ w. IsReady plan network me w seen)
       (plain_ready plan network me (mends plan taken_all done) seen shows alone (then_mends plan taken_all (begin_at network me) done (wire_tells wire on (begin_at network me)))))
     where
       done : Work
       done = changes (turned_wire wire on) (begin_at network me)
 
   pub status_shown : (me : EdgeId) (wire : WireId) (bits : ℕ) → IsShown plan (Status me wire bits) network seen (status_event plan me wire bits network)
-  status_shown me wire bits = answer_shown plan (Status me wire bits) network seen me _ (applied (ends_here plan (begin_at network me).edge.me wire && not (nat_eq bits ((begin_at network me).edge.bits wire.0))) (mends plan taken_all done) (begin_at network me) (λ w. IsReady plan network me w seen)
+  status_shown me wire bits = answer_shown plan (Status me wire bits) network seen me _
+      (applied (ends_here plan (begin_at network me).edge.me wire && not (nat_eq bits ((begin_at network me).edge.bits wire.0))) (mends plan taken_all done) (begin_at network me)
+      (λ w. IsReady plan network me w seen)
       (plain_ready plan network me (mends plan taken_all done) seen shows alone (then_mends plan taken_all (begin_at network me) done (bits_tell wire bits (begin_at network me)))))
     where
       done : Work
       done = changes (with_bits wire bits) (begin_at network me)
 
   pub priority_shown : (me : EdgeId) (wire : WireId) (priority : ℕ) → IsShown plan (Priority me wire priority) network seen (priority_event plan me wire priority network)
-  priority_shown me wire priority = answer_shown plan (Priority me wire priority) network seen me _ (applied (is_own_spoke (begin_at network me).edge.me (wire_row plan wire) && not (nat_eq priority ((begin_at network me).edge.priority wire.0))) (mends plan taken_all done) (begin_at network me)
+  priority_shown me wire priority = answer_shown plan (Priority me wire priority) network seen me _
+      (applied (is_own_spoke (begin_at network me).edge.me (wire_row plan wire) && not (nat_eq priority ((begin_at network me).edge.priority wire.0))) (mends plan taken_all done) (begin_at network me)
       (λ w. IsReady plan network me w seen)
       (plain_ready plan network me (mends plan taken_all done) seen shows alone (then_mends plan taken_all (begin_at network me) done (priority_tells wire priority (begin_at network me)))))
     where
@@ -94,7 +106,8 @@ module _ (plan : Plan) (network : NetworkState) (seen : Seen) (shows : Shows pla
   ping_shown me wire = answer_shown plan (Ping me wire) network seen me (ping_work plan network me wire) (λ goes.
       (let pings = ping_bridges plan taken_all wire (begin_at network me) in
       plain_ready plan network me (ping_work plan network me wire) seen shows alone
-      (bridged_tells (begin_at network me) (ping_work plan network me wire) (ap (λ (e : EdgeState). e.me) pings.edge) (ap (λ (e : EdgeState). e.circuit_on) pings.edge) (ap (λ (e : EdgeState). e.peering) pings.edge) (ap (λ (e : EdgeState). e.told_down) pings.edge) pings.effects)))
+      (bridged_tells (begin_at network me) (ping_work plan network me wire) (ap (λ (e : EdgeState). e.me) pings.edge) (ap (λ (e : EdgeState). e.circuit_on) pings.edge)
+      (ap (λ (e : EdgeState). e.peering) pings.edge) (ap (λ (e : EdgeState). e.told_down) pings.edge) pings.effects)))
 
 -- ---- an end is lost
 
@@ -135,19 +148,23 @@ module _ (plan : Plan) (network : NetworkState) (me peer : EdgeId) (old seen : S
   lost_ready = record {
     alone = but.stands me.0 me.0 (other_pair me.0 apart) ∙ (shows.standing me.0 me.0 ∙ alone me.0);
     near = λ k. elim (cases_Bool (nat_eq k peer.0)) [
-      | inl same ↦ subst (λ (n : ℕ). (seen.stands me.0 n && not (ended n work.effects)) ≡ is_there (work.edge.peering n)) (sym (eqb-true k peer.0 same)) (rw (told_gone, gone) (and_false (seen.stands me.0 peer.0)))
+      | inl same ↦ subst (λ (n : ℕ). (seen.stands me.0 n && not (ended n work.effects)) ≡ is_there (work.edge.peering n)) (sym (eqb-true k peer.0 same))
+          (rw (told_gone, gone) (and_false (seen.stands me.0 peer.0)))
       | inr other ↦ ap (λ (b : Bool). b && not (ended k work.effects)) (but.stands me.0 k (other_pair k other) ∙ shows.standing me.0 k) ∙ sym (stood k)
     ];
     far = λ a b away. but.stands a b (not_me a b away) ∙ shows.standing a b;
     inward = λ k. elim (cases_Bool (nat_eq k peer.0)) [
-      | inl same ↦ subst (λ (n : ℕ). cond (ended n work.effects) [] (seen.pipes n me.0) ≡ cond (Rattle.flight_laws.specs.Meeting.closes n work.effects) [] (network.pipes n me.0)) (sym (eqb-true k peer.0 same))
+      | inl same ↦ subst (λ (n : ℕ). cond (ended n work.effects) [] (seen.pipes n me.0) ≡ cond (Rattle.flight_laws.specs.Meeting.closes n work.effects) [] (network.pipes n me.0))
+          (sym (eqb-true k peer.0 same))
           (rw (told_gone, closed peer.0 ∙ told_gone) refl)
       | inr other ↦ rw (but.pipes k me.0 (rw other refl), shows.pipes k me.0, closed k) refl
     ];
     outward = λ a b away. but.pipes a b (rw away (and_false (nat_eq a peer.0))) ∙ shows.pipes a b;
     rest = λ k. elim (cases_Bool (nat_eq k peer.0)) [
-      | inl same ↦ subst (λ (n : ℕ). cond (ended n work.effects) [] (seen.rests me.0 n) ≡ held_by (work.edge.peering n)) (sym (eqb-true k peer.0 same)) (rw told_gone (sym (no_octets_by (work.edge.peering peer.0) gone)))
-      | inr other ↦ ap (λ (l : List ℕ). cond (ended k work.effects) [] l) (but.rests me.0 k (other_pair k other) ∙ shows.rests me.0 k) ∙ rest_of (ended k work.effects) ((network.edges me.0).peering k) (work.edge.peering k) (stood k) (tells.kept k refl)
+      | inl same ↦ subst (λ (n : ℕ). cond (ended n work.effects) [] (seen.rests me.0 n) ≡ held_by (work.edge.peering n)) (sym (eqb-true k peer.0 same))
+          (rw told_gone (sym (no_octets_by (work.edge.peering peer.0) gone)))
+      | inr other ↦ ap (λ (l : List ℕ). cond (ended k work.effects) [] l) (but.rests me.0 k (other_pair k other) ∙ shows.rests me.0 k)
+          ∙ rest_of (ended k work.effects) ((network.edges me.0).peering k) (work.edge.peering k) (stood k) (tells.kept k refl)
     ];
     rests = λ a b away. but.rests a b (not_me a b away) ∙ shows.rests a b;
     up = λ wire. ap (λ (f : ℕ → ℕ → Bool). up_after wire work.effects (f me.0 wire)) but.up ∙ (rw (shows.up me.0 wire, tells.given) (sym (tells.up wire)));
@@ -164,12 +181,15 @@ goes_but : (me peer : ℕ) (seen : Seen) → IsButFor me peer seen (end_goes me 
 unfolding with_octets with_standing with_rest
 goes_but me peer seen = record { stands = λ a b other. rw other refl; pipes = λ a b other. rw other refl; rests = λ a b other. rw other refl; up = refl; on = refl; under_way = refl }
 
-pub losing_ready : (plan : Plan) (network : NetworkState) (me peer : EdgeId) (old seen : Seen) → Shows plan network old → IsButFor me.0 peer.0 old seen → NoneAlone network → stands network me.0 peer.0 ≡ true
+pub losing_ready : (plan : Plan) (network : NetworkState) (me peer : EdgeId) (old seen : Seen) → Shows plan network old → IsButFor me.0 peer.0 old seen → NoneAlone network
+    → stands network me.0 peer.0 ≡ true
     → IsReady plan network me (losing_work plan network me peer) seen
 losing_ready plan network me peer old seen shows but alone standing =
     subst (λ (w : Work). IsReady plan network me w seen) (sym (losing_is plan me peer network standing))
     (lost_ready plan network me peer old seen shows but alone standing _ (lost_tells plan taken_all peer (begin_at network me)) (lost_gone plan taken_all peer (begin_at network me)))
 
-pub lose_shown : (plan : Plan) (network : NetworkState) (seen : Seen) (me peer : EdgeId) → Shows plan network seen → NoneAlone network → IsShown plan (Lose me peer) network seen (lose_event plan me peer network)
+pub lose_shown : (plan : Plan) (network : NetworkState) (seen : Seen) (me peer : EdgeId) → Shows plan network seen → NoneAlone network
+    → IsShown plan (Lose me peer) network seen (lose_event plan me peer network)
 lose_shown plan network seen me peer shows alone = goes_or plan (Lose me peer) network seen (stands network me.0 peer.0) (losing plan me peer network)
-    (λ standing. work_shown plan (Lose me peer) network network seen me 0 0 (losing_work plan network me peer) (losing_ready plan network me peer seen (end_goes me.0 peer.0 seen) shows (goes_but me.0 peer.0 seen) alone standing))
+    (λ standing. work_shown plan (Lose me peer) network network seen me 0 0 (losing_work plan network me peer)
+    (losing_ready plan network me peer seen (end_goes me.0 peer.0 seen) shows (goes_but me.0 peer.0 seen) alone standing))

@@ -94,7 +94,8 @@ holds_rest peer octets (Some kept) work is whole = record {
       | inr other ↦ rw other at there
     ]
 
-few_rest : (plan : Plan) (told : Answers) (peer : EdgeId) (n : ℕ) (octets : List ℕ) (work : Work) → length octets ≤ n → AreOctets octets → HasFitMaximum (work.edge.peering peer.0) → HoldsRest peer octets work (hears_few plan told peer n octets work)
+few_rest : (plan : Plan) (told : Answers) (peer : EdgeId) (n : ℕ) (octets : List ℕ) (work : Work) → length octets ≤ n → AreOctets octets → HasFitMaximum (work.edge.peering peer.0)
+    → HoldsRest peer octets work (hears_few plan told peer n octets work)
 few_rest plan told peer zero [] work few are fits = holds_rest peer [] (work.edge.peering peer.0) work refl refl
 few_rest plan told peer zero (x ∷ xs) work few are fits = absurd (omega (arith, few))
 few_rest plan told peer (suc n) octets work few are fits = within (λ rest next. few_rest plan told peer n rest next) (work.edge.peering peer.0) refl fits where
@@ -124,9 +125,11 @@ few_rest plan told peer (suc n) octets work few are fits = within (λ rest next.
         others = λ k apart there. (happens_keep_held told peer (Refused (refusal_of fault)) work).kept k there;
       }
 
-  within : Again → (near : Option Peering) → work.edge.peering peer.0 ≡ near → HasFitMaximum near → HoldsRest peer octets work (hears_within plan told peer (hears_few plan told peer n) octets near work)
+  within : Again → (near : Option Peering) → work.edge.peering peer.0 ≡ near → HasFitMaximum near
+      → HoldsRest peer octets work (hears_within plan told peer (hears_few plan told peer n) octets near work)
   within again None is most = record { stood = λ k there. there; rest = λ there. gone (work.edge.peering peer.0) is there; others = λ k apart there. refl }
   within again (Some kept) is most = front again kept is most (front_of kept.session.max_pdu octets) refl
 
-pub hears_rest : (plan : Plan) (told : Answers) (peer : EdgeId) (octets : List ℕ) (work : Work) → AreOctets octets → HasFitMaximum (work.edge.peering peer.0) → HoldsRest peer octets work (hears plan told peer octets work)
+pub hears_rest : (plan : Plan) (told : Answers) (peer : EdgeId) (octets : List ℕ) (work : Work) → AreOctets octets → HasFitMaximum (work.edge.peering peer.0)
+    → HoldsRest peer octets work (hears plan told peer octets work)
 hears_rest plan told peer octets work are fits = few_rest plan told peer (suc (length octets)) octets work (omega arith) are fits

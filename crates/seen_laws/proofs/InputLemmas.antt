@@ -81,7 +81,8 @@ tick_tells plan told work =
     let first : Work = changes counted work in
     let ticked : Work = ticks_sessions told 0 (length plan.edges) first in
     then_mends plan told work (changes (forgetting plan) ticked)
-    (tells_then none work first (changes (forgetting plan) ticked) (counted_tells work) (tells_then none first ticked (changes (forgetting plan) ticked) (ticks_tell told 0 (length plan.edges) first) (forgetting_tells plan ticked)))
+    (tells_then none work first (changes (forgetting plan) ticked) (counted_tells work)
+    (tells_then none first ticked (changes (forgetting plan) ticked) (ticks_tell told 0 (length plan.edges) first) (forgetting_tells plan ticked)))
 
 -- ---- what is set
 
@@ -120,7 +121,8 @@ stays_there : (b x : Bool) → x ≡ false → b ≡ (b && not x)
 stays_there true x is = ap (λ (y : Bool). not y) (sym is)
 stays_there false x is = refl
 
-pub bridged_tells : (old new : Work) → new.edge.me ≡ old.edge.me → new.edge.circuit_on ≡ old.edge.circuit_on → new.edge.peering ≡ old.edge.peering → new.edge.told_down ≡ old.edge.told_down → GivesOnly is_of_bridging old.effects new.effects → Tells none old new
+pub bridged_tells : (old new : Work) → new.edge.me ≡ old.edge.me → new.edge.circuit_on ≡ old.edge.circuit_on → new.edge.peering ≡ old.edge.peering → new.edge.told_down
+    ≡ old.edge.told_down → GivesOnly is_of_bridging old.effects new.effects → Tells none old new
 bridged_tells old new me circuits peering downs gives =
     let nothing : TellsNothing gives.more = bridging_tells gives.more gives.own in
     record {

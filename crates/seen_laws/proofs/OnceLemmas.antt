@@ -86,9 +86,11 @@ within_same most origin (entry.Pong edge wire sequence ∷ es) all = within_same
 
 -- ---- sites
 
-site_same : (plan : Plan) (network : NetworkState) (seen : Seen) (service : ServiceId) (circuit : CircuitId) → Shows plan network seen → is_seen_site plan seen service circuit ≡ is_site plan network service circuit
+site_same : (plan : Plan) (network : NetworkState) (seen : Seen) (service : ServiceId) (circuit : CircuitId) → Shows plan network seen → is_seen_site plan seen service circuit
+    ≡ is_site plan network service circuit
 site_same plan network seen service circuit shows = by (circuit_row plan circuit) refl where
-  by : (row : Option CircuitPlan) → circuit_row plan circuit ≡ row → is_row_of service row && seen.on circuit.0 ≡ (Rattle.network_model.specs.Reach.is_row_of service row && is_row_on network circuit row)
+  by : (row : Option CircuitPlan) → circuit_row plan circuit ≡ row → is_row_of service row && seen.on circuit.0
+      ≡ (Rattle.network_model.specs.Reach.is_row_of service row && is_row_on network circuit row)
   by None is = refl
   by (Some row) is = ap (λ (b : Bool). nat_eq row.service.0 service.0 && b) (shows.on circuit row is)
 
@@ -106,7 +108,8 @@ has_same origin (p ∷ ps) = rw (has_same origin ps) refl
 none_named : (origin number : ℕ) (packets : List Packet) → find (λ packet. packet.number == number) packets ≡ None → list_any (is_copy origin number) packets ≡ false
 none_named origin number [] none = refl
 none_named origin number (p ∷ ps) none = by (nat_eq p.number number) none (λ rest. none_named origin number ps rest) where
-  by : (b : Bool) → cond b (Some p) (find (λ packet. packet.number == number) ps) ≡ None → (find (λ packet. packet.number == number) ps ≡ None → list_any (is_copy origin number) ps ≡ false) → (nat_eq p.origin origin && b) || list_any (is_copy origin number) ps ≡ false
+  by : (b : Bool) → cond b (Some p) (find (λ packet. packet.number == number) ps) ≡ None
+      → (find (λ packet. packet.number == number) ps ≡ None → list_any (is_copy origin number) ps ≡ false) → (nat_eq p.origin origin && b) || list_any (is_copy origin number) ps ≡ false
   by true some rest = absurd (cc some)
   by false rest_none rest = rw (and_false (nat_eq p.origin origin)) (rest rest_none)
 
@@ -114,8 +117,10 @@ none_named origin number (p ∷ ps) none = by (nat_eq p.number number) none (λ 
 none_told : (more : List Entry) → BeginsEvent more → is_idle_behind more ≡ false
 none_told more begins = idle_behind [] more begins
 
-copy_spared : (plan : Plan) (network : NetworkState) (seen : Seen) (origin number : ℕ) (idle : Bool) → Shows plan network seen → idle ≡ false → idle || not (list_any (is_seen_copy origin number) seen.under_way) ≡ not (list_any (is_copy origin number) network.under_way)
-copy_spared plan network seen origin number idle shows applied = rw applied (ap (λ (b : Bool). not b) (ap (list_any (is_seen_copy origin number)) shows.under_way ∙ names_same origin number network.under_way))
+copy_spared : (plan : Plan) (network : NetworkState) (seen : Seen) (origin number : ℕ) (idle : Bool) → Shows plan network seen → idle ≡ false
+    → idle || not (list_any (is_seen_copy origin number) seen.under_way) ≡ not (list_any (is_copy origin number) network.under_way)
+copy_spared plan network seen origin number idle shows applied =
+    rw applied (ap (λ (b : Bool). not b) (ap (list_any (is_seen_copy origin number)) shows.under_way ∙ names_same origin number network.under_way))
 
 -- an event that does not apply names no packet, and spares each
 spares_same : (plan : Plan) (network : NetworkState) (seen : Seen) (origin : ℕ) (event : Event) (more : List Entry) → Shows plan network seen → BeginsEvent more
@@ -123,11 +128,13 @@ spares_same : (plan : Plan) (network : NetworkState) (seen : Seen) (origin : ℕ
 spares_same plan network seen origin (Frame circuit octets) more shows begins = refl
 spares_same plan network seen origin (Arrive number) more shows begins = refl
 spares_same plan network seen origin (Discard number) more shows begins = by (packet_at network number) refl where
-  by : (packet : Option Packet) → packet_at network number ≡ packet → is_idle_behind ((discard_event packet network).entries ++ more) || not (list_any (is_seen_copy origin number) seen.under_way) ≡ not (list_any (is_copy origin number) network.under_way)
+  by : (packet : Option Packet) → packet_at network number ≡ packet
+      → is_idle_behind ((discard_event packet network).entries ++ more) || not (list_any (is_seen_copy origin number) seen.under_way) ≡ not (list_any (is_copy origin number) network.under_way)
   by None none = rw (none_named origin number network.under_way none) refl
   by (Some packet) is = copy_spared plan network seen origin number (is_idle_behind more) shows (none_told more begins)
 spares_same plan network seen origin (Again number) more shows begins = by (packet_at network number) refl where
-  by : (packet : Option Packet) → packet_at network number ≡ packet → is_idle_behind ((again_event packet network).entries ++ more) || not (list_any (is_seen_copy origin number) seen.under_way) ≡ not (list_any (is_copy origin number) network.under_way)
+  by : (packet : Option Packet) → packet_at network number ≡ packet
+      → is_idle_behind ((again_event packet network).entries ++ more) || not (list_any (is_seen_copy origin number) seen.under_way) ≡ not (list_any (is_copy origin number) network.under_way)
   by None none = rw (none_named origin number network.under_way none) refl
   by (Some packet) is = copy_spared plan network seen origin number (is_idle_behind more) shows (none_told more begins)
 spares_same plan network seen origin (Deliver from to count) more shows begins = refl
@@ -177,7 +184,8 @@ entered_own circuit own (entry.Pong edge wire sequence ∷ more) origin begins i
 entered_is : (plan : Plan) (network : NetworkState) (circuit : CircuitId) (octets : List ℕ) (more : List Entry) (origin : ℕ) → BeginsEvent more
     → entered_as circuit ((brings plan (Frame circuit octets) network).entries ++ more) ≡ Some origin → origin ≡ next_origin network
 entered_is plan network circuit octets more origin begins is = by (circuit_row plan circuit) is where
-  goes : (row : CircuitPlan) (b : Bool) → entered_as circuit ((cond b (idle network) (entering network circuit octets row (frame_work plan network circuit octets row))).entries ++ more) ≡ Some origin → origin ≡ next_origin network
+  goes : (row : CircuitPlan) (b : Bool) → entered_as circuit
+      ((cond b (idle network) (entering network circuit octets row (frame_work plan network circuit octets row))).entries ++ more) ≡ Some origin → origin ≡ next_origin network
   goes row true at = absurd (entered_own circuit [] more origin begins at)
   goes row false at = same_number_held origin (next_origin network) (sym at ∙ rw (same_number circuit.0) refl)
 
@@ -187,7 +195,8 @@ entered_is plan network circuit octets more origin begins is = by (circuit_row p
 
 -- ---- the source of a frame
 
-front_source : (a b c d e f g h i j k l : ℕ) (rest back : List ℕ) → source_of (take 12 (a ∷ b ∷ c ∷ d ∷ e ∷ f ∷ g ∷ h ∷ i ∷ j ∷ k ∷ l ∷ rest) ++ back) ≡ source_of (a ∷ b ∷ c ∷ d ∷ e ∷ f ∷ g ∷ h ∷ i ∷ j ∷ k ∷ l ∷ rest)
+front_source : (a b c d e f g h i j k l : ℕ) (rest back : List ℕ) → source_of (take 12 (a ∷ b ∷ c ∷ d ∷ e ∷ f ∷ g ∷ h ∷ i ∷ j ∷ k ∷ l ∷ rest) ++ back)
+    ≡ source_of (a ∷ b ∷ c ∷ d ∷ e ∷ f ∷ g ∷ h ∷ i ∷ j ∷ k ∷ l ∷ rest)
 front_source a b c d e f g h i j k l rest back = refl
 
 long_source : (octets back : List ℕ) → nat_lt (length octets) 14 ≡ false → source_of (take 12 octets ++ back) ≡ source_of octets
@@ -236,7 +245,8 @@ same_source plan circuit octets frame is = by_row (circuit_row plan circuit) (mt
   by_tag : (tag : Option ℕ) → nat_lt (length octets) 14 ≡ false → untagged tag octets ≡ Ok frame → source_of frame ≡ source_of octets
   by_tag None long at = ap source_of (sym (read_is octets frame (untagged None octets) refl at))
   by_tag (Some tag) long at =
-      let third = kept (not (nat_eq (vlan_id_of octets) tag)) WrongTag (Ok (take 12 octets ++ drop 16 octets)) frame (kept (nat_lt (length octets) 18) Short _ frame (kept (not (nat_eq (pair_at octets 12) tag_protocol)) NoTag _ frame at)) in
+      let third = kept (not (nat_eq (vlan_id_of octets) tag)) WrongTag (Ok (take 12 octets ++ drop 16 octets)) frame
+      (kept (nat_lt (length octets) 18) Short _ frame (kept (not (nat_eq (pair_at octets 12) tag_protocol)) NoTag _ frame at)) in
       ap source_of (sym (read_is (take 12 octets ++ drop 16 octets) frame (Ok (take 12 octets ++ drop 16 octets)) refl third)) ∙ long_source octets (drop 16 octets) long
 
   by_row : (row : Option CircuitPlan) (mtu : Option ℕ) → inner_by row mtu octets ≡ Ok frame → source_of frame ≡ source_of octets
@@ -256,7 +266,8 @@ front_run plan events front rest is split = record { checked = is.checked; types
 -- the next event spares the copies where those behind it do
 spared_next : (plan : Plan) (before : List Event) (e : Event) (es : List Event) (seen : Seen) (origin : ℕ) → IsRun plan (before ++ e ∷ es) → Shows plan (network_after plan before) seen
     → (Shows plan (network_after plan (before ++ e ∷ [])) (seen_from seen (step plan (network_after plan before) e).entries)
-    → all_spared origin (seen_from seen (step plan (network_after plan before) e).entries) (entries_along plan (network_after plan (before ++ e ∷ [])) es) ≡ all_spare plan origin (network_after plan (before ++ e ∷ [])) es)
+    → all_spared origin (seen_from seen (step plan (network_after plan before) e).entries) (entries_along plan (network_after plan (before ++ e ∷ [])) es)
+    ≡ all_spare plan origin (network_after plan (before ++ e ∷ [])) es)
     → all_spared origin seen (entries_along plan (network_after plan before) (e ∷ es)) ≡ all_spare plan origin (network_after plan before) (e ∷ es)
 spared_next plan before e es seen origin is shows later = rw (spares_same plan network seen origin e along shows (along_begins plan (step plan network e).state es)) (ap (λ (b : Bool). spares network origin e && b) rest) where
   network : NetworkState
@@ -306,7 +317,8 @@ list_first test (x ∷ xs) ys some = by (test x) some (λ rest. list_first test 
 
 -- a frame of a station enters, and is told as it does
 pub frame_seen : (plan : Plan) (network : NetworkState) (service : ServiceId) (address : List ℕ) (circuit : CircuitId) (octets : List ℕ) → ((k : ℕ) → (network.edges k).me ≡ record { 0 = k })
-    → is_site plan network service circuit && is_sourced address (inner_at plan circuit octets) ≡ true → list_any (is_sourced_by plan service address) (brings plan (Frame circuit octets) network).entries ≡ true
+    → is_site plan network service circuit && is_sourced address (inner_at plan circuit octets) ≡ true
+    → list_any (is_sourced_by plan service address) (brings plan (Frame circuit octets) network).entries ≡ true
 frame_seen plan network service address circuit octets placed taught = by (circuit_row plan circuit) refl where
   both : (is_site plan network service circuit ≡ true) × (is_sourced address (inner_at plan circuit octets) ≡ true)
   both = and_parts (is_site plan network service circuit) (is_sourced address (inner_at plan circuit octets)) taught
@@ -333,16 +345,19 @@ frame_seen plan network service address circuit octets placed taught = by (circu
     taken = received plan taken_all (arrival.Circuit circuit) row.service (port_at plan (network.edges row.edge.0) circuit row) (inner_at plan circuit octets) (begin_at network row.edge)
 
     applies : (frame_work plan network circuit octets row).idle ≡ false
-    applies = rw (own, parts.1) (received_bridges plan taken_all (arrival.Circuit circuit) row.service (port_at plan (network.edges row.edge.0) circuit row) (inner_at plan circuit octets) (begin_at network row.edge)).idle
+    applies = rw (own, parts.1) (received_bridges plan taken_all (arrival.Circuit circuit) row.service (port_at plan (network.edges row.edge.0) circuit row)
+        (inner_at plan circuit octets) (begin_at network row.edge)).idle
 
-    goes : (b : Bool) → b ≡ false → list_any (is_sourced_by plan service address) (cond b (idle network) (entering network circuit octets row (frame_work plan network circuit octets row))).entries ≡ true
+    goes : (b : Bool) → b ≡ false → list_any (is_sourced_by plan service address)
+        (cond b (idle network) (entering network circuit octets row (frame_work plan network circuit octets row))).entries ≡ true
     goes true e = clash (sym e)
     goes false e = rw (ap (λ (r : Option CircuitPlan). is_row_of service r) is ∙ parts.0, sourced) refl
 
 -- ---- what is taught in a window is seen in it
 
 taught_next : (plan : Plan) (before : List Event) (e : Event) (es : List Event) (service : ServiceId) (address : List ℕ) → IsRun plan (before ++ e ∷ es)
-    → (some_teach plan (network_after plan (before ++ e ∷ [])) service address es ≡ true → list_any (is_sourced_by plan service address) (entries_along plan (network_after plan (before ++ e ∷ [])) es) ≡ true)
+    → (some_teach plan (network_after plan (before ++ e ∷ [])) service address es ≡ true
+    → list_any (is_sourced_by plan service address) (entries_along plan (network_after plan (before ++ e ∷ [])) es) ≡ true)
     → some_teach plan (network_after plan before) service address (e ∷ es) ≡ true → list_any (is_sourced_by plan service address) (entries_along plan (network_after plan before) (e ∷ es)) ≡ true
 taught_next plan before e es service address is later some = by (teaches plan network service address e) refl some where
   network : NetworkState
@@ -374,7 +389,8 @@ taught_next plan before e es service address is later some = by (teaches plan ne
       → list_any (is_sourced_by plan service address) (entry.Did e ∷ ((brings plan e network).entries ++ entries_along plan (step plan network e).state es)) ≡ true
   by true taught some = list_first (is_sourced_by plan service address) (brings plan e network).entries (entries_along plan (step plan network e).state es) (here e taught)
   by false other some = list_more (is_sourced_by plan service address) (brings plan e network).entries (entries_along plan (step plan network e).state es)
-      (subst (λ (n : NetworkState). list_any (is_sourced_by plan service address) (entries_along plan n es) ≡ true) after_is (later (subst (λ (n : NetworkState). some_teach plan n service address es ≡ true) (sym after_is) some)))
+      (subst (λ (n : NetworkState). list_any (is_sourced_by plan service address) (entries_along plan n es) ≡ true) after_is
+      (later (subst (λ (n : NetworkState). some_teach plan n service address es ≡ true) (sym after_is) some)))
 
 taught_along : (plan : Plan) (before during : List Event) (service : ServiceId) (address : List ℕ) → IsRun plan (before ++ during)
     → some_teach plan (network_after plan before) service address during ≡ true → list_any (is_sourced_by plan service address) (entries_along plan (network_after plan before) during) ≡ true
@@ -452,8 +468,11 @@ module _ (plan : Plan) (events : List Event) (is : IsRun plan events) (sources :
   spared : all_spare plan (next_origin state) next behind.during ≡ true
   spared =
       let seen : Seen = seen_from (seen_in before) own in
-      let first : all_spared origin seen (entries_along plan next behind.during) ≡ true = sym (spared_own origin (seen_in before) own (entries_along plan next behind.during) (brings_quiet plan (Frame circuit octets) state)) ∙ (ap (all_spared origin (seen_in before)) (sym during_is) ∙ window.spared) in
-      let shows_next : Shows plan next seen = subst (λ (s : Seen). Shows plan next (seen_from s own)) (entering_same (is_idle_behind own)) (step_shows plan (Frame circuit octets) state (seen_in before) is.checked is.types (run_ordered plan cut.earlier earlier_run) (run_numbered plan cut.earlier) shows) in
+      let first : all_spared origin seen (entries_along plan next behind.during) ≡ true =
+      sym (spared_own origin (seen_in before) own (entries_along plan next behind.during) (brings_quiet plan (Frame circuit octets) state))
+      ∙ (ap (all_spared origin (seen_in before)) (sym during_is) ∙ window.spared) in
+      let shows_next : Shows plan next seen = subst (λ (s : Seen). Shows plan next (seen_from s own)) (entering_same (is_idle_behind own))
+      (step_shows plan (Frame circuit octets) state (seen_in before) is.checked is.types (run_ordered plan cut.earlier earlier_run) (run_numbered plan cut.earlier) shows) in
       let after_is : network_after plan (cut.earlier ++ Frame circuit octets ∷ []) ≡ next = after-append plan (empty_network plan) cut.earlier (Frame circuit octets ∷ []) in
       subst (λ (n : ℕ). all_spare plan n next behind.during ≡ true) origin_is
       (turned_to (subst (λ (n : NetworkState). all_spared origin seen (entries_along plan n behind.during) ≡ all_spare plan origin n behind.during) after_is
@@ -465,7 +484,8 @@ module _ (plan : Plan) (events : List Event) (is : IsRun plan events) (sources :
 
   over : has_copies (state_after plan next behind.during) (next_origin state) ≡ false
   over =
-      let last : Shows plan (network_after plan upto) (seen_in (before ++ entry.Did (Frame circuit octets) ∷ during)) = subst (λ (l : List Entry). Shows plan (network_after plan upto) (seen_in l)) (sym upto_trace) (run_shows plan upto upto_run) in
+      let last : Shows plan (network_after plan upto) (seen_in (before ++ entry.Did (Frame circuit octets) ∷ during)) =
+      subst (λ (l : List Entry). Shows plan (network_after plan upto) (seen_in l)) (sym upto_trace) (run_shows plan upto upto_run) in
       subst (λ (n : NetworkState). has_copies n (next_origin state) ≡ false) upto_after
       (subst (λ (n : ℕ). has_copies (network_after plan upto) n ≡ false) origin_is
       (sym (has_same origin (network_after plan upto).under_way) ∙ (ap (list_any (λ copy. copy.origin == origin)) (sym last.under_way) ∙ window.over)))
@@ -475,7 +495,8 @@ module _ (plan : Plan) (events : List Event) (is : IsRun plan events) (sources :
   abbrev known : List ℕ
   known = destination_of window.frame
 
-  unseen : list_any (is_sourced_by plan service known) (before ++ entry.Did (Frame circuit octets) ∷ during) ≡ false → is_flooded_frame plan state service window.frame (Frame circuit octets ∷ behind.during) ≡ true
+  unseen : list_any (is_sourced_by plan service known) (before ++ entry.Did (Frame circuit octets) ∷ during) ≡ false
+      → is_flooded_frame plan state service window.frame (Frame circuit octets ∷ behind.during) ≡ true
   unseen none = flood (goes_to_group window.frame) unlearned no_packet untaught where
     trace_none : list_any (is_sourced_by plan service known) (run plan upto).entries ≡ false
     trace_none = ap (list_any (is_sourced_by plan service known)) (sym upto_trace) ∙ none
@@ -514,7 +535,8 @@ module _ (plan : Plan) (events : List Event) (is : IsRun plan events) (sources :
     untaught = by (some_teach plan state service known (Frame circuit octets ∷ behind.during)) refl where
       by : (b : Bool) → some_teach plan state service known (Frame circuit octets ∷ behind.during) ≡ b → b ≡ false
       by true some = clash (sym trace_none ∙ (ap (list_any (is_sourced_by plan service known)) (along-append plan (empty_network plan) cut.earlier (Frame circuit octets ∷ behind.during))
-          ∙ list_more (is_sourced_by plan service known) (run plan cut.earlier).entries (entries_along plan state (Frame circuit octets ∷ behind.during)) (taught_along plan cut.earlier (Frame circuit octets ∷ behind.during) service known upto_run some)))
+          ∙ list_more (is_sourced_by plan service known) (run plan cut.earlier).entries (entries_along plan state (Frame circuit octets ∷ behind.during))
+          (taught_along plan cut.earlier (Frame circuit octets ∷ behind.during) service known upto_run some)))
       by false none = refl
 
     flood : (group : Bool) {a p t : Bool} → a ≡ true → p ≡ false → t ≡ false → group || ((a && not p) && not t) ≡ true
@@ -523,7 +545,8 @@ module _ (plan : Plan) (events : List Event) (is : IsRun plan events) (sources :
 
   flooded : is_flooded_frame plan state service window.frame (Frame circuit octets ∷ behind.during) ≡ true
   flooded = by (goes_to_group window.frame) refl (list_any (is_sourced_by plan service known) (before ++ entry.Did (Frame circuit octets) ∷ during)) refl window.flooded where
-    by : (group : Bool) → goes_to_group window.frame ≡ group → (seen : Bool) → list_any (is_sourced_by plan service known) (before ++ entry.Did (Frame circuit octets) ∷ during) ≡ seen → group || not seen ≡ true
+    by : (group : Bool) → goes_to_group window.frame ≡ group → (seen : Bool) → list_any (is_sourced_by plan service known) (before ++ entry.Did (Frame circuit octets) ∷ during) ≡ seen
+        → group || not seen ≡ true
         → is_flooded_frame plan state service window.frame (Frame circuit octets ∷ behind.during) ≡ true
     by true group seen is_seen some = rw group refl
     by false group false none some = unseen none
@@ -543,7 +566,8 @@ module _ (plan : Plan) (events : List Event) (is : IsRun plan events) (sources :
 
   pub served : SeenServed 12 plan (seen_in before) circuit service origin (run plan events).entries
   served =
-      let once : ServedOnce 12 plan cut.earlier circuit service (run plan events).entries = runs_serve_once plan events is cut.earlier circuit octets behind.during behind.later service split_is window_is in
+      let once : ServedOnce 12 plan cut.earlier circuit service (run plan events).entries =
+      runs_serve_once plan events is cut.earlier circuit octets behind.during behind.later service split_is window_is in
       record {
         once = λ c. times_same origin c (run plan events).entries
             ∙ (ap (λ (n : ℕ). times_left n c (run plan events).entries) origin_is
@@ -551,5 +575,7 @@ module _ (plan : Plan) (events : List Event) (is : IsRun plan events) (sources :
         within = within_same 12 origin (run plan events).entries (subst (λ (n : ℕ). LeftWithin 12 n (run plan events).entries) (sym origin_is) once.within);
       }
 
-pub once_seen : (plan : Plan) (events : List Event) → IsRun plan events → ((front rest : List Event) → events ≡ front ++ rest → KnowsSources plan (network_after plan front) (run plan front).entries) → OnceSeen 12 plan (run plan events).entries
-once_seen plan events is sources before circuit octets during after service origin split begins window = served plan events is sources before circuit octets during after service origin split begins window
+pub once_seen : (plan : Plan) (events : List Event) → IsRun plan events
+    → ((front rest : List Event) → events ≡ front ++ rest → KnowsSources plan (network_after plan front) (run plan front).entries) → OnceSeen 12 plan (run plan events).entries
+once_seen plan events is sources before circuit octets during after service origin split begins window =
+    served plan events is sources before circuit octets during after service origin split begins window

@@ -91,17 +91,20 @@ pub tick_shown : (plan : Plan) (network : NetworkState) (seen : Seen) → Shows 
 tick_shown plan network seen shows alone numbered =
     let aged : List Entry = aged_entries network.under_way in
     let edges : Stepped = ticks_from plan 0 (length plan.edges) (with_older network) in
-    let all : TicksShow plan (tolds aged seen) edges = ticks_show plan 0 (length plan.edges) (with_older network) (tolds aged seen) (aged_shows plan network seen shows numbered) (older_alone network alone) in
+    let all : TicksShow plan (tolds aged seen) edges =
+    ticks_show plan 0 (length plan.edges) (with_older network) (tolds aged seen) (aged_shows plan network seen shows numbered) (older_alone network alone) in
     HasGone (told-append aged edges.entries (aged_told network.under_way) all.told) (subst (Shows plan edges.state) (sym (tolds-append aged edges.entries seen)) all.shows)
 
 -- ---- circuits
 
-turned_begins : (plan : Plan) (network : NetworkState) (circuit : CircuitId) (row : CircuitPlan) (on : Bool) → BeginsFrom network row.edge (changes (turned plan circuit row on) (begin_at network row.edge))
+turned_begins : (plan : Plan) (network : NetworkState) (circuit : CircuitId) (row : CircuitPlan) (on : Bool)
+    → BeginsFrom network row.edge (changes (turned plan circuit row on) (begin_at network row.edge))
 unfolding changes with_circuit with_addresses
 turned_begins plan network circuit row true = record { effects = refl; peering = refl; downs = refl }
 turned_begins plan network circuit row false = record { effects = refl; peering = refl; downs = refl }
 
-turned_circuits : (plan : Plan) (circuit : CircuitId) (row : CircuitPlan) (on : Bool) (work : Work) (k : ℕ) → (changes (turned plan circuit row on) work).edge.circuit_on k ≡ cond (k == circuit.0) on (work.edge.circuit_on k)
+turned_circuits : (plan : Plan) (circuit : CircuitId) (row : CircuitPlan) (on : Bool) (work : Work) (k : ℕ) → (changes (turned plan circuit row on) work).edge.circuit_on k
+    ≡ cond (k == circuit.0) on (work.edge.circuit_on k)
 unfolding changes with_circuit with_addresses
 turned_circuits plan circuit row true work k = refl
 turned_circuits plan circuit row false work k = refl
@@ -126,10 +129,12 @@ module _ (plan : Plan) (network : NetworkState) (seen : Seen) (shows : Shows pla
     here = ap (λ (f : ℕ → Bool). f other.0) tells.circuits ∙ turned_circuits plan circuit row on (begin_at network row.edge) other.0
 
     at_edge : (a : ℕ) → nat_eq a row.edge.0 ≡ true → ((with_edge row.edge (mends plan taken_all done).edge network).edges a).circuit_on other.0 ≡ (mends plan taken_all done).edge.circuit_on other.0
-    at_edge a same = ap (λ (n : ℕ). ((with_edge row.edge (mends plan taken_all done).edge network).edges n).circuit_on other.0) (eqb-true a row.edge.0 same) ∙ ap (λ (e : EdgeState). e.circuit_on other.0) (edge_there row.edge (mends plan taken_all done).edge network)
+    at_edge a same = ap (λ (n : ℕ). ((with_edge row.edge (mends plan taken_all done).edge network).edges n).circuit_on other.0) (eqb-true a row.edge.0 same)
+        ∙ ap (λ (e : EdgeState). e.circuit_on other.0) (edge_there row.edge (mends plan taken_all done).edge network)
 
     by : (b : Bool) → nat_eq other.0 circuit.0 ≡ b → cond b on (seen.on other.0) ≡ ((with_edge row.edge (mends plan taken_all done).edge network).edges line.edge.0).circuit_on other.0
-    by true same = sym (at_edge line.edge.0 (ap (λ (n : ℕ). nat_eq n row.edge.0) (sym (row_of same)) ∙ same_number row.edge.0) ∙ (here ∙ ap (λ (b : Bool). cond b on ((network.edges row.edge.0).circuit_on other.0)) same))
+    by true same = sym (at_edge line.edge.0 (ap (λ (n : ℕ). nat_eq n row.edge.0) (sym (row_of same)) ∙ same_number row.edge.0)
+        ∙ (here ∙ ap (λ (b : Bool). cond b on ((network.edges row.edge.0).circuit_on other.0)) same))
     by false apart = elim (cases_Bool (nat_eq line.edge.0 row.edge.0)) [
       | inl same ↦ shows.on other line at ∙ (ap (λ (n : ℕ). (network.edges n).circuit_on other.0) (eqb-true line.edge.0 row.edge.0 same)
           ∙ sym (at_edge line.edge.0 same ∙ (here ∙ ap (λ (b : Bool). cond b on ((network.edges row.edge.0).circuit_on other.0)) apart)))
@@ -143,9 +148,11 @@ module _ (plan : Plan) (network : NetworkState) (seen : Seen) (shows : Shows pla
 
   pub turned_shown : IsShown plan (Circuit circuit on) network seen (circuit_event plan circuit on (Some row) network)
   turned_shown = answer_shown plan (Circuit circuit on) network seen row.edge _
-      (applied (is_own (begin_at network row.edge).edge row && not (is_same on (is_on (begin_at network row.edge).edge circuit))) (mends plan taken_all done) (begin_at network row.edge) (λ w. IsReady plan network row.edge w (with_on circuit.0 on seen)) turned_ready)
+      (applied (is_own (begin_at network row.edge).edge row && not (is_same on (is_on (begin_at network row.edge).edge circuit))) (mends plan taken_all done)
+      (begin_at network row.edge) (λ w. IsReady plan network row.edge w (with_on circuit.0 on seen)) turned_ready)
 
-pub circuit_shown : (plan : Plan) (network : NetworkState) (seen : Seen) → Shows plan network seen → NoneAlone network → (circuit : CircuitId) (on : Bool) → IsShown plan (Circuit circuit on) network seen (circuit_event plan circuit on (circuit_row plan circuit) network)
+pub circuit_shown : (plan : Plan) (network : NetworkState) (seen : Seen) → Shows plan network seen → NoneAlone network → (circuit : CircuitId) (on : Bool)
+    → IsShown plan (Circuit circuit on) network seen (circuit_event plan circuit on (circuit_row plan circuit) network)
 circuit_shown plan network seen shows alone circuit on = by (circuit_row plan circuit) refl where
   by : (row : Option CircuitPlan) → circuit_row plan circuit ≡ row → IsShown plan (Circuit circuit on) network seen (circuit_event plan circuit on row network)
   by None is = WasIdle refl
@@ -155,7 +162,15 @@ circuit_shown plan network seen shows alone circuit on = by (circuit_row plan ci
 
 entered_shows : (plan : Plan) (network : NetworkState) (seen : Seen) → Shows plan network seen → Shows plan (with_frame network) seen
 unfolding with_frame
-entered_shows plan network seen shows = record { standing = shows.standing; pipes = shows.pipes; rests = shows.rests; up = shows.up; on = shows.on; under_way = shows.under_way; counted = shows.counted }
+entered_shows plan network seen shows = record {
+  standing = shows.standing;
+  pipes = shows.pipes;
+  rests = shows.rests;
+  up = shows.up;
+  on = shows.on;
+  under_way = shows.under_way;
+  counted = shows.counted;
+}
 
 entered_alone : (network : NetworkState) → NoneAlone network → NoneAlone (with_frame network)
 unfolding with_frame
@@ -165,7 +180,8 @@ entered_begin : (network : NetworkState) (me : EdgeId) → begin_at (with_frame 
 unfolding with_frame
 entered_begin network me = refl
 
-pub frame_shown : (plan : Plan) (network : NetworkState) (seen : Seen) → Shows plan network seen → NoneAlone network → (circuit : CircuitId) (octets : List ℕ) (row : Option CircuitPlan) → IsShown plan (Frame circuit octets) network seen (frame_event plan circuit octets row network)
+pub frame_shown : (plan : Plan) (network : NetworkState) (seen : Seen) → Shows plan network seen → NoneAlone network
+    → (circuit : CircuitId) (octets : List ℕ) (row : Option CircuitPlan) → IsShown plan (Frame circuit octets) network seen (frame_event plan circuit octets row network)
 frame_shown plan network seen shows alone circuit octets None = WasIdle refl
 frame_shown plan network seen shows alone circuit octets (Some row) = idle_or plan (Frame circuit octets) network seen work.idle (entering network circuit octets row work) (λ goes. HasGone (work_told row.edge (next_origin network) 0 work.effects _) (absorb_shows plan (with_frame network) row.edge (next_origin network) 0 work seen ready)) where
   work : Work
@@ -183,7 +199,8 @@ frame_shown plan network seen shows alone circuit octets (Some row) = idle_or pl
 copies_without : (number : ℕ) (packets : List Packet) → without_copy number (map copy_of packets) ≡ map copy_of (without_number number packets)
 copies_without number [] = refl
 copies_without number (p ∷ ps) = by (nat_eq p.number number) (copies_without number ps) where
-  by : (b : Bool) → without_copy number (map copy_of ps) ≡ map copy_of (without_number number ps) → cond b (map copy_of ps) (copy_of p ∷ without_copy number (map copy_of ps)) ≡ map copy_of (cond b ps (p ∷ without_number number ps))
+  by : (b : Bool) → without_copy number (map copy_of ps) ≡ map copy_of (without_number number ps) → cond b (map copy_of ps) (copy_of p ∷ without_copy number (map copy_of ps))
+      ≡ map copy_of (cond b ps (p ∷ without_number number ps))
   by true rest = refl
   by false rest = ap (λ (l : List SeenCopy). copy_of p ∷ l) rest
 
@@ -194,7 +211,8 @@ pub record IsFound (number : ℕ) (packets : List Packet) (packet : Packet) : Ty
 found : (number : ℕ) (packets : List Packet) (packet : Packet) → find (λ p. p.number == number) packets ≡ Some packet → IsFound number packets packet
 found number [] packet is = absurd (cc is)
 found number (p ∷ ps) packet is = by (nat_eq p.number number) refl is (λ rest. found number ps packet rest) where
-  by : (b : Bool) → nat_eq p.number number ≡ b → cond b (Some p) (find (λ q. q.number == number) ps) ≡ Some packet → (find (λ q. q.number == number) ps ≡ Some packet → IsFound number ps packet) → IsFound number (p ∷ ps) packet
+  by : (b : Bool) → nat_eq p.number number ≡ b → cond b (Some p) (find (λ q. q.number == number) ps) ≡ Some packet
+      → (find (λ q. q.number == number) ps ≡ Some packet → IsFound number ps packet) → IsFound number (p ∷ ps) packet
   by true same at rest =
       let one : p ≡ packet = cc (at) in
       record { named = ap (λ (q : Packet). q.number) (sym one) ∙ eqb-true p.number number same; origin = rw same (ap (λ (q : Packet). Some q.origin) one) }
@@ -231,13 +249,15 @@ module _ (plan : Plan) (network : NetworkState) (seen : Seen) (shows : Shows pla
     ready =
         let bridges = packet_bridges plan taken_all packet.bytes (begin_at network packet.to) in
         plain_ready plan (without_packet packet.number network) packet.to work (copy_goes number seen)
-        (subst (λ (n : ℕ). Shows plan (without_packet n network) (copy_goes number seen)) (sym (found number network.under_way packet is).named) (gone_shows plan network seen number shows)) (gone_alone network packet.number alone)
+        (subst (λ (n : ℕ). Shows plan (without_packet n network) (copy_goes number seen)) (sym (found number network.under_way packet is).named)
+        (gone_shows plan network seen number shows)) (gone_alone network packet.number alone)
         (subst (λ (w : Work). Tells none w work) (sym (gone_begin network packet.number packet.to))
         (bridged_tells (begin_at network packet.to) work bridges.edge.me bridges.edge.circuits bridges.edge.peering bridges.edge.downs bridges.effects))
 
   pub discard_shown : (packet : Option Packet) → packet_at network number ≡ packet → IsShown plan (Discard number) network seen (discard_event packet network)
   discard_shown None is = WasIdle refl
-  discard_shown (Some packet) is = HasGone tt (subst (λ (n : ℕ). Shows plan (without_packet n network) (copy_goes number seen)) (sym (found number network.under_way packet is).named) (gone_shows plan network seen number shows))
+  discard_shown (Some packet) is = HasGone tt (subst (λ (n : ℕ). Shows plan (without_packet n network) (copy_goes number seen)) (sym (found number network.under_way packet is).named)
+      (gone_shows plan network seen number shows))
 
   pub again_shown : (packet : Option Packet) → packet_at network number ≡ packet → IsShown plan (Again number) network seen (again_event packet network)
   unfolding with_copy with_copies
@@ -248,9 +268,11 @@ module _ (plan : Plan) (network : NetworkState) (seen : Seen) (shows : Shows pla
     rests = shows.rests;
     up = shows.up;
     on = shows.on;
-    under_way = ap (λ (l : List SeenCopy). l ++ record { number = network.sent + 1; origin = packet.origin } ∷ []) (none_without network.sent (network.sent + 1) seen.under_way shows.counted (omega arith) ∙ shows.under_way) ∙ sym (sent_more network.under_way _);
+    under_way = ap (λ (l : List SeenCopy). l ++ record { number = network.sent + 1; origin = packet.origin } ∷ [])
+        (none_without network.sent (network.sent + 1) seen.under_way shows.counted (omega arith) ∙ shows.under_way) ∙ sym (sent_more network.under_way _);
     counted = below_behind (network.sent + 1) (without_copy (network.sent + 1) seen.under_way) (record { number = network.sent + 1; origin = packet.origin })
-        (below_more network.sent (network.sent + 1) (without_copy (network.sent + 1) seen.under_way) (omega arith) (without_below network.sent (network.sent + 1) seen.under_way shows.counted)) (omega arith);
+        (below_more network.sent (network.sent + 1) (without_copy (network.sent + 1) seen.under_way) (omega arith)
+        (without_below network.sent (network.sent + 1) seen.under_way shows.counted)) (omega arith);
   }))
     where
       at : IsFound number network.under_way packet

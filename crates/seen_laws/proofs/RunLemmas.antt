@@ -67,7 +67,8 @@ told_applied (entry.Pong edge wire sequence ∷ es) are = told_applied es are
 pub event_read : (plan : Plan) (event : Event) (network : NetworkState) (seen : Seen) (after : Stepped) → Shows plan network seen → IsShown plan event network seen after
     → Shows plan after.state (seen_from seen (entry.Did event ∷ after.entries))
 event_read plan event network seen after shows (WasIdle same) = subst (λ (s : Stepped). Shows plan s.state (seen_from seen (entry.Did event ∷ s.entries))) (sym same) shows
-event_read plan event network seen after shows (HasGone are goes) = subst (λ (idle : Bool). Shows plan after.state (seen_from (happened_or idle event seen) after.entries)) (sym (told_applied after.entries are))
+event_read plan event network seen after shows (HasGone are goes) =
+    subst (λ (idle : Bool). Shows plan after.state (seen_from (happened_or idle event seen) after.entries)) (sym (told_applied after.entries are))
     (subst (Shows plan after.state) (sym (told_read after.entries (happened event seen) are)) goes)
 
 -- ---- one event
@@ -75,7 +76,8 @@ event_read plan event network seen after shows (HasGone are goes) = subst (λ (i
 none_alone : (plan : Plan) (network : NetworkState) → IsOrdered plan network → NoneAlone network
 none_alone plan network ordered a = ap (λ (o : Option Peering). is_there o) (ordered.alone a)
 
-brings_shown : (plan : Plan) (event : Event) (network : NetworkState) (seen : Seen) → IsChecked plan → HasTypes plan → IsOrdered plan network → Shows plan network seen → NoneAlone network → AreNumbered network → IsShown plan event network seen (brings plan event network)
+brings_shown : (plan : Plan) (event : Event) (network : NetworkState) (seen : Seen) → IsChecked plan → HasTypes plan → IsOrdered plan network → Shows plan network seen
+    → NoneAlone network → AreNumbered network → IsShown plan event network seen (brings plan event network)
 brings_shown plan (Connect from to) network seen checked types ordered shows alone numbered = connect_shown plan network seen shows alone checked types ordered from to
 brings_shown plan (Deliver from to count) network seen checked types ordered shows alone numbered = deliver_shown plan network seen shows alone from to count ordered
 brings_shown plan (Lose me peer) network seen checked types ordered shows alone numbered = lose_shown plan network seen me peer shows alone
@@ -102,16 +104,20 @@ pub along_begins : (plan : Plan) (network : NetworkState) (events : List Event) 
 along_begins plan network [] = tt
 along_begins plan network (e ∷ es) = tt
 
-pub after_shows : (plan : Plan) (events : List Event) (network : NetworkState) (seen : Seen) → IsChecked plan → HasTypes plan → All (IsEventOf plan) events → IsOrdered plan network → AreNumbered network → Shows plan network seen
+pub after_shows : (plan : Plan) (events : List Event) (network : NetworkState) (seen : Seen) → IsChecked plan → HasTypes plan → All (IsEventOf plan) events → IsOrdered plan network
+    → AreNumbered network → Shows plan network seen
     → Shows plan (state_after plan network events) (seen_from seen (entries_along plan network events))
 after_shows plan [] network seen checked types planned ordered numbered shows = shows
 after_shows plan (e ∷ es) network seen checked types planned ordered numbered shows =
-    subst (Shows plan (state_after plan (step plan network e).state es)) (sym (seen_on (step plan network e).entries (entries_along plan (step plan network e).state es) seen (along_begins plan (step plan network e).state es)))
+    subst (Shows plan (state_after plan (step plan network e).state es))
+    (sym (seen_on (step plan network e).entries (entries_along plan (step plan network e).state es) seen (along_begins plan (step plan network e).state es)))
     (after_shows plan es (step plan network e).state (seen_from seen (step plan network e).entries) checked types (All-tail (IsEventOf plan) e es planned)
-    (step_keeps plan e network checked types (All-head (IsEventOf plan) e es planned) ordered).ordered (step_numbered plan network e numbered) (step_shows plan e network seen checked types ordered numbered shows))
+    (step_keeps plan e network checked types (All-head (IsEventOf plan) e es planned) ordered).ordered (step_numbered plan network e numbered)
+    (step_shows plan e network seen checked types ordered numbered shows))
 
 pub empty_shows : (plan : Plan) → Shows plan (empty_network plan) nothing_seen
 empty_shows plan = record { standing = λ a b. refl; pipes = λ a b. refl; rests = λ a b. refl; up = λ a wire. refl; on = λ circuit row is. refl; under_way = refl; counted = tt }
 
 pub run_shows : (plan : Plan) (events : List Event) → IsRun plan events → Shows plan (network_after plan events) (seen_in (run plan events).entries)
-run_shows plan events is = after_shows plan events (empty_network plan) nothing_seen is.checked is.types is.planned (empty_ordered plan is.checked) (record { rise = tt; counted = tt }) (empty_shows plan)
+run_shows plan events is = after_shows plan events (empty_network plan) nothing_seen is.checked is.types is.planned (empty_ordered plan is.checked) (record { rise = tt; counted = tt })
+    (empty_shows plan)

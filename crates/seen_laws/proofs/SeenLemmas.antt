@@ -82,18 +82,22 @@ pub record ShownBy (me : ℕ) (more : List Effect) (old new : Seen) : Type 0 whe
 
 pub shown_then : (me : ℕ) (es fs : List Effect) (a b c : Seen) → ShownBy me es a b → ShownBy me fs b c → ShownBy me (es ++ fs) a c
 shown_then me es fs a b c first next = record {
-  near = λ k. next.near k ∙ (ap (λ (x : Bool). x && not (ended k fs)) (first.near k) ∙ (and_not (a.stands me k) (ended k es) (ended k fs) ∙ ap (λ (x : Bool). a.stands me k && not x) (sym (ended-append k es fs))));
+  near = λ k. next.near k ∙ (ap (λ (x : Bool). x && not (ended k fs)) (first.near k)
+      ∙ (and_not (a.stands me k) (ended k es) (ended k fs) ∙ ap (λ (x : Bool). a.stands me k && not x) (sym (ended-append k es fs))));
   far = λ x y apart. next.far x y apart ∙ first.far x y apart;
-  rest = λ k. next.rest k ∙ (ap (λ (l : List ℕ). cond (ended k fs) [] l) (first.rest k) ∙ (silent_either (ended k es) (ended k fs) (a.rests me k) ∙ ap (λ (x : Bool). cond x [] (a.rests me k)) (sym (ended-append k es fs))));
+  rest = λ k. next.rest k ∙ (ap (λ (l : List ℕ). cond (ended k fs) [] l) (first.rest k)
+      ∙ (silent_either (ended k es) (ended k fs) (a.rests me k) ∙ ap (λ (x : Bool). cond x [] (a.rests me k)) (sym (ended-append k es fs))));
   rests = λ x y apart. next.rests x y apart ∙ first.rests x y apart;
   inward = λ k away. next.inward k away
-      ∙ (ap (λ (l : List ℕ). cond (ended k fs) [] l) (first.inward k away) ∙ (silent_either (ended k es) (ended k fs) (a.pipes k me) ∙ ap (λ (x : Bool). cond x [] (a.pipes k me)) (sym (ended-append k es fs))));
+      ∙ (ap (λ (l : List ℕ). cond (ended k fs) [] l) (first.inward k away)
+      ∙ (silent_either (ended k es) (ended k fs) (a.pipes k me) ∙ ap (λ (x : Bool). cond x [] (a.pipes k me)) (sym (ended-append k es fs))));
   outward = λ k away. next.outward k away
       ∙ (rw (first.far k me away, first.outward k away)
       (joined (a.stands k me) (a.pipes me k) (said_to k es) (said_to k fs)) ∙ ap (λ (l : List ℕ). cond (a.stands k me) (a.pipes me k ++ l) (a.pipes me k)) (sym (said-append k es fs)));
   apart = λ x y one other. next.apart x y one other ∙ first.apart x y one other;
   own = λ alone. next.own (first.near me ∙ rw alone refl)
-      ∙ (ap (λ (l : List ℕ). cond (ended me fs) [] l) (first.own alone) ∙ (silent_either (ended me es) (ended me fs) (a.pipes me me) ∙ ap (λ (x : Bool). cond x [] (a.pipes me me)) (sym (ended-append me es fs))));
+      ∙ (ap (λ (l : List ℕ). cond (ended me fs) [] l) (first.own alone)
+      ∙ (silent_either (ended me es) (ended me fs) (a.pipes me me) ∙ ap (λ (x : Bool). cond x [] (a.pipes me me)) (sym (ended-append me es fs))));
   up = λ wire. next.up wire ∙ (ap (up_after wire fs) (first.up wire) ∙ sym (up-append wire es fs (a.up me wire)));
   ups = λ x wire apart. next.ups x wire apart ∙ first.ups x wire apart;
   on = next.on ∙ first.on;
@@ -108,7 +112,8 @@ shows_none me es old new shuts silent still stands pipes rests ups on = record {
   rest = λ k. ap (λ (f : ℕ → ℕ → List ℕ). f me k) rests ∙ ap (λ (x : Bool). cond x [] (old.rests me k)) (sym (shuts k));
   rests = λ a b apart. ap (λ (f : ℕ → ℕ → List ℕ). f a b) rests;
   inward = λ k away. ap (λ (f : ℕ → ℕ → List ℕ). f k me) pipes ∙ ap (λ (x : Bool). cond x [] (old.pipes k me)) (sym (shuts k));
-  outward = λ k away. ap (λ (f : ℕ → ℕ → List ℕ). f me k) pipes ∙ (silent_pipe (old.stands k me) (old.pipes me k) ∙ ap (λ (l : List ℕ). cond (old.stands k me) (old.pipes me k ++ l) (old.pipes me k)) (sym (silent k)));
+  outward = λ k away. ap (λ (f : ℕ → ℕ → List ℕ). f me k) pipes
+      ∙ (silent_pipe (old.stands k me) (old.pipes me k) ∙ ap (λ (l : List ℕ). cond (old.stands k me) (old.pipes me k ++ l) (old.pipes me k)) (sym (silent k)));
   apart = λ a b one other. ap (λ (f : ℕ → ℕ → List ℕ). f a b) pipes;
   own = λ alone. ap (λ (f : ℕ → ℕ → List ℕ). f me me) pipes ∙ ap (λ (x : Bool). cond x [] (old.pipes me me)) (sym (shuts me));
   up = λ wire. ap (λ (f : ℕ → ℕ → Bool). f me wire) ups ∙ sym (still wire (old.up me wire));
@@ -116,7 +121,8 @@ shows_none me es old new shuts silent still stands pipes rests ups on = record {
   on = on;
 }
 
-shows_same : (me : ℕ) (e : Effect) (seen : Seen) → ((k : ℕ) → ended k (e ∷ []) ≡ false) → ((k : ℕ) → said_to k (e ∷ []) ≡ []) → ((wire : ℕ) (up : Bool) → up_after wire (e ∷ []) up ≡ up) → ShownBy me (e ∷ []) seen seen
+shows_same : (me : ℕ) (e : Effect) (seen : Seen) → ((k : ℕ) → ended k (e ∷ []) ≡ false) → ((k : ℕ) → said_to k (e ∷ []) ≡ [])
+    → ((wire : ℕ) (up : Bool) → up_after wire (e ∷ []) up ≡ up) → ShownBy me (e ∷ []) seen seen
 shows_same me e seen shuts silent still = shows_none me (e ∷ []) seen seen shuts silent still refl refl refl refl refl
 
 -- octets that an edge says
@@ -129,7 +135,8 @@ said_shows me peer octets seen = by (seen.stands peer.0 me.0) refl where
       let e : k ≡ peer.0 = eqb-true k peer.0 same in
       rw e (there up is)
     where
-      there : (up : Bool) → seen.stands peer.0 me.0 ≡ up → cond up (seen.pipes me.0 peer.0 ++ octets) (seen.pipes me.0 peer.0) ≡ cond (seen.stands peer.0 me.0) (seen.pipes me.0 peer.0 ++ (octets ++ [])) (seen.pipes me.0 peer.0)
+      there : (up : Bool) → seen.stands peer.0 me.0 ≡ up → cond up (seen.pipes me.0 peer.0 ++ octets) (seen.pipes me.0 peer.0)
+          ≡ cond (seen.stands peer.0 me.0) (seen.pipes me.0 peer.0 ++ (octets ++ [])) (seen.pipes me.0 peer.0)
       there true is = rw (is, same_end octets) refl
       there false is = rw is refl
   out k false up is other = silent_pipe (seen.stands k me.0) (seen.pipes me.0 k)
@@ -170,7 +177,8 @@ said_shows me peer octets seen = by (seen.stands peer.0 me.0) refl where
       keeps k false other = refl
 
 -- a session that has ended
-ended_shows : (me peer : EdgeId) (why : Rattle.net_base.specs.declared.trace.state_name.Reason.Reason) (seen : Seen) → ShownBy me.0 (effect.Session peer (state.Ended why) ∷ []) seen (end_goes me.0 peer.0 seen)
+ended_shows : (me peer : EdgeId) (why : Rattle.net_base.specs.declared.trace.state_name.Reason.Reason) (seen : Seen)
+    → ShownBy me.0 (effect.Session peer (state.Ended why) ∷ []) seen (end_goes me.0 peer.0 seen)
 unfolding with_octets with_standing with_rest
 ended_shows me peer why seen = record {
   near = λ k. rw (same_number me.0) (gone (nat_eq k peer.0) (seen.stands me.0 k));
@@ -205,7 +213,8 @@ ended_shows me peer why seen = record {
     kept a b false other = refl
 
 -- a wire that is told
-wire_shows : (me : EdgeId) (wire : Rattle.net_base.specs.declared.plan.places.WireId.WireId) (down : Option Rattle.net_base.specs.declared.trace.down.Down.Down) (seen : Seen) → ShownBy me.0 (effect.Wire wire down ∷ []) seen (with_up me.0 wire.0 (is_up down) seen)
+wire_shows : (me : EdgeId) (wire : Rattle.net_base.specs.declared.plan.places.WireId.WireId) (down : Option Rattle.net_base.specs.declared.trace.down.Down.Down) (seen : Seen)
+    → ShownBy me.0 (effect.Wire wire down ∷ []) seen (with_up me.0 wire.0 (is_up down) seen)
 unfolding with_up
 wire_shows me wire down seen = record {
   near = λ k. and_not_false (seen.stands me.0 k);
@@ -254,7 +263,8 @@ all_show me origin hops (e ∷ es) network seen =
 -- ---- packets
 
 -- what is seen under way, and the count of packets, go together
-pub sent_more : (xs : List Rattle.network_model.specs.declared.packet.Packet.Packet) (x : Rattle.network_model.specs.declared.packet.Packet.Packet) → map copy_of (xs ++ x ∷ []) ≡ map copy_of xs ++ copy_of x ∷ []
+pub sent_more : (xs : List Rattle.network_model.specs.declared.packet.Packet.Packet) (x : Rattle.network_model.specs.declared.packet.Packet.Packet) → map copy_of (xs ++ x ∷ [])
+    ≡ map copy_of xs ++ copy_of x ∷ []
 sent_more [] x = refl
 sent_more (y ∷ ys) x = ap (λ (l : List SeenCopy). copy_of y ∷ l) (sent_more ys x)
 
@@ -270,7 +280,8 @@ one_way me origin hops (effect.Said peer octets) network seen below same = said_
 one_way me origin hops (effect.Session peer name) network seen below same = session_way me.0 peer.0 name seen ∙ same
 one_way me origin hops (effect.Wire wire down) network seen below same = same
 one_way me origin hops (effect.Sent peer wire came octets) network seen below same =
-    ap (λ (l : List SeenCopy). l ++ record { number = network.sent + 1; origin = origin } ∷ []) (none_without network.sent (network.sent + 1) seen.under_way below (omega arith) ∙ same) ∙ sym (sent_more network.under_way _)
+    ap (λ (l : List SeenCopy). l ++ record { number = network.sent + 1; origin = origin } ∷ []) (none_without network.sent (network.sent + 1) seen.under_way below (omega arith) ∙ same)
+    ∙ sym (sent_more network.under_way _)
 one_way me origin hops (effect.Left circuit octets) network seen below same = same
 one_way me origin hops (effect.Dropped cause) network seen below same = same
 one_way me origin hops (effect.Pong wire sequence) network seen below same = same

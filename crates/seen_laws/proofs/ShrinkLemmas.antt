@@ -70,7 +70,8 @@ change_shrinks change work shrinks = shrinks
 addresses_shrink : (service : ServiceId) (p : MacEntry → Bool) (edge : EdgeState) → Shrinks edge (with_addresses service (filter p (addresses_of edge service)) edge)
 unfolding with_addresses
 addresses_shrink service p edge = record { gone = λ k address absent. by k address absent (nat_eq k service.0) refl } where
-  by : (k : ℕ) (address : Mac) → has_address (edge.learned k) address ≡ false → (b : Bool) → nat_eq k service.0 ≡ b → has_address (cond b (filter p (edge.learned service.0)) (edge.learned k)) address ≡ false
+  by : (k : ℕ) (address : Mac) → has_address (edge.learned k) address ≡ false → (b : Bool) → nat_eq k service.0 ≡ b
+      → has_address (cond b (filter p (edge.learned service.0)) (edge.learned k)) address ≡ false
   by k address absent true same = absent-filter p (edge.learned service.0) address (ap (λ (n : ℕ). has_address (edge.learned n) address) (sym (eqb-true k service.0 same)) ∙ absent)
   by k address absent false other = absent
 
@@ -85,8 +86,10 @@ port_shrinks service (Some p) edge = addresses_shrink service (λ e. not (nat_eq
 says_shrinks : (told : Answers) (peer : EdgeId) (message : ℕ → Message) (work : Work) → WorkShrinks work (says told peer message work).work
 says_shrinks told peer message work = same_shrinks work.edge (says told peer message work).work.edge (says_works told any peer message work refl).edge.learned
 
-then_says : (told : Answers) (peer : EdgeId) (message : ℕ → Message) (change : EdgeState → EdgeState) (work : Work) → WorkShrinks work (changes change work) → WorkShrinks work (says told peer message (changes change work)).work
-then_says told peer message change work first = shrinks_then work.edge (changes change work).edge (says told peer message (changes change work)).work.edge first (says_shrinks told peer message (changes change work))
+then_says : (told : Answers) (peer : EdgeId) (message : ℕ → Message) (change : EdgeState → EdgeState) (work : Work) → WorkShrinks work (changes change work)
+    → WorkShrinks work (says told peer message (changes change work)).work
+then_says told peer message change work first = shrinks_then work.edge (changes change work).edge (says told peer message (changes change work)).work.edge first
+    (says_shrinks told peer message (changes change work))
 
 end_same : (place : EndPlace) (end : EdgeState → EndState) (edge : EdgeState) → Shrinks edge (with_end place (end edge) edge)
 unfolding with_end
@@ -139,7 +142,8 @@ mend_shrinks plan told = record {
   same = λ work. same_shrinks work.edge work.edge refl;
   joined = λ a b c first next. shrinks_then a.edge b.edge c.edge first next;
   advertises = λ place label content work here idle wished left.
-      then_says told place.peer (mapping place.pw_id label content) (advertising place label content) work (change_shrinks (advertising place label content) work (advertising_same place label content work.edge));
+      then_says told place.peer (mapping place.pw_id label content) (advertising place label content) work
+      (change_shrinks (advertising place label content) work (advertising_same place label content work.edge));
   withdraws = λ place label content work here is wished.
       then_says told place.peer (withdrawal place.pw_id label content) (withdrawing place) work (change_shrinks (withdrawing place) work (end_same place (λ e. withdrawn (end_at e place)) work.edge));
   chooses = λ work. change_shrinks (choosing plan) work (choosing_same plan work.edge);
@@ -148,7 +152,8 @@ mend_shrinks plan told = record {
       (change_shrinks (telling_status place (status_to_tell plan work.edge place)) work (end_same place (λ e. telling (status_to_tell plan work.edge place) (end_at e place)) work.edge));
   tells_piece = λ place label content addresses work is. says_shrinks told place.peer (mac_withdrawal place.pw_id addresses content) work;
   tells_down = λ place work here terminal other. down_same place.wire (down_at plan work.edge place) work;
-  forgets_wire = λ place why work here terminal is. change_shrinks (forgetting_wire plan place.wire (wire_row plan place.wire)) work (forgetting_shrinks plan place.wire (wire_row plan place.wire) work.edge);
+  forgets_wire = λ place why work here terminal is. change_shrinks (forgetting_wire plan place.wire (wire_row plan place.wire)) work
+      (forgetting_shrinks plan place.wire (wire_row plan place.wire) work.edge);
 }
 
 hear_shrinks : (plan : Plan) (told : Answers) → HearSteps plan told WorkShrinks
@@ -159,10 +164,13 @@ hear_shrinks plan told = record {
   holds = λ peer kept octets work is. change_shrinks (with_peering peer (Some (record kept { held = octets }))) work (peering_same peer (Some (record kept { held = octets })) work.edge);
   releases = λ peer fec label work. says_shrinks told peer (release fec label) work;
   binds = λ peer fec place binding work there is taken. change_shrinks (with_end_changed (bound binding) (Some place)) work (changed_same (bound binding) (Some place) work.edge);
-  unbinds = λ peer fec label work there. change_shrinks (with_named plan peer fec (unbound label) (group_unbound fec.group) fec.pw_id) work (named_same plan peer fec (unbound label) (group_unbound fec.group) fec.pw_id work.edge);
+  unbinds = λ peer fec label work there. change_shrinks (with_named plan peer fec (unbound label) (group_unbound fec.group) fec.pw_id) work
+      (named_same plan peer fec (unbound label) (group_unbound fec.group) fec.pw_id work.edge);
   released = λ peer fec label work there. change_shrinks (λ edge. with_released label (end_of_fec plan edge peer fec) edge) work (released_same label (end_of_fec plan work.edge peer fec) work.edge);
-  states = λ peer fec status work there. change_shrinks (with_named plan peer fec (stated status) (group_stated fec.group status) fec.pw_id) work (named_same plan peer fec (stated status) (group_stated fec.group status) fec.pw_id work.edge);
-  clears = λ service addresses from work. change_shrinks (withdrawing_at service addresses from) work (addresses_shrink service (Rattle.mac_table.specs.Addresses.entry_stays from addresses) work.edge);
+  states = λ peer fec status work there. change_shrinks (with_named plan peer fec (stated status) (group_stated fec.group status) fec.pw_id) work
+      (named_same plan peer fec (stated status) (group_stated fec.group status) fec.pw_id work.edge);
+  clears = λ service addresses from work. change_shrinks (withdrawing_at service addresses from) work
+      (addresses_shrink service (Rattle.mac_table.specs.Addresses.entry_stays from addresses) work.edge);
 }
 
 -- ---- single changes
@@ -173,7 +181,8 @@ set_same circuit on edge = same_shrinks edge (with_circuit circuit on edge) refl
 
 off_shrinks : (plan : Plan) (circuit : CircuitId) (row : CircuitPlan) (edge : EdgeState) → Shrinks edge (turned plan circuit row false edge)
 unfolding with_circuit
-off_shrinks plan circuit row edge = shrinks_then edge (with_circuit circuit false edge) (turned plan circuit row false edge) (set_same circuit false edge) (port_shrinks row.service (port_at plan edge circuit row) (with_circuit circuit false edge))
+off_shrinks plan circuit row edge = shrinks_then edge (with_circuit circuit false edge) (turned plan circuit row false edge) (set_same circuit false edge)
+    (port_shrinks row.service (port_at plan edge circuit row) (with_circuit circuit false edge))
 
 turned_same : (wire : WireId) (on : Bool) (edge : EdgeState) → Shrinks edge (turned_wire wire on edge)
 unfolding with_wire with_renewed
@@ -196,7 +205,8 @@ ticks_shrink : (plan : Plan) (told : Answers) (place count : ℕ) (work : Work) 
 ticks_shrink plan told place zero work = same_shrinks work.edge work.edge refl
 ticks_shrink plan told place (suc count) work =
     let first : Work = happens_with_ends told (record { 0 = place }) Ticked work in
-    shrinks_then work.edge first.edge (ticks_sessions told (place + 1) count first).edge ((hear_shrinks plan told).happens (record { 0 = place }) Ticked work) (ticks_shrink plan told (place + 1) count first)
+    shrinks_then work.edge first.edge (ticks_sessions told (place + 1) count first).edge ((hear_shrinks plan told).happens (record { 0 = place }) Ticked work)
+    (ticks_shrink plan told (place + 1) count first)
 
 aged_absent : (now : ℕ) (row : Option ServicePlan) (entries : List MacEntry) (address : Mac) → has_address entries address ≡ false → has_address (aged now row entries) address ≡ false
 aged_absent now None entries address absent = absent
@@ -232,7 +242,8 @@ module _ (plan : Plan) (told : Answers) (work : Work) where
     between : (own other : Option EdgePlan) → WorkShrinks work (connects_between plan told peer own other work)
     between None other = idles_same
     between (Some own) None = idles_same
-    between (Some own) (Some other) = mended (connects told peer (opened_with own other) work) (same_shrinks work.edge (connects told peer (opened_with own other) work).edge (connects_works told any peer (opened_with own other) work refl).edge.learned)
+    between (Some own) (Some other) = mended (connects told peer (opened_with own other) work)
+        (same_shrinks work.edge (connects told peer (opened_with own other) work).edge (connects_works told any peer (opened_with own other) work refl).edge.learned)
 
     by : (b : Bool) → WorkShrinks work (cond b (connects_between plan told peer (slice_get plan.edges work.edge.me.0) (slice_get plan.edges peer.0) work) (idles work))
     by true = between (slice_get plan.edges work.edge.me.0) (slice_get plan.edges peer.0)
@@ -250,13 +261,16 @@ module _ (plan : Plan) (told : Answers) (work : Work) where
     turns false edge = off_shrinks plan circuit row edge
 
   pub wire_shrinks : (wire : WireId) (on : Bool) → WorkShrinks work (wire_input plan told wire on work)
-  wire_shrinks wire on = applied (passes plan work.edge.me wire && not (is_same on (work.edge.wire_on wire.0))) (changes (turned_wire wire on) work) (change_shrinks (turned_wire wire on) work (turned_same wire on work.edge))
+  wire_shrinks wire on = applied (passes plan work.edge.me wire && not (is_same on (work.edge.wire_on wire.0))) (changes (turned_wire wire on) work)
+      (change_shrinks (turned_wire wire on) work (turned_same wire on work.edge))
 
   pub status_shrinks : (wire : WireId) (bits : ℕ) → WorkShrinks work (status_input plan told wire bits work)
-  status_shrinks wire bits = applied (ends_here plan work.edge.me wire && not (nat_eq bits (work.edge.bits wire.0))) (changes (with_bits wire bits) work) (change_shrinks (with_bits wire bits) work (bits_same wire bits work.edge))
+  status_shrinks wire bits = applied (ends_here plan work.edge.me wire && not (nat_eq bits (work.edge.bits wire.0))) (changes (with_bits wire bits) work)
+      (change_shrinks (with_bits wire bits) work (bits_same wire bits work.edge))
 
   pub priority_shrinks : (wire : WireId) (priority : ℕ) → WorkShrinks work (priority_input plan told wire priority work)
-  priority_shrinks wire priority = applied (is_own_spoke work.edge.me (wire_row plan wire) && not (nat_eq priority (work.edge.priority wire.0))) (changes (with_priority wire priority) work) (change_shrinks (with_priority wire priority) work (priority_same wire priority work.edge))
+  priority_shrinks wire priority = applied (is_own_spoke work.edge.me (wire_row plan wire) && not (nat_eq priority (work.edge.priority wire.0)))
+      (changes (with_priority wire priority) work) (change_shrinks (with_priority wire priority) work (priority_same wire priority work.edge))
 
   pub ping_shrinks : (wire : WireId) → WorkShrinks work (ping_input plan told wire work)
   ping_shrinks wire =
@@ -269,4 +283,5 @@ module _ (plan : Plan) (told : Answers) (work : Work) where
       let ticked : Work = ticks_sessions told 0 (length plan.edges) first in
       mended (changes (forgetting plan) ticked)
       (shrinks_then work.edge first.edge (changes (forgetting plan) ticked).edge (change_shrinks counted work (counted_same work.edge))
-      (shrinks_then first.edge ticked.edge (changes (forgetting plan) ticked).edge (ticks_shrink plan told 0 (length plan.edges) first) (change_shrinks (forgetting plan) ticked (aging_shrinks plan ticked.edge))))
+      (shrinks_then first.edge ticked.edge (changes (forgetting plan) ticked).edge (ticks_shrink plan told 0 (length plan.edges) first)
+      (change_shrinks (forgetting plan) ticked (aging_shrinks plan ticked.edge))))

@@ -116,12 +116,16 @@ module _ (plan : Plan) (service : ServiceId) (address : List ℕ) where
 
     both : Unlearned (with_edge to (connected_work plan network to from).edge (with_edge from (connected_work plan network from to).edge network))
     both = edge_unlearned to (connected_work plan network to from).edge (with_edge from (connected_work plan network from to).edge network)
-        (edge_unlearned from (connected_work plan network from to).edge network unlearned (still_absent from (connected_work plan network from to).edge network unlearned (connected_shrinks plan taken_all (begin_at network from) to)))
+        (edge_unlearned from (connected_work plan network from to).edge network unlearned
+        (still_absent from (connected_work plan network from to).edge network unlearned (connected_shrinks plan taken_all (begin_at network from) to)))
         (still_absent to (connected_work plan network to from).edge network unlearned (connected_shrinks plan taken_all (begin_at network to) from))
 
     by : (connects : Bool) → Unlearned (cond connects (connecting from (connected_work plan network from to) to (connected_work plan network to from) network) (idle network)).state
-    by true = all_unlearned to (connected_work plan network to from).effects (absorb_all from 0 0 (connected_work plan network from to).effects (with_edge to (connected_work plan network to from).edge (with_edge from (connected_work plan network from to).edge network)))
-        (all_unlearned from (connected_work plan network from to).effects (with_edge to (connected_work plan network to from).edge (with_edge from (connected_work plan network from to).edge network)) both)
+    by true = all_unlearned to (connected_work plan network to from).effects
+        (absorb_all from 0 0 (connected_work plan network from to).effects
+        (with_edge to (connected_work plan network to from).edge (with_edge from (connected_work plan network from to).edge network)))
+        (all_unlearned from (connected_work plan network from to).effects
+        (with_edge to (connected_work plan network to from).edge (with_edge from (connected_work plan network from to).edge network)) both)
     by false = unlearned
 
   losing_unlearned : (me peer : EdgeId) (network : NetworkState) → Unlearned network → Unlearned (losing plan me peer network).state
@@ -176,7 +180,8 @@ module _ (plan : Plan) (service : ServiceId) (address : List ℕ) where
   older_none [] none = refl
   older_none (p ∷ ps) none = by (lives_on p) (older_none ps (second_fails (packet_teaches plan service address p) (list_any (packet_teaches plan service address) ps) none)) where
     by : (b : Bool) → list_any (packet_teaches plan service address) (all_older ps) ≡ false → list_any (packet_teaches plan service address) (cond b (older p ∷ all_older ps) (all_older ps)) ≡ false
-    by true rest = ap (λ (b : Bool). b || list_any (packet_teaches plan service address) (all_older ps)) (first_fails (packet_teaches plan service address p) (list_any (packet_teaches plan service address) ps) none) ∙ rest
+    by true rest = ap (λ (b : Bool). b || list_any (packet_teaches plan service address) (all_older ps))
+        (first_fails (packet_teaches plan service address p) (list_any (packet_teaches plan service address) ps) none) ∙ rest
     by false rest = rest
 
   older_unlearned : (network : NetworkState) → Unlearned network → Unlearned (with_older network)
@@ -187,12 +192,14 @@ module _ (plan : Plan) (service : ServiceId) (address : List ℕ) where
   ticks_unlearned place zero network unlearned = unlearned
   ticks_unlearned place (suc count) network unlearned =
       let me : EdgeId = record { 0 = place } in
-      ticks_unlearned (place + 1) count (tick_at plan me network).state (absorb_unlearned me (tick_input plan taken_all (begin_at network me)) network unlearned (tick_shrinks plan taken_all (begin_at network me)))
+      ticks_unlearned (place + 1) count (tick_at plan me network).state
+      (absorb_unlearned me (tick_input plan taken_all (begin_at network me)) network unlearned (tick_shrinks plan taken_all (begin_at network me)))
 
   circuit_unlearned : (circuit : CircuitId) (on : Bool) (row : Option CircuitPlan) (network : NetworkState) → Unlearned network → Unlearned (circuit_event plan circuit on row network).state
   circuit_unlearned circuit on None network unlearned = unlearned
   circuit_unlearned circuit on (Some row) network unlearned =
-      answer_unlearned row.edge (circuit_input plan taken_all circuit on (Some row) (begin_at network row.edge)) network unlearned (circuit_shrinks plan taken_all (begin_at network row.edge) circuit on (Some row))
+      answer_unlearned row.edge (circuit_input plan taken_all circuit on (Some row) (begin_at network row.edge)) network unlearned
+      (circuit_shrinks plan taken_all (begin_at network row.edge) circuit on (Some row))
 
   wire_unlearned : (me : EdgeId) (wire : WireId) (on : Bool) (network : NetworkState) → Unlearned network → Unlearned (wire_event plan me wire on network).state
   wire_unlearned me wire on network unlearned =
@@ -211,15 +218,18 @@ module _ (plan : Plan) (service : ServiceId) (address : List ℕ) where
 
   -- ---- packets
 
-  none_without : (number : ℕ) (packets : List Packet) → list_any (packet_teaches plan service address) packets ≡ false → list_any (packet_teaches plan service address) (without_number number packets) ≡ false
+  none_without : (number : ℕ) (packets : List Packet) → list_any (packet_teaches plan service address) packets ≡ false
+      → list_any (packet_teaches plan service address) (without_number number packets) ≡ false
   none_without number [] none = refl
   none_without number (p ∷ ps) none = by (nat_eq p.number number) (none_without number ps later) where
     later : list_any (packet_teaches plan service address) ps ≡ false
     later = second_fails (packet_teaches plan service address p) (list_any (packet_teaches plan service address) ps) none
 
-    by : (b : Bool) → list_any (packet_teaches plan service address) (without_number number ps) ≡ false → list_any (packet_teaches plan service address) (cond b ps (p ∷ without_number number ps)) ≡ false
+    by : (b : Bool) → list_any (packet_teaches plan service address) (without_number number ps) ≡ false
+        → list_any (packet_teaches plan service address) (cond b ps (p ∷ without_number number ps)) ≡ false
     by true rest = later
-    by false rest = ap (λ (b : Bool). b || list_any (packet_teaches plan service address) (without_number number ps)) (first_fails (packet_teaches plan service address p) (list_any (packet_teaches plan service address) ps) none) ∙ rest
+    by false rest = ap (λ (b : Bool). b || list_any (packet_teaches plan service address) (without_number number ps))
+        (first_fails (packet_teaches plan service address p) (list_any (packet_teaches plan service address) ps) none) ∙ rest
 
   discard_unlearned : (found : Option Packet) (network : NetworkState) → Unlearned network → Unlearned (discard_event found network).state
   unfolding without_packet
@@ -237,8 +247,18 @@ module _ (plan : Plan) (service : ServiceId) (address : List ℕ) where
   unfolding with_copy
   again_unlearned number None network is unlearned = unlearned
   again_unlearned number (Some packet) network is unlearned =
-      let own : packet_teaches plan service address packet ≡ false = packet_holds (λ packet. packet_teaches plan service address packet ≡ false) network number packet (each_none network.under_way unlearned.packets) is in
-      let copy : Packet = record { number = network.sent + 1; wire = packet.wire; from = packet.from; to = packet.to; origin = packet.origin; hops = packet.hops; age = packet.age; bytes = packet.bytes } in
+      let own : packet_teaches plan service address packet ≡ false =
+      packet_holds (λ packet. packet_teaches plan service address packet ≡ false) network number packet (each_none network.under_way unlearned.packets) is in
+      let copy : Packet = record {
+        number = network.sent + 1;
+        wire = packet.wire;
+        from = packet.from;
+        to = packet.to;
+        origin = packet.origin;
+        hops = packet.hops;
+        age = packet.age;
+        bytes = packet.bytes;
+      } in
       record {
         tables = unlearned.tables;
         packets = list_any-append (packet_teaches plan service address) network.under_way (copy ∷ [])
@@ -262,14 +282,16 @@ module _ (plan : Plan) (service : ServiceId) (address : List ℕ) where
   event_unlearned before (Restart me) is none unlearned = restart_unlearned me (network_after plan before) unlearned
   event_unlearned before Tick is none unlearned = ticks_unlearned 0 (length plan.edges) (with_older (network_after plan before)) (older_unlearned (network_after plan before) unlearned)
   event_unlearned before (Frame circuit octets) is none unlearned =
-      step_unlearned plan (network_after plan before) (run plan before).entries 0 service address (Frame circuit octets) is.checked (run_ruled plan before is) (runs_keep_packet_rule plan before is) refl
+      step_unlearned plan (network_after plan before) (run plan before).entries 0 service address (Frame circuit octets) is.checked (run_ruled plan before is)
+      (runs_keep_packet_rule plan before is) refl
       (frame_untaught circuit octets (network_after plan before) (λ k. (run_synced plan before is.checked k).me) none) unlearned
   event_unlearned before (Circuit circuit on) is none unlearned = circuit_unlearned circuit on (circuit_row plan circuit) (network_after plan before) unlearned
   event_unlearned before (Wire me wire on) is none unlearned = wire_unlearned me wire on (network_after plan before) unlearned
   event_unlearned before (Status me wire bits) is none unlearned = status_unlearned me wire bits (network_after plan before) unlearned
   event_unlearned before (Priority me wire priority) is none unlearned = priority_unlearned me wire priority (network_after plan before) unlearned
   event_unlearned before (Arrive number) is none unlearned =
-      step_unlearned plan (network_after plan before) (run plan before).entries 0 service address (Arrive number) is.checked (run_ruled plan before is) (runs_keep_packet_rule plan before is) refl refl unlearned
+      step_unlearned plan (network_after plan before) (run plan before).entries 0 service address (Arrive number) is.checked (run_ruled plan before is)
+      (runs_keep_packet_rule plan before is) refl refl unlearned
   event_unlearned before (Discard number) is none unlearned = discard_unlearned (packet_at (network_after plan before) number) (network_after plan before) unlearned
   event_unlearned before (Again number) is none unlearned = again_unlearned number (packet_at (network_after plan before) number) (network_after plan before) refl unlearned
   event_unlearned before (Ping me wire) is none unlearned = ping_unlearned me wire (network_after plan before) unlearned
@@ -282,8 +304,10 @@ module _ (plan : Plan) (service : ServiceId) (address : List ℕ) where
   along_unlearned before (e ∷ es) is none unlearned =
       subst (λ (l : List Event). Unlearned (network_after plan l)) (append_assoc before (e ∷ []) es)
       (along_unlearned (before ++ e ∷ []) es (subst (IsRun plan) (sym (append_assoc before (e ∷ []) es)) is)
-      (ap (λ (n : NetworkState). list_any (is_sourced_by plan service address) (entries_along plan n es)) after_is ∙ second_fails (list_any (is_sourced_by plan service address) own) (list_any (is_sourced_by plan service address) rest) parts)
-      (subst Unlearned (sym after_is) (event_unlearned before e (front_run plan (before ++ e ∷ es) before (e ∷ es) is refl) (first_fails (list_any (is_sourced_by plan service address) own) (list_any (is_sourced_by plan service address) rest) parts) unlearned)))
+      (ap (λ (n : NetworkState). list_any (is_sourced_by plan service address) (entries_along plan n es)) after_is
+      ∙ second_fails (list_any (is_sourced_by plan service address) own) (list_any (is_sourced_by plan service address) rest) parts)
+      (subst Unlearned (sym after_is) (event_unlearned before e (front_run plan (before ++ e ∷ es) before (e ∷ es) is refl)
+      (first_fails (list_any (is_sourced_by plan service address) own) (list_any (is_sourced_by plan service address) rest) parts) unlearned)))
     where
       own : List Entry
       own = (brings plan e (network_after plan before)).entries
@@ -294,8 +318,10 @@ module _ (plan : Plan) (service : ServiceId) (address : List ℕ) where
       after_is : network_after plan (before ++ e ∷ []) ≡ (step plan (network_after plan before) e).state
       after_is = after-append plan (empty_network plan) before (e ∷ [])
 
-      parts : list_any (is_sourced_by plan service address) (brings plan e (network_after plan before)).entries || list_any (is_sourced_by plan service address) (entries_along plan (step plan (network_after plan before) e).state es) ≡ false
-      parts = sym (list_any-append (is_sourced_by plan service address) (brings plan e (network_after plan before)).entries (entries_along plan (step plan (network_after plan before) e).state es)) ∙ none
+      parts : list_any (is_sourced_by plan service address) (brings plan e (network_after plan before)).entries || list_any (is_sourced_by plan service address)
+          (entries_along plan (step plan (network_after plan before) e).state es) ≡ false
+      parts = sym (list_any-append (is_sourced_by plan service address) (brings plan e (network_after plan before)).entries
+          (entries_along plan (step plan (network_after plan before) e).state es)) ∙ none
 
   first_unlearned : Unlearned (network_after plan [])
   first_unlearned = record { tables = λ k within. refl; packets = refl }
@@ -305,10 +331,12 @@ module _ (plan : Plan) (service : ServiceId) (address : List ℕ) where
 
 pub knows_sources : (plan : Plan) (events : List Event) → IsRun plan events → KnowsSources plan (network_after plan events) (run plan events).entries
 knows_sources plan events is = record {
-  learned = λ edge service address within held. by service address (list_any (is_sourced_by plan service address) (run plan events).entries) refl (λ unlearned. clash (sym (unlearned.tables edge within) ∙ held));
+  learned = λ edge service address within held. by service address (list_any (is_sourced_by plan service address) (run plan events).entries) refl
+      (λ unlearned. clash (sym (unlearned.tables edge within) ∙ held));
   carried = λ service address held. by service address (list_any (is_sourced_by plan service address) (run plan events).entries) refl (λ unlearned. clash (sym unlearned.packets ∙ held));
 } where
-  by : (service : ServiceId) (address : List ℕ) (b : Bool) → list_any (is_sourced_by plan service address) (run plan events).entries ≡ b → (IsUnlearned plan service address (network_after plan events) → b ≡ true) → b ≡ true
+  by : (service : ServiceId) (address : List ℕ) (b : Bool) → list_any (is_sourced_by plan service address) (run plan events).entries ≡ b
+      → (IsUnlearned plan service address (network_after plan events) → b ≡ true) → b ≡ true
   by service address true some not_so = refl
   by service address false none not_so = not_so (run_unlearned plan service address events is none)
 

@@ -71,13 +71,15 @@ ticks_told plan place zero network = tt
 ticks_told plan place (suc count) network =
     let me : EdgeId = record { 0 = place } in
     let work : Work = tick_input plan taken_all (begin_at network me) in
-    told-append (tick_at plan me network).entries (ticks_from plan (place + 1) count (tick_at plan me network).state).entries (work_told me 0 0 work.effects (with_edge me work.edge network)) (ticks_told plan (place + 1) count (tick_at plan me network).state)
+    told-append (tick_at plan me network).entries (ticks_from plan (place + 1) count (tick_at plan me network).state).entries
+    (work_told me 0 0 work.effects (with_edge me work.edge network)) (ticks_told plan (place + 1) count (tick_at plan me network).state)
 
 connecting_quiet : (from to : EdgeId) (one two : Work) (network : NetworkState) → IsQuietStep (connecting from one to two network)
 connecting_quiet from to one two network =
     let begun : NetworkState = with_edge to two.edge (with_edge from one.edge network) in
     told_none (connecting from one to two network).entries
-    (told-append (all_entries_of from 0 0 one.effects begun) (all_entries_of to 0 0 two.effects (absorb_all from 0 0 one.effects begun)) (work_told from 0 0 one.effects begun) (work_told to 0 0 two.effects (absorb_all from 0 0 one.effects begun)))
+    (told-append (all_entries_of from 0 0 one.effects begun) (all_entries_of to 0 0 two.effects (absorb_all from 0 0 one.effects begun)) (work_told from 0 0 one.effects begun)
+    (work_told to 0 0 two.effects (absorb_all from 0 0 one.effects begun)))
 
 pub brings_quiet : (plan : Plan) (event : Event) (network : NetworkState) → IsQuietStep (brings plan event network)
 brings_quiet plan (Connect from to) network = by (can_connect plan network from.0 to.0) where
@@ -95,7 +97,8 @@ brings_quiet plan (Lose me peer) network = by (stands network me.0 peer.0) where
   by false = tt
 brings_quiet plan (Restart me) network = absorb_quiet me 0 0 (restart_input (begin_at network me)) (without_octets_to me network)
 brings_quiet plan Tick network = told_none (tick_event plan network).entries
-    (told-append (aged_entries network.under_way) (ticks_from plan 0 (length plan.edges) (with_older network)).entries (aged_told network.under_way) (ticks_told plan 0 (length plan.edges) (with_older network)))
+    (told-append (aged_entries network.under_way) (ticks_from plan 0 (length plan.edges) (with_older network)).entries (aged_told network.under_way)
+    (ticks_told plan 0 (length plan.edges) (with_older network)))
 brings_quiet plan (Frame circuit octets) network = by (circuit_row plan circuit) where
   entered : (row : CircuitPlan) (b : Bool) → IsQuietStep (cond b (idle network) (entering network circuit octets row (frame_work plan network circuit octets row)))
   entered row true = tt
@@ -182,7 +185,8 @@ pub record IsCutAt (plan : Plan) (network : NetworkState) (events : List Event) 
   pub front : before ≡ entries_along plan network earlier
   pub rest : behind ≡ (brings plan event (state_after plan network earlier)).entries ++ entries_along plan (step plan (state_after plan network earlier) event).state later
 
-pub cut_at : (plan : Plan) (network : NetworkState) (events : List Event) (before : List Entry) (event : Event) (behind : List Entry) → entries_along plan network events ≡ before ++ entry.Did event ∷ behind → IsCutAt plan network events before event behind
+pub cut_at : (plan : Plan) (network : NetworkState) (events : List Event) (before : List Entry) (event : Event) (behind : List Entry) → entries_along plan network events
+    ≡ before ++ entry.Did event ∷ behind → IsCutAt plan network events before event behind
 cut_at plan network [] [] event behind e = absurd (cc e)
 cut_at plan network [] (x ∷ before) event behind e = absurd (cc e)
 cut_at plan network (x ∷ xs) [] event behind e =
@@ -208,7 +212,8 @@ pub record IsCutBehind (plan : Plan) (network : NetworkState) (events : List Eve
   pub split : events ≡ during ++ later
   pub front_is : front ≡ entries_along plan network during
 
-pub cut_behind : (plan : Plan) (network : NetworkState) (events : List Event) (front behind : List Entry) → BeginsEvent behind → front ++ behind ≡ entries_along plan network events → IsCutBehind plan network events front behind
+pub cut_behind : (plan : Plan) (network : NetworkState) (events : List Event) (front behind : List Entry) → BeginsEvent behind → front ++ behind ≡ entries_along plan network events
+    → IsCutBehind plan network events front behind
 cut_behind plan network events [] behind begins e = record { during = []; later = events; split = refl; front_is = refl }
 cut_behind plan network [] (x ∷ front) behind begins e = absurd (cc e)
 cut_behind plan network (x ∷ xs) (y ∷ front) behind begins e =
@@ -225,5 +230,6 @@ cut_behind plan network (x ∷ xs) (y ∷ front) behind begins e =
 
 -- the entries behind an event, up to the end of some events
 pub cut_window : (plan : Plan) (event : Event) (network : NetworkState) (events : List Event) (front behind : List Entry) → BeginsEvent behind
-    → front ++ behind ≡ (brings plan event network).entries ++ entries_along plan (step plan network event).state events → StandsBefore (brings plan event network).entries front behind (entries_along plan (step plan network event).state events)
+    → front ++ behind ≡ (brings plan event network).entries ++ entries_along plan (step plan network event).state events
+    → StandsBefore (brings plan event network).entries front behind (entries_along plan (step plan network event).state events)
 cut_window plan event network events front behind begins e = own_first (brings plan event network).entries front behind _ (brings_quiet plan event network) begins e

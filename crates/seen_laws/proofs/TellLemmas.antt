@@ -120,7 +120,8 @@ module _ (heard : ℕ → Bool) where
   }
 
   -- what is kept for a peer becomes something else, with what was held of it
-  peering_tells : (peer : EdgeId) (kept : Option Peering) (work : Work) → is_there kept ≡ is_there (work.edge.peering peer.0) → held_by kept ≡ held_by (work.edge.peering peer.0) → Tells heard work (changes (with_peering peer kept) work)
+  peering_tells : (peer : EdgeId) (kept : Option Peering) (work : Work) → is_there kept ≡ is_there (work.edge.peering peer.0) → held_by kept ≡ held_by (work.edge.peering peer.0)
+      → Tells heard work (changes (with_peering peer kept) work)
   unfolding changes with_peering
   peering_tells peer kept work there_spoken held = record {
     more = [];
@@ -146,7 +147,8 @@ module _ (heard : ℕ → Bool) where
       ]
 
   -- an effect that tells nothing of it
-  pub gives_tell : (e : Effect) (work : Work) → ((k : ℕ) → ended k (e ∷ []) ≡ false) → ((k : ℕ) → closes k (e ∷ []) ≡ false) → ((wire : ℕ) (up : Bool) → up_after wire (e ∷ []) up ≡ up) → Tells heard work (gives e work)
+  pub gives_tell : (e : Effect) (work : Work) → ((k : ℕ) → ended k (e ∷ []) ≡ false) → ((k : ℕ) → closes k (e ∷ []) ≡ false) → ((wire : ℕ) (up : Bool) → up_after wire (e ∷ []) up ≡ up)
+      → Tells heard work (gives e work)
   unfolding gives
   gives_tell e work none shuts still = record {
     more = e ∷ [];
@@ -310,15 +312,18 @@ module _ (heard : ℕ → Bool) where
   says_tells told peer message work = by (work.edge.peering peer.0) where
     by : (kept : Option Peering) → Tells heard work (says_to told peer message kept work).work
     by None = tells_not work
-    by (Some kept) = had_said_tells peer (put_octets peer (message_octets_of kept message) (next_answer told work) work) work (put_octets_tell peer (message_octets_of kept message) (next_answer told work) work)
+    by (Some kept) = had_said_tells peer (put_octets peer (message_octets_of kept message) (next_answer told work) work) work
+        (put_octets_tell peer (message_octets_of kept message) (next_answer told work) work)
 
   advises_tells : (told : Answers) (peer : EdgeId) (reply : Reply) (work : Work) → Tells heard work (had_said peer (put_reply told peer reply work)).work
   advises_tells told peer reply work = had_said_tells peer (put_reply told peer reply work) work (put_reply_tells told peer reply (work.edge.peering peer.0) work)
 
   -- ---- ends
 
-  then_says_tells : (told : Answers) (peer : EdgeId) (message : ℕ → Message) (change : EdgeState → EdgeState) (work : Work) → Tells heard work (changes change work) → Tells heard work (says told peer message (changes change work)).work
-  then_says_tells told peer message change work first = tells_then work (changes change work) (says told peer message (changes change work)).work first (says_tells told peer message (changes change work))
+  then_says_tells : (told : Answers) (peer : EdgeId) (message : ℕ → Message) (change : EdgeState → EdgeState) (work : Work) → Tells heard work (changes change work)
+      → Tells heard work (says told peer message (changes change work)).work
+  then_says_tells told peer message change work first =
+      tells_then work (changes change work) (says told peer message (changes change work)).work first (says_tells told peer message (changes change work))
 
   end_tells : (place : EndPlace) (end : EdgeState → EndState) (work : Work) → Tells heard work (changes (λ edge. with_end place (end edge) edge) work)
   unfolding with_end
@@ -376,7 +381,8 @@ module _ (heard : ℕ → Bool) where
         (end_tells place (λ edge. telling (status_to_tell plan work.edge place) (end_at edge place)) work);
     tells_piece = λ place label content addresses work is. says_tells told place.peer (mac_withdrawal place.pw_id addresses content) work;
     tells_down = λ place work here terminal other. wire_tells place.wire (down_at plan work.edge place) work;
-    forgets_wire = λ place why work here terminal is. forget_tells work (changes (forgetting_wire plan place.wire (wire_row plan place.wire)) work) (forgetting_only plan place.wire (wire_row plan place.wire) work);
+    forgets_wire = λ place why work here terminal is. forget_tells work (changes (forgetting_wire plan place.wire (wire_row plan place.wire)) work)
+        (forgetting_only plan place.wire (wire_row plan place.wire) work);
   }
 
   changed_tells : (change : EndState → EndState) (place : EdgeState → Option EndPlace) (work : Work) → Tells heard work (changes (λ edge. with_end_changed change (place edge) edge) work)
@@ -406,7 +412,8 @@ abbrev pub any : ℕ → Bool
 any k = true
 
 -- other octets of a peer are held
-holds_tells : (peer : EdgeId) (kept : Peering) (octets : List ℕ) (work : Work) → work.edge.peering peer.0 ≡ Some kept → Tells any work (changes (with_peering peer (Some (record kept { held = octets }))) work)
+holds_tells : (peer : EdgeId) (kept : Peering) (octets : List ℕ) (work : Work) → work.edge.peering peer.0 ≡ Some kept
+    → Tells any work (changes (with_peering peer (Some (record kept { held = octets }))) work)
 unfolding changes with_peering
 holds_tells peer kept octets work is = record {
   more = [];

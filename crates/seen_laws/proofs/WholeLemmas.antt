@@ -60,7 +60,8 @@ pub record IsLive (end : EndState) : Type 0 where
 some_cause : {P : Type 0} (why : Down) → Some why ≡ None → P
 some_cause why e = absurd (cc)
 
-up_live : (role : EndRole) (bits : ℕ) (local : LocalPart) (remote : Option Binding) → down role bits (record { local = local; remote = remote }) ≡ None → IsLive (record { local = local; remote = remote })
+up_live : (role : EndRole) (bits : ℕ) (local : LocalPart) (remote : Option Binding) → down role bits (record { local = local; remote = remote }) ≡ None
+    → IsLive (record { local = local; remote = remote })
 unfolding down
 up_live role bits (Idle declined) remote is = some_cause _ is
 up_live role bits (Withdrawing label) remote is = some_cause _ is
@@ -98,7 +99,11 @@ module _ (plan : Plan) (network : NetworkState) (service : ServiceId) (wire : Wi
 
   -- what an edge holds, its neighbour advertises
   held_told : (a b : ℕ) (binding : Binding) → joins a b row.path ≡ true → ((network.edges a).ends wire.0 b).remote ≡ Some binding → Tells b a
-  held_told a b binding joined bound = record { label = binding.label; content = binding.told; is = far_advertises plan network service a b wire row binding checked quiet settled is ours joined bound }
+  held_told a b binding joined bound = record {
+    label = binding.label;
+    content = binding.told;
+    is = far_advertises plan network service a b wire row binding checked quiet settled is ours joined bound;
+  }
 
   -- a switching point tells one neighbour what it holds of the other one
   passes_back : (x w y : EdgeId) → joins x.0 w.0 row.path ≡ true → mate_on row.path x.0 w.0 ≡ Some y → Tells x.0 y.0 → Tells w.0 x.0
@@ -129,7 +134,8 @@ module _ (plan : Plan) (network : NetworkState) (service : ServiceId) (wire : Wi
 
     pub here : ends_here plan (network.edges e.0).me wire ≡ true
     here = ap (λ (m : EdgeId). ends_here plan m wire) me_is
-        ∙ found_is_any (is_named n row.pw_id) (is_end_of_wire wire) (end_places plan e) named.place named.named (rw (eq-eqb named.place.wire.0 wire.0 (ap (λ (w : WireId). w.0) named.wire_is), at_end) refl)
+        ∙ found_is_any (is_named n row.pw_id) (is_end_of_wire wire) (end_places plan e) named.place named.named
+        (rw (eq-eqb named.place.wire.0 wire.0 (ap (λ (w : WireId). w.0) named.wire_is), at_end) refl)
 
     pub forwards_told : end_forwards plan (network.edges e.0) wire ≡ is_up ((network.edges e.0).told_down wire.0)
     forwards_told = forwards_as_told plan (network.edges e.0) wire (synced e.0).synced here ∙ same_up ((network.edges e.0).told_down wire.0) where
@@ -150,7 +156,8 @@ module _ (plan : Plan) (network : NetworkState) (service : ServiceId) (wire : Wi
     pub live : is_up ((network.edges e.0).told_down wire.0) ≡ true → Tells e.0 n.0 × Tells n.0 e.0
     live up =
         let state : IsLive (end_at (network.edges e.0) named.place) = up_live (role_at plan (network.edges e.0) named.place) ((network.edges e.0).bits named.place.wire.0) _ _ (place_up up) in
-        let same : end_at (network.edges e.0) named.place ≡ (network.edges e.0).ends wire.0 n.0 = ap (λ (w : WireId). (network.edges e.0).ends w.0 named.place.peer.0) named.wire_is ∙ ap (λ (p : EdgeId). (network.edges e.0).ends wire.0 p.0) named.peer_is in
+        let same : end_at (network.edges e.0) named.place ≡ (network.edges e.0).ends wire.0 n.0 =
+        ap (λ (w : WireId). (network.edges e.0).ends w.0 named.place.peer.0) named.wire_is ∙ ap (λ (p : EdgeId). (network.edges e.0).ends wire.0 p.0) named.peer_is in
         (subst HasTold same state.told, held_told e.0 n.0 state.binding joined (ap (λ (s : EndState). s.remote) (sym same) ∙ state.bound))
 
   -- ---- all of the path
@@ -183,20 +190,23 @@ module _ (plan : Plan) (network : NetworkState) (service : ServiceId) (wire : Wi
     ends_first : (x : EdgeId) → is_first x.0 row.path ≡ true → is_terminal row x ≡ true
     ends_first x first = rw first refl
 
-    last_told : (path : List EdgeId) → ((a b : ℕ) → joins a b path ≡ true → joins a b row.path ≡ true) → ((e : ℕ) → is_last e path ≡ true → is_last e row.path ≡ true) → last_up seen wire.0 path ≡ true → OfLast (λ a b. Tells a b) path
+    last_told : (path : List EdgeId) → ((a b : ℕ) → joins a b path ≡ true → joins a b row.path ≡ true) → ((e : ℕ) → is_last e path ≡ true → is_last e row.path ≡ true)
+        → last_up seen wire.0 path ≡ true → OfLast (λ a b. Tells a b) path
     last_told [] within ends up = tt
     last_told (only ∷ []) within ends up = tt
     last_told (x ∷ y ∷ []) within ends up = (live y x (within y.0 x.0 (last_pair x y)) (ends_last y (ends y.0 (same_number y.0))) (sym (shown_up y.0) ∙ up)).1
     last_told (x ∷ y ∷ z ∷ rest) within ends up = last_told (y ∷ z ∷ rest) (λ a b joined. within a b (or_later ((a == x.0 && b == y.0) || (b == x.0 && a == y.0)) joined)) ends up
 
-    last_same : (path : List EdgeId) → ((a b : ℕ) → joins a b path ≡ true → joins a b row.path ≡ true) → ((e : ℕ) → is_last e path ≡ true → is_last e row.path ≡ true) → (x y : EdgeId) (rest : List EdgeId) → path ≡ x ∷ y ∷ rest
+    last_same : (path : List EdgeId) → ((a b : ℕ) → joins a b path ≡ true → joins a b row.path ≡ true) → ((e : ℕ) → is_last e path ≡ true → is_last e row.path ≡ true)
+        → (x y : EdgeId) (rest : List EdgeId) → path ≡ x ∷ y ∷ rest
         → last_up seen wire.0 (x ∷ y ∷ rest) ≡ last_forwards plan network wire.0 (x ∷ y ∷ rest)
     last_same path within ends x y [] at =
         let joined : joins y.0 x.0 row.path ≡ true = within y.0 x.0 (ap (joins y.0 x.0) at ∙ last_pair x y) in
         let terminal : is_terminal row y ≡ true = ends_last y (ends y.0 (ap (is_last y.0) at ∙ same_number y.0)) in
         shown_up y.0 ∙ sym (forwards_told y x joined terminal)
     last_same path within ends x y (z ∷ rest) at =
-        last_same (y ∷ z ∷ rest) (λ a b joined. within a b (ap (joins a b) at ∙ or_later ((a == x.0 && b == y.0) || (b == x.0 && a == y.0)) joined)) (λ e last. ends e (ap (is_last e) at ∙ last)) y z rest refl
+        last_same (y ∷ z ∷ rest) (λ a b joined. within a b (ap (joins a b) at ∙ or_later ((a == x.0 && b == y.0) || (b == x.0 && a == y.0)) joined))
+        (λ e last. ends e (ap (is_last e) at ∙ last)) y z rest refl
 
     -- ---- the switching points
 
@@ -211,7 +221,8 @@ module _ (plan : Plan) (network : NetworkState) (service : ServiceId) (wire : Wi
             let joined : joins x.0 place.peer.0 row.path ≡ true = ap (λ (r : WirePlan). joins x.0 place.peer.0 r.path) (sym same_row) ∙ end.joined in
             let told = of_joined (λ a b. Tells a b) row.path x.0 place.peer.0 on turned joined in
             ap (λ (n : ℕ). is_joined_end ((network.edges x.0).ends n place.peer.0)) {x = place.wire.0} {y = wire.0} at
-            ∙ both (has_told ((network.edges x.0).ends wire.0 place.peer.0).local) (is_some ((network.edges x.0).ends wire.0 place.peer.0).remote) (ap has_told told.0.is) (holds x.0 place.peer.0 joined told.1)
+            ∙ both (has_told ((network.edges x.0).ends wire.0 place.peer.0).local) (is_some ((network.edges x.0).ends wire.0 place.peer.0).remote) (ap has_told told.0.is)
+            (holds x.0 place.peer.0 joined told.1)
           where
             both : (b c : Bool) → b ≡ true → c ≡ true → b && c ≡ true
             both true c e h = h
@@ -265,7 +276,8 @@ module _ (plan : Plan) (network : NetworkState) (service : ServiceId) (wire : Wi
             inner (from_last (mate_on row.path) (λ a b. Tells a b) back row.path mates last) (from_first (mate_on row.path) (λ a b. Tells a b) back row.path mates start) (y ∷ rest)
 
         both : (p q : Bool) → seen.up x.0 wire.0 ≡ p → last_up seen wire.0 (x ∷ y ∷ rest) ≡ q
-            → (seen.up x.0 wire.0 && last_up seen wire.0 (x ∷ y ∷ rest)) ≡ ((end_forwards plan (network.edges x.0) wire && last_forwards plan network wire.0 (x ∷ y ∷ rest)) && inner_stitched plan network wire.0 (y ∷ rest))
+            → (seen.up x.0 wire.0 && last_up seen wire.0 (x ∷ y ∷ rest))
+            ≡ ((end_forwards plan (network.edges x.0) wire && last_forwards plan network wire.0 (x ∷ y ∷ rest)) && inner_stitched plan network wire.0 (y ∷ rest))
         both true true up far = rw (sym first_same, sym tail_same, up, far, whole up far) refl
         both true false up far = rw (sym first_same, sym tail_same, up, far) refl
         both false q up far = rw (sym first_same, up) refl

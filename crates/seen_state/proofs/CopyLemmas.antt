@@ -154,7 +154,8 @@ copies_more o (d ∷ ds) c = omega (arith, copies_more o ds c)
 own_more : (copies : List SeenCopy) (c : SeenCopy) → origin_among c.number copies ≡ None → HaveOwnNumbers copies → HaveOwnNumbers (copies ++ c ∷ [])
 own_more [] c none own = (refl, tt)
 own_more (d ∷ ds) c none own = by (d.number == c.number) refl none (λ rest. own_more ds c rest own.1) where
-  by : (a : Bool) → (d.number == c.number) ≡ a → cond a (Some d.origin) (origin_among c.number ds) ≡ None → (origin_among c.number ds ≡ None → HaveOwnNumbers (ds ++ c ∷ [])) → HaveOwnNumbers (d ∷ (ds ++ c ∷ []))
+  by : (a : Bool) → (d.number == c.number) ≡ a → cond a (Some d.origin) (origin_among c.number ds) ≡ None → (origin_among c.number ds ≡ None → HaveOwnNumbers (ds ++ c ∷ []))
+      → HaveOwnNumbers (d ∷ (ds ++ c ∷ []))
   by true h none rest = absurd (cc (none))
   by false h none rest = (among_more d.number ds c none ∙ (ap (λ (b : Bool). cond b (Some c.origin) (origin_among d.number ds)) h ∙ own.0), rest none)
 
@@ -169,7 +170,8 @@ pub went_one : (old new : CopyMaps) (number gone : ℕ) → origin_under old num
     → ((o : ℕ) → count_in new.counts o ≡ count_in old.counts o - cond (o == gone) 1 0)
     → (copies : List SeenCopy) → Tells old copies → Tells new (without_copy number copies)
 went_one old new number gone some origins counts copies told = record {
-  origins = λ n. origins n ∙ (ap (λ (b : Bool). cond b None (origin_under old n)) (same_number number n) ∙ (ap (λ (x : Option ℕ). cond (n == number) None x) (told.origins n) ∙ sym (among_without number n copies told.own)));
+  origins = λ n. origins n ∙ (ap (λ (b : Bool). cond b None (origin_under old n)) (same_number number n)
+      ∙ (ap (λ (x : Option ℕ). cond (n == number) None x) (told.origins n) ∙ sym (among_without number n copies told.own)));
   counts = λ o. omega (arith, counts o, told.counts o, copies_without number o gone copies (sym (told.origins number) ∙ some));
   own = own_without number copies told.own;
 }
@@ -228,7 +230,8 @@ seen_named maps seen origin number told = ap (is_number origin) (told.origins nu
 
 -- ---- entries
 
-pub repeated_none : (maps : CopyMaps) (number of : ℕ) (seen : Seen) → origin_under maps of ≡ None → Tells maps seen.under_way → Tells maps (repeats number (origin_among of seen.under_way) seen).under_way
+pub repeated_none : (maps : CopyMaps) (number of : ℕ) (seen : Seen) → origin_under maps of ≡ None → Tells maps seen.under_way
+    → Tells maps (repeats number (origin_among of seen.under_way) seen).under_way
 repeated_none maps number of seen none told = subst (λ (o : Option ℕ). Tells maps (repeats number o seen).under_way) (sym none ∙ told.origins of) told
 
 pub repeated_one : (old new : CopyMaps) (number of origin : ℕ) (seen : Seen) → origin_under old of ≡ Some origin → Tells old seen.under_way → Tells new (copy_comes number origin seen).under_way

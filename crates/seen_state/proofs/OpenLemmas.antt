@@ -31,7 +31,11 @@ opened_whole sizes = record {
 }
 
 pub opened_shows : (sizes : Sizes)
-    → Shows (record { sizes = sizes; edges = replicate sizes.edges (record { ends = replicate sizes.edges no_end; up = replicate sizes.wires false }); on = replicate sizes.circuits true }) nothing_seen
+    → Shows (record {
+      sizes = sizes;
+      edges = replicate sizes.edges (record { ends = replicate sizes.edges no_end; up = replicate sizes.wires false });
+      on = replicate sizes.circuits true;
+    }) nothing_seen
 unfolding shown
 opened_shows sizes = λ z. record {
   stands = λ i j. (ends_none sizes.edges sizes.edges sizes.wires i j z).stands;

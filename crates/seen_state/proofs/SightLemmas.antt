@@ -163,9 +163,12 @@ unfolding shown without_edge
 restarted_edge s seen me e h ends ups shows = fresh ∙ ap (without_edge me) shows where
   fresh : shown (with_edge me e s) seen.under_way ≡ without_edge me (shown s seen.under_way)
   fresh = λ z. record {
-    stands = λ i j. (read_edge (λ (x : EdgeSeen). (slice_index_or x.ends j no_end).stands) s me e i h ∙ under (i == me) (slice_index_or e.ends j no_end).stands false (end_seen s i j).stands (ap (λ (x : EndSeen). x.stands) (ends j))) z;
-    pipes = λ i j. (read_edge (λ (x : EdgeSeen). (slice_index_or x.ends i no_end).way) s me e j h ∙ under (j == me) (slice_index_or e.ends i no_end).way [] (end_seen s j i).way (ap (λ (x : EndSeen). x.way) (ends i))) z;
-    rests = λ i j. (read_edge (λ (x : EdgeSeen). (slice_index_or x.ends j no_end).rest) s me e i h ∙ under (i == me) (slice_index_or e.ends j no_end).rest [] (end_seen s i j).rest (ap (λ (x : EndSeen). x.rest) (ends j))) z;
+    stands = λ i j. (read_edge (λ (x : EdgeSeen). (slice_index_or x.ends j no_end).stands) s me e i h
+        ∙ under (i == me) (slice_index_or e.ends j no_end).stands false (end_seen s i j).stands (ap (λ (x : EndSeen). x.stands) (ends j))) z;
+    pipes = λ i j. (read_edge (λ (x : EdgeSeen). (slice_index_or x.ends i no_end).way) s me e j h
+        ∙ under (j == me) (slice_index_or e.ends i no_end).way [] (end_seen s j i).way (ap (λ (x : EndSeen). x.way) (ends i))) z;
+    rests = λ i j. (read_edge (λ (x : EdgeSeen). (slice_index_or x.ends j no_end).rest) s me e i h
+        ∙ under (i == me) (slice_index_or e.ends j no_end).rest [] (end_seen s i j).rest (ap (λ (x : EndSeen). x.rest) (ends j))) z;
     up = λ i j. (read_edge (λ (x : EdgeSeen). slice_index_or x.up j false) s me e i h ∙ under (i == me) (slice_index_or e.up j false) false (slice_index_or (edge_seen s i).up j false) (ups j)) z;
     on = λ i. slice_index_or s.on i true;
     under_way = seen.under_way;

@@ -68,7 +68,8 @@ spared_none (entry.Pong edge wire sequence ∷ es) origin seen none = spared_non
 
 -- ---- entries before an event
 
-pub spared_on : (front back : List Entry) (origin : ℕ) (seen : Seen) → BeginsEvent back → all_spared origin seen (front ++ back) ≡ all_spared origin seen front && all_spared origin (seen_from seen front) back
+pub spared_on : (front back : List Entry) (origin : ℕ) (seen : Seen) → BeginsEvent back → all_spared origin seen (front ++ back)
+    ≡ all_spared origin seen front && all_spared origin (seen_from seen front) back
 spared_on [] back origin seen begins = refl
 spared_on (entry.Did event ∷ front) back origin seen begins =
     ap (λ (idle : Bool). spares_seen seen origin idle event && all_spared origin (happened_or idle event seen) (front ++ back)) (idle_behind front back begins)
@@ -80,7 +81,8 @@ spared_on (entry.Did event ∷ front) back origin seen begins =
 spared_on (entry.Idle ∷ front) back origin seen begins = spared_on front back origin (told entry.Idle seen) begins
 spared_on (entry.Said from to octets ∷ front) back origin seen begins = spared_on front back origin (told (entry.Said from to octets) seen) begins
 spared_on (entry.In at number octets ∷ front) back origin seen begins = spared_on front back origin (told (entry.In at number octets) seen) begins
-spared_on (entry.Sent from to wire came packet from2 hops octets ∷ front) back origin seen begins = spared_on front back origin (told (entry.Sent from to wire came packet from2 hops octets) seen) begins
+spared_on (entry.Sent from to wire came packet from2 hops octets ∷ front) back origin seen begins =
+    spared_on front back origin (told (entry.Sent from to wire came packet from2 hops octets) seen) begins
 spared_on (entry.Copied packet of ∷ front) back origin seen begins = spared_on front back origin (told (entry.Copied packet of) seen) begins
 spared_on (entry.Aged packet ∷ front) back origin seen begins = spared_on front back origin (told (entry.Aged packet) seen) begins
 spared_on (entry.Left at from hops octets ∷ front) back origin seen begins = spared_on front back origin (told (entry.Left at from hops octets) seen) begins

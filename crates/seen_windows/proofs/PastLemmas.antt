@@ -35,11 +35,13 @@ seen_behind before circuit octets during =
 
 more_opened : (plan : Plan) (before : List Entry) (circuit : CircuitId) (octets : List ℕ) (front back : List Entry) (service : ServiceId) (origin : ℕ) → BeginsEvent back
     → HasOpened plan before circuit octets front service origin → HasOpened plan before circuit octets (front ++ back) service origin
-more_opened plan before circuit octets front back service origin begins h = record { entered = entered_on front back circuit begins ∙ h.entered; sender = h.sender; on = h.on; frame = h.frame; formed = h.formed; calm = h.calm }
+more_opened plan before circuit octets front back service origin begins h =
+    record { entered = entered_on front back circuit begins ∙ h.entered; sender = h.sender; on = h.on; frame = h.frame; formed = h.formed; calm = h.calm }
 
 less_opened : (plan : Plan) (before : List Entry) (circuit : CircuitId) (octets : List ℕ) (front back : List Entry) (service : ServiceId) (origin : ℕ) → BeginsEvent back
     → HasOpened plan before circuit octets (front ++ back) service origin → HasOpened plan before circuit octets front service origin
-less_opened plan before circuit octets front back service origin begins h = record { entered = sym (entered_on front back circuit begins) ∙ h.entered; sender = h.sender; on = h.on; frame = h.frame; formed = h.formed; calm = h.calm }
+less_opened plan before circuit octets front back service origin begins h =
+    record { entered = sym (entered_on front back circuit begins) ∙ h.entered; sender = h.sender; on = h.on; frame = h.frame; formed = h.formed; calm = h.calm }
 
 more_told : (plan : Plan) (before : List Entry) (circuit : CircuitId) (octets : List ℕ) (front back : List Entry) (service : ServiceId) (origin : ℕ) (window : Window) → BeginsEvent back
     → Describes plan before circuit octets front service origin window → Describes plan before circuit octets (front ++ back) service origin window
@@ -52,7 +54,8 @@ more_told plan before circuit octets front back service origin window begins d =
   sites = d.sites;
 }
 
-more_listed : (plan : Plan) (before : List Entry) (circuit : CircuitId) (octets : List ℕ) (front back : List Entry) (service : ServiceId) (origin : ℕ) (lasting lasting2 : List Window) → BeginsEvent back
+more_listed : (plan : Plan) (before : List Entry) (circuit : CircuitId) (octets : List ℕ) (front back : List Entry) (service : ServiceId) (origin : ℕ) (lasting lasting2 : List Window)
+    → BeginsEvent back
     → ((window : Window) → Among window lasting → Among window lasting2)
     → Lists plan before circuit octets front service origin lasting → Lists plan before circuit octets (front ++ back) service origin lasting2
 more_listed plan before circuit octets front back service origin lasting lasting2 begins goes l =
@@ -60,7 +63,8 @@ more_listed plan before circuit octets front back service origin lasting lasting
 
 -- ---- where a frame goes
 
-flooded_is : (plan : Plan) (service : ServiceId) (frame : List ℕ) (goes : Option Mac) (entries : List Entry) → GoesTo frame goes → is_seen_flooded plan service frame entries ≡ flooded_to plan service goes entries
+flooded_is : (plan : Plan) (service : ServiceId) (frame : List ℕ) (goes : Option Mac) (entries : List Entry) → GoesTo frame goes → is_seen_flooded plan service frame entries
+    ≡ flooded_to plan service goes entries
 flooded_is plan service frame None entries to = ap (λ (b : Bool). b || not (list_any (is_sourced_by plan service (destination_of frame)) entries)) to
 flooded_is plan service frame (Some address) entries to =
     ap (λ (b : Bool). b || not (list_any (is_sourced_by plan service (destination_of frame)) entries)) to.0
@@ -166,7 +170,8 @@ module _ (plan : Plan) (done : List Entry) (event : Event) (rest : List Entry) (
   open_only window among = left_open window (passed.stayed window among)
 
   -- one that is left stays, or it is over
-  stays_or_over : (before : List Entry) (circuit : CircuitId) (octets : List ℕ) (during : List Entry) (service : ServiceId) (origin : ℕ) (window : Window) → trace ≡ before ++ Did (Frame circuit octets) ∷ during
+  stays_or_over : (before : List Entry) (circuit : CircuitId) (octets : List ℕ) (during : List Entry) (service : ServiceId) (origin : ℕ) (window : Window) → trace
+      ≡ before ++ Did (Frame circuit octets) ∷ during
       → Describes plan before circuit octets during service origin window → IsLeft (seen_in done) (is_idle_behind rest) event lasting found window
       → Lists plan before circuit octets during service origin lasting2 ⊎ WasOver before circuit octets during origin
   stays_or_over before circuit octets during service origin window is d left = by (has_seen (seen_in trace) window.origin) refl where
@@ -175,10 +180,18 @@ module _ (plan : Plan) (done : List Entry) (event : Event) (rest : List Entry) (
 
     by : (b : Bool) → has_seen (seen_in trace) window.origin ≡ b → Lists plan before circuit octets during service origin lasting2 ⊎ WasOver before circuit octets during origin
     by true some = inl (record { window = window; describes = d; listed = passed.stays window left some })
-    by false append_none = inr (record { first = during; rest = []; is = nil; begins = tt; over = ap (λ (xs : List Entry). has_seen (seen_in xs) origin) (sym is) ∙ (ap (λ (o : ℕ). has_seen (seen_in trace) o) (sym d.origin_is) ∙ append_none) })
+    by false append_none = inr (record {
+      first = during;
+      rest = [];
+      is = nil;
+      begins = tt;
+      over = ap (λ (xs : List Entry). has_seen (seen_in xs) origin) (sym is)
+          ∙ (ap (λ (o : ℕ). has_seen (seen_in trace) o) (sym d.origin_is) ∙ append_none);
+    })
 
   -- one that was over is so yet
-  over_on : (before : List Entry) (circuit : CircuitId) (octets : List ℕ) (between : List Entry) (origin : ℕ) → WasOver before circuit octets between origin → WasOver before circuit octets (between ++ last) origin
+  over_on : (before : List Entry) (circuit : CircuitId) (octets : List ℕ) (between : List Entry) (origin : ℕ) → WasOver before circuit octets between origin
+      → WasOver before circuit octets (between ++ last) origin
   over_on before circuit octets between origin w = record {
     first = w.first;
     rest = w.rest ++ last;
@@ -222,11 +235,14 @@ module _ (plan : Plan) (done : List Entry) (event : Event) (rest : List Entry) (
     by : StandsBefore done last before (Frame circuit octets) during ⊎ IsLast done event rest before (Frame circuit octets) during
         → HasOpened plan before circuit octets during service origin → all_spared origin (seen_in before) during ≡ true
         → Lists plan before circuit octets during service origin lasting2 ⊎ WasOver before circuit octets during origin
-    by (inl s) = subst (λ (d : List Entry). HasOpened plan before circuit octets d service origin → all_spared origin (seen_in before) d ≡ true → Lists plan before circuit octets d service origin lasting2 ⊎ WasOver before circuit octets d origin)
+    by (inl s) = subst (λ (d : List Entry). HasOpened plan before circuit octets d service origin → all_spared origin (seen_in before) d ≡ true
+        → Lists plan before circuit octets d service origin lasting2 ⊎ WasOver before circuit octets d origin)
         (sym s.back) (open_before before circuit octets s.between service origin s.front)
-    by (inr l) = subst (λ (b : List Entry). HasOpened plan b circuit octets during service origin → all_spared origin (seen_in b) during ≡ true → Lists plan b circuit octets during service origin lasting2 ⊎ WasOver b circuit octets during origin)
+    by (inr l) = subst (λ (b : List Entry). HasOpened plan b circuit octets during service origin → all_spared origin (seen_in b) during ≡ true
+        → Lists plan b circuit octets during service origin lasting2 ⊎ WasOver b circuit octets during origin)
         (sym l.front)
-        (subst (λ (d : List Entry). HasOpened plan done circuit octets d service origin → all_spared origin (seen_in done) d ≡ true → Lists plan done circuit octets d service origin lasting2 ⊎ WasOver done circuit octets d origin)
+        (subst (λ (d : List Entry). HasOpened plan done circuit octets d service origin → all_spared origin (seen_in done) d ≡ true
+        → Lists plan done circuit octets d service origin lasting2 ⊎ WasOver done circuit octets d origin)
         (sym l.back) (λ h spared. open_here circuit octets service origin (sym l.same) h))
 
   -- those that are owed are
@@ -273,8 +289,10 @@ module _ (plan : Plan) (done : List Entry) (event : Event) (rest : List Entry) (
     by (inr c) = now c (left_open window c.left)
 
   -- a window that is left, and over by what is seen
-  owes : (before : List Entry) (circuit : CircuitId) (octets : List ℕ) (during : List Entry) (service : ServiceId) (origin : ℕ) (window : Window) → trace ≡ before ++ Did (Frame circuit octets) ∷ during
-      → SeenWindow plan before circuit octets during service origin → Describes plan before circuit octets during service origin window → IsLeft (seen_in done) (is_idle_behind rest) event lasting found window
+  owes : (before : List Entry) (circuit : CircuitId) (octets : List ℕ) (during : List Entry) (service : ServiceId) (origin : ℕ) (window : Window) → trace
+      ≡ before ++ Did (Frame circuit octets) ∷ during
+      → SeenWindow plan before circuit octets during service origin → Describes plan before circuit octets during service origin window
+      → IsLeft (seen_in done) (is_idle_behind rest) event lasting found window
       → Lists plan before circuit octets during service origin owed2
   owes before circuit octets during service origin window is w d left = record {
     window = window;
@@ -309,9 +327,11 @@ module _ (plan : Plan) (done : List Entry) (event : Event) (rest : List Entry) (
           frame = w.frame;
           formed = w.formed;
           calm = w.calm;
-          flooded = flooded_before plan service w.frame (before ++ Did (Frame circuit octets) ∷ o.first) (o.rest ++ last) (ap (λ (xs : List Entry). is_seen_flooded plan service w.frame xs) (sym longer) ∙ w.flooded);
+          flooded = flooded_before plan service w.frame (before ++ Did (Frame circuit octets) ∷ o.first) (o.rest ++ last)
+              (ap (λ (xs : List Entry). is_seen_flooded plan service w.frame xs) (sym longer) ∙ w.flooded);
           spared = first_holds (all_spared origin (seen_in before) o.first) (all_spared origin (seen_from (seen_in before) o.first) (o.rest ++ last))
-              (sym (spared_on o.first (o.rest ++ last) origin (seen_in before) (begins_on o.rest last o.begins tt)) ∙ (ap (λ (xs : List Entry). all_spared origin (seen_in before) xs) (sym split) ∙ w.spared));
+              (sym (spared_on o.first (o.rest ++ last) origin (seen_in before) (begins_on o.rest last o.begins tt))
+              ∙ (ap (λ (xs : List Entry). all_spared origin (seen_in before) xs) (sym split) ∙ w.spared));
           over = o.over;
         }
 
@@ -353,7 +373,8 @@ module _ (plan : Plan) (done : List Entry) (event : Event) (rest : List Entry) (
     cut s (inl c) w = was (are_owed.each before circuit octets during c.left service origin (s.front ∙ ap (λ (xs : List Entry). before ++ Did (Frame circuit octets) ∷ xs) c.front) c.begins w) where
       was : Lists plan before circuit octets during service origin owed → Lists plan before circuit octets during service origin owed2
       was l = record { window = l.window; describes = l.describes; listed = passed.kept l.window l.listed }
-    cut s (inr c) w = subst (λ (d : List Entry). SeenWindow plan before circuit octets d service origin → Lists plan before circuit octets d service origin owed2) (sym c.front) (owed_before before circuit octets s.between service origin s.front) w
+    cut s (inr c) w = subst (λ (d : List Entry). SeenWindow plan before circuit octets d service origin → Lists plan before circuit octets d service origin owed2) (sym c.front)
+        (owed_before before circuit octets s.between service origin s.front) w
 
     by : StandsBefore done last before (Frame circuit octets) (during ++ after) ⊎ IsLast done event rest before (Frame circuit octets) (during ++ after)
         → SeenWindow plan before circuit octets during service origin → Lists plan before circuit octets during service origin owed2
@@ -362,7 +383,8 @@ module _ (plan : Plan) (done : List Entry) (event : Event) (rest : List Entry) (
         let nothing : after ≡ [] = ends_bare during after (subst HasNoEvent (sym l.back) bare) begins in
         let all : during ≡ rest = sym (nil during) ∙ (ap (λ (xs : List Entry). during ++ xs) (sym nothing) ∙ l.back) in
         subst (λ (b : List Entry). SeenWindow plan b circuit octets during service origin → Lists plan b circuit octets during service origin owed2) (sym l.front)
-        (subst (λ (d : List Entry). SeenWindow plan done circuit octets d service origin → Lists plan done circuit octets d service origin owed2) (sym all) (owed_here circuit octets service origin (sym l.same)))
+        (subst (λ (d : List Entry). SeenWindow plan done circuit octets d service origin → Lists plan done circuit octets d service origin owed2) (sym all)
+        (owed_here circuit octets service origin (sym l.same)))
 
   pub still_open : AreOpen plan trace lasting2
   still_open = record { only = open_only; each = open_each }

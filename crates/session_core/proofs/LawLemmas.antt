@@ -19,7 +19,8 @@ use Rattle.session_core.specs.StatusCodes.{about}
 use Rattle.session_core.specs.Table.{SessionEvent, Start, Heard, Received, Refused, Spoke, Ticked, Closed, Ends, next_of, outcome_of, third, view_after, notified, judged, reason_in, data_refusing}
 
 -- a Notification that ends a session is answered where it is a shutdown and the session is up
-told : (s : SessionState) (message : Message) (status : StatusCode) (why : Reason) (replies : List Reply) → notified (reason_in status) s message ≡ Ends why replies → IsFarewell (tells_end s.phase why) replies
+told : (s : SessionState) (message : Message) (status : StatusCode) (why : Reason) (replies : List Reply) → notified (reason_in status) s message ≡ Ends why replies
+    → IsFarewell (tells_end s.phase why) replies
 told s message status why replies is = grind (arith)
 
 -- the refusals are told
@@ -29,7 +30,8 @@ refusal_told state refusal.Receiver = grind (arith)
 refusal_told state refusal.KeepAliveTime = grind (arith)
 
 -- a proposal that is refused is answered
-refused : (s : SessionState) (message : Message) (params : SessionParams) (others : List Reply) (why : Reason) (replies : List Reply) → judged (proposal_refusal s.peers params) s message params others ≡ Ends why replies
+refused : (s : SessionState) (message : Message) (params : SessionParams) (others : List Reply) (why : Reason) (replies : List Reply)
+    → judged (proposal_refusal s.peers params) s message params others ≡ Ends why replies
     → IsFarewell (tells_end s.phase why) replies
 refused s message params others why replies is = so (proposal_refusal s.peers params) is
   where
@@ -75,7 +77,8 @@ stands_same : (s last : SessionState) → Stands s ≡ Stands last → s ≡ las
 stands_same s last is = grind (arith)
 
 -- what holds at first, and is kept by each event of a kind, holds of every run of such events
-ran_by : (next : SessionState → SessionEvent → SessionView) (May : SessionEvent → Type 0) (Holds : SessionState → Type 0) → ((s t : SessionState) (event : SessionEvent) → May event → Holds s → next s event ≡ Stands t → Holds t)
+ran_by : (next : SessionState → SessionEvent → SessionView) (May : SessionEvent → Type 0) (Holds : SessionState → Type 0)
+    → ((s t : SessionState) (event : SessionEvent) → May event → Holds s → next s event ≡ Stands t → Holds t)
     → (events : List SessionEvent) (s last : SessionState) → AllByRecursion May events → Holds s → run_by next s events ≡ Stands last → Holds last
 ran_by next May Holds keeps [] s last may holds is = subst Holds (stands_same s last is) holds
 ran_by next May Holds keeps (event ∷ events) s last may holds is = goes_on (λ t here rest. ran_by next May Holds keeps events t last may.1 here rest) (next s event) refl is
@@ -137,7 +140,8 @@ record Agrees (one other : Peers) (s : SessionState) : Type 0 where
 meant : (other : Peers) → IsProper other → longest other.max_pdu ≡ other.max_pdu
 meant other proper = grind (arith, proper.least, proper.most)
 
-agree_kept : (one other : Peers) (s next : SessionState) (event : SessionEvent) → IsProper other → Proposes (proposal other) event → Agrees one other s → next_of s event ≡ Stands next → Agrees one other next
+agree_kept : (one other : Peers) (s next : SessionState) (event : SessionEvent) → IsProper other → Proposes (proposal other) event → Agrees one other s → next_of s event ≡ Stands next
+    → Agrees one other next
 agree_kept one other s next Start proper may agrees is = grind (arith)
 agree_kept one other s next (Heard sender) proper may agrees is = grind (arith)
 agree_kept one other s next (Received message) proper may agrees is = grind (arith, meant)
@@ -146,7 +150,8 @@ agree_kept one other s next Spoke proper may agrees is = grind (arith)
 agree_kept one other s next Ticked proper may agrees is = grind (arith)
 agree_kept one other s next (Closed lost) proper may agrees is = grind (arith)
 
-agreed_by : (one other : Peers) (events : List SessionEvent) (s : SessionState) → IsProper other → AllByRecursion (Proposes (proposal other)) events → run_session (opened one) events ≡ Stands s → Agrees one other s
+agreed_by : (one other : Peers) (events : List SessionEvent) (s : SessionState) → IsProper other → AllByRecursion (Proposes (proposal other)) events → run_session (opened one) events
+    ≡ Stands s → Agrees one other s
 agreed_by one other events s proper may is =
     ran_by next_of (Proposes (proposal other)) (Agrees one other) (λ t u event may' agrees after. agree_kept one other t u event proper may' agrees after) events (opened one) s may (grind (arith)) is
 

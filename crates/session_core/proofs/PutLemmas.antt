@@ -36,7 +36,11 @@ notified_data (Some why) s message = grind (arith)
 received : (s : SessionState) (message : Message) → AllByRecursion HasData (replies_of (outcome_of s (Received message)))
 received s (Notification id status pw_status fec) = grind (arith, notified_data (reason_in status) s (Notification id status pw_status fec))
 received s (Initialization id params) =
-    grind (arith, judged_data (proposal_refusal s.peers params) s (Initialization id params) params (reply.Init ∷ reply.KeepAlive ∷ []), judged_data (proposal_refusal s.peers params) s (Initialization id params) params (reply.KeepAlive ∷ []))
+    grind (
+      arith,
+      judged_data (proposal_refusal s.peers params) s (Initialization id params) params (reply.Init ∷ reply.KeepAlive ∷ []),
+      judged_data (proposal_refusal s.peers params) s (Initialization id params) params (reply.KeepAlive ∷ []),
+    )
 received s (KeepAlive id) = grind (arith)
 received s message = grind (arith)
 

@@ -45,7 +45,8 @@ ends_by_time s false m = grind (arith, zero_time)
 pub passive_accepts : (s : Standing) (m : Message) → (name_of (after phase.Initialized s (Received m)) ≡ name.OpenRec) ↔ IsTrue (not (is_active s.peers) && proposes (is_acceptable s.peers) m)
 passive_accepts s m = accepts s (is_active s.peers) m
 
-pub passive_bad_receiver : (s : Standing) (m : Message) → (after phase.Initialized s (Received m) ≡ EndedBy reason.BadReceiver) ↔ IsTrue (not (is_active s.peers) && proposes (has_bad_receiver s.peers) m)
+pub passive_bad_receiver : (s : Standing) (m : Message) → (after phase.Initialized s (Received m) ≡ EndedBy reason.BadReceiver)
+    ↔ IsTrue (not (is_active s.peers) && proposes (has_bad_receiver s.peers) m)
 passive_bad_receiver s m = ends_by_receiver s (is_active s.peers) m
 
 pub passive_zero_time : (s : Standing) (m : Message) → (after phase.Initialized s (Received m) ≡ EndedBy reason.ZeroKeepAlive) ↔ IsTrue (not (is_active s.peers) && proposes (has_zero_time s.peers) m)

@@ -24,7 +24,8 @@ pub record PairOf (near far : Wish) (near_knows far_knows : Option PwStatus) (on
   pub both : one ≡ other
 
 abbrev pub IsPair : Exchange → ℕ → ℕ → ℕ → Type 0
-IsPair x a b k = PairOf ((x.edges a).local k) ((x.edges b).local k) ((x.edges a).remote k) ((x.edges b).remote k) (is_connected x a b) (is_connected x b a) (x.ways a b) (x.ways b a) (x.heard a b) (x.heard b a) k
+IsPair x a b k = PairOf ((x.edges a).local k) ((x.edges b).local k) ((x.edges a).remote k) ((x.edges b).remote k) (is_connected x a b) (is_connected x b a) (x.ways a b) (x.ways b a)
+    (x.heard a b) (x.heard b a) k
 
 -- what is on its way between two edges
 pub record WayOf (one other : Bool) (out : List StatusMessage) (test : ℕ → Bool) : Type 0 where
@@ -123,7 +124,18 @@ module _ (w : Wiring) (laws : IsWiring w) (me peer : ℕ) (x y : Exchange) (fram
   other_pair a b k is away =
       let here : is_two a b me peer ≡ false = not_two w laws k a b me peer is away in
       let back : is_two b a me peer ≡ false = sym (two_swapped a b me peer) ∙ here in
-      rw (frame.local a k away, frame.local b k away, frame.remote a k away, frame.remote b k away, frame.next a b here, frame.next b a back, frame.ways a b here, frame.ways b a back, frame.heard a b here, frame.heard b a back)
+      rw (
+        frame.local a k away,
+        frame.local b k away,
+        frame.remote a k away,
+        frame.remote b k away,
+        frame.next a b here,
+        frame.next b a back,
+        frame.ways a b here,
+        frame.ways b a back,
+        frame.heard a b here,
+        frame.heard b a back,
+      )
       (old.pairs a b k is)
 
   other_way : (a b : ℕ) → is_two a b me peer ≡ false → IsWay w y a b
@@ -140,7 +152,9 @@ module _ (w : Wiring) (laws : IsWiring w) (me peer : ℕ) (x y : Exchange) (fram
       same_pair : (a b k : ℕ) → w.joins k me peer ≡ true → ((a ≡ me) × (b ≡ peer)) ⊎ ((a ≡ peer) × (b ≡ me)) → IsPair y a b k
       same_pair a b k is h = ⊎_elim
           (λ (e : (a ≡ me) × (b ≡ peer)). rw (e.0, e.1) (pair k is))
-          (λ (e : (a ≡ peer) × (b ≡ me)). rw (e.0, e.1) (pair_turned ((y.edges me).local k) ((y.edges peer).local k) ((y.edges me).remote k) ((y.edges peer).remote k) (is_connected y me peer) (is_connected y peer me) (y.ways me peer) (y.ways peer me) (y.heard me peer) (y.heard peer me) k (pair k is)))
+          (λ (e : (a ≡ peer) × (b ≡ me)). rw (e.0, e.1)
+          (pair_turned ((y.edges me).local k) ((y.edges peer).local k) ((y.edges me).remote k) ((y.edges peer).remote k) (is_connected y me peer) (is_connected y peer me)
+          (y.ways me peer) (y.ways peer me) (y.heard me peer) (y.heard peer me) k (pair k is)))
           h
 
       by_wire : (a b k : ℕ) → w.joins k a b ≡ true → (t : Bool) → w.joins k me peer ≡ t → IsPair y a b k
@@ -220,13 +234,25 @@ absorb_frame w me peer t x minds = record {
 
 -- an edge's work has gone in: what is kept of it and its peer
 pub absorb_pair : (me peer k : ℕ) (t : StatusWork) (x : Exchange) → (me == peer) ≡ false
-    → PairOf (t.edge.local k) ((x.edges peer).local k) (t.edge.remote k) ((x.edges peer).remote k) (is_some (t.edge.next peer)) (is_connected x peer me) (x.ways me peer ++ t.out) (x.ways peer me) (x.heard me peer) (x.heard peer me) k
+    → PairOf (t.edge.local k) ((x.edges peer).local k) (t.edge.remote k) ((x.edges peer).remote k) (is_some (t.edge.next peer)) (is_connected x peer me) (x.ways me peer ++ t.out)
+    (x.ways peer me) (x.heard me peer) (x.heard peer me) k
     → IsPair (absorb me peer t x) me peer k
 absorb_pair me peer k t x apart p =
-    rw (at_same me t.edge x.edges, at_other me peer t.edge x.edges (apart_back me peer apart), two_at me peer (x.ways me peer ++ t.out) x.ways, two_away me peer peer me (x.ways me peer ++ t.out) x.ways (turned_away me peer apart)) p
+    rw (
+      at_same me t.edge x.edges,
+      at_other me peer t.edge x.edges (apart_back me peer apart),
+      two_at me peer (x.ways me peer ++ t.out) x.ways,
+      two_away me peer peer me (x.ways me peer ++ t.out) x.ways (turned_away me peer apart),
+    ) p
 
-pub absorb_way : (w : Wiring) (me peer : ℕ) (t : StatusWork) (x : Exchange) → (me == peer) ≡ false → WayOf (is_some (t.edge.next peer)) (is_connected x peer me) (x.ways me peer ++ t.out) (λ k. w.joins k me peer) → IsWay w (absorb me peer t x) me peer
+pub absorb_way : (w : Wiring) (me peer : ℕ) (t : StatusWork) (x : Exchange) → (me == peer) ≡ false
+    → WayOf (is_some (t.edge.next peer)) (is_connected x peer me) (x.ways me peer ++ t.out) (λ k. w.joins k me peer) → IsWay w (absorb me peer t x) me peer
 absorb_way w me peer t x apart p = rw (at_same me t.edge x.edges, at_other me peer t.edge x.edges (apart_back me peer apart), two_at me peer (x.ways me peer ++ t.out) x.ways) p
 
-pub absorb_back : (w : Wiring) (me peer : ℕ) (t : StatusWork) (x : Exchange) → (me == peer) ≡ false → WayOf (is_connected x peer me) (is_some (t.edge.next peer)) (x.ways peer me) (λ k. w.joins k peer me) → IsWay w (absorb me peer t x) peer me
-absorb_back w me peer t x apart p = rw (at_same me t.edge x.edges, at_other me peer t.edge x.edges (apart_back me peer apart), two_away me peer peer me (x.ways me peer ++ t.out) x.ways (turned_away me peer apart)) p
+pub absorb_back : (w : Wiring) (me peer : ℕ) (t : StatusWork) (x : Exchange) → (me == peer) ≡ false
+    → WayOf (is_connected x peer me) (is_some (t.edge.next peer)) (x.ways peer me) (λ k. w.joins k peer me) → IsWay w (absorb me peer t x) peer me
+absorb_back w me peer t x apart p = rw (
+  at_same me t.edge x.edges,
+  at_other me peer t.edge x.edges (apart_back me peer apart),
+  two_away me peer peer me (x.ways me peer ++ t.out) x.ways (turned_away me peer apart),
+) p

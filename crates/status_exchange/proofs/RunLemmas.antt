@@ -66,14 +66,17 @@ module _ (w : Wiring) (laws : IsWiring w) where
 
     -- the other wires between the two
     set_other : (k : ℕ) → w.joins k me peer ≡ true → (k == j) ≡ false
-        → PairOf (statuses.edge.local k) ((x.edges peer).local k) (statuses.edge.remote k) ((x.edges peer).remote k) (is_some (statuses.edge.next peer)) (is_connected x peer me) (x.ways me peer ++ statuses.out) (x.ways peer me) (x.heard me peer) (x.heard peer me) k
+        → PairOf (statuses.edge.local k) ((x.edges peer).local k) (statuses.edge.remote k) ((x.edges peer).remote k) (is_some (statuses.edge.next peer)) (is_connected x peer me)
+        (x.ways me peer ++ statuses.out) (x.ways peer me) (x.heard me peer) (x.heard peer me) k
     set_other k joined away = rw (stay.local k, at_other j k wish (x.edges me).local away, stay.remote k, stay.there)
-        (more_told ((x.edges me).local k) ((x.edges peer).local k) ((x.edges me).remote k) ((x.edges peer).remote k) (is_connected x me peer) (is_connected x peer me) (x.ways me peer) (x.ways peer me) (x.heard me peer) (x.heard peer me) statuses.out k
+        (more_told ((x.edges me).local k) ((x.edges peer).local k) ((x.edges me).remote k) ((x.edges peer).remote k) (is_connected x me peer) (is_connected x peer me) (x.ways me peer)
+        (x.ways peer me) (x.heard me peer) (x.heard peer me) statuses.out k
         (tells_other peer j k (silent called) (equal_turned j k ∙ away)) (old.pairs me peer k joined))
 
     -- the wire itself
     set_this : (k : ℕ) → w.joins k me peer ≡ true → (k == j) ≡ true
-        → PairOf (statuses.edge.local k) ((x.edges peer).local k) (statuses.edge.remote k) ((x.edges peer).remote k) (is_some (statuses.edge.next peer)) (is_connected x peer me) (x.ways me peer ++ statuses.out) (x.ways peer me) (x.heard me peer) (x.heard peer me) k
+        → PairOf (statuses.edge.local k) ((x.edges peer).local k) (statuses.edge.remote k) ((x.edges peer).remote k) (is_some (statuses.edge.next peer)) (is_connected x peer me)
+        (x.ways me peer ++ statuses.out) (x.ways peer me) (x.heard me peer) (x.heard peer me) k
     set_this k joined same =
         let now : at j wish (x.edges me).local k ≡ wish = rw same refl in
         let p = old.pairs me peer k joined in
@@ -81,7 +84,8 @@ module _ (w : Wiring) (laws : IsWiring w) where
           line = λ there.
               let told : of_wire k statuses.out ≡ wish ∷ [] = tells_this peer j k (silent called) there (equal_turned j k ∙ same) ∙ ap (λ (v : Wish). v ∷ []) (at_same j wish (x.edges me).local) in
               rw (of_append k (x.ways me peer) statuses.out, told)
-              (line.sets ((x.edges me).local k) ((x.edges peer).local k) wish ((x.edges me).remote k) ((x.edges peer).remote k) (of_wire k (x.ways me peer)) (of_wire k (x.ways peer me)) (p.line there));
+              (line.sets ((x.edges me).local k) ((x.edges peer).local k) wish ((x.edges me).remote k) ((x.edges peer).remote k) (of_wire k (x.ways me peer))
+              (of_wire k (x.ways peer me)) (p.line there));
           near_last = p.near_last;
           far_last = p.far_last;
           gone = p.gone;
@@ -167,7 +171,8 @@ module _ (w : Wiring) (laws : IsWiring w) where
     taken_frame = frame_both w to from x taken (absorb to from answering taken) (frame_turned w laws from to x taken take_frame) (absorb_frame w to from answering taken heard_minds)
 
     abbrev HeardPair : ℕ → Type 0
-    HeardPair k = PairOf (answering.edge.local k) ((x.edges from).local k) (answering.edge.remote k) ((x.edges from).remote k) (is_some (answering.edge.next from)) (is_connected x from to) (x.ways to from ++ answering.out) ts (x.heard to from) (x.heard from to ++ t ∷ []) k
+    HeardPair k = PairOf (answering.edge.local k) ((x.edges from).local k) (answering.edge.remote k) ((x.edges from).remote k) (is_some (answering.edge.next from))
+        (is_connected x from to) (x.ways to from ++ answering.out) ts (x.heard to from) (x.heard from to ++ t ∷ []) k
 
     heard_this : (k : ℕ) → w.joins k to from ≡ true → (k == t.wire) ≡ true → HeardPair k
     heard_this k joined same =
@@ -176,7 +181,8 @@ module _ (w : Wiring) (laws : IsWiring w) where
         let back : of_wire k (x.ways from to) ≡ t.wish ∷ of_wire k ts = rw (way, equal_turned t.wire k, same) refl in
         let local : answering.edge.local k ≡ becomes (status_of t.wish) ((x.edges to).local k) = heard_stay.local k ∙ rw (same, wire) refl in
         let remote : answering.edge.remote k ≡ Some (status_of t.wish) = heard_stay.remote k ∙ rw same refl in
-        let said : of_wire k answering.out ≡ answer (status_of t.wish) ((x.edges to).local k) = hears_this from t.wire k (status_of t.wish) (x.edges to) here (equal_turned t.wire k ∙ same) ∙ rw wire refl in
+        let said : of_wire k answering.out ≡ answer (status_of t.wish) ((x.edges to).local k) =
+        hears_this from t.wire k (status_of t.wish) (x.edges to) here (equal_turned t.wire k ∙ same) ∙ rw wire refl in
         rw (local, remote, heard_stay.there) (record {
           line = λ there. rw (of_append k (x.ways to from) answering.out, said)
               (line.hears ((x.edges to).local k) ((x.edges from).local k) t.wish ((x.edges to).remote k) ((x.edges from).remote k) (of_wire k (x.ways to from)) (of_wire k ts)
@@ -205,7 +211,12 @@ module _ (w : Wiring) (laws : IsWiring w) where
 
     heard_pair : (k : ℕ) → w.joins k to from ≡ true → IsPair (absorb to from answering taken) to from k
     heard_pair k joined = absorb_pair to from k answering taken to_apart
-        (rw (two_away from to to from ts x.ways (turned_away from to from_apart), two_at from to ts x.ways, two_away from to to from (x.heard from to ++ t ∷ []) x.heard (turned_away from to from_apart), two_at from to (x.heard from to ++ t ∷ []) x.heard)
+        (rw (
+          two_away from to to from ts x.ways (turned_away from to from_apart),
+          two_at from to ts x.ways,
+          two_away from to to from (x.heard from to ++ t ∷ []) x.heard (turned_away from to from_apart),
+          two_at from to (x.heard from to ++ t ∷ []) x.heard,
+        )
         (elim (cases_Bool (k == t.wire)) [
           | inl same ↦ heard_this k joined same
           | inr away ↦ heard_other k joined away
@@ -215,14 +226,16 @@ module _ (w : Wiring) (laws : IsWiring w) where
     heard_way = rw (heard_stay.there, two_away from to to from ts x.ways (turned_away from to from_apart)) (record {
       both = (old.ways to from).both;
       none = λ gone. true_clash (sym here ∙ gone);
-      between = told_append (λ (k : ℕ). w.joins k to from) (x.ways to from) answering.out (old.ways to from).between (hears_between (λ (k : ℕ). w.joins k to from) from t.wire (status_of t.wish) (x.edges to) joined_here);
+      between = told_append (λ (k : ℕ). w.joins k to from) (x.ways to from) answering.out (old.ways to from).between
+          (hears_between (λ (k : ℕ). w.joins k to from) from t.wire (status_of t.wish) (x.edges to) joined_here);
     })
 
     heard_back : WayOf (is_connected taken from to) (is_some (answering.edge.next from)) (taken.ways from to) (λ k. w.joins k from to)
     heard_back = rw (heard_stay.there, two_at from to ts x.ways) (record { both = (old.ways from to).both; none = λ gone. true_clash (sym connected ∙ gone); between = rest_between })
 
     hears_hold : Holds w (absorb to from answering taken)
-    hears_hold = kept w laws to from x (absorb to from answering taken) taken_frame old heard_pair (absorb_way w to from answering taken to_apart heard_way) (absorb_back w to from answering taken to_apart heard_back)
+    hears_hold = kept w laws to from x (absorb to from answering taken) taken_frame old heard_pair (absorb_way w to from answering taken to_apart heard_way)
+        (absorb_back w to from answering taken to_apart heard_back)
 
   -- ---- a connection is lost
 
@@ -304,7 +317,8 @@ module _ (w : Wiring) (laws : IsWiring w) where
     }
 
     up_told : (me peer k : ℕ) → w.joins k me peer ≡ true → of_wire k (connects w me peer (x.edges me)).out ≡ (x.edges me).local k ∷ []
-    up_told me peer k joined = all_told w me peer 0 w.count k (silent (opened me peer)) (ap is_some (at_same peer (Some 1) (x.edges me).next)) joined (omega arith) (omega (arith, laws.within k me peer joined))
+    up_told me peer k joined = all_told w me peer 0 w.count k (silent (opened me peer)) (ap is_some (at_same peer (Some 1) (x.edges me).next)) joined (omega arith)
+        (omega (arith, laws.within k me peer joined))
 
     b_still : one_up.edges b ≡ x.edges b
     b_still = at_other a b one_status.edge x.edges (apart_back a b apart)
@@ -332,7 +346,21 @@ module _ (w : Wiring) (laws : IsWiring w) where
           let front : w.joins k a b ≡ true = laws.turned k b a joined in
           let none = (old.pairs a b k front).gone gone in
           absorb_pair b a k other_status one_up back_apart
-          (rw (a_up, one_way, other_way, cleared_out x.heard, cleared_back x.heard, up_there a b, up_there b a, (up_stay a b).local k, (up_stay b a).local k, (up_stay a b).remote k, (up_stay b a).remote k, none.0, none.1) (record {
+          (rw (
+            a_up,
+            one_way,
+            other_way,
+            cleared_out x.heard,
+            cleared_back x.heard,
+            up_there a b,
+            up_there b a,
+            (up_stay a b).local k,
+            (up_stay b a).local k,
+            (up_stay a b).remote k,
+            (up_stay b a).remote k,
+            none.0,
+            none.1,
+          ) (record {
             line = λ there. rw (up_told b a k joined, up_told a b k front) (line.connects ((x.edges b).local k) ((x.edges a).local k));
             near_last = refl;
             far_last = refl;
@@ -347,7 +375,8 @@ module _ (w : Wiring) (laws : IsWiring w) where
       up_way = rw (a_up, one_way, up_there a b, up_there b a) (record { both = refl; none = λ is. true_clash is; between = all_between w a b 0 w.count (silent (opened a b)) tt })
 
       connects_hold : Holds w both_up
-      connects_hold = kept w laws b a x both_up (frame_turned w laws a b x both_up up_frame) old up_pair (absorb_way w b a other_status one_up back_apart up_back) (absorb_back w b a other_status one_up back_apart up_way)
+      connects_hold = kept w laws b a x both_up (frame_turned w laws a b x both_up up_frame) old up_pair (absorb_way w b a other_status one_up back_apart up_back)
+          (absorb_back w b a other_status one_up back_apart up_way)
 
   -- ---- every step
 
@@ -406,7 +435,8 @@ agree w x a b k holds joined back = record {
     quiet : is_connected x a b ≡ true → x.ways a b ≡ [] → x.ways b a ≡ [] → IsAgreed x a b k
     quiet there out_none back_none =
         let l = subst (λ (ts : List StatusMessage). IsLine ((x.edges a).local k) ((x.edges b).local k) ((x.edges a).remote k) ((x.edges b).remote k) [] (of_wire k ts)) back_none
-        (subst (λ (ts : List StatusMessage). IsLine ((x.edges a).local k) ((x.edges b).local k) ((x.edges a).remote k) ((x.edges b).remote k) (of_wire k ts) (of_wire k (x.ways b a))) out_none (p.line there)) in
+        (subst (λ (ts : List StatusMessage). IsLine ((x.edges a).local k) ((x.edges b).local k) ((x.edges a).remote k) ((x.edges b).remote k) (of_wire k ts)
+        (of_wire k (x.ways b a))) out_none (p.line there)) in
         let turned_and : (m n : Bool) → ((true && m) && n) ≡ (n && m) = λ m n. grind (arith) in
         let plain_and : (m n : Bool) → ((true && m) && n) ≡ (m && n) = λ m n. grind (arith) in
         record {

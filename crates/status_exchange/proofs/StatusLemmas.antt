@@ -113,7 +113,8 @@ module _ (w : Wiring) (me peer : ℕ) where
 
   pub all_stay : (wire n : ℕ) (t : StatusWork) → Stays peer t.edge (tells_from w me peer wire n t).edge
   all_stay wire zero t = stays peer t.edge
-  all_stay wire (suc n) t = stays_both peer t.edge (first_of_them wire t).edge (tells_from w me peer (wire + 1) n (first_of_them wire t)).edge (first_stays wire t) (all_stay (wire + 1) n (first_of_them wire t))
+  all_stay wire (suc n) t = stays_both peer t.edge (first_of_them wire t).edge (tells_from w me peer (wire + 1) n (first_of_them wire t)).edge (first_stays wire t)
+      (all_stay (wire + 1) n (first_of_them wire t))
 
   first_other : (wire k : ℕ) (t : StatusWork) → (wire == k) ≡ false → of_wire k (first_of_them wire t).out ≡ of_wire k t.out
   first_other wire k t away = by (w.joins wire me peer)
@@ -161,7 +162,8 @@ hears_stay peer wire status edge = by (is_told status (edge.local wire))
     by true = tells_stay peer wire (silent (learns wire status edge))
     by false = stays peer (learns wire status edge)
 
-pub hears_this : (peer wire k : ℕ) (status : PwStatus) (edge : EdgeStatuses) → is_some (edge.next peer) ≡ true → (wire == k) ≡ true → of_wire k (hears peer wire status edge).out ≡ answer status (edge.local wire)
+pub hears_this : (peer wire k : ℕ) (status : PwStatus) (edge : EdgeStatuses) → is_some (edge.next peer) ≡ true → (wire == k) ≡ true → of_wire k (hears peer wire status edge).out
+    ≡ answer status (edge.local wire)
 hears_this peer wire k status edge there is = by (is_told status (edge.local wire))
   where
     by : (b : Bool) → of_wire k (if b then tells peer wire (silent (learns wire status edge)) else silent (learns wire status edge)).out ≡ (if b then becomes status (edge.local wire) ∷ [] else [])

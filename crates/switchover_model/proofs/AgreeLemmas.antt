@@ -43,21 +43,25 @@ module _ (plan : Plan) (checked : IsChecked plan) (from to wire : ℕ) (row : Wi
           let one : other ≡ row = cc (same) in
           true_clash (sym (eq-eqb row.pw_id other.pw_id (ap (λ (r : WirePlan). r.pw_id) (sym one))) ∙ g)
       by false true e g =
-          let named : Some wire ≡ Some k = sym (named_is plan from to wire row checked row_is joined) ∙ (ap (λ (n : ℕ). wire_named plan from to (Some n)) (eqb-true row.pw_id other.pw_id g) ∙ named_is plan from to k other checked at is) in
+          let named : Some wire ≡ Some k = sym (named_is plan from to wire row checked row_is joined)
+          ∙ (ap (λ (n : ℕ). wire_named plan from to (Some n)) (eqb-true row.pw_id other.pw_id g) ∙ named_is plan from to k other checked at is) in
           let same : wire ≡ k = cc (named) in
           true_clash (sym (eq-eqb k wire (sym same)) ∙ e)
 
-  known_is : (ts : List StatusMessage) (known : Option PwStatus) → AllTold (λ k. is_between plan k from to) ts → AreTold plan ts → known_after_all row.pw_id (messages_told plan from ts) known ≡ after (of_wire wire ts) known
+  known_is : (ts : List StatusMessage) (known : Option PwStatus) → AllTold (λ k. is_between plan k from to) ts → AreTold plan ts
+      → known_after_all row.pw_id (messages_told plan from ts) known ≡ after (of_wire wire ts) known
   known_is [] known all told = refl
   known_is (t ∷ ts) known all told = row_at told.0.row told.0.row_is (λ k. known_is ts k all.1 told.1)
     where
       row_at : (other : WirePlan) → slice_get plan.wires t.wire ≡ Some other → ((k : Option PwStatus) → known_after_all row.pw_id (messages_told plan from ts) k ≡ after (of_wire wire ts) k)
-          → known_after_all row.pw_id (message_in_row from t (slice_get plan.wires t.wire) ++ messages_told plan from ts) known ≡ after (if t.wire == wire then t.wish ∷ of_wire wire ts else of_wire wire ts) known
+          → known_after_all row.pw_id (message_in_row from t (slice_get plan.wires t.wire) ++ messages_told plan from ts) known
+          ≡ after (if t.wire == wire then t.wish ∷ of_wire wire ts else of_wire wire ts) known
       row_at other at again =
           ap (λ (o : Option WirePlan). known_after_all row.pw_id (message_in_row from t o ++ messages_told plan from ts) known) at
           ∙ (ap (λ (b : Bool). known_after_all row.pw_id (messages_told plan from ts) (if b then Some (status_of t.wish) else known)) (same_ids t.wire other at all.0) ∙ by (t.wire == wire))
         where
-          by : (b : Bool) → known_after_all row.pw_id (messages_told plan from ts) (if b then Some (status_of t.wish) else known) ≡ after (if b then t.wish ∷ of_wire wire ts else of_wire wire ts) known
+          by : (b : Bool) → known_after_all row.pw_id (messages_told plan from ts) (if b then Some (status_of t.wish) else known)
+              ≡ after (if b then t.wish ∷ of_wire wire ts else of_wire wire ts) known
           by true = again (Some (status_of t.wish))
           by false = again known
 

@@ -34,7 +34,8 @@ said_one b [] call = by (call.peer.0 == b)
 said_one b (x ∷ calls) call = by (x.peer.0 == b) (said_one b calls call)
   where
     by : (t : Bool) → said_to b (calls ++ call ∷ []) ≡ said_to b calls ++ (if call.peer.0 == b then call.bytes else [])
-        → (if t then x.bytes ++ said_to b (calls ++ call ∷ []) else said_to b (calls ++ call ∷ [])) ≡ (if t then x.bytes ++ said_to b calls else said_to b calls) ++ (if call.peer.0 == b then call.bytes else [])
+        → (if t then x.bytes ++ said_to b (calls ++ call ∷ []) else said_to b (calls ++ call ∷ []))
+        ≡ (if t then x.bytes ++ said_to b calls else said_to b calls) ++ (if call.peer.0 == b then call.bytes else [])
     by true rest = ap (λ (l : List ℕ). x.bytes ++ l) rest ∙ sym (append_assoc x.bytes (said_to b calls) (if call.peer.0 == b then call.bytes else []))
     by false rest = rest
 
@@ -74,7 +75,8 @@ module _ (plan : Plan) (me peer : ℕ) (start : IndepState) (before : List LinkC
       by_row : tells plan taken_all me (id_of peer) k edge calls ≡ tells_by plan taken_all me (id_of peer) k row (edge.connection peer) edge calls
       by_row = ap (λ (o : Option WirePlan). tells_in plan taken_all me (id_of peer) k o edge calls) row_is
 
-      by : (o : Option ConnectionState) → edge.connection peer ≡ o → Does plan me peer start before (exchange.tells peer k (record { edge = statuses_of edge; out = out })) (tells plan taken_all me (id_of peer) k edge calls)
+      by : (o : Option ConnectionState) → edge.connection peer ≡ o
+          → Does plan me peer start before (exchange.tells peer k (record { edge = statuses_of edge; out = out })) (tells plan taken_all me (id_of peer) k edge calls)
       by None is = record {
         edge = edge;
         calls = calls;
@@ -97,7 +99,9 @@ module _ (plan : Plan) (me peer : ℕ) (start : IndepState) (before : List LinkC
                 ∙ (λ i. record { edge = record (statuses_of edge) { next = λ p. next_is p (p == peer) i }; out = out ++ telling ∷ [] });
             at = record {
               said = said_one peer calls call ∙ (rw (same_number peer) (ap (λ (l : List ℕ). l ++ octets) at_now.said ∙ (append_assoc (said_to peer before) (octets_told plan me out) octets
-                  ∙ ap (λ (l : List ℕ). said_to peer before ++ l) (ap (λ (l : List ℕ). octets_told plan me out ++ l) (sym (append-nil octets) ∙ ap (λ (o : Option WirePlan). octets_in_row plan me telling o ++ []) (sym row_is)) ∙ sym (told_both plan me out (telling ∷ []))))));
+                  ∙ ap (λ (l : List ℕ). said_to peer before ++ l)
+                  (ap (λ (l : List ℕ). octets_told plan me out ++ l) (sym (append-nil octets) ∙ ap (λ (o : Option WirePlan). octets_in_row plan me telling o ++ []) (sym row_is))
+                  ∙ sym (told_both plan me out (telling ∷ []))))));
               others = λ b away. said_one b calls call ∙ rw (equal_turned peer b ∙ away) (append-nil (said_to b calls) ∙ at_now.others b away);
               receivers = λ b. receiver_is kept is b (b == peer) refl ∙ at_now.receivers b;
               small = λ p id. small_is kept number p id (p == peer);
@@ -105,14 +109,16 @@ module _ (plan : Plan) (me peer : ℕ) (start : IndepState) (before : List LinkC
             };
           }
         where
-          next_is : (p : ℕ) (b : Bool) → (if b then Some (following kept.next_id) else option_map id_next (edge.connection p)) ≡ option_map id_next (if b then Some (spoken kept) else edge.connection p)
+          next_is : (p : ℕ) (b : Bool) → (if b then Some (following kept.next_id) else option_map id_next (edge.connection p))
+              ≡ option_map id_next (if b then Some (spoken kept) else edge.connection p)
           next_is p true = refl
           next_is p false = refl
 
           same : (p : ℕ) → (p == peer) ≡ true → p ≡ peer
           same p e = grind (arith, nat_tests)
 
-          receiver_is : (kept : ConnectionState) → edge.connection peer ≡ Some kept → (p : ℕ) (b : Bool) → (p == peer) ≡ b → option_map receiver_part (if b then Some (spoken kept) else edge.connection p) ≡ option_map receiver_part (edge.connection p)
+          receiver_is : (kept : ConnectionState) → edge.connection peer ≡ Some kept → (p : ℕ) (b : Bool) → (p == peer) ≡ b
+              → option_map receiver_part (if b then Some (spoken kept) else edge.connection p) ≡ option_map receiver_part (edge.connection p)
           receiver_is kept is p true e = ap (option_map receiver_part) (sym is) ∙ ap (λ (n : ℕ). option_map receiver_part (edge.connection n)) (sym (same p e))
           receiver_is kept is p false e = refl
 
@@ -127,8 +133,10 @@ module _ (plan : Plan) (me peer : ℕ) (start : IndepState) (before : List LinkC
   all_do checked k (suc n) out edge calls at_now = by (is_between plan k me peer) refl (λ o e c a. all_do checked (k + 1) n o e c a)
     where
       by : (b : Bool) → is_between plan k me peer ≡ b
-          → ((o : List StatusMessage) (e : IndepState) (c : List LinkCall) → At plan me peer start before o e c → Does plan me peer start before (exchange.tells_from (wiring plan) me peer (k + 1) n (record { edge = statuses_of e; out = o })) (tells_from plan taken_all me (id_of peer) (k + 1) n e c))
-          → Does plan me peer start before (exchange.tells_from (wiring plan) me peer (k + 1) n (if b then exchange.tells peer k (record { edge = statuses_of edge; out = out }) else record { edge = statuses_of edge; out = out }))
+          → ((o : List StatusMessage) (e : IndepState) (c : List LinkCall) → At plan me peer start before o e c
+          → Does plan me peer start before (exchange.tells_from (wiring plan) me peer (k + 1) n (record { edge = statuses_of e; out = o })) (tells_from plan taken_all me (id_of peer) (k + 1) n e c))
+          → Does plan me peer start before (exchange.tells_from (wiring plan) me peer (k + 1) n
+          (if b then exchange.tells peer k (record { edge = statuses_of edge; out = out }) else record { edge = statuses_of edge; out = out }))
           (and_then (if b then tells plan taken_all me (id_of peer) k edge calls else Goes edge calls) (λ e c. tells_from plan taken_all me (id_of peer) (k + 1) n e c))
       by true is again =
           let two = between_two plan k me peer checked is in
@@ -150,7 +158,8 @@ receivers_same : (edge : IndepState) (b : ℕ) → option_map receiver_part (edg
 receivers_same edge b = refl
 
 -- a status is heard
-pub hear_does : (plan : Plan) (me peer k : ℕ) (row : WirePlan) (wish : Wish) (id : ℕ) (edge : IndepState) (calls : List LinkCall) → IsChecked plan → slice_get plan.wires k ≡ Some row → is_between plan k me peer ≡ true
+pub hear_does : (plan : Plan) (me peer k : ℕ) (row : WirePlan) (wish : Wish) (id : ℕ) (edge : IndepState) (calls : List LinkCall) → IsChecked plan → slice_get plan.wires k ≡ Some row
+    → is_between plan k me peer ≡ true
     → ((p n : ℕ) → option_map id_next (edge.connection p) ≡ Some n → n < 2 ^ 32)
     → Does plan me peer edge calls (exchange.hears peer k (status_of wish) (statuses_of edge)) (hears_message plan taken_all me (id_of peer) (notification row peer wish id) edge calls)
 unfolding with_local with_remote
@@ -162,7 +171,8 @@ hear_does plan me peer k row wish id edge calls checked row_is joined small = re
     first : At plan me peer edge calls [] (learns k (status_of wish) edge) calls
     first = at_first plan me peer edge (learns k (status_of wish) edge) calls (receivers_same edge) small
 
-    by : (b : Bool) → Does plan me peer edge calls (if b then exchange.tells peer k (silent (exchange.learns k (status_of wish) (statuses_of edge))) else silent (exchange.learns k (status_of wish) (statuses_of edge)))
+    by : (b : Bool) → Does plan me peer edge calls
+        (if b then exchange.tells peer k (silent (exchange.learns k (status_of wish) (statuses_of edge))) else silent (exchange.learns k (status_of wish) (statuses_of edge)))
         (if b then tells plan taken_all me (id_of peer) k (learns k (status_of wish) edge) calls else Goes (learns k (status_of wish) edge) calls)
     by true = tell_does plan me peer edge calls k row [] (learns k (status_of wish) edge) calls row_is first
     by false = record { edge = learns k (status_of wish) edge; calls = calls; out = []; is = refl; statuses = refl; at = first }
@@ -193,7 +203,8 @@ connect_does plan me peer edge calls checked small =
       calls = d.calls;
       out = d.out;
       is = d.is;
-      statuses = ap (λ (e : EdgeStatuses). exchange.tells_from (wiring plan) me peer 0 (length plan.wires) (silent e)) (λ i. record (statuses_of edge) { next = λ p. next_is p (p == peer) i }) ∙ d.statuses;
+      statuses = ap (λ (e : EdgeStatuses). exchange.tells_from (wiring plan) me peer 0 (length plan.wires) (silent e))
+          (λ i. record (statuses_of edge) { next = λ p. next_is p (p == peer) i }) ∙ d.statuses;
       at = d.at;
     }
   where

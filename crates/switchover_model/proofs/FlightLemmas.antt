@@ -60,12 +60,14 @@ bare_writable pw_id offer = by offer.tagged
     by true = refl
     by false = refl
 
-pub ready : (edge : EdgePlan) (row : WirePlan) (me : ℕ) (wish : Wish) (id : ℕ) → IsRouter edge → id < 2 ^ 32 → row.pw_id < 2 ^ 32 → (offer_of row me).group < 2 ^ 32 → IsReady (notification row me wish id) edge
+pub ready : (edge : EdgePlan) (row : WirePlan) (me : ℕ) (wish : Wish) (id : ℕ) → IsRouter edge → id < 2 ^ 32 → row.pw_id < 2 ^ 32 → (offer_of row me).group < 2 ^ 32
+    → IsReady (notification row me wish id) edge
 ready edge row me wish id router small named group = record {
   can = can;
   fits = fits;
   short = written_is_short (notification row me wish id) fits refl (omega arith);
-  octets = written_are (notification row me wish id) (platform_of edge.address) (status_are pw_status_notice, (four_octets (status_of wish).0, (bare_octets row.pw_id (offer_of row me), tt))) router.octets;
+  octets = written_are (notification row me wish id) (platform_of edge.address)
+      (status_are pw_status_notice, (four_octets (status_of wish).0, (bare_octets row.pw_id (offer_of row me), tt))) router.octets;
   is_id = record { router = router.four; space = omega arith };
 }
   where
@@ -118,7 +120,8 @@ pub messages_are : (plan : Plan) (from : ℕ) (ts : List StatusMessage) → octe
 messages_are plan from [] = refl
 messages_are plan from (t ∷ ts) = by (slice_get plan.wires t.wire) (messages_are plan from ts)
   where
-    by : (o : Option WirePlan) → octets_told plan from ts ≡ octets_of_all plan from (messages_told plan from ts) → octets_in_row plan from t o ++ octets_told plan from ts ≡ octets_of_all plan from (message_in_row from t o ++ messages_told plan from ts)
+    by : (o : Option WirePlan) → octets_told plan from ts ≡ octets_of_all plan from (messages_told plan from ts) → octets_in_row plan from t o ++ octets_told plan from ts
+        ≡ octets_of_all plan from (message_in_row from t o ++ messages_told plan from ts)
     by None rest = rest
     by (Some row) rest = ap (λ (l : List ℕ). octets_on plan from row t.wish t.id ++ l) rest
 
@@ -163,7 +166,8 @@ module _ (plan : Plan) (checked : IsChecked plan) (types : HasTypes plan) (from 
 
   pub all_octets : (ts : List StatusMessage) → AreTold plan ts → AreOctets (octets_told plan from ts)
   all_octets [] all = no_octets
-  all_octets (t ∷ ts) all = octets_append (octets_in_row plan from t (slice_get plan.wires t.wire)) (octets_told plan from ts) (subst AreOctets (sym (told_is t all.0)) (told_ready t all.0).octets) (all_octets ts all.1)
+  all_octets (t ∷ ts) all = octets_append (octets_in_row plan from t (slice_get plan.wires t.wire)) (octets_told plan from ts)
+      (subst AreOctets (sym (told_is t all.0)) (told_ready t all.0).octets) (all_octets ts all.1)
 
   -- what is told first stands in front, and behind it the first octets of the rest
   pub record HasNext (t : StatusMessage) (told : IsTold plan t) (ts : List StatusMessage) (x y : List ℕ) : Type 0 where
@@ -175,7 +179,8 @@ module _ (plan : Plan) (checked : IsChecked plan) (types : HasTypes plan) (from 
   pub none_is : (x y : List ℕ) → x ++ y ≡ [] → front_of 4096 x ≡ More
   none_is x y e = ap (front_of 4096) (front_empty x y e) ∙ none_front
 
-  pub front_is : (t : StatusMessage) (told : IsTold plan t) (ts : List StatusMessage) (x y : List ℕ) → AreTold plan ts → x ++ y ≡ octets_told plan from (t ∷ ts) → (front_of 4096 x ≡ More) ⊎ HasNext t told ts x y
+  pub front_is : (t : StatusMessage) (told : IsTold plan t) (ts : List StatusMessage) (x y : List ℕ) → AreTold plan ts → x ++ y ≡ octets_told plan from (t ∷ ts)
+      → (front_of 4096 x ≡ More) ⊎ HasNext t told ts x y
   front_is t told ts x y all e = ⊎_elim part whole (cut x y (written m (platform_of edge.address)) (octets_told plan from ts) (e ∙ ap (λ (l : List ℕ). l ++ octets_told plan from ts) (told_is t told)))
     where
       m : Message

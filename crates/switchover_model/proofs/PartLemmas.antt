@@ -42,7 +42,8 @@ set_twice peer x y e = λ i. record e { connection = λ p. by p (p == peer) i }
     twice (Some kept) = refl
 
     by : (p : ℕ) (b : Bool)
-        → (if b then option_map (receiver_set x) (if peer == peer then option_map (receiver_set y) (e.connection peer) else e.connection peer) else if b then option_map (receiver_set y) (e.connection peer) else e.connection p)
+        → (if b then option_map (receiver_set x) (if peer == peer then option_map (receiver_set y) (e.connection peer) else e.connection peer) else if b then option_map
+        (receiver_set y) (e.connection peer) else e.connection p)
         ≡ (if b then option_map (receiver_set x) (e.connection peer) else e.connection p)
     by p true = rw (self peer) (twice (e.connection peer))
     by p false = refl
@@ -69,12 +70,14 @@ abbrev KeepsReceiver : ℕ → Option Receiver → Outcome → Type 0
 KeepsReceiver peer v (Goes e c) = receiver_at peer e ≡ v
 KeepsReceiver peer v (Stops why e c) = Unit {0}
 
-then_keeps : (peer : ℕ) (v : Option Receiver) (o : Outcome) (f : IndepState → List LinkCall → Outcome) → KeepsReceiver peer v o → ((e : IndepState) (c : List LinkCall) → receiver_at peer e ≡ v → KeepsReceiver peer v (f e c)) → KeepsReceiver peer v (and_then o f)
+then_keeps : (peer : ℕ) (v : Option Receiver) (o : Outcome) (f : IndepState → List LinkCall → Outcome) → KeepsReceiver peer v o
+    → ((e : IndepState) (c : List LinkCall) → receiver_at peer e ≡ v → KeepsReceiver peer v (f e c)) → KeepsReceiver peer v (and_then o f)
 then_keeps peer v (Goes e c) f is more = more e c is
 then_keeps peer v (Stops why e c) f is more = tt
 
 module _ (plan : Plan) (told : Answers) (me : ℕ) (peer : EdgeId) where
-  puts_keep : (kept : ConnectionState) (octets : List ℕ) (b : Bool) (e : IndepState) (c : List LinkCall) → e.connection peer.0 ≡ Some kept → KeepsReceiver peer.0 (receiver_at peer.0 e) (puts peer kept octets b e c)
+  puts_keep : (kept : ConnectionState) (octets : List ℕ) (b : Bool) (e : IndepState) (c : List LinkCall) → e.connection peer.0 ≡ Some kept
+      → KeepsReceiver peer.0 (receiver_at peer.0 e) (puts peer kept octets b e c)
   unfolding with_connection
   puts_keep kept octets true e c is = rw (self peer.0, is) refl
   puts_keep kept octets false e c is = tt
@@ -105,7 +108,8 @@ module _ (plan : Plan) (told : Answers) (me : ℕ) (peer : EdgeId) where
   of_keeps s None e c = refl
   of_keeps s (Some k) e c = status_keeps k s e c
 
-  notice_keeps : (code : ℕ) (s : Option PwStatus) (fec : Option PwFec) (e : IndepState) (c : List LinkCall) → KeepsReceiver peer.0 (receiver_at peer.0 e) (hears_notice plan told me peer code s fec e c)
+  notice_keeps : (code : ℕ) (s : Option PwStatus) (fec : Option PwFec) (e : IndepState) (c : List LinkCall)
+      → KeepsReceiver peer.0 (receiver_at peer.0 e) (hears_notice plan told me peer code s fec e c)
   notice_keeps code None fec e c = refl
   notice_keeps code (Some s) None e c = refl
   notice_keeps code (Some s) (Some fec) e c = by (code == pw_status_code)
@@ -125,7 +129,8 @@ module _ (plan : Plan) (told : Answers) (me : ℕ) (peer : EdgeId) where
 
   -- ---- two parts
 
-  then_same : (v : Option Receiver) (o : Outcome) (f g : IndepState → List LinkCall → Outcome) → KeepsReceiver peer.0 v o → ((e : IndepState) (c : List LinkCall) → receiver_at peer.0 e ≡ v → f e c ≡ g e c) → and_then o f ≡ and_then o g
+  then_same : (v : Option Receiver) (o : Outcome) (f g : IndepState → List LinkCall → Outcome) → KeepsReceiver peer.0 v o
+      → ((e : IndepState) (c : List LinkCall) → receiver_at peer.0 e ≡ v → f e c ≡ g e c) → and_then o f ≡ and_then o g
   then_same v (Goes e c) f g is same = same e c is
   then_same v (Stops why e c) f g is same = refl
 
@@ -133,11 +138,13 @@ module _ (plan : Plan) (told : Answers) (me : ℕ) (peer : EdgeId) where
   then_then (Goes e c) f g = refl
   then_then (Stops why e c) f g = refl
 
-  few_at : (n base : ℕ) (held : List ℕ) (front : Front) (e : IndepState) (c : List LinkCall) → front_of 4096 held ≡ front → hears_few plan told me peer (suc n) base held e c ≡ hears_front plan told me peer (hears_few plan told me peer n) base held front e c
+  few_at : (n base : ℕ) (held : List ℕ) (front : Front) (e : IndepState) (c : List LinkCall) → front_of 4096 held ≡ front → hears_few plan told me peer (suc n) base held e c
+      ≡ hears_front plan told me peer (hears_few plan told me peer n) base held front e c
   few_at n base held front e c is = ap (λ (f : Front). hears_front plan told me peer (hears_few plan told me peer n) base held f e c) is
 
   -- more turns than octets change nothing
-  enough : (n m base : ℕ) (held : List ℕ) (e : IndepState) (c : List LinkCall) → AreOctets held → length held < n → length held < m → hears_few plan told me peer n base held e c ≡ hears_few plan told me peer m base held e c
+  enough : (n m base : ℕ) (held : List ℕ) (e : IndepState) (c : List LinkCall) → AreOctets held → length held < n → length held < m → hears_few plan told me peer n base held e c
+      ≡ hears_few plan told me peer m base held e c
   enough zero m base held e c octets few many = absurd (omega (arith, few))
   enough (suc n) zero base held e c octets few many = absurd (omega (arith, many))
   enough (suc n) (suc m) base held e c octets few many = by (λ b rest e c are one two. enough n m b rest e c are one two) (front_of 4096 held) refl
@@ -146,7 +153,8 @@ module _ (plan : Plan) (told : Answers) (me : ℕ) (peer : EdgeId) where
       same (Goes e c) f g all = all e c
       same (Stops why e c) f g all = refl
 
-      by : ((b : ℕ) (rest : List ℕ) (e : IndepState) (c : List LinkCall) → AreOctets rest → length rest < n → length rest < m → hears_few plan told me peer n b rest e c ≡ hears_few plan told me peer m b rest e c)
+      by : ((b : ℕ) (rest : List ℕ) (e : IndepState) (c : List LinkCall) → AreOctets rest → length rest < n → length rest < m → hears_few plan told me peer n b rest e c
+          ≡ hears_few plan told me peer m b rest e c)
           → (front : Front) → front_of 4096 held ≡ front → hears_few plan told me peer (suc n) base held e c ≡ hears_few plan told me peer (suc m) base held e c
       by again More is = few_at n base held More e c is ∙ sym (few_at m base held More e c is)
       by again (Bad wrong) is = few_at n base held (Bad wrong) e c is ∙ sym (few_at m base held (Bad wrong) e c is)
@@ -161,16 +169,19 @@ module _ (plan : Plan) (told : Answers) (me : ℕ) (peer : EdgeId) where
           ∙ sym (few_at m base held (Got pdu rest) e c is))
 
   -- where what is left was put back, it is heard on with
-  on_open : (base : ℕ) (held more : List ℕ) (e : IndepState) (c : List LinkCall) → receiver_at peer.0 e ≡ Some Stopped → hears plan told me peer more (with_receiver peer.0 (Receiving base held) e) c ≡ hears_all plan told me peer base (held ++ more) e c
+  on_open : (base : ℕ) (held more : List ℕ) (e : IndepState) (c : List LinkCall) → receiver_at peer.0 e ≡ Some Stopped
+      → hears plan told me peer more (with_receiver peer.0 (Receiving base held) e) c ≡ hears_all plan told me peer base (held ++ more) e c
   on_open base held more e c deaf = by (e.connection peer.0) refl deaf
     where
-      by : (o : Option ConnectionState) → e.connection peer.0 ≡ o → option_map receiver_part o ≡ Some Stopped → hears plan told me peer more (with_receiver peer.0 (Receiving base held) e) c ≡ hears_all plan told me peer base (held ++ more) e c
+      by : (o : Option ConnectionState) → e.connection peer.0 ≡ o → option_map receiver_part o ≡ Some Stopped
+          → hears plan told me peer more (with_receiver peer.0 (Receiving base held) e) c ≡ hears_all plan told me peer base (held ++ more) e c
       by None is none = absurd (cc (none))
       by (Some kept) is at =
           ap (λ (o : Option ConnectionState). hears_on plan told me peer more o (with_receiver peer.0 (Receiving base held) e) c) (set_here peer.0 (Receiving base held) e kept is)
           ∙ ap (λ (s : IndepState). hears_all plan told me peer base (held ++ more) s c) (set_twice peer.0 Stopped (Receiving base held) e ∙ set_same peer.0 Stopped e deaf)
 
-  parts : (n m base : ℕ) (octets more : List ℕ) (e : IndepState) (c : List LinkCall) → AreOctets (octets ++ more) → length octets < n → length (octets ++ more) < m → receiver_at peer.0 e ≡ Some Stopped
+  parts : (n m base : ℕ) (octets more : List ℕ) (e : IndepState) (c : List LinkCall) → AreOctets (octets ++ more) → length octets < n → length (octets ++ more) < m
+      → receiver_at peer.0 e ≡ Some Stopped
       → hears_few plan told me peer m base (octets ++ more) e c ≡ and_then (hears_few plan told me peer n base octets e c) (λ e c. hears plan told me peer more e c)
   parts zero m base octets more e c are few many deaf = absurd (omega (arith, few))
   parts (suc n) zero base octets more e c are few many deaf = absurd (omega (arith, many))
@@ -181,7 +192,8 @@ module _ (plan : Plan) (told : Answers) (me : ℕ) (peer : EdgeId) where
 
       by : ((b : ℕ) (rest : List ℕ) (e : IndepState) (c : List LinkCall) → AreOctets (rest ++ more) → length rest < n → length (rest ++ more) < suc m → receiver_at peer.0 e ≡ Some Stopped
           → hears_few plan told me peer (suc m) b (rest ++ more) e c ≡ and_then (hears_few plan told me peer n b rest e c) (λ e c. hears plan told me peer more e c))
-          → (front : Front) → front_of 4096 octets ≡ front → hears_few plan told me peer (suc m) base (octets ++ more) e c ≡ and_then (hears_few plan told me peer (suc n) base octets e c) (λ e c. hears plan told me peer more e c)
+          → (front : Front) → front_of 4096 octets ≡ front → hears_few plan told me peer (suc m) base (octets ++ more) e c
+          ≡ and_then (hears_few plan told me peer (suc n) base octets e c) (λ e c. hears plan told me peer more e c)
       by again More is =
           enough (suc m) (suc (length (octets ++ more))) base (octets ++ more) e c are many (omega arith)
           ∙ (sym (on_open base octets more e c deaf) ∙ ap (λ (o : Outcome). and_then o (λ e c. hears plan told me peer more e c)) (sym (few_at n base octets More e c is)))
@@ -202,14 +214,16 @@ module _ (plan : Plan) (told : Answers) (me : ℕ) (peer : EdgeId) where
           (λ e c at. ap (λ (k : ℕ). hears_few plan told me peer m (place_behind base k) (rest ++ more) e c) size
           ∙ (enough m (suc m) (place_behind base (length octets - length rest)) (rest ++ more) e c them (omega (arith, fewer, many)) (omega (arith, fewer, many))
           ∙ again (place_behind base (length octets - length rest)) rest e c them (omega (arith, less, few)) (omega (arith, fewer, many)) at))
-          ∙ (then_then (hears_messages plan told me peer pdu.messages e c) (λ e c. hears_few plan told me peer n (place_behind base (length octets - length rest)) rest e c) (λ e c. hears plan told me peer more e c)
+          ∙ (then_then (hears_messages plan told me peer pdu.messages e c) (λ e c. hears_few plan told me peer n (place_behind base (length octets - length rest)) rest e c)
+          (λ e c. hears plan told me peer more e c)
           ∙ ap (λ (o : Outcome). and_then o (λ e c. hears plan told me peer more e c)) (sym (few_at n base octets (Got pdu rest) e c is))))
 
   deaf_at : (e : IndepState) (kept : ConnectionState) → e.connection peer.0 ≡ Some kept → receiver_at peer.0 (with_receiver peer.0 Stopped e) ≡ Some Stopped
   deaf_at e kept is = ap (option_map receiver_part) (set_here peer.0 Stopped e kept is)
 
   -- The octets that are held and come are octets. Where something stops the first part, the second is not heard.
-  pub heard_in_parts : (first more : List ℕ) (e : IndepState) (c : List LinkCall) → ((base : ℕ) (held : List ℕ) → receiver_at peer.0 e ≡ Some (Receiving base held) → AreOctets (held ++ (first ++ more)))
+  pub heard_in_parts : (first more : List ℕ) (e : IndepState) (c : List LinkCall)
+      → ((base : ℕ) (held : List ℕ) → receiver_at peer.0 e ≡ Some (Receiving base held) → AreOctets (held ++ (first ++ more)))
       → hears plan told me peer (first ++ more) e c ≡ and_then (hears plan told me peer first e c) (λ e c. hears plan told me peer more e c)
   heard_in_parts first more e c are = by (e.connection peer.0) refl
     where
@@ -218,11 +232,14 @@ module _ (plan : Plan) (told : Answers) (me : ℕ) (peer : EdgeId) where
       by_receiver kept is (Receiving base held) at =
           let them : AreOctets ((held ++ first) ++ more) = subst AreOctets (sym (append_assoc held first more)) (are base held (ap (option_map receiver_part) is ∙ ap (λ (x : Receiver). Some x) at)) in
           ap (λ (l : List ℕ). hears_all plan told me peer base l (with_receiver peer.0 Stopped e) c) (sym (append_assoc held first more))
-          ∙ parts (suc (length (held ++ first))) (suc (length ((held ++ first) ++ more))) base (held ++ first) more (with_receiver peer.0 Stopped e) c them (omega arith) (omega arith) (deaf_at e kept is)
+          ∙ parts (suc (length (held ++ first))) (suc (length ((held ++ first) ++ more))) base (held ++ first) more (with_receiver peer.0 Stopped e) c them (omega arith) (omega arith)
+          (deaf_at e kept is)
       by_receiver kept is (Broken base wrong) at = refl
-      by_receiver kept is Stopped at = sym (ap (λ (o : Option ConnectionState). hears_on plan told me peer more o e c) is ∙ ap (λ (receiver : Receiver). hears_by plan told me peer more receiver e c) at)
+      by_receiver kept is Stopped at = sym (ap (λ (o : Option ConnectionState). hears_on plan told me peer more o e c) is
+          ∙ ap (λ (receiver : Receiver). hears_by plan told me peer more receiver e c) at)
 
-      by : (o : Option ConnectionState) → e.connection peer.0 ≡ o → hears_on plan told me peer (first ++ more) o e c ≡ and_then (hears_on plan told me peer first o e c) (λ e c. hears plan told me peer more e c)
+      by : (o : Option ConnectionState) → e.connection peer.0 ≡ o → hears_on plan told me peer (first ++ more) o e c
+          ≡ and_then (hears_on plan told me peer first o e c) (λ e c. hears plan told me peer more e c)
       by None is = sym (ap (λ (o : Option ConnectionState). hears_on plan told me peer more o e c) is)
       by (Some kept) is =
           ap (λ (receiver : Receiver). hears_by plan told me peer (first ++ more) receiver e c) refl ∙ by_receiver kept is kept.receiver refl

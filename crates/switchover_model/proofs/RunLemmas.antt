@@ -100,13 +100,15 @@ module _ (plan : Plan) (checked : IsChecked plan) (types : HasTypes plan) where
 
   -- ---- a wire is called something else
 
-  set_follows : (me peer wire : ℕ) (row : WirePlan) (wish : Wish) (x : SwitchState) → slice_get plan.wires wire ≡ Some row → is_between plan wire me peer ≡ true → other_end plan me wire ≡ Some (id_of peer)
+  set_follows : (me peer wire : ℕ) (row : WirePlan) (wish : Wish) (x : SwitchState) → slice_get plan.wires wire ≡ Some row → is_between plan wire me peer ≡ true
+      → other_end plan me wire ≡ Some (id_of peer)
       → is_same_wish ((x.edges me).local wire) wish ≡ false → Follows x → Follows (setting plan me wire wish x)
   set_follows me peer wire row wish x row_is joined other away f =
       let d = set_does plan me peer wire row wish (x.edges me) [] row_is other away (f.matches.small me) in
       record {
         y = absorb me peer (exchange.sets peer wire wish (statuses_of (x.edges me))) f.y;
-        matches = absorbed plan me peer x f.y (exchange.sets peer wire wish (statuses_of (x.edges me))) (sets plan taken_all me wire wish (x.edges me) []) (x.edges me) (laws.apart wire me peer joined) f.matches d refl (λ b away. refl) (f.matches.open_all me peer);
+        matches = absorbed plan me peer x f.y (exchange.sets peer wire wish (statuses_of (x.edges me))) (sets plan taken_all me wire wish (x.edges me) []) (x.edges me)
+            (laws.apart wire me peer joined) f.matches d refl (λ b away. refl) (f.matches.open_all me peer);
         holds = subst (λ (e : EdgeStatuses). Holds w (absorb me peer (exchange.sets peer wire wish e) f.y)) (sym (f.matches.edges me)) (step_holds w laws f.y (Sets me peer wire wish) joined f.holds);
       }
 
@@ -134,7 +136,8 @@ module _ (plan : Plan) (checked : IsChecked plan) (types : HasTypes plan) where
   unfolding with_connection
   started me peer e none = rw (self peer, none_there (e.connection peer) none) refl
 
-  started_receivers : (peer : ℕ) (e : IndepState) (k : ℕ) → (k == peer) ≡ false → option_map receiver_part ((with_connection peer (Some fresh) e).connection k) ≡ option_map receiver_part (e.connection k)
+  started_receivers : (peer : ℕ) (e : IndepState) (k : ℕ) → (k == peer) ≡ false → option_map receiver_part ((with_connection peer (Some fresh) e).connection k)
+      ≡ option_map receiver_part (e.connection k)
   unfolding with_connection
   started_receivers peer e k away = rw away refl
 
@@ -157,9 +160,12 @@ module _ (plan : Plan) (checked : IsChecked plan) (types : HasTypes plan) where
       x0 : SwitchState
       x0 = record x { came = at_two a b [] (at_two b a [] x.came) }
 
-      none_came : (j k : ℕ) (s t : Bool) → (j == a && k == b) ≡ s → (j == b && k == a) ≡ t → (if s then [] else if t then [] else x.came j k) ≡ octets_told plan j (if s then [] else if t then [] else f.y.heard j k) ++ held_by ((x.edges k).connection j)
-      none_came j k true t is to = let one : j ≡ a = grind (arith, nat_tests, is) in let two : k ≡ b = grind (arith, nat_tests, is) in rw (one, two, none_there ((x.edges b).connection a) other_gone) refl
-      none_came j k false true is to = let one : j ≡ b = grind (arith, nat_tests, to) in let two : k ≡ a = grind (arith, nat_tests, to) in rw (one, two, none_there ((x.edges a).connection b) gone) refl
+      none_came : (j k : ℕ) (s t : Bool) → (j == a && k == b) ≡ s → (j == b && k == a) ≡ t → (if s then [] else if t then [] else x.came j k)
+          ≡ octets_told plan j (if s then [] else if t then [] else f.y.heard j k) ++ held_by ((x.edges k).connection j)
+      none_came j k true t is to = let one : j ≡ a = grind (arith, nat_tests, is) in let two : k ≡ b = grind (arith, nat_tests, is) in
+          rw (one, two, none_there ((x.edges b).connection a) other_gone) refl
+      none_came j k false true is to = let one : j ≡ b = grind (arith, nat_tests, to) in let two : k ≡ a = grind (arith, nat_tests, to) in
+          rw (one, two, none_there ((x.edges a).connection b) gone) refl
       none_came j k false false is to = f.matches.came j k
 
       none_past : (j k : ℕ) (s t : Bool) → AreTold plan (if s then [] else if t then [] else f.y.heard j k) × AllTold (λ m. is_between plan m j k) (if s then [] else if t then [] else f.y.heard j k)
@@ -191,17 +197,20 @@ module _ (plan : Plan) (checked : IsChecked plan) (types : HasTypes plan) where
       x1 = connects_one plan a b x0
 
       d1 : Does plan a b (with_connection b (Some fresh) (x.edges a)) [] t1 (connects plan taken_all a (id_of b) (x.edges a) [])
-      d1 = subst (λ (e : EdgeStatuses). Does plan a b (with_connection b (Some fresh) (x.edges a)) [] (exchange.connects w a b e) (connects plan taken_all a (id_of b) (x.edges a) [])) (f.matches.edges a)
+      d1 = subst (λ (e : EdgeStatuses). Does plan a b (with_connection b (Some fresh) (x.edges a)) [] (exchange.connects w a b e) (connects plan taken_all a (id_of b) (x.edges a) []))
+          (f.matches.edges a)
           (connect_does plan a b (x.edges a) [] checked (f.matches.small a))
 
       m1 : Matches plan x1 (absorb a b t1 y0)
-      m1 = absorbed plan a b x0 y0 t1 (connects plan taken_all a (id_of b) (x.edges a) []) (with_connection b (Some fresh) (x.edges a)) apart m0 d1 (started a b (x.edges a) gone) (started_receivers b (x.edges a)) (started_open b (x.edges a))
+      m1 = absorbed plan a b x0 y0 t1 (connects plan taken_all a (id_of b) (x.edges a) []) (with_connection b (Some fresh) (x.edges a)) apart m0 d1 (started a b (x.edges a) gone)
+          (started_receivers b (x.edges a)) (started_open b (x.edges a))
 
       b_is : x1.edges b ≡ x.edges b
       b_is = rw (apart_back a b apart) refl
 
       d2 : Does plan b a (with_connection a (Some fresh) (x1.edges b)) [] t2 (connects plan taken_all b (id_of a) (x1.edges b) [])
-      d2 = subst (λ (e : EdgeStatuses). Does plan b a (with_connection a (Some fresh) (x1.edges b)) [] (exchange.connects w b a e) (connects plan taken_all b (id_of a) (x1.edges b) [])) (ap statuses_of b_is ∙ f.matches.edges b)
+      d2 = subst (λ (e : EdgeStatuses). Does plan b a (with_connection a (Some fresh) (x1.edges b)) [] (exchange.connects w b a e)
+          (connects plan taken_all b (id_of a) (x1.edges b) [])) (ap statuses_of b_is ∙ f.matches.edges b)
           (connect_does plan b a (x1.edges b) [] checked (m1.small b))
 
       m2 : Matches plan (connecting plan a b x) (absorb b a t2 (absorb a b t1 y0))
@@ -229,7 +238,8 @@ module _ (plan : Plan) (checked : IsChecked plan) (types : HasTypes plan) where
       y2 = step w f.y (Loses a b)
 
       edge_is : (k : ℕ) (s t : Bool) → (k == b) ≡ s → (k == a) ≡ t
-          → statuses_of (if s then loses plan b (id_of a) (x.edges b) else if t then loses plan a (id_of b) (x.edges a) else x.edges k) ≡ (if s then exchange.loses w b a (f.y.edges b) else if t then exchange.loses w a b (f.y.edges a) else f.y.edges k)
+          → statuses_of (if s then loses plan b (id_of a) (x.edges b) else if t then loses plan a (id_of b) (x.edges a) else x.edges k)
+          ≡ (if s then exchange.loses w b a (f.y.edges b) else if t then exchange.loses w a b (f.y.edges a) else f.y.edges k)
       edge_is k true t is to = lost_statuses b a (x.edges b) ∙ ap (exchange.loses w b a) (f.matches.edges b)
       edge_is k false true is to = lost_statuses a b (x.edges a) ∙ ap (exchange.loses w a b) (f.matches.edges a)
       edge_is k false false is to = f.matches.edges k
@@ -290,7 +300,8 @@ module _ (plan : Plan) (checked : IsChecked plan) (types : HasTypes plan) where
               lost_connection a b (x.edges a) j ∙ rw away (ap (λ (n : ℕ). (x.edges n).connection j) (sym (eqb-true k a g)))
           still false false e g = refl
 
-      came_at : (j k : ℕ) (s t : Bool) → (j == a && k == b) ≡ s → (j == b && k == a) ≡ t → (if s then [] else if t then [] else x.came j k) ≡ octets_told plan j (if s then [] else if t then [] else f.y.heard j k) ++ held_by (((cutting plan a b x).edges k).connection j)
+      came_at : (j k : ℕ) (s t : Bool) → (j == a && k == b) ≡ s → (j == b && k == a) ≡ t → (if s then [] else if t then [] else x.came j k)
+          ≡ octets_told plan j (if s then [] else if t then [] else f.y.heard j k) ++ held_by (((cutting plan a b x).edges k).connection j)
       came_at j k true t is to =
           let one : j ≡ a = grind (arith, nat_tests, is) in
           let two : k ≡ b = grind (arith, nat_tests, is) in
@@ -364,7 +375,8 @@ module _ (plan : Plan) (checked : IsChecked plan) (types : HasTypes plan) where
     rest_told : AreTold plan ts
     rest_told = (subst (AreTold plan) h.way (h.told from to)).1
 
-    heard_does : Does plan to from edge calls (exchange.hears from t.wire (status_of t.wish) (statuses_of edge)) (hears_message plan taken_all to (id_of from) (notification is_told.row from t.wish t.id) edge calls)
+    heard_does : Does plan to from edge calls (exchange.hears from t.wire (status_of t.wish) (statuses_of edge))
+        (hears_message plan taken_all to (id_of from) (notification is_told.row from t.wish t.id) edge calls)
     heard_does = hear_does plan to from t.wire is_told.row t.wish t.id edge calls checked is_told.row_is joined_back h.small
 
     abbrev taken : Exchange
@@ -384,15 +396,19 @@ module _ (plan : Plan) (checked : IsChecked plan) (types : HasTypes plan) where
     back_way = two_away from to to from ts h.now.ways (turned_away from to from_to)
 
     heard_told : (a b : ℕ) (s u : Bool) → AreTold plan (if s then at_two from to ts h.now.ways to from ++ heard_does.out else if u then ts else h.now.ways a b)
-    heard_told a b true u = subst (λ (l : List StatusMessage). AreTold plan (l ++ heard_does.out)) (sym back_way) (are_both plan (h.now.ways to from) heard_does.out (h.told to from) heard_does.at.told)
+    heard_told a b true u = subst (λ (l : List StatusMessage). AreTold plan (l ++ heard_does.out)) (sym back_way)
+        (are_both plan (h.now.ways to from) heard_does.out (h.told to from) heard_does.at.told)
     heard_told a b false true = rest_told
     heard_told a b false false = h.told a b
 
-    heard_past : (a b : ℕ) (u : Bool) → (a == from && b == to) ≡ u → AreTold plan (if u then h.now.heard from to ++ t ∷ [] else h.now.heard a b) × AllTold (λ k. is_between plan k a b) (if u then h.now.heard from to ++ t ∷ [] else h.now.heard a b)
+    heard_past : (a b : ℕ) (u : Bool) → (a == from && b == to) ≡ u → AreTold plan (if u then h.now.heard from to ++ t ∷ [] else h.now.heard a b)
+        × AllTold (λ k. is_between plan k a b) (if u then h.now.heard from to ++ t ∷ [] else h.now.heard a b)
     heard_past a b true is =
         let one : a ≡ from = grind (arith, nat_tests, is) in
-        let two : b ≡ to = grind (arith, nat_tests, is) in
-        (are_both plan (h.now.heard from to) (t ∷ []) (h.past from to).0 (is_told, tt), rw (one, two) (told_append (λ (k : ℕ). is_between plan k from to) (h.now.heard from to) (t ∷ []) (h.past from to).1 (joined, tt)))
+        let two : b ≡ to = grind (arith, nat_tests, is) in (
+          are_both plan (h.now.heard from to) (t ∷ []) (h.past from to).0 (is_told, tt),
+          rw (one, two) (told_append (λ (k : ℕ). is_between plan k from to) (h.now.heard from to) (t ∷ []) (h.past from to).1 (joined, tt)),
+        )
     heard_past a b false is = h.past a b
 
     hear_one : HeardOne x f from to start t ts (h.now.heard from to) (hears_message plan taken_all to (id_of from) (notification is_told.row from t.wish t.id) edge calls)
@@ -410,8 +426,10 @@ module _ (plan : Plan) (checked : IsChecked plan) (types : HasTypes plan) where
             ∙ (sym (append_assoc (flight x to from) (said_to from calls) (octets_told plan to heard_does.out))
             ∙ (ap (λ (l : List ℕ). l ++ octets_told plan to heard_does.out) h.back
             ∙ (sym (told_both plan to (h.now.ways to from) heard_does.out)
-            ∙ ap (octets_told plan to) (ap (λ (l : List StatusMessage). l ++ heard_does.out) (sym back_way) ∙ sym (two_at to from (at_two from to ts h.now.ways to from ++ heard_does.out) (at_two from to ts h.now.ways))))));
-        away = λ a b one two. two_away to from a b (at_two from to ts h.now.ways to from ++ heard_does.out) (at_two from to ts h.now.ways) one ∙ (two_away from to a b ts h.now.ways two ∙ h.away a b one two);
+            ∙ ap (octets_told plan to) (ap (λ (l : List StatusMessage). l ++ heard_does.out) (sym back_way)
+            ∙ sym (two_at to from (at_two from to ts h.now.ways to from ++ heard_does.out) (at_two from to ts h.now.ways))))));
+        away = λ a b one two. two_away to from a b (at_two from to ts h.now.ways to from ++ heard_does.out) (at_two from to ts h.now.ways) one
+            ∙ (two_away from to a b ts h.now.ways two ∙ h.away a b one two);
         silent = λ b away. heard_does.at.others b away ∙ h.silent b away;
         receivers = λ b. heard_does.at.receivers b ∙ h.receivers b;
         small = heard_does.at.small;
@@ -438,7 +456,8 @@ module _ (plan : Plan) (checked : IsChecked plan) (types : HasTypes plan) where
 
   few_heard : (x : SwitchState) (f : Follows x) (from to : ℕ) (start : IndepState) (n base : ℕ) (octets more : List ℕ) (ms : List StatusMessage) (edge : IndepState) (calls : List LinkCall) → octets ++ more ≡ octets_told plan from ms
       → (h : Hearing x f from to start ms edge calls) → HeardSome x f from to start octets more (h.now.heard from to) (hears_few plan taken_all to (id_of from) n base octets edge calls)
-  few_heard x f from to start zero base octets more ms edge calls e h = record { left = ms; gone = []; base = base; rest = octets; edge = edge; calls = calls; is = refl; behind = e; split = refl; hearing = h; heard_is = sym (append-nil (h.now.heard from to)) }
+  few_heard x f from to start zero base octets more ms edge calls e h =
+      record { left = ms; gone = []; base = base; rest = octets; edge = edge; calls = calls; is = refl; behind = e; split = refl; hearing = h; heard_is = sym (append-nil (h.now.heard from to)) }
   few_heard x f from to start (suc n) base octets more [] edge calls e h = record {
     left = [];
     gone = [];
@@ -446,7 +465,8 @@ module _ (plan : Plan) (checked : IsChecked plan) (types : HasTypes plan) where
     rest = octets;
     edge = edge;
     calls = calls;
-    is = ap (λ (g : Front). hears_front plan taken_all to (id_of from) (hears_few plan taken_all to (id_of from) n) base octets g edge calls) (ap (front_of 4096) (front_empty octets more e) ∙ none_front);
+    is = ap (λ (g : Front). hears_front plan taken_all to (id_of from) (hears_few plan taken_all to (id_of from) n) base octets g edge calls)
+        (ap (front_of 4096) (front_empty octets more e) ∙ none_front);
     behind = e;
     split = refl;
     hearing = h;
@@ -465,15 +485,30 @@ module _ (plan : Plan) (checked : IsChecked plan) (types : HasTypes plan) where
       there : HasRow plan from
       there = edge_there plan t.wire from to checked (joined x f from to start t ts edge calls h)
 
-      by_front : (g : Front) → front_of 4096 octets ≡ g → hears_few plan taken_all to (id_of from) (suc n) base octets edge calls ≡ hears_front plan taken_all to (id_of from) (hears_few plan taken_all to (id_of from) n) base octets g edge calls
+      by_front : (g : Front) → front_of 4096 octets ≡ g → hears_few plan taken_all to (id_of from) (suc n) base octets edge calls
+          ≡ hears_front plan taken_all to (id_of from) (hears_few plan taken_all to (id_of from) n) base octets g edge calls
       by_front g is = ap (λ (g : Front). hears_front plan taken_all to (id_of from) (hears_few plan taken_all to (id_of from) n) base octets g edge calls) is
 
       waits : front_of 4096 octets ≡ More → HeardSome x f from to start octets more (h.now.heard from to) (hears_few plan taken_all to (id_of from) (suc n) base octets edge calls)
-      waits is = record { left = t ∷ ts; gone = []; base = base; rest = octets; edge = edge; calls = calls; is = by_front More is; behind = e; split = refl; hearing = h; heard_is = sym (append-nil (h.now.heard from to)) }
+      waits is = record {
+        left = t ∷ ts;
+        gone = [];
+        base = base;
+        rest = octets;
+        edge = edge;
+        calls = calls;
+        is = by_front More is;
+        behind = e;
+        split = refl;
+        hearing = h;
+        heard_is = sym (append-nil (h.now.heard from to));
+      }
 
       gets : ((rest : List ℕ) (one : HeardOne x f from to start t ts (h.now.heard from to) (hears_message plan taken_all to (id_of from) (notification told.row from t.wish t.id) edge calls)) → rest ++ more ≡ octets_told plan from ts
-          → HeardSome x f from to start rest more (one.hearing.now.heard from to) (hears_few plan taken_all to (id_of from) n (place_behind base (length octets - length rest)) rest one.edge one.calls))
-          → HasNext plan checked types from there.row there.is t told ts octets more → HeardSome x f from to start octets more (h.now.heard from to) (hears_few plan taken_all to (id_of from) (suc n) base octets edge calls)
+          → HeardSome x f from to start rest more (one.hearing.now.heard from to)
+          (hears_few plan taken_all to (id_of from) n (place_behind base (length octets - length rest)) rest one.edge one.calls))
+          → HasNext plan checked types from there.row there.is t told ts octets more
+          → HeardSome x f from to start octets more (h.now.heard from to) (hears_few plan taken_all to (id_of from) (suc n) base octets edge calls)
       gets again next =
           let one = hear_one x f from to start t ts edge calls h in
           let on = again next.rest one next.behind in
@@ -485,9 +520,11 @@ module _ (plan : Plan) (checked : IsChecked plan) (types : HasTypes plan) where
             edge = on.edge;
             calls = on.calls;
             is = by_front (Got (record { id = platform_of there.row.address; messages = notification told.row from t.wish t.id ∷ [] }) next.rest) next.front
-                ∙ (ap (λ (o : Outcome). and_then (and_then o (λ e c. Goes e c)) (λ e c. hears_few plan taken_all to (id_of from) n (place_behind base (length octets - length next.rest)) next.rest e c)) one.is ∙ on.is);
+                ∙ (ap (λ (o : Outcome). and_then (and_then o (λ e c. Goes e c))
+                (λ e c. hears_few plan taken_all to (id_of from) n (place_behind base (length octets - length next.rest)) next.rest e c)) one.is ∙ on.is);
             behind = on.behind;
-            split = next.split ∙ (ap (λ (l : List ℕ). octets_in_row plan from t (slice_get plan.wires t.wire) ++ l) on.split ∙ sym (append_assoc (octets_in_row plan from t (slice_get plan.wires t.wire)) (octets_told plan from on.gone) on.rest));
+            split = next.split ∙ (ap (λ (l : List ℕ). octets_in_row plan from t (slice_get plan.wires t.wire) ++ l) on.split
+                ∙ sym (append_assoc (octets_in_row plan from t (slice_get plan.wires t.wire)) (octets_told plan from on.gone) on.rest));
             hearing = on.hearing;
             heard_is = on.heard_is ∙ (ap (λ (l : List StatusMessage). l ++ on.gone) one.heard_is ∙ append_assoc (h.now.heard from to) (t ∷ []) on.gone);
           }
@@ -509,7 +546,8 @@ module _ (plan : Plan) (checked : IsChecked plan) (types : HasTypes plan) where
   unfolding with_connection
   receiver_other peer receiver e p away = rw away refl
 
-  receiver_here : (peer : ℕ) (receiver : Receiver) (e : IndepState) → is_some (option_map receiver_part (e.connection peer)) ≡ true → option_map receiver_part ((with_receiver peer receiver e).connection peer) ≡ Some receiver
+  receiver_here : (peer : ℕ) (receiver : Receiver) (e : IndepState) → is_some (option_map receiver_part (e.connection peer)) ≡ true
+      → option_map receiver_part ((with_receiver peer receiver e).connection peer) ≡ Some receiver
   unfolding with_connection
   receiver_here peer receiver e there = rw (self peer) (by (e.connection peer) there)
     where
@@ -564,7 +602,8 @@ module _ (plan : Plan) (checked : IsChecked plan) (types : HasTypes plan) where
         ∙ (ap (λ (l : List ℕ). here.held ++ l) (take-append-drop count (x.pipes from to))
         ∙ (ap (λ (l : List ℕ). l ++ x.pipes from to) (sym (ap held_by here.is ∙ ap held_with here.opened)) ∙ f.matches.octets from to))
 
-    hears_is : hears plan taken_all to (id_of from) (take count (x.pipes from to)) (x.edges to) [] ≡ hears_all plan taken_all to (id_of from) here.base (here.held ++ take count (x.pipes from to)) start []
+    hears_is : hears plan taken_all to (id_of from) (take count (x.pipes from to)) (x.edges to) []
+        ≡ hears_all plan taken_all to (id_of from) here.base (here.held ++ take count (x.pipes from to)) start []
     hears_is = ap (λ (o : Option ConnectionState). hears_on plan taken_all to (id_of from) (take count (x.pipes from to)) o (x.edges to) []) here.is
         ∙ ap (λ (receiver : Receiver). hears_by plan taken_all to (id_of from) (take count (x.pipes from to)) receiver (x.edges to) []) here.opened
 
@@ -588,9 +627,11 @@ module _ (plan : Plan) (checked : IsChecked plan) (types : HasTypes plan) where
       heard_away = λ a b two. refl;
     }
 
-    heard : HeardSome x f from to start (here.held ++ take count (x.pipes from to)) (drop count (x.pipes from to)) (f.y.heard from to) (hears_all plan taken_all to (id_of from) here.base (here.held ++ take count (x.pipes from to)) start [])
+    heard : HeardSome x f from to start (here.held ++ take count (x.pipes from to)) (drop count (x.pipes from to)) (f.y.heard from to)
+        (hears_all plan taken_all to (id_of from) here.base (here.held ++ take count (x.pipes from to)) start [])
     unfolding first_hearing
-    heard = few_heard x f from to start (suc (length (here.held ++ take count (x.pipes from to)))) here.base (here.held ++ take count (x.pipes from to)) (drop count (x.pipes from to)) (f.y.ways from to) start [] whole first_hearing
+    heard = few_heard x f from to start (suc (length (here.held ++ take count (x.pipes from to)))) here.base (here.held ++ take count (x.pipes from to)) (drop count (x.pipes from to))
+        (f.y.ways from to) start [] whole first_hearing
 
     abbrev last : IndepState
     last = with_receiver from (Receiving heard.base heard.rest) heard.edge
@@ -622,11 +663,14 @@ module _ (plan : Plan) (checked : IsChecked plan) (types : HasTypes plan) where
       edges = λ k away. f.matches.edges k ∙ sym (heard.hearing.others k away);
       comes = ap (λ (l : List ℕ). l ++ at_two from to (drop count (x.pipes from to)) x.pipes from to) (held_is (last.connection from) ∙ ap held_in last_receiver)
           ∙ (ap (λ (l : List ℕ). heard.rest ++ l) (two_at from to (drop count (x.pipes from to)) x.pipes) ∙ (heard.behind ∙ ap (octets_told plan from) (sym heard.hearing.way)));
-      goes = ap (λ (l : List ℕ). held_by ((x.edges from).connection to) ++ (l ++ said_to from heard.calls)) (two_away from to to from (drop count (x.pipes from to)) x.pipes (turned_away from to (apart_back to from from_to_apart)))
+      goes = ap (λ (l : List ℕ). held_by ((x.edges from).connection to) ++ (l ++ said_to from heard.calls))
+          (two_away from to to from (drop count (x.pipes from to)) x.pipes (turned_away from to (apart_back to from from_to_apart)))
           ∙ (sym (append_assoc (held_by ((x.edges from).connection to)) (x.pipes to from) (said_to from heard.calls)) ∙ heard.hearing.back);
-      others = λ a b one two. ap (λ (l : List ℕ). held_by ((x.edges b).connection a) ++ l) (two_away from to a b (drop count (x.pipes from to)) x.pipes two) ∙ (f.matches.octets a b ∙ ap (octets_told plan a) (sym (heard.hearing.away a b one two)));
+      others = λ a b one two. ap (λ (l : List ℕ). held_by ((x.edges b).connection a) ++ l) (two_away from to a b (drop count (x.pipes from to)) x.pipes two)
+          ∙ (f.matches.octets a b ∙ ap (octets_told plan a) (sym (heard.hearing.away a b one two)));
       silent = heard.hearing.silent;
-      receivers = λ b away. ap (option_map receiver_part) (receiver_other from (Receiving heard.base heard.rest) heard.edge b away) ∙ (heard.hearing.receivers b ∙ ap (option_map receiver_part) (receiver_other from Stopped (x.edges to) b away));
+      receivers = λ b away. ap (option_map receiver_part) (receiver_other from (Receiving heard.base heard.rest) heard.edge b away)
+          ∙ (heard.hearing.receivers b ∙ ap (option_map receiver_part) (receiver_other from Stopped (x.edges to) b away));
       open_here = subst AreOpen (sym last_receiver) tt;
       open_all = λ a b. inl (f.matches.open_all a b);
       small_here = λ p id is. heard.hearing.small p id (ap (λ (e : EdgeStatuses). e.next p) (sym (receiver_statuses from (Receiving heard.base heard.rest) heard.edge)) ∙ is);
@@ -639,14 +683,16 @@ module _ (plan : Plan) (checked : IsChecked plan) (types : HasTypes plan) where
           ∙ (sym (append_assoc (octets_told plan from (f.y.heard from to)) (octets_told plan from heard.gone) heard.rest)
           ∙ (ap (λ (l : List ℕ). l ++ heard.rest) (sym (told_both plan from (f.y.heard from to) heard.gone) ∙ ap (octets_told plan from) (sym heard.heard_is))
           ∙ ap (λ (l : List ℕ). octets_told plan from (heard.hearing.now.heard from to) ++ l) (sym (held_is (last.connection from) ∙ ap held_in last_receiver))))))));
-      came = λ a b away. two_away from to a b (x.came from to ++ take count (x.pipes from to)) x.came away ∙ (f.matches.came a b ∙ ap (λ (ts : List StatusMessage). octets_told plan a ts ++ held_by ((x.edges b).connection a)) (sym (heard.hearing.heard_away a b away)));
+      came = λ a b away. two_away from to a b (x.came from to ++ take count (x.pipes from to)) x.came away
+          ∙ (f.matches.came a b ∙ ap (λ (ts : List StatusMessage). octets_told plan a ts ++ held_by ((x.edges b).connection a)) (sym (heard.hearing.heard_away a b away)));
       past = heard.hearing.past;
     }
 
     deliver_follows : Follows (delivering plan from to count x)
     deliver_follows = record {
       y = heard.hearing.now;
-      matches = subst (λ (o : Outcome). Matches plan (absorbs to o x1) heard.hearing.now) (sym (hears_is ∙ heard.is)) (done_matches plan to from x1 last heard.calls heard.hearing.now from_to_apart is_delivered);
+      matches = subst (λ (o : Outcome). Matches plan (absorbs to o x1) heard.hearing.now) (sym (hears_is ∙ heard.is))
+          (done_matches plan to from x1 last heard.calls heard.hearing.now from_to_apart is_delivered);
       holds = heard.hearing.holds;
     }
 
@@ -687,17 +733,21 @@ module _ (plan : Plan) (checked : IsChecked plan) (types : HasTypes plan) where
   not_or p q is = (grind (arith, is), grind (arith, is))
 
   line_follows : (line : SwitchLine) (x : SwitchState) → is_idle plan x line ≡ false → Follows x → Follows (does plan line x)
-  line_follows (line.Connect a b) x runs f = let both = not_or (some_between plan a.0 b.0 (length plan.wires)) (stands x a.0 b.0) runs in connect_follows a.0 b.0 x (some_joins a.0 b.0 (length plan.wires) both.0) both.1 f
-  line_follows (line.Cut a b) x runs f = let both = not_or (some_between plan a.0 b.0 (length plan.wires)) (not (stands x a.0 b.0)) runs in cut_follows a.0 b.0 x (some_joins a.0 b.0 (length plan.wires) both.0) f
+  line_follows (line.Connect a b) x runs f = let both = not_or (some_between plan a.0 b.0 (length plan.wires)) (stands x a.0 b.0) runs in
+      connect_follows a.0 b.0 x (some_joins a.0 b.0 (length plan.wires) both.0) both.1 f
+  line_follows (line.Cut a b) x runs f = let both = not_or (some_between plan a.0 b.0 (length plan.wires)) (not (stands x a.0 b.0)) runs in
+      cut_follows a.0 b.0 x (some_joins a.0 b.0 (length plan.wires) both.0) f
   line_follows (line.Deliver from to count) x runs f = delivers_follow from.0 to.0 (take count (x.pipes from.0 to.0)) x f
   line_follows (line.Settle count) x runs f = settle_follows count x f
-  line_follows (line.Set me wire wish) x runs f = let both = not_or (is_some (other_end plan me.0 wire.0)) (is_same_wish ((x.edges me.0).local wire.0) wish) runs in by (other_end plan me.0 wire.0) refl both.0
+  line_follows (line.Set me wire wish) x runs f = let both = not_or (is_some (other_end plan me.0 wire.0)) (is_same_wish ((x.edges me.0).local wire.0) wish) runs in
+      by (other_end plan me.0 wire.0) refl both.0
     where
       by : (o : Option EdgeId) → other_end plan me.0 wire.0 ≡ o → is_some o ≡ true → Follows (setting plan me.0 wire.0 wish x)
       by None is there = true_clash (sym there)
       by (Some peer) is there =
           let end = other_is plan me.0 wire.0 peer checked is in
-          set_follows me.0 peer.0 wire.0 end.row wish x end.row_is end.joined (is ∙ ap (λ (e : EdgeId). Some e) end.same) (not_or (is_some (other_end plan me.0 wire.0)) (is_same_wish ((x.edges me.0).local wire.0) wish) runs).1 f
+          set_follows me.0 peer.0 wire.0 end.row wish x end.row_is end.joined (is ∙ ap (λ (e : EdgeId). Some e) end.same)
+          (not_or (is_some (other_end plan me.0 wire.0)) (is_same_wish ((x.edges me.0).local wire.0) wish) runs).1 f
 
   done_follows : (line : SwitchLine) (x : SwitchState) → Follows x → Follows (done plan line x)
   done_follows line x f = by (is_idle plan x line) refl

@@ -19,7 +19,8 @@ fresh_none plan = record { len = refl; planned = λ k below. refl; placed = λ k
 abbrev edge_id : ℕ → EdgeId
 edge_id k = record { 0 = k }
 
-fresh_more : (plan : Plan) (count : ℕ) (edges : List IndepLists) (more : IndepLists) → AreFresh plan count edges → more.plan ≡ plan → more.me ≡ record { 0 = count } → seen more ≡ first_state → AreFresh plan (count + 1) (edges ++ more ∷ [])
+fresh_more : (plan : Plan) (count : ℕ) (edges : List IndepLists) (more : IndepLists) → AreFresh plan count edges → more.plan ≡ plan → more.me ≡ record { 0 = count } → seen more
+    ≡ first_state → AreFresh plan (count + 1) (edges ++ more ∷ [])
 fresh_more plan count edges more are planned placed first = record {
   len = length-append edges (more ∷ []) ∙ omega (arith, are.len);
   planned = λ k below. ap (λ (e : IndepLists). e.plan) (index_end edges more (no_edge plan k) k) ∙ planned_by k below (nat_eq k (length edges)) refl;
@@ -43,7 +44,8 @@ fresh_more plan count edges more are planned placed first = record {
   first_by k true = first
   first_by k false = are.first k
 
-pub fresh_next : (plan : Plan) (count : ℕ) (edges after : List IndepLists) (more : IndepLists) → AreFresh plan count edges → after ≡ edges ++ more ∷ [] → more.plan ≡ plan → more.me ≡ record { 0 = count } → seen more ≡ first_state → AreFresh plan (count + 1) after
+pub fresh_next : (plan : Plan) (count : ℕ) (edges after : List IndepLists) (more : IndepLists) → AreFresh plan count edges → after ≡ edges ++ more ∷ [] → more.plan ≡ plan → more.me
+    ≡ record { 0 = count } → seen more ≡ first_state → AreFresh plan (count + 1) after
 fresh_next plan count edges after more are is planned placed first = subst (λ (es : List IndepLists). AreFresh plan (count + 1) es) (sym is) (fresh_more plan count edges more are planned placed first)
 
 -- all edges of a plan

@@ -47,11 +47,13 @@ got_shorter held rest pdu is = by (nat_lt (length held) 2) (two_at 0 held == 1) 
     shorter : rest ≡ drop (size_of held) held → nat_lt (length held) 4 ≡ false → length rest < length held
     shorter e long = omega (arith, ltb-false (length held) 4 long, ap length e, length-drop (size_of held) held)
 
-    by_size : (u : Bool) → nat_lt (length held) 4 ≡ false → (if u then More else front_in (reading_of (take (size_of held) held) 4096) (drop (size_of held) held)) ≡ Got pdu rest → length rest < length held
+    by_size : (u : Bool) → nat_lt (length held) 4 ≡ false → (if u then More else front_in (reading_of (take (size_of held) held) 4096) (drop (size_of held) held)) ≡ Got pdu rest
+        → length rest < length held
     by_size true long e = absurd (cc (e))
     by_size false long e = shorter (in_front 4096 (reading_of (take (size_of held) held) 4096) (drop (size_of held) held) rest pdu e) long
 
-    by_length : (s t : Bool) → nat_lt (length held) 4 ≡ s → (if s then More else if t then Bad (record { place = 2; cause = cause.PduLength }) else whole_front 4096 held) ≡ Got pdu rest → length rest < length held
+    by_length : (s t : Bool) → nat_lt (length held) 4 ≡ s → (if s then More else if t then Bad (record { place = 2; cause = cause.PduLength }) else whole_front 4096 held)
+        ≡ Got pdu rest → length rest < length held
     by_length true t at e = absurd (cc (e))
     by_length false true at e = absurd (cc (e))
     by_length false false at e = by_size (nat_lt (length held) (size_of held)) at e
@@ -65,7 +67,8 @@ got_shorter held rest pdu is = by (nat_lt (length held) 2) (two_at 0 held == 1) 
 
 received : (peer base : ℕ) (held : List ℕ) (edge : IndepState) (count : ℕ) → HoldsBy count ((with_receiver peer (Receiving base held) edge).connection peer) → count ≤ length held
 unfolding with_connection
-received peer base held edge count holds = by (edge.connection peer) (subst (λ (b : Bool). HoldsBy count (if b then option_map (receiver_set (Receiving base held)) (edge.connection peer) else edge.connection peer)) (self peer) holds)
+received peer base held edge count holds = by (edge.connection peer)
+    (subst (λ (b : Bool). HoldsBy count (if b then option_map (receiver_set (Receiving base held)) (edge.connection peer) else edge.connection peer)) (self peer) holds)
   where
     by : (o : Option ConnectionState) → HoldsBy count (option_map (receiver_set (Receiving base held)) o) → count ≤ length held
     by None is = omega (arith, is)
@@ -104,9 +107,11 @@ pub record IsSilent (plan : Plan) (me : ℕ) (edge e : IndepState) (calls c : Li
 
 module _ (plan : Plan) (told : Answers) (me : ℕ) (peer : EdgeId) (e : IndepState) (c : List LinkCall) (count : ℕ) (holds : HoldsBy count (e.connection peer.0)) where
   waits : (base : ℕ) (held : List ℕ) (edge : IndepState) (calls : List LinkCall) → Goes (with_receiver peer.0 (Receiving base held) edge) calls ≡ Goes e c → count ≤ length held
-  waits base held edge calls is = let at : with_receiver peer.0 (Receiving base held) edge ≡ e = cc (is) in received peer.0 base held edge count (subst (λ (s : IndepState). HoldsBy count (s.connection peer.0)) (sym at) holds)
+  waits base held edge calls is = let at : with_receiver peer.0 (Receiving base held) edge ≡ e = cc (is) in
+      received peer.0 base held edge count (subst (λ (s : IndepState). HoldsBy count (s.connection peer.0)) (sym at) holds)
 
-  behind : (o : Outcome) (rest : List ℕ) (on : IndepState → List LinkCall → Outcome) → ((edge : IndepState) (calls : List LinkCall) → on edge calls ≡ Goes e c → count ≤ length rest) → and_then o on ≡ Goes e c → count ≤ length rest
+  behind : (o : Outcome) (rest : List ℕ) (on : IndepState → List LinkCall → Outcome) → ((edge : IndepState) (calls : List LinkCall) → on edge calls ≡ Goes e c → count ≤ length rest)
+      → and_then o on ≡ Goes e c → count ≤ length rest
   behind (Goes edge calls) rest on again is = again edge calls is
   behind (Stops why edge calls) rest on again is = absurd (cc (is))
 
@@ -118,12 +123,14 @@ module _ (plan : Plan) (told : Answers) (me : ℕ) (peer : EdgeId) (e : IndepSta
   few_held zero base held edge calls is = waits base held edge calls is
   few_held (suc n) base held edge calls is = by (λ b rest s l. few_held n b rest s l) (front_of 4096 held) refl
     where
-      by : ((b : ℕ) (rest : List ℕ) (s : IndepState) (l : List LinkCall) → hears_few plan told me peer n b rest s l ≡ Goes e c → count ≤ length rest) → (front : Front) → front_of 4096 held ≡ front → count ≤ length held
+      by : ((b : ℕ) (rest : List ℕ) (s : IndepState) (l : List LinkCall) → hears_few plan told me peer n b rest s l ≡ Goes e c → count ≤ length rest) → (front : Front)
+          → front_of 4096 held ≡ front → count ≤ length held
       by again More at = waits base held edge calls (front_at n base held edge calls More at is)
       by again (Bad wrong) at = absurd (cc (front_at n base held edge calls (Bad wrong) at is))
       by again (Got pdu rest) at =
           let less : length rest < length held = got_shorter held rest pdu at in
-          let few : count ≤ length rest = behind (hears_messages plan told me peer pdu.messages edge calls) rest (λ s l. hears_few plan told me peer n (place_behind base (length held - length rest)) rest s l)
+          let few : count ≤ length rest = behind (hears_messages plan told me peer pdu.messages edge calls) rest
+          (λ s l. hears_few plan told me peer n (place_behind base (length held - length rest)) rest s l)
           (λ s l. again (place_behind base (length held - length rest)) rest s l) (front_at n base held edge calls (Got pdu rest) at is) in
           omega (arith, less, few)
 
@@ -152,7 +159,8 @@ module _ (plan : Plan) (told : Answers) (me : ℕ) (peer : EdgeId) (e : IndepSta
         by (Bad wrong) at = absurd (cc (front_at n base (held ++ octets) deaf calls (Bad wrong) at is))
         by (Got pdu rest) at =
             let less : length rest < length (held ++ octets) = got_shorter (held ++ octets) rest pdu at in
-            let left : count ≤ length rest = behind (hears_messages plan told me peer pdu.messages deaf calls) rest (λ s l. hears_few plan told me peer n (place_behind base (length (held ++ octets) - length rest)) rest s l)
+            let left : count ≤ length rest = behind (hears_messages plan told me peer pdu.messages deaf calls) rest
+            (λ s l. hears_few plan told me peer n (place_behind base (length (held ++ octets) - length rest)) rest s l)
             (λ s l. few_held n (place_behind base (length (held ++ octets) - length rest)) rest s l) (front_at n base (held ++ octets) deaf calls (Got pdu rest) at is) in
             absurd (omega (arith, less, left, few, more, holds_now, length-append held octets))
 
@@ -201,7 +209,8 @@ module _ (plan : Plan) (me : ℕ) (peer : EdgeId) (old new : NetLists) (calls : 
   state = ap (λ (f : ℕ → IndepState). f me) done.state ∙ at_same me (edge_of outcome) (seen_row old.row)
 
   silent : IsSilent plan me (seen_row old.row me) (edge_of outcome) [] (calls_of outcome)
-  silent = grown plan taken_all me peer (edge_of outcome) (calls_of outcome) after (subst (λ (s : IndepState). HoldsBy after (s.connection peer.0)) state held_now) (take 1 (pipes_of old.pipes peer.0 me)) before (seen_row old.row me) []
+  silent = grown plan taken_all me peer (edge_of outcome) (calls_of outcome) after (subst (λ (s : IndepState). HoldsBy after (s.connection peer.0)) state held_now)
+      (take 1 (pipes_of old.pipes peer.0 me)) before (seen_row old.row me) []
       (omega (arith, length-take 1 (pipes_of old.pipes peer.0 me))) more held (going_is outcome going)
 
   same_used : used plan me (seen_row new.row me) ≡ used plan me (seen_row old.row me)
@@ -212,7 +221,8 @@ module _ (plan : Plan) (me : ℕ) (peer : EdgeId) (old new : NetLists) (calls : 
   was_silent out waiting left =
       was_heard plan me peer old new new.row [] (used plan me (seen_row old.row me)) out out waiting (record { state = done.state; put = sym silent.put }) refl refl
       (left ∙ put_nothing me peer.0 (at_two peer.0 me (drop 1 (pipes_of old.pipes peer.0 me)) (pipes_of old.pipes)))
-      (sym (ap (λ (l : List SwitchEntry). (out ++ []) ++ l) (ap (turned_all me 0 (used plan me (seen_row old.row me))) same_used ∙ turned_none me 0 (used plan me (seen_row old.row me))) ∙ (append-nil (out ++ []) ∙ append-nil out)))
+      (sym (ap (λ (l : List SwitchEntry). (out ++ []) ++ l)
+      (ap (turned_all me 0 (used plan me (seen_row old.row me))) same_used ∙ turned_none me 0 (used plan me (seen_row old.row me))) ∙ (append-nil (out ++ []) ∙ append-nil out)))
 
   pub still_used : (was : List Bool) → new.row.plan ≡ plan → was ≡ used plan me (seen_row old.row me) → was ≡ used new.row.plan me (seen_row new.row me)
   still_used was planned is = is ∙ (sym same_used ∙ ap (λ (p : Plan). used p me (seen_row new.row me)) (sym planned))

@@ -31,9 +31,11 @@ cleared : ℕ → ℕ → SwitchState → SwitchState
 cleared a b x = record x { came = at_two a b [] (at_two b a [] x.came) }
 
 pub both_connect : (plan : Plan) (a b : ℕ) (old mid new : NetLists) (first next last : List SwitchEntry)
-    → Makes old mid first next (connects_one plan a b) (connect_entries plan a b) → Makes mid new next last (connects_one plan b a) (connect_entries plan b a) → Makes old new first last (connecting plan a b) (pair_entries plan a b)
+    → Makes old mid first next (connects_one plan a b) (connect_entries plan a b) → Makes mid new next last (connects_one plan b a) (connect_entries plan b a)
+    → Makes old new first last (connecting plan a b) (pair_entries plan a b)
 both_connect plan a b old mid new first next last one two = record {
-  shows = λ x sh. two.shows (connects_one plan a b (record x { came = at_two a b [] (at_two b a [] x.came) })) (one.shows (record x { came = at_two a b [] (at_two b a [] x.came) }) (record { edges = sh.edges; pipes = sh.pipes }));
+  shows = λ x sh. two.shows (connects_one plan a b (record x { came = at_two a b [] (at_two b a [] x.came) }))
+      (one.shows (record x { came = at_two a b [] (at_two b a [] x.came) }) (record { edges = sh.edges; pipes = sh.pipes }));
   tells = λ x sh. two.tells (connects_one plan a b x) (one.shows x sh) ∙ (ap (λ (l : List SwitchEntry). l ++ connect_entries plan b a (connects_one plan a b x)) (one.tells x sh)
       ∙ append_assoc first (connect_entries plan a b x) (connect_entries plan b a (connects_one plan a b x)));
 }
@@ -43,7 +45,8 @@ pub both_lose : (plan : Plan) (a b : EdgeId) (old mid left new : NetLists) (firs
     → new.row ≡ left.row → pipes_of new.pipes ≡ at_two a.0 b.0 [] (at_two b.0 a.0 [] (pipes_of left.pipes)) → Makes old new first last (cutting plan a.0 b.0) (cut_entries plan a.0 b.0)
 both_lose plan a b old mid left new first next last apart one two row pipes = record {
   shows = λ x sh. let after : Shows left (loses_one plan b.0 a.0 (loses_one plan a.0 b.0 x)) = two.shows (loses_one plan a.0 b.0 x) (one.shows x sh) in record {
-    edges = ap seen_row row ∙ (after.edges ∙ ap (λ (e : IndepState). at b.0 (loses plan b.0 a e) (at a.0 (loses plan a.0 b (x.edges a.0)) x.edges)) (at_other a.0 b.0 (loses plan a.0 b (x.edges a.0)) x.edges apart));
+    edges = ap seen_row row ∙ (after.edges ∙ ap (λ (e : IndepState). at b.0 (loses plan b.0 a e) (at a.0 (loses plan a.0 b (x.edges a.0)) x.edges))
+        (at_other a.0 b.0 (loses plan a.0 b (x.edges a.0)) x.edges apart));
     pipes = pipes ∙ ap (λ (p : ℕ → ℕ → List ℕ). at_two a.0 b.0 [] (at_two b.0 a.0 [] p)) after.pipes;
   };
   tells = λ x sh. two.tells (loses_one plan a.0 b.0 x) (one.shows x sh) ∙ (ap (λ (l : List SwitchEntry). l ++ lose_entries plan b.0 a.0 (loses_one plan a.0 b.0 x)) (one.tells x sh)
@@ -96,19 +99,22 @@ none_left (o ∷ l) (suc k) past = none_left l k (omega (arith, past))
 pub piece_long : (count : ℕ) (l : List ℕ) → length (take count l) ≡ min (length l) count
 piece_long count l = length-take count l ∙ omega arith
 
-pub more_delivered : (plan : Plan) (from to : EdgeId) (count place most : ℕ) (old now next : NetLists) (first out last : List SwitchEntry) → most ≡ min (length (pipes_of old.pipes from.0 to.0)) count → place < most
+pub more_delivered : (plan : Plan) (from to : EdgeId) (count place most : ℕ) (old now next : NetLists) (first out last : List SwitchEntry) → most
+    ≡ min (length (pipes_of old.pipes from.0 to.0)) count → place < most
     → next.row.plan ≡ now.row.plan → Makes now next out last (delivers_one now.row.plan from.0 to.0) (hear_entries now.row.plan from.0 to.0)
     → AreDelivered plan from.0 to.0 count place old now first out → AreDelivered plan from.0 to.0 count (place + 1) old next first last
 more_delivered plan from to count place most old now next first out last most_is below same made are = record {
   plan_is = same ∙ are.plan_is;
   reached = reached_more now next (line.Deliver from to 1) same are.reached (λ x sh. subst (Shows next) (one_line now.row.plan from to x) (made.shows x sh));
-  each = λ x sh. one x sh (are.each x sh) (has_more (piece_of count from.0 to.0 x) place (omega (arith, below, most_is, piece_long count (x.pipes from.0 to.0), ap (λ (p : ℕ → ℕ → List ℕ). length (p from.0 to.0)) sh.pipes)));
+  each = λ x sh. one x sh (are.each x sh) (has_more (piece_of count from.0 to.0 x) place
+      (omega (arith, below, most_is, piece_long count (x.pipes from.0 to.0), ap (λ (p : ℕ → ℕ → List ℕ). length (p from.0 to.0)) sh.pipes)));
 }
   where
     here : Makes now next out last (delivers_one plan from.0 to.0) (hear_entries plan from.0 to.0)
     here = subst (λ (p : Plan). Makes now next out last (delivers_one p from.0 to.0) (hear_entries p from.0 to.0)) are.plan_is made
 
-    one : (x : SwitchState) → Shows old x → Delivered plan from.0 to.0 (piece_of count from.0 to.0 x) place x now first out → HasMore (piece_of count from.0 to.0 x) place → Delivered plan from.0 to.0 (piece_of count from.0 to.0 x) (place + 1) x next first last
+    one : (x : SwitchState) → Shows old x → Delivered plan from.0 to.0 (piece_of count from.0 to.0 x) place x now first out → HasMore (piece_of count from.0 to.0 x) place
+        → Delivered plan from.0 to.0 (piece_of count from.0 to.0 x) (place + 1) x next first last
     one x sh d more = record {
       y = delivers_one plan from.0 to.0 d.y;
       shows = here.shows d.y d.shows;
@@ -119,7 +125,8 @@ more_delivered plan from to count place most old now next first out last most_is
     }
 
 pub all_delivered : (plan : Plan) (from to : ℕ) (count place most : ℕ) (old now : NetLists) (first out : List SwitchEntry) → most ≡ min (length (pipes_of old.pipes from to)) count → most ≤ place
-    → AreDelivered plan from to count place old now first out → Makes old now first out (λ x. delivers plan from to (take count (x.pipes from to)) x) (λ x. deliver_entries plan from to (take count (x.pipes from to)) x)
+    → AreDelivered plan from to count place old now first out
+    → Makes old now first out (λ x. delivers plan from to (take count (x.pipes from to)) x) (λ x. deliver_entries plan from to (take count (x.pipes from to)) x)
 all_delivered plan from to count place most old now first out most_is past are = record {
   shows = λ x sh. let d = are.each x sh in subst (Shows now) (sym (ap (λ (l : List ℕ). delivers plan from to l d.y) (gone x sh)) ∙ d.state) d.shows;
   tells = λ x sh. let d = are.each x sh in sym (append-nil out) ∙ (ap (λ (l : List ℕ). out ++ deliver_entries plan from to l d.y) (sym (gone x sh)) ∙ d.tells);
@@ -157,7 +164,8 @@ none_settled plan count old first is reached = record {
     all = omega arith
 
 -- the next pair of the network is that of each state that it shows
-pair_shown : (plan : Plan) (now : NetLists) (y : SwitchState) (found : Option (ℕ × ℕ)) → Shows now y → now.pipes.size ≡ length plan.edges → found ≡ first_pair (λ from to. is_waiting (pipes_of now.pipes from to)) now.pipes.size 0 now.pipes.size → next_pair plan y ≡ found
+pair_shown : (plan : Plan) (now : NetLists) (y : SwitchState) (found : Option (ℕ × ℕ)) → Shows now y → now.pipes.size ≡ length plan.edges → found
+    ≡ first_pair (λ from to. is_waiting (pipes_of now.pipes from to)) now.pipes.size 0 now.pipes.size → next_pair plan y ≡ found
 pair_shown plan now y found sh size is = sym (is ∙ (ap (λ (n : ℕ). first_pair (λ from to. is_waiting (pipes_of now.pipes from to)) n 0 n) size
     ∙ ap (λ (p : ℕ → ℕ → List ℕ). first_pair (λ from to. is_waiting (p from to)) (length plan.edges) 0 (length plan.edges)) sh.pipes))
 
@@ -176,7 +184,8 @@ settled_more plan count place from to old now next first out last below size fou
     one_more = omega (arith, below)
 
     here : Makes now next out last (λ x. delivers plan from.0 to.0 (take 65535 (x.pipes from.0 to.0)) x) (λ x. deliver_entries plan from.0 to.0 (take 65535 (x.pipes from.0 to.0)) x)
-    here = subst (λ (p : Plan). Makes now next out last (λ x. delivers p from.0 to.0 (take 65535 (x.pipes from.0 to.0)) x) (λ x. deliver_entries p from.0 to.0 (take 65535 (x.pipes from.0 to.0)) x)) are.plan_is made
+    here = subst (λ (p : Plan). Makes now next out last (λ x. delivers p from.0 to.0 (take 65535 (x.pipes from.0 to.0)) x)
+        (λ x. deliver_entries p from.0 to.0 (take 65535 (x.pipes from.0 to.0)) x)) are.plan_is made
 
     one : (x : SwitchState) → Settled plan count place x now first out → Settled plan count (place + 1) x next first last
     one x d =
@@ -188,16 +197,21 @@ settled_more plan count place from to old now next first out last below size fou
           shows = here.shows d.y d.shows;
           state = ap (λ (o : Option (ℕ × ℕ)). delivers_next plan (settling plan (count - (place + 1))) o d.y) (sym pair) ∙ state;
           tells = ap (λ (l : List SwitchEntry). l ++ settle_entries plan (count - (place + 1)) (delivers plan from.0 to.0 (take 65535 (d.y.pipes from.0 to.0)) d.y)) (here.tells d.y d.shows)
-              ∙ (append_assoc out (deliver_entries plan from.0 to.0 (take 65535 (d.y.pipes from.0 to.0)) d.y) (settle_entries plan (count - (place + 1)) (delivers plan from.0 to.0 (take 65535 (d.y.pipes from.0 to.0)) d.y))
+              ∙ (append_assoc out (deliver_entries plan from.0 to.0 (take 65535 (d.y.pipes from.0 to.0)) d.y)
+              (settle_entries plan (count - (place + 1)) (delivers plan from.0 to.0 (take 65535 (d.y.pipes from.0 to.0)) d.y))
               ∙ (ap (λ (o : Option (ℕ × ℕ)). out ++ next_entries plan (settle_entries plan (count - (place + 1))) o d.y) (sym pair) ∙ tells));
         }
 
 -- where no pair is left, nothing more is done
 pub settled_none : (plan : Plan) (count place : ℕ) (old now : NetLists) (first out : List SwitchEntry) → place < count → now.pipes.size ≡ length now.row.plan.edges
-    → None ≡ first_pair (λ from to. is_waiting (pipes_of now.pipes from to)) now.pipes.size 0 now.pipes.size → AreSettled plan count place old now first out → Makes old now first out (settling plan count) (settle_entries plan count)
+    → None ≡ first_pair (λ from to. is_waiting (pipes_of now.pipes from to)) now.pipes.size 0 now.pipes.size → AreSettled plan count place old now first out
+    → Makes old now first out (settling plan count) (settle_entries plan count)
 settled_none plan count place old now first out below size found are = record {
-  shows = λ x sh. let d = are.each x sh in subst (Shows now) (ap (λ (o : Option (ℕ × ℕ)). delivers_next plan (settling plan (count - (place + 1))) o d.y) (sym (pair d)) ∙ (ap (λ (n : ℕ). settling plan n d.y) (sym one_more) ∙ d.state)) d.shows;
-  tells = λ x sh. let d = are.each x sh in sym (append-nil out) ∙ (ap (λ (o : Option (ℕ × ℕ)). out ++ next_entries plan (settle_entries plan (count - (place + 1))) o d.y) (sym (pair d)) ∙ (ap (λ (n : ℕ). out ++ settle_entries plan n d.y) (sym one_more) ∙ d.tells));
+  shows = λ x sh. let d = are.each x sh in subst (Shows now)
+      (ap (λ (o : Option (ℕ × ℕ)). delivers_next plan (settling plan (count - (place + 1))) o d.y) (sym (pair d)) ∙ (ap (λ (n : ℕ). settling plan n d.y) (sym one_more) ∙ d.state)) d.shows;
+  tells = λ x sh. let d = are.each x sh in sym (append-nil out)
+      ∙ (ap (λ (o : Option (ℕ × ℕ)). out ++ next_entries plan (settle_entries plan (count - (place + 1))) o d.y) (sym (pair d))
+      ∙ (ap (λ (n : ℕ). out ++ settle_entries plan n d.y) (sym one_more) ∙ d.tells));
 }
   where
     one_more : count - place ≡ suc (count - (place + 1))
@@ -206,7 +220,8 @@ settled_none plan count place old now first out below size found are = record {
     pair : {x : SwitchState} (d : Settled plan count place x now first out) → next_pair plan d.y ≡ None
     pair d = pair_shown plan now d.y None d.shows (size ∙ ap (λ (p : Plan). length p.edges) are.plan_is) found
 
-pub settled_all : (plan : Plan) (count place : ℕ) (old now : NetLists) (first out : List SwitchEntry) → count ≤ place → AreSettled plan count place old now first out → Makes old now first out (settling plan count) (settle_entries plan count)
+pub settled_all : (plan : Plan) (count place : ℕ) (old now : NetLists) (first out : List SwitchEntry) → count ≤ place → AreSettled plan count place old now first out
+    → Makes old now first out (settling plan count) (settle_entries plan count)
 settled_all plan count place old now first out past are = record {
   shows = λ x sh. let d = are.each x sh in subst (Shows now) (ap (λ (n : ℕ). settling plan n d.y) (sym none) ∙ d.state) d.shows;
   tells = λ x sh. let d = are.each x sh in sym (append-nil out) ∙ (ap (λ (n : ℕ). out ++ settle_entries plan n d.y) (sym none) ∙ d.tells);
@@ -228,7 +243,8 @@ joined_hit plan a b wire zero below is = absurd (omega (arith, below))
 joined_hit plan a b wire (suc n) below is = by (wire == n) refl (λ less. joined_hit plan a b wire n less is)
   where
     by : (s : Bool) → (wire == n) ≡ s → (wire < n → true ≡ some_between plan a b n) → true ≡ (is_between plan n a b || some_between plan a b n)
-    by true same again = let here : is_between plan n a b ≡ true = subst (λ (k : ℕ). is_between plan k a b ≡ true) (eqb-true wire n same) is in sym (ap (λ (s : Bool). s || some_between plan a b n) here)
+    by true same again = let here : is_between plan n a b ≡ true = subst (λ (k : ℕ). is_between plan k a b ≡ true) (eqb-true wire n same) is in
+        sym (ap (λ (s : Bool). s || some_between plan a b n) here)
     by false apart again = or_more (is_between plan n a b) (some_between plan a b n) (again (grind (arith, nat_tests, below, apart)))
 
 pub joined_none : (plan : Plan) (a b : ℕ) → some_between plan a b 0 ≡ false
@@ -250,14 +266,18 @@ some_apart plan a b (suc n) laws is = by (is_between plan n a b) refl is (λ e. 
 -- ---- lines
 
 pub cut_apart : (net : NetLists) (a b : EdgeId) → IsReached net → ((x : SwitchState) → Shows net x → is_idle net.row.plan x (line.Cut a b) ≡ false) → (b.0 == a.0) ≡ false
-cut_apart net a b reached runs = some_apart net.row.plan a.0 b.0 (length net.row.plan.wires) (wiring_is net.row.plan reached.checked) (joined (some_between net.row.plan a.0 b.0 (length net.row.plan.wires)) (not (stands (done_all net.row.plan reached.lines first_network) a.0 b.0)) (runs (done_all net.row.plan reached.lines first_network) reached.shows))
+cut_apart net a b reached runs = some_apart net.row.plan a.0 b.0 (length net.row.plan.wires) (wiring_is net.row.plan reached.checked)
+    (joined (some_between net.row.plan a.0 b.0 (length net.row.plan.wires)) (not (stands (done_all net.row.plan reached.lines first_network) a.0 b.0))
+    (runs (done_all net.row.plan reached.lines first_network) reached.shows))
   where
     joined : (p q : Bool) → (not p || q) ≡ false → p ≡ true
     joined true q is = refl
     joined false q is = absurd (cc (is))
 
-pub set_ends : (net : NetLists) (me : EdgeId) (wire : WireId) (wish : Wish) → IsReached net → ((x : SwitchState) → Shows net x → is_idle net.row.plan x (line.Set me wire wish) ≡ false) → None ≡ other_end net.row.plan me.0 wire.0 → ⊥
-set_ends net me wire wish reached runs none = no (is_same_wish (((done_all net.row.plan reached.lines first_network).edges me.0).local wire.0) wish) (other_end net.row.plan me.0 wire.0) (sym none) (runs (done_all net.row.plan reached.lines first_network) reached.shows)
+pub set_ends : (net : NetLists) (me : EdgeId) (wire : WireId) (wish : Wish) → IsReached net → ((x : SwitchState) → Shows net x → is_idle net.row.plan x (line.Set me wire wish) ≡ false)
+    → None ≡ other_end net.row.plan me.0 wire.0 → ⊥
+set_ends net me wire wish reached runs none = no (is_same_wish (((done_all net.row.plan reached.lines first_network).edges me.0).local wire.0) wish)
+    (other_end net.row.plan me.0 wire.0) (sym none) (runs (done_all net.row.plan reached.lines first_network) reached.shows)
   where
     no : (q : Bool) (o : Option EdgeId) → o ≡ None → (not (is_some o) || q) ≡ false → ⊥
     no q None is e = cc (e)
@@ -266,9 +286,11 @@ set_ends net me wire wish reached runs none = no (is_same_wish (((done_all net.r
 pub ruleset apply_steps = (cut_apart, set_ends)
 
 -- what a part of the network has done is what the line does
-pub made_as : (plan : Plan) (line : SwitchLine) (old new : NetLists) (first last : List SwitchEntry) (next : SwitchState → SwitchState) (told : SwitchState → List SwitchEntry) → ((x : SwitchState) → next x ≡ does plan line x)
+pub made_as : (plan : Plan) (line : SwitchLine) (old new : NetLists) (first last : List SwitchEntry) (next : SwitchState → SwitchState) (told : SwitchState → List SwitchEntry)
+    → ((x : SwitchState) → next x ≡ does plan line x)
     → ((x : SwitchState) → told x ≡ entries plan line x) → Makes old new first last next told → Makes old new first last (does plan line) (entries plan line)
-made_as plan line old new first last next told one two made = record { shows = λ x sh. subst (Shows new) (one x) (made.shows x sh); tells = λ x sh. made.tells x sh ∙ ap (λ (l : List SwitchEntry). first ++ l) (two x) }
+made_as plan line old new first last next told one two made =
+    record { shows = λ x sh. subst (Shows new) (one x) (made.shows x sh); tells = λ x sh. made.tells x sh ∙ ap (λ (l : List SwitchEntry). first ++ l) (two x) }
 
 -- ---- whether a line applies
 
@@ -281,7 +303,8 @@ shown_waits net x from to sh = ap (λ (p : ℕ → ℕ → List ℕ). is_waiting
 pub shown_wish : (net : NetLists) (x : SwitchState) (me wire : ℕ) (wish : Wish) → Shows net x → is_same_wish ((seen_row net.row me).local wire) wish ≡ is_same_wish ((x.edges me).local wire) wish
 shown_wish net x me wire wish sh = ap (λ (e : ℕ → IndepState). is_same_wish ((e me).local wire) wish) sh.edges
 
-pub shown_pair : (net : NetLists) (x : SwitchState) → Shows net x → net.pipes.size ≡ length net.row.plan.edges → first_pair (λ from to. is_waiting (pipes_of net.pipes from to)) net.pipes.size 0 net.pipes.size ≡ next_pair net.row.plan x
+pub shown_pair : (net : NetLists) (x : SwitchState) → Shows net x → net.pipes.size ≡ length net.row.plan.edges
+    → first_pair (λ from to. is_waiting (pipes_of net.pipes from to)) net.pipes.size 0 net.pipes.size ≡ next_pair net.row.plan x
 shown_pair net x sh size = sym (pair_shown net.row.plan net x (first_pair (λ from to. is_waiting (pipes_of net.pipes from to)) net.pipes.size 0 net.pipes.size) sh size refl)
 
 -- a test of what is there by a test of what is not
@@ -293,13 +316,16 @@ pub ruleset idle_steps = (shown_connected, shown_waits, shown_wish, shown_pair)
 
 -- ---- a line
 
-pub idle_done : (net : NetLists) (line : SwitchLine) (idle : Bool) → idle ≡ true → ((x : SwitchState) → Shows net x → idle ≡ is_idle net.row.plan x line) → (x : SwitchState) → Shows net x → Shows net (done net.row.plan line x)
+pub idle_done : (net : NetLists) (line : SwitchLine) (idle : Bool) → idle ≡ true → ((x : SwitchState) → Shows net x → idle ≡ is_idle net.row.plan x line) → (x : SwitchState)
+    → Shows net x → Shows net (done net.row.plan line x)
 idle_done net line idle is all x sh = subst (λ (b : Bool). Shows net (if b then x else does net.row.plan line x)) (sym is ∙ all x sh) sh
 
-pub idle_told : (net : NetLists) (line : SwitchLine) (idle : Bool) → idle ≡ true → ((x : SwitchState) → Shows net x → idle ≡ is_idle net.row.plan x line) → (x : SwitchState) → Shows net x → Idle ∷ [] ≡ line_entries net.row.plan line x
+pub idle_told : (net : NetLists) (line : SwitchLine) (idle : Bool) → idle ≡ true → ((x : SwitchState) → Shows net x → idle ≡ is_idle net.row.plan x line) → (x : SwitchState)
+    → Shows net x → Idle ∷ [] ≡ line_entries net.row.plan line x
 idle_told net line idle is all x sh = ap (λ (b : Bool). if b then Idle ∷ [] else entries net.row.plan line x) (sym is ∙ all x sh)
 
-pub line_runs : (net : NetLists) (line : SwitchLine) (idle : Bool) → idle ≡ false → ((x : SwitchState) → Shows net x → idle ≡ is_idle net.row.plan x line) → (x : SwitchState) → Shows net x → is_idle net.row.plan x line ≡ false
+pub line_runs : (net : NetLists) (line : SwitchLine) (idle : Bool) → idle ≡ false → ((x : SwitchState) → Shows net x → idle ≡ is_idle net.row.plan x line) → (x : SwitchState)
+    → Shows net x → is_idle net.row.plan x line ≡ false
 line_runs net line idle is all x sh = sym (all x sh) ∙ is
 
 pub runs_done : (old new : NetLists) (line : SwitchLine) (first last : List SwitchEntry) (idle : Bool) → idle ≡ false → ((x : SwitchState) → Shows old x → idle ≡ is_idle old.row.plan x line)
@@ -310,7 +336,8 @@ pub runs_told : (old new : NetLists) (line : SwitchLine) (last : List SwitchEntr
     → Makes old new [] last (does old.row.plan line) (entries old.row.plan line) → (x : SwitchState) → Shows old x → last ≡ line_entries old.row.plan line x
 runs_told old new line last idle is all made x sh = made.tells x sh ∙ ap (λ (b : Bool). if b then Idle ∷ [] else entries old.row.plan line x) (sym is ∙ all x sh)
 
-pub runs_reached : (old new : NetLists) (line : SwitchLine) (first last : List SwitchEntry) (idle : Bool) → idle ≡ false → ((x : SwitchState) → Shows old x → idle ≡ is_idle old.row.plan x line) → new.row.plan ≡ old.row.plan → IsReached old
+pub runs_reached : (old new : NetLists) (line : SwitchLine) (first last : List SwitchEntry) (idle : Bool) → idle ≡ false
+    → ((x : SwitchState) → Shows old x → idle ≡ is_idle old.row.plan x line) → new.row.plan ≡ old.row.plan → IsReached old
     → Makes old new first last (does old.row.plan line) (entries old.row.plan line) → IsReached new
 runs_reached old new line first last idle is all same reached made = reached_more old new line same reached (λ x sh. runs_done old new line first last idle is all made x sh)
 

@@ -64,12 +64,14 @@ module _ (plan : Plan) (me peer : ℕ) (work : (ℕ → ℕ → List ℕ) → In
         ∙ (λ i a b. put_there me peer (calls_of outcome) (left (pipes_of old.pipes)) (all (pipes_of old.pipes) (seen_row old.row me)) a b i));
     tells = told ∙ (ap (λ (c : List LinkCall). (first ++ said_entries me c) ++ turned_all me 0 before (used plan me (seen_row row me))) done.put
         ∙ (ap (λ (b : List Bool). (first ++ said_entries me (calls_of outcome)) ++ turned_all me 0 b (used plan me (seen_row row me))) was
-        ∙ (ap (λ (s : IndepState). (first ++ said_entries me (calls_of outcome)) ++ turned_all me 0 (used plan me (seen_row old.row me)) (used plan me s)) (ap (λ (f : ℕ → IndepState). f me) done.state ∙ at_same me (edge_of outcome) (seen_row old.row))
+        ∙ (ap (λ (s : IndepState). (first ++ said_entries me (calls_of outcome)) ++ turned_all me 0 (used plan me (seen_row old.row me)) (used plan me s))
+        (ap (λ (f : ℕ → IndepState). f me) done.state ∙ at_same me (edge_of outcome) (seen_row old.row))
         ∙ append_assoc first (said_entries me (calls_of outcome)) (turned_all me 0 (used plan me (seen_row old.row me)) (used plan me (edge_of outcome))))));
   }
 
   pub worked : (x : SwitchState) → Shows old x → Worked plan me work left new first last x.edges x.pipes
-  worked x sh = subst (λ (e : ℕ → IndepState). Worked plan me work left new first last e x.pipes) sh.edges (subst (λ (p : ℕ → ℕ → List ℕ). Worked plan me work left new first last (seen_row old.row) p) sh.pipes here)
+  worked x sh = subst (λ (e : ℕ → IndepState). Worked plan me work left new first last e x.pipes) sh.edges
+      (subst (λ (p : ℕ → ℕ → List ℕ). Worked plan me work left new first last (seen_row old.row) p) sh.pipes here)
 
 -- ---- each call
 
@@ -90,30 +92,37 @@ pub was_set : (plan : Plan) (me wire : ℕ) (peer : EdgeId) (wish : Wish) (old n
     → Makes old new first last (setting plan me wire wish) (set_entries plan me wire wish)
 was_set plan me wire peer wish old new row calls before first last other done row_is was put told =
     let w : (x : SwitchState) → Shows old x → Worked plan me (λ p e. sets plan taken_all me wire wish e []) (λ p. p) new first last x.edges x.pipes
-    = worked plan me peer.0 (λ p e. sets plan taken_all me wire wish e []) (λ p. p) old new row calls before first last (λ p e. sets_to plan taken_all me peer wire wish e other) done row_is was put told in
+    = worked plan me peer.0 (λ p e. sets plan taken_all me wire wish e []) (λ p. p) old new row calls before first last
+    (λ p e. sets_to plan taken_all me peer wire wish e other) done row_is was put told in
     record { shows = λ x sh. record { edges = (w x sh).edges; pipes = (w x sh).pipes }; tells = λ x sh. (w x sh).tells }
 
 pub was_heard : (plan : Plan) (me : ℕ) (peer : EdgeId) (old new : NetLists) (row : RowLists) (calls : List LinkCall) (before : List Bool) (first last : List SwitchEntry)
     → is_waiting (pipes_of old.pipes peer.0 me) ≡ true
     → HasDone me old.row row calls (hears plan taken_all me peer (take 1 (pipes_of old.pipes peer.0 me)) (seen_row old.row me) []) → new.row ≡ row → before ≡ used plan me (seen_row old.row me)
-    → pipes_of new.pipes ≡ at_two me peer.0 (at_two peer.0 me (drop 1 (pipes_of old.pipes peer.0 me)) (pipes_of old.pipes) me peer.0 ++ bytes_of calls) (at_two peer.0 me (drop 1 (pipes_of old.pipes peer.0 me)) (pipes_of old.pipes))
+    → pipes_of new.pipes ≡ at_two me peer.0 (at_two peer.0 me (drop 1 (pipes_of old.pipes peer.0 me)) (pipes_of old.pipes) me peer.0 ++ bytes_of calls)
+    (at_two peer.0 me (drop 1 (pipes_of old.pipes peer.0 me)) (pipes_of old.pipes))
     → last ≡ (first ++ said_entries me calls) ++ turned_all me 0 before (used plan me (seen_row row me))
     → Makes old new first last (delivers_one plan peer.0 me) (hear_entries plan peer.0 me)
 was_heard plan me peer old new row calls before first last waits done row_is was put told =
-    let w : (x : SwitchState) → Shows old x → Worked plan me (λ p e. hears plan taken_all me peer (take 1 (p peer.0 me)) e []) (λ p. at_two peer.0 me (drop 1 (p peer.0 me)) p) new first last x.edges x.pipes
-    = worked plan me peer.0 (λ p e. hears plan taken_all me peer (take 1 (p peer.0 me)) e []) (λ p. at_two peer.0 me (drop 1 (p peer.0 me)) p) old new row calls before first last (λ p e. hears_to plan taken_all me peer (take 1 (p peer.0 me)) e) done row_is was put told in
+    let w : (x : SwitchState) → Shows old x → Worked plan me (λ p e. hears plan taken_all me peer (take 1 (p peer.0 me)) e [])
+    (λ p. at_two peer.0 me (drop 1 (p peer.0 me)) p) new first last x.edges x.pipes
+    = worked plan me peer.0 (λ p e. hears plan taken_all me peer (take 1 (p peer.0 me)) e []) (λ p. at_two peer.0 me (drop 1 (p peer.0 me)) p) old new row calls before first last
+    (λ p e. hears_to plan taken_all me peer (take 1 (p peer.0 me)) e) done row_is was put told in
     let wait : (x : SwitchState) → Shows old x → is_waiting (x.pipes peer.0 me) ≡ true = λ x sh. ap (λ (p : ℕ → ℕ → List ℕ). is_waiting (p peer.0 me)) (sym sh.pipes) ∙ waits in
     record {
       shows = λ x sh. subst (λ (b : Bool). Shows new (if b then delivering plan peer.0 me 1 x else x)) (sym (wait x sh)) (record { edges = (w x sh).edges; pipes = (w x sh).pipes });
-      tells = λ x sh. subst (λ (b : Bool). last ≡ first ++ (if b then moment plan me (hears plan taken_all me peer (take 1 (x.pipes peer.0 me)) (x.edges me) []) (x.edges me) else [])) (sym (wait x sh)) (w x sh).tells;
+      tells = λ x sh. subst (λ (b : Bool). last ≡ first ++ (if b then moment plan me (hears plan taken_all me peer (take 1 (x.pipes peer.0 me)) (x.edges me) []) (x.edges me) else []))
+          (sym (wait x sh)) (w x sh).tells;
     }
 
-pub none_waits : (plan : Plan) (from to : ℕ) (old : NetLists) (first : List SwitchEntry) → is_waiting (pipes_of old.pipes from to) ≡ false → Makes old old first first (delivers_one plan from to) (hear_entries plan from to)
+pub none_waits : (plan : Plan) (from to : ℕ) (old : NetLists) (first : List SwitchEntry) → is_waiting (pipes_of old.pipes from to) ≡ false
+    → Makes old old first first (delivers_one plan from to) (hear_entries plan from to)
 none_waits plan from to old first waits =
     let wait : (x : SwitchState) → Shows old x → is_waiting (x.pipes from to) ≡ false = λ x sh. ap (λ (p : ℕ → ℕ → List ℕ). is_waiting (p from to)) (sym sh.pipes) ∙ waits in
     record {
       shows = λ x sh. subst (λ (b : Bool). Shows old (if b then delivering plan from to 1 x else x)) (sym (wait x sh)) sh;
-      tells = λ x sh. subst (λ (b : Bool). first ≡ first ++ (if b then moment plan to (hears plan taken_all to (record { 0 = from }) (take 1 (x.pipes from to)) (x.edges to) []) (x.edges to) else [])) (sym (wait x sh)) (sym (append-nil first));
+      tells = λ x sh. subst (λ (b : Bool). first ≡ first
+          ++ (if b then moment plan to (hears plan taken_all to (record { 0 = from }) (take 1 (x.pipes from to)) (x.edges to) []) (x.edges to) else [])) (sym (wait x sh)) (sym (append-nil first));
     }
 
 pub was_lost : (plan : Plan) (me : ℕ) (peer : EdgeId) (old new : NetLists) (before : List Bool) (first last : List SwitchEntry)
@@ -124,7 +133,8 @@ was_lost plan me peer old new before first last done pipes was told = record {
   shows = λ x sh. record { edges = subst (λ (e : ℕ → IndepState). seen_row new.row ≡ at me (loses plan me peer (e me)) e) sh.edges done; pipes = pipes ∙ sh.pipes };
   tells = λ x sh. subst (λ (e : ℕ → IndepState). last ≡ first ++ turned_all me 0 (used plan me (e me)) (used plan me (loses plan me peer (e me)))) sh.edges
       (told ∙ (ap (λ (b : List Bool). first ++ turned_all me 0 b (used plan me (seen_row new.row me))) was
-      ∙ ap (λ (s : IndepState). first ++ turned_all me 0 (used plan me (seen_row old.row me)) (used plan me s)) (ap (λ (f : ℕ → IndepState). f me) done ∙ at_same me (loses plan me peer (seen_row old.row me)) (seen_row old.row))));
+      ∙ ap (λ (s : IndepState). first ++ turned_all me 0 (used plan me (seen_row old.row me)) (used plan me s))
+      (ap (λ (f : ℕ → IndepState). f me) done ∙ at_same me (loses plan me peer (seen_row old.row me)) (seen_row old.row))));
 }
 
 -- the network before its first line

@@ -41,7 +41,8 @@ pub goes_on : (test : ℕ → Bool) (place size : ℕ) (all : Option ℕ) → pl
 goes_on test place size all below none goes = record { rest = λ n is. sym (ap (λ (b : Bool). if b then Some place else first_place test (place + 1) n) none) ∙ goes.rest (suc n) (omega (arith, is)) }
 
 pub hits : (test : ℕ → Bool) (place size : ℕ) (all : Option ℕ) → place < size → test place ≡ true → GoesFrom test place size all → Some place ≡ all
-hits test place size all below some goes = sym (ap (λ (b : Bool). if b then Some place else first_place test (place + 1) (size - (place + 1))) some) ∙ goes.rest (suc (size - (place + 1))) (omega (arith, below))
+hits test place size all below some goes = sym (ap (λ (b : Bool). if b then Some place else first_place test (place + 1) (size - (place + 1))) some)
+    ∙ goes.rest (suc (size - (place + 1))) (omega (arith, below))
 
 pub ends : (test : ℕ → Bool) (place size : ℕ) (all : Option ℕ) → size ≤ place → place ≤ size → GoesFrom test place size all → None ≡ all
 ends test place size all past within goes = goes.rest 0 (omega (arith, past, within))
@@ -56,10 +57,12 @@ pub record PairsFrom (test : ℕ → ℕ → Bool) (size place count : ℕ) (all
 pub pairs_first : (test : ℕ → ℕ → Bool) (size count : ℕ) → PairsFrom test size 0 count (first_pair test size 0 count)
 pairs_first test size count = record { rest = λ n is. ap (first_pair test size 0) (omega (arith, is)) }
 
-pub pairs_on : (test : ℕ → ℕ → Bool) (size place count : ℕ) (all : Option (ℕ × ℕ)) → place < count → None ≡ first_place (test place) 0 size → PairsFrom test size place count all → PairsFrom test size (place + 1) count all
+pub pairs_on : (test : ℕ → ℕ → Bool) (size place count : ℕ) (all : Option (ℕ × ℕ)) → place < count → None ≡ first_place (test place) 0 size → PairsFrom test size place count all
+    → PairsFrom test size (place + 1) count all
 pairs_on test size place count all below none goes = record { rest = λ n is. ap (λ (o : Option ℕ). first_of o place (first_pair test size (place + 1) n)) none ∙ goes.rest (suc n) (omega (arith, is)) }
 
-pub pairs_hit : (test : ℕ → ℕ → Bool) (size place count other : ℕ) (all : Option (ℕ × ℕ)) → place < count → Some other ≡ first_place (test place) 0 size → PairsFrom test size place count all → Some (place, other) ≡ all
+pub pairs_hit : (test : ℕ → ℕ → Bool) (size place count other : ℕ) (all : Option (ℕ × ℕ)) → place < count → Some other ≡ first_place (test place) 0 size
+    → PairsFrom test size place count all → Some (place, other) ≡ all
 pairs_hit test size place count other all below some goes =
     ap (λ (o : Option ℕ). first_of o place (first_pair test size (place + 1) (count - (place + 1)))) some ∙ goes.rest (suc (count - (place + 1))) (omega (arith, below))
 
@@ -98,7 +101,8 @@ two_same from to q = λ i a b. by a b (a == from && b == to) refl i
     by a b true is = let one : a ≡ from = grind (arith, nat_tests, is) in let two : b ≡ to = grind (arith, nat_tests, is) in rw (one, two) refl
     by a b false is = refl
 
-bytes_more : (calls : List LinkCall) (place : ℕ) (call : LinkCall) → place < length calls → call ≡ slice_index_or calls place call → bytes_of (drop place calls) ≡ call.bytes ++ bytes_of (drop (place + 1) calls)
+bytes_more : (calls : List LinkCall) (place : ℕ) (call : LinkCall) → place < length calls → call ≡ slice_index_or calls place call → bytes_of (drop place calls)
+    ≡ call.bytes ++ bytes_of (drop (place + 1) calls)
 bytes_more [] place call within at = absurd (omega (arith, within))
 bytes_more (x ∷ calls) zero call within at = ap (λ (c : LinkCall). c.bytes ++ bytes_of calls) (sym at)
 bytes_more (x ∷ calls) (suc place) call within at = let behind : suc place + 1 ≡ suc (place + 1) = omega arith in rw behind (bytes_more calls place call (omega (arith, within)) at)
@@ -109,17 +113,20 @@ bytes_end [] (suc place) past = refl
 bytes_end (x ∷ calls) zero past = absurd (omega (arith, past))
 bytes_end (x ∷ calls) (suc place) past = bytes_end calls place (omega (arith, past))
 
-pub put_more : (from to : ℕ) (calls : List LinkCall) (place : ℕ) (call : LinkCall) (old now next : ℕ → ℕ → List ℕ) → place < length calls → call ≡ slice_index_or calls place call → next ≡ at_two from to (now from to ++ call.bytes) now
+pub put_more : (from to : ℕ) (calls : List LinkCall) (place : ℕ) (call : LinkCall) (old now next : ℕ → ℕ → List ℕ) → place < length calls → call ≡ slice_index_or calls place call
+    → next ≡ at_two from to (now from to ++ call.bytes) now
     → ArePut from to calls place old now → ArePut from to calls (place + 1) old next
 put_more from to calls place call old now next within at is put = record {
   rest = ap (λ (q : ℕ → ℕ → List ℕ). at_two from to (q from to ++ bytes_of (drop (place + 1) calls)) q) is
       ∙ (two_twice from to (at_two from to (now from to ++ call.bytes) now from to ++ bytes_of (drop (place + 1) calls)) (now from to ++ call.bytes) now
       ∙ (ap (λ (v : List ℕ). at_two from to (v ++ bytes_of (drop (place + 1) calls)) now) (two_here from to (now from to ++ call.bytes) now)
-      ∙ (ap (λ (v : List ℕ). at_two from to v now) (append_assoc (now from to) call.bytes (bytes_of (drop (place + 1) calls)) ∙ ap (λ (l : List ℕ). now from to ++ l) (sym (bytes_more calls place call within at)))
+      ∙ (ap (λ (v : List ℕ). at_two from to v now)
+      (append_assoc (now from to) call.bytes (bytes_of (drop (place + 1) calls)) ∙ ap (λ (l : List ℕ). now from to ++ l) (sym (bytes_more calls place call within at)))
       ∙ put.rest)));
 }
 
-pub put_end : (from to : ℕ) (calls : List LinkCall) (place : ℕ) (old now : ℕ → ℕ → List ℕ) → length calls ≤ place → ArePut from to calls place old now → now ≡ at_two from to (old from to ++ bytes_of calls) old
+pub put_end : (from to : ℕ) (calls : List LinkCall) (place : ℕ) (old now : ℕ → ℕ → List ℕ) → length calls ≤ place → ArePut from to calls place old now → now
+    ≡ at_two from to (old from to ++ bytes_of calls) old
 put_end from to calls place old now past put =
     sym (two_same from to now) ∙ (ap (λ (l : List ℕ). at_two from to l now) (sym (append-nil (now from to)) ∙ ap (λ (l : List ℕ). now from to ++ l) (sym (bytes_end calls place past))) ∙ put.rest)
 

@@ -25,8 +25,10 @@ front [] place line within at = absurd (omega (arith, within))
 front (l ∷ lines) zero line within at = ap (λ (x : SwitchLine). x ∷ lines) (sym at)
 front (l ∷ lines) (suc place) line within at = let behind : suc place + 1 ≡ suc (place + 1) = omega arith in rw behind (front lines place line (omega (arith, within)) at)
 
-pub more_played : (plan : Plan) (lines : List SwitchLine) (place : ℕ) (line : SwitchLine) (now next : NetLists) (told after : List (List SwitchEntry)) (entries : List SwitchEntry) → place < length lines → line ≡ slice_index_or lines place line
-    → next.row.plan ≡ now.row.plan → IsReached next → ((x : SwitchState) → Shows now x → Shows next (done now.row.plan line x)) → ((x : SwitchState) → Shows now x → entries ≡ line_entries now.row.plan line x) → after ≡ told ++ entries ∷ []
+pub more_played : (plan : Plan) (lines : List SwitchLine) (place : ℕ) (line : SwitchLine) (now next : NetLists) (told after : List (List SwitchEntry)) (entries : List SwitchEntry)
+    → place < length lines → line ≡ slice_index_or lines place line
+    → next.row.plan ≡ now.row.plan → IsReached next → ((x : SwitchState) → Shows now x → Shows next (done now.row.plan line x))
+    → ((x : SwitchState) → Shows now x → entries ≡ line_entries now.row.plan line x) → after ≡ told ++ entries ∷ []
     → IsPlayed plan lines place now told → IsPlayed plan lines (place + 1) next after
 more_played plan lines place line now next told after entries within at same reached shows tells pushed is = record {
   plan_is = same ∙ is.plan_is;
@@ -45,7 +47,8 @@ none_left [] (suc place) past = refl
 none_left (l ∷ lines) zero past = absurd (omega (arith, past))
 none_left (l ∷ lines) (suc place) past = none_left lines place (omega (arith, past))
 
-pub all_played : (plan : Plan) (lines : List SwitchLine) (place : ℕ) (now : NetLists) (told : List (List SwitchEntry)) → length lines ≤ place → IsPlayed plan lines place now told → told ≡ script_entries plan lines first_network
+pub all_played : (plan : Plan) (lines : List SwitchLine) (place : ℕ) (now : NetLists) (told : List (List SwitchEntry)) → length lines ≤ place → IsPlayed plan lines place now told
+    → told ≡ script_entries plan lines first_network
 all_played plan lines place now told past is = sym (append-nil told) ∙ (ap (λ (l : List SwitchLine). told ++ script_entries plan l is.y) (sym (none_left lines place past)) ∙ is.entries)
 
 pub ruleset play_steps = (none_played, more_played, all_played)

@@ -18,7 +18,8 @@ pub hears_on : (net : NetLists) (from to : EdgeId) → IsChecked net.row.plan �
     → IsGoing (hears net.row.plan taken_all to.0 from (take 1 (pipes_of net.pipes from.0 to.0)) (seen_row net.row to.0) [])
 hears_on net from to checked types reached waits =
     subst (λ (e : ℕ → IndepState). IsGoing (hears net.row.plan taken_all to.0 from (take 1 (pipes_of net.pipes from.0 to.0)) (e to.0) [])) (sym reached.shows.edges)
-    (subst (λ (p : ℕ → ℕ → List ℕ). IsGoing (hears net.row.plan taken_all to.0 from (take 1 (p from.0 to.0)) ((done_all net.row.plan reached.lines first_network).edges to.0) [])) (sym reached.shows.pipes)
+    (subst (λ (p : ℕ → ℕ → List ℕ). IsGoing (hears net.row.plan taken_all to.0 from (take 1 (p from.0 to.0)) ((done_all net.row.plan reached.lines first_network).edges to.0) []))
+    (sym reached.shows.pipes)
     (deliveries_go_on net.row.plan checked types reached.lines from.0 to.0 1 (ap (λ (p : ℕ → ℕ → List ℕ). is_waiting (p from.0 to.0)) (sym reached.shows.pipes) ∙ waits)))
 
 -- one line more

@@ -91,13 +91,15 @@ pub found_place : (row : RowLists) (me : ℕ) (found : IndepLists) → IsRow row
 found_place row me found is below at = ap (λ (e : IndepLists). e.me) (found_is row me found below at) ∙ is.placed me
 
 -- a link that takes all stops no call
-pub never_link : (T U : Type 0) (why : IndepStop) (edge : IndepState) (calls : List LinkCall) (outcome : Outcome) (from : ℕ) → EndsAs taken_all from outcome → Comes {T = T} (Err why) edge calls outcome → NeverLink {T = U} (Err why)
+pub never_link : (T U : Type 0) (why : IndepStop) (edge : IndepState) (calls : List LinkCall) (outcome : Outcome) (from : ℕ) → EndsAs taken_all from outcome
+    → Comes {T = T} (Err why) edge calls outcome → NeverLink {T = U} (Err why)
 never_link T U stop.Link edge calls outcome from ends comes = let last = subst (λ (o : Outcome). EndsAs taken_all from o) comes ends in absurd (cc (last.failed))
 never_link T U (stop.Refused fault) edge calls outcome from ends comes = tt
 never_link T U stop.NoMemory edge calls outcome from ends comes = tt
 
 -- where the work goes on, nothing is refused
-pub never_refused : (T U : Type 0) (why : IndepStop) (edge : IndepState) (calls : List LinkCall) (outcome other : Outcome) → Comes {T = T} (Err why) edge calls outcome → outcome ≡ other → IsGoing other → NeverRefused {T = U} (Err why)
+pub never_refused : (T U : Type 0) (why : IndepStop) (edge : IndepState) (calls : List LinkCall) (outcome other : Outcome) → Comes {T = T} (Err why) edge calls outcome → outcome
+    ≡ other → IsGoing other → NeverRefused {T = U} (Err why)
 never_refused T U stop.Link edge calls outcome other comes same going = tt
 never_refused T U (stop.Refused fault) edge calls outcome other comes same going = subst IsGoing (sym same ∙ comes) going
 never_refused T U stop.NoMemory edge calls outcome other comes same going = tt

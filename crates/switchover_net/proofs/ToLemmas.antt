@@ -118,7 +118,8 @@ module _ (plan : Plan) (told : Answers) (me : ℕ) (peer : EdgeId) where
   few_to zero base held e c all = all
   few_to (suc n) base held e c all = by (front_of 4096 held) (λ b r e c a. few_to n b r e c a)
     where
-      by : (front : Front) → ((b : ℕ) (r : List ℕ) (e : IndepState) (c : List LinkCall) → AllTo peer.0 c → To (hears_few plan told me peer n b r e c)) → To (hears_front plan told me peer (hears_few plan told me peer n) base held front e c)
+      by : (front : Front) → ((b : ℕ) (r : List ℕ) (e : IndepState) (c : List LinkCall) → AllTo peer.0 c → To (hears_few plan told me peer n b r e c))
+          → To (hears_front plan told me peer (hears_few plan told me peer n) base held front e c)
       by More again = all
       by (Got pdu rest) again = then_to (hears_messages plan told me peer pdu.messages e c) (λ e c. hears_few plan told me peer n (place_behind base (length held - length rest)) rest e c)
           (messages_to pdu.messages e c all) (λ e c a. again (place_behind base (length held - length rest)) rest e c a)

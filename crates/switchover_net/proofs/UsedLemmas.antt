@@ -36,7 +36,8 @@ pub ruleset used_steps = (used_more, used_end, used_long)
 
 -- ---- what was put
 
-said_more : (me : ℕ) (calls : List LinkCall) (place : ℕ) (call : LinkCall) → place < length calls → call ≡ slice_index_or calls place call → said_entries me (drop place calls) ≡ Said (id_of me) call.peer call.bytes ∷ said_entries me (drop (place + 1) calls)
+said_more : (me : ℕ) (calls : List LinkCall) (place : ℕ) (call : LinkCall) → place < length calls → call ≡ slice_index_or calls place call → said_entries me (drop place calls)
+    ≡ Said (id_of me) call.peer call.bytes ∷ said_entries me (drop (place + 1) calls)
 said_more me [] place call within at = absurd (omega (arith, within))
 said_more me (x ∷ calls) zero call within at = ap (λ (c : LinkCall). Said (id_of me) c.peer c.bytes ∷ said_entries me calls) (sym at)
 said_more me (x ∷ calls) (suc place) call within at =
@@ -49,7 +50,8 @@ said_end me [] (suc place) past = refl
 said_end me (x ∷ calls) zero past = absurd (omega (arith, past))
 said_end me (x ∷ calls) (suc place) past = said_end me calls place (omega (arith, past))
 
-pub said_goes : (me : ℕ) (calls : List LinkCall) (place : ℕ) (call : LinkCall) (so_far now all : List SwitchEntry) → place < length calls → call ≡ slice_index_or calls place call → now ≡ so_far ++ Said (id_of me) call.peer call.bytes ∷ []
+pub said_goes : (me : ℕ) (calls : List LinkCall) (place : ℕ) (call : LinkCall) (so_far now all : List SwitchEntry) → place < length calls → call ≡ slice_index_or calls place call → now
+    ≡ so_far ++ Said (id_of me) call.peer call.bytes ∷ []
     → so_far ++ said_entries me (drop place calls) ≡ all → now ++ said_entries me (drop (place + 1) calls) ≡ all
 said_goes me calls place call so_far now all within at pushed goes =
     ap (λ (l : List SwitchEntry). l ++ said_entries me (drop (place + 1) calls)) pushed
@@ -64,9 +66,11 @@ pub ruleset said_steps = (said_goes, said_ends)
 -- ---- wires that are used otherwise than before
 
 turned_more : (plan : Plan) (me i n : ℕ) (edge : IndepState) (before : List Bool) (was : Bool) → i < n → length before ≡ n → was ≡ slice_index_or before i was
-    → turned_all me i (drop i before) (used_from plan me edge i (n - i)) ≡ turned me i was (uses plan me edge i) ++ turned_all me (i + 1) (drop (i + 1) before) (used_from plan me edge (i + 1) (n - (i + 1)))
+    → turned_all me i (drop i before) (used_from plan me edge i (n - i))
+    ≡ turned me i was (uses plan me edge i) ++ turned_all me (i + 1) (drop (i + 1) before) (used_from plan me edge (i + 1) (n - (i + 1)))
 turned_more plan me i n edge before was less long at =
-    ap (λ (m : ℕ). turned_all me i (drop i before) (used_from plan me edge i m)) one_more ∙ ap (λ (l : List Bool). turned_all me i l (uses plan me edge i ∷ used_from plan me edge (i + 1) (n - (i + 1)))) (front before i within at)
+    ap (λ (m : ℕ). turned_all me i (drop i before) (used_from plan me edge i m)) one_more
+    ∙ ap (λ (l : List Bool). turned_all me i l (uses plan me edge i ∷ used_from plan me edge (i + 1) (n - (i + 1)))) (front before i within at)
   where
     one_more : n - i ≡ suc (n - (i + 1))
     one_more = omega (arith, less)
@@ -79,7 +83,8 @@ turned_more plan me i n edge before was less long at =
     front (b ∷ l) zero inside here = ap (λ (x : Bool). x ∷ l) (sym here)
     front (b ∷ l) (suc k) inside here = let behind : suc k + 1 ≡ suc (k + 1) = omega arith in rw behind (front l k (omega (arith, inside)) here)
 
-pub turned_goes : (plan : Plan) (me i n : ℕ) (edge : IndepState) (before : List Bool) (was is : Bool) (so_far now all : List SwitchEntry) → i < n → length before ≡ n → was ≡ slice_index_or before i was → is ≡ uses plan me edge i
+pub turned_goes : (plan : Plan) (me i n : ℕ) (edge : IndepState) (before : List Bool) (was is : Bool) (so_far now all : List SwitchEntry) → i < n → length before ≡ n → was
+    ≡ slice_index_or before i was → is ≡ uses plan me edge i
     → now ≡ so_far ++ turned me i was is → so_far ++ turned_all me i (drop i before) (used_from plan me edge i (n - i)) ≡ all
     → now ++ turned_all me (i + 1) (drop (i + 1) before) (used_from plan me edge (i + 1) (n - (i + 1))) ≡ all
 turned_goes plan me i n edge before was is so_far now all less long at here pushed goes =
@@ -87,7 +92,8 @@ turned_goes plan me i n edge before was is so_far now all less long at here push
     ∙ (append_assoc so_far (turned me i was (uses plan me edge i)) (turned_all me (i + 1) (drop (i + 1) before) (used_from plan me edge (i + 1) (n - (i + 1))))
     ∙ (ap (λ (l : List SwitchEntry). so_far ++ l) (sym (turned_more plan me i n edge before was less long at)) ∙ goes))
 
-pub turned_ends : (plan : Plan) (me i n : ℕ) (edge : IndepState) (before : List Bool) (so_far all : List SwitchEntry) → n ≤ i → length before ≡ n → so_far ++ turned_all me i (drop i before) (used_from plan me edge i (n - i)) ≡ all → so_far ≡ all
+pub turned_ends : (plan : Plan) (me i n : ℕ) (edge : IndepState) (before : List Bool) (so_far all : List SwitchEntry) → n ≤ i → length before ≡ n
+    → so_far ++ turned_all me i (drop i before) (used_from plan me edge i (n - i)) ≡ all → so_far ≡ all
 turned_ends plan me i n edge before so_far all past long goes = sym (append-nil so_far) ∙ (ap (λ (l : List SwitchEntry). so_far ++ l) (sym (none before i (omega (arith, past, long)))) ∙ goes)
   where
     none : (l : List Bool) (k : ℕ) → length l ≤ k → turned_all me i (drop k l) (used_from plan me edge i (n - i)) ≡ []

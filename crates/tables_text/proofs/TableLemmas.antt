@@ -58,7 +58,8 @@ services_at plan me edge (row ∷ rows) place are within =
     ap (λ (l : List ServicePlan). name_or_empty (option_map (λ row. row.name) (slice_get l place))) are
     ∙ ap (λ (o : Option ServicePlan). name_or_empty (option_map (λ row. row.name) o)) (slice_get-get_or (row ∷ rows) place row within) in
     at_drop_more (service_lines plan me edge place) (row ∷ rows) place row within
-    ∙ ap (λ (l : List ℕ). service_text plan l (ports_of plan (record { 0 = place }) me) (addresses_of edge (record { 0 = place })) ++ service_lines plan me edge (place + 1) (drop (place + 1) (row ∷ rows))) (sym name)
+    ∙ ap (λ (l : List ℕ). service_text plan l (ports_of plan (record { 0 = place }) me) (addresses_of edge (record { 0 = place })) ++ service_lines plan me edge (place + 1)
+    (drop (place + 1) (row ∷ rows))) (sym name)
 
 pub services_end : (plan : Plan) (me : EdgeId) (edge : EdgeState) (rows : List ServicePlan) (place : ℕ) → length rows ≤ place → service_lines plan me edge place (drop place rows) ≡ []
 services_end plan me edge rows place end = at_drop_all (service_lines plan me edge place) rows place end

@@ -5,7 +5,8 @@ use Rattle.text_pieces.specs.Pieces.{hex}
 use Rattle.text_pieces.proofs.HexLemmas.{hex_from, hex_none}
 
 -- the digits from a place on are those of the piece there, and those behind it
-pub hex_at : (octets rest piece : List ℕ) (at count : ℕ) → rest ≡ drop at octets → piece ≡ take count rest → length piece ≡ count → hex (drop at octets) ≡ hex piece ++ hex (drop (at + length piece) octets)
+pub hex_at : (octets rest piece : List ℕ) (at count : ℕ) → rest ≡ drop at octets → piece ≡ take count rest → length piece ≡ count → hex (drop at octets)
+    ≡ hex piece ++ hex (drop (at + length piece) octets)
 hex_at octets rest piece at count behind front len =
     let is : piece ≡ take (length piece) (drop at octets) = front ∙ (ap (λ (k : ℕ). take k rest) (sym len) ∙ ap (λ (l : List ℕ). take (length piece) l) behind) in
     hex_from octets at (length piece) ∙ ap (λ (l : List ℕ). hex l ++ hex (drop (at + length piece) octets)) (sym is)

@@ -126,7 +126,8 @@ writes_appends old new [] writes = rw writes (appends_none old)
 writes_appends old new (octet ∷ text) writes = writes
 
 -- all that waited was taken
-pub moves_all : (a : Written) (taken : Option (List ℕ)) (faults : ℕ) (waiting : List ℕ) → Writes a.taken taken a.waiting → waiting ≡ [] → a.faults ≤ faults → Moves a (record { taken = taken; faults = faults; waiting = waiting })
+pub moves_all : (a : Written) (taken : Option (List ℕ)) (faults : ℕ) (waiting : List ℕ) → Writes a.taken taken a.waiting → waiting ≡ [] → a.faults ≤ faults
+    → Moves a (record { taken = taken; faults = faults; waiting = waiting })
 moves_all a taken faults waiting writes none later = record {
   gained = a.waiting;
   taken = writes_appends a.taken taken a.waiting writes;

@@ -18,7 +18,8 @@ hex-append front back = digits_of-append lower_digits front back
 -- the digits from a place on are those of a piece there, and those behind it
 pub hex_from : (octets : List ℕ) (at count : ℕ) → hex (drop at octets) ≡ hex (take count (drop at octets)) ++ hex (drop (at + count) octets)
 hex_from octets at count =
-    ap hex (sym (take-append-drop count (drop at octets))) ∙ (hex-append (take count (drop at octets)) (drop count (drop at octets)) ∙ ap (λ (l : List ℕ). hex (take count (drop at octets)) ++ hex l) (drop-drop count at octets))
+    ap hex (sym (take-append-drop count (drop at octets)))
+    ∙ (hex-append (take count (drop at octets)) (drop count (drop at octets)) ∙ ap (λ (l : List ℕ). hex (take count (drop at octets)) ++ hex l) (drop-drop count at octets))
 
 pub hex_none : hex [] ≡ []
 unfolding encode_with

@@ -26,9 +26,11 @@ pub none_heard : (plan : Plan) (judge : Judge) (windows : Windows) → judge ≡
 none_heard plan judge windows is heard = record { judged = is; windows = heard }
 
 -- an entry more
-pub one_heard : (plan : Plan) (entry : Entry) (ears : Ears) (judged : Judge) (windows : Windows) → judged ≡ judges plan entry ears.judge → ((trace : List Entry) → HasHeard plan trace ears.windows → HasHeard plan (trace ++ entry ∷ []) windows)
+pub one_heard : (plan : Plan) (entry : Entry) (ears : Ears) (judged : Judge) (windows : Windows) → judged ≡ judges plan entry ears.judge
+    → ((trace : List Entry) → HasHeard plan trace ears.windows → HasHeard plan (trace ++ entry ∷ []) windows)
     → (trace : List Entry) → HasHeardAll plan trace ears → HasHeardAll plan (trace ++ entry ∷ []) (record { judge = judged; windows = windows })
-one_heard plan entry ears judged windows hears heard trace is = record { judged = hears ∙ (ap (judges plan entry) is.judged ∙ sym (judged_behind plan begun trace entry)); windows = heard trace is.windows }
+one_heard plan entry ears judged windows hears heard trace is =
+    record { judged = hears ∙ (ap (judges plan entry) is.judged ∙ sym (judged_behind plan begun trace entry)); windows = heard trace is.windows }
 
 -- so many lines were read
 judged_lines : (plan : Plan) (judge : Judge) (trace : List Entry) → (judges_all plan judge trace).line ≡ judge.line + length trace
@@ -48,10 +50,12 @@ place_within plan trace place one = omega (
 
 -- the place of an entry is counted
 pub place_counts : (plan : Plan) (trace : List Entry) (ears : Ears) (place : ℕ) → AreEarsOf plan ears → HasHeardAll plan trace ears → OnceAnswers plan trace (Some place) → place + 2 < 2 ^ 64
-place_counts plan trace ears place are is once = omega (arith, place_within plan trace place once.unserved, are.lines, are.windows.few, ap (λ (j : Judge). j.line) is.judged, judged_lines plan begun trace)
+place_counts plan trace ears place are is once = omega
+    (arith, place_within plan trace place once.unserved, are.lines, are.windows.few, ap (λ (j : Judge). j.line) is.judged, judged_lines plan begun trace)
 
 -- what the windows answer
-pub verdict_is : (plan : Plan) (trace : List Entry) (windows : Windows) (result : Result (Option ℕ) NoMemory) (place : Option ℕ) → ((trace : List Entry) → HasHeard plan trace windows → IfOk result (OnceAnswers plan trace)) → result ≡ Ok place
+pub verdict_is : (plan : Plan) (trace : List Entry) (windows : Windows) (result : Result (Option ℕ) NoMemory) (place : Option ℕ)
+    → ((trace : List Entry) → HasHeard plan trace windows → IfOk result (OnceAnswers plan trace)) → result ≡ Ok place
     → HasHeard plan trace windows → OnceAnswers plan trace place
 verdict_is plan trace windows result place once is heard = subst (λ (r : Result (Option ℕ) NoMemory). IfOk r (OnceAnswers plan trace)) is (once trace heard)
 
@@ -65,13 +69,15 @@ crossed_known plan trace judge line is known = sym (ap (λ (j : Judge). j.crosse
 pub answered_stray : (plan : Plan) (trace : List Entry) (ears : Ears) (line : ℕ) → HasHeardAll plan trace ears → ears.judge.stray ≡ Some line → FirstStray plan trace line
 answered_stray plan trace ears line is stray = stray_first plan trace line (stray_known plan trace ears.judge (Some line) is.judged stray)
 
-pub answered_crossed : (plan : Plan) (trace : List Entry) (ears : Ears) (line : ℕ) → HasHeardAll plan trace ears → ears.judge.stray ≡ None → ears.judge.crossed ≡ Some line → FirstOfSplit plan trace line
+pub answered_crossed : (plan : Plan) (trace : List Entry) (ears : Ears) (line : ℕ) → HasHeardAll plan trace ears → ears.judge.stray ≡ None → ears.judge.crossed ≡ Some line
+    → FirstOfSplit plan trace line
 answered_crossed plan trace ears line is stray crossed = record {
   isolated = (strays_told plan trace).0 (stray_known plan trace ears.judge None is.judged stray);
   crossing = crossing_first plan trace line (crossed_known plan trace ears.judge (Some line) is.judged crossed);
 }
 
-pub answered_once : (plan : Plan) (trace : List Entry) (ears : Ears) (place : ℕ) → HasHeardAll plan trace ears → ears.judge.stray ≡ None → ears.judge.crossed ≡ None → OnceAnswers plan trace (Some place) → FirstOfOnce plan trace (place + 2)
+pub answered_once : (plan : Plan) (trace : List Entry) (ears : Ears) (place : ℕ) → HasHeardAll plan trace ears → ears.judge.stray ≡ None → ears.judge.crossed ≡ None
+    → OnceAnswers plan trace (Some place) → FirstOfOnce plan trace (place + 2)
 answered_once plan trace ears place is stray crossed unserved = record {
   isolated = (strays_told plan trace).0 (stray_known plan trace ears.judge None is.judged stray);
   split = (crossings_told plan trace).0 (crossed_known plan trace ears.judge None is.judged crossed);
@@ -80,7 +86,8 @@ answered_once plan trace ears place is stray crossed unserved = record {
   line_is = refl;
 }
 
-pub answered_good : (plan : Plan) (trace : List Entry) (ears : Ears) → HasHeardAll plan trace ears → ears.judge.stray ≡ None → ears.judge.crossed ≡ None → OnceAnswers plan trace None → IsGoodTrace plan trace
+pub answered_good : (plan : Plan) (trace : List Entry) (ears : Ears) → HasHeardAll plan trace ears → ears.judge.stray ≡ None → ears.judge.crossed ≡ None → OnceAnswers plan trace None
+    → IsGoodTrace plan trace
 answered_good plan trace ears is stray crossed once = record {
   isolated = (strays_told plan trace).0 (stray_known plan trace ears.judge None is.judged stray);
   split = (crossings_told plan trace).0 (crossed_known plan trace ears.judge None is.judged crossed);

@@ -23,7 +23,8 @@ record StrayBehind (plan : Plan) (earlier es : List Entry) (line : ℕ) : Type 0
   strays : IsolatedEntry plan (earlier ++ before) entry → ⊥
   line_is : line ≡ (length earlier + length before) + 2
 
-stray_behind : (plan : Plan) (earlier es : List Entry) (judge : Judge) (line : ℕ) → Knows plan earlier judge → judge.stray ≡ None → judge.line ≡ length earlier + 1 → (judges_all plan judge es).stray ≡ Some line → StrayBehind plan earlier es line
+stray_behind : (plan : Plan) (earlier es : List Entry) (judge : Judge) (line : ℕ) → Knows plan earlier judge → judge.stray ≡ None → judge.line ≡ length earlier + 1
+    → (judges_all plan judge es).stray ≡ Some line → StrayBehind plan earlier es line
 unfolding judges
 stray_behind plan earlier [] judge line knows none at last = none_some line (sym none ∙ last)
 stray_behind plan earlier (e ∷ es) judge line knows none at last = by (is_stray plan judge.came e) refl (λ next. stray_behind plan (earlier ++ e ∷ []) es (judges plan e judge) line (knows_more plan earlier judge e knows) next (omega (arith, at, length-append earlier (e ∷ []))) last) where
@@ -36,7 +37,8 @@ stray_behind plan earlier (e ∷ es) judge line knows none at last = by (is_stra
         after = es;
         is = refl;
         isolated = tt;
-        strays = λ isolated. clash (sym (isolated_entry plan earlier e (subst (λ (l : List Entry). IsolatedEntry plan l e) (append-nil earlier) isolated)) ∙ (sym (stray_same plan earlier judge e knows) ∙ strays));
+        strays = λ isolated. clash (sym (isolated_entry plan earlier e (subst (λ (l : List Entry). IsolatedEntry plan l e) (append-nil earlier) isolated))
+            ∙ (sym (stray_same plan earlier judge e knows) ∙ strays));
         line_is = omega (arith, at, some_same here);
       }
   by false stays rest =
@@ -66,7 +68,8 @@ record CrossingBehind (plan : Plan) (earlier : ℕ) (es : List Entry) (line : �
   crosses : SplitEntry plan entry → ⊥
   line_is : line ≡ (earlier + length before) + 2
 
-crossing_behind : (plan : Plan) (earlier : ℕ) (es : List Entry) (judge : Judge) (line : ℕ) → judge.crossed ≡ None → judge.line ≡ earlier + 1 → (judges_all plan judge es).crossed ≡ Some line → CrossingBehind plan earlier es line
+crossing_behind : (plan : Plan) (earlier : ℕ) (es : List Entry) (judge : Judge) (line : ℕ) → judge.crossed ≡ None → judge.line ≡ earlier + 1 → (judges_all plan judge es).crossed
+    ≡ Some line → CrossingBehind plan earlier es line
 unfolding judges
 crossing_behind plan earlier [] judge line none at last = none_some line (sym none ∙ last)
 crossing_behind plan earlier (e ∷ es) judge line none at last = by (is_crossing plan e) refl (λ next. crossing_behind plan (earlier + 1) es (judges plan e judge) line next (omega (arith, at)) last) where

@@ -16,8 +16,10 @@ entry_behind front entry (Ok entries) = ap Ok (sym (append_assoc front (entry �
 entry_behind front entry (Err line) = refl
 
 -- an entry more
-pub hears_entry : (plan : Plan) (old new : ReadSoFar) (ears heard : Ears) (entry : Entry) → ((most : ℕ) → goes_on (suc most) plan old.tally old.rest ≡ with_entry entry (goes_on most plan new.tally new.rest))
-    → ((trace : List Entry) → HasHeardAll plan trace ears → HasHeardAll plan (trace ++ entry ∷ []) heard) → (text : List ℕ) (left : ℕ) → IsBehind plan text (suc left) old ears → IsBehind plan text left new heard
+pub hears_entry : (plan : Plan) (old new : ReadSoFar) (ears heard : Ears) (entry : Entry)
+    → ((most : ℕ) → goes_on (suc most) plan old.tally old.rest ≡ with_entry entry (goes_on most plan new.tally new.rest))
+    → ((trace : List Entry) → HasHeardAll plan trace ears → HasHeardAll plan (trace ++ entry ∷ []) heard) → (text : List ℕ) (left : ℕ) → IsBehind plan text (suc left) old ears
+    → IsBehind plan text left new heard
 hears_entry plan old new ears heard entry goes hears text left is = record {
   front = is.front ++ entry ∷ [];
   told = is.told ∙ (ap (with_front is.front) (goes left) ∙ entry_behind is.front entry (goes_on left plan new.tally new.rest));
@@ -25,11 +27,13 @@ hears_entry plan old new ears heard entry goes hears text left is = record {
 }
 
 -- the last line
-pub hears_last : (plan : Plan) (old : ReadSoFar) (ears : Ears) → ((most : ℕ) → goes_on (suc most) plan old.tally old.rest ≡ Ok []) → (text : List ℕ) (left : ℕ) → IsBehind plan text (suc left) old ears → IsHeard plan text ears
+pub hears_last : (plan : Plan) (old : ReadSoFar) (ears : Ears) → ((most : ℕ) → goes_on (suc most) plan old.tally old.rest ≡ Ok []) → (text : List ℕ) (left : ℕ)
+    → IsBehind plan text (suc left) old ears → IsHeard plan text ears
 hears_last plan old ears goes text left is = record { trace = is.front; told = is.told ∙ (ap (with_front is.front) (goes left) ∙ ap Ok (append-nil is.front)); heard = is.heard }
 
 -- a line that breaks the form
-pub hears_break : (plan : Plan) (old : ReadSoFar) (ears : Ears) (line : ℕ) → ((most : ℕ) → goes_on (suc most) plan old.tally old.rest ≡ Err line) → (text : List ℕ) (left : ℕ) → IsBehind plan text (suc left) old ears → told_of plan text ≡ Err line
+pub hears_break : (plan : Plan) (old : ReadSoFar) (ears : Ears) (line : ℕ) → ((most : ℕ) → goes_on (suc most) plan old.tally old.rest ≡ Err line) → (text : List ℕ) (left : ℕ)
+    → IsBehind plan text (suc left) old ears → told_of plan text ≡ Err line
 hears_break plan old ears line goes text left is = is.told ∙ ap (with_front is.front) (goes left)
 
 front_none : (told : Result (List Entry) ℕ) → told ≡ with_front [] told
@@ -49,32 +53,38 @@ pub no_line : (plan : Plan) (text : List ℕ) (left : ℕ) (reader : ReadSoFar) 
 no_line plan text left reader ears none is = is.told ∙ ap (λ (n : ℕ). with_front is.front (goes_on n plan reader.tally reader.rest)) none
 
 -- the last line was heard
-pub heard_on : (plan : Plan) (text : List ℕ) (left : ℕ) (old : ReadSoFar) (ears : Ears) (new : ReadSoFar) (heard : Ears) (result : Result Bool AuditStop) → HearsOn plan old ears new heard result → result ≡ Ok true → 0 < left
+pub heard_on : (plan : Plan) (text : List ℕ) (left : ℕ) (old : ReadSoFar) (ears : Ears) (new : ReadSoFar) (heard : Ears) (result : Result Bool AuditStop)
+    → HearsOn plan old ears new heard result → result ≡ Ok true → 0 < left
     → IsBehind plan text left old ears → IsBehind plan text (left - 1) new heard
 heard_on plan text left old ears new heard result hears is some behind = subst (HearsOn plan old ears new heard) is hears text (left - 1) (one_less plan text left old ears some behind)
 
-pub heard_last : (plan : Plan) (text : List ℕ) (left : ℕ) (old : ReadSoFar) (ears : Ears) (new : ReadSoFar) (heard : Ears) (result : Result Bool AuditStop) → HearsOn plan old ears new heard result → result ≡ Ok false → 0 < left → IsBehind plan text left old ears
+pub heard_last : (plan : Plan) (text : List ℕ) (left : ℕ) (old : ReadSoFar) (ears : Ears) (new : ReadSoFar) (heard : Ears) (result : Result Bool AuditStop)
+    → HearsOn plan old ears new heard result → result ≡ Ok false → 0 < left → IsBehind plan text left old ears
     → IsHeard plan text heard
 heard_last plan text left old ears new heard result hears is some behind = subst (HearsOn plan old ears new heard) is hears text (left - 1) (one_less plan text left old ears some behind)
 
 -- a line could not be heard
-heard_stop : (plan : Plan) (text : List ℕ) (left : ℕ) (old : ReadSoFar) (ears : Ears) (new : ReadSoFar) (heard : Ears) (why : AuditStop) → HearsOn plan old ears new heard (Err why) → IsBehind plan text (suc left) old ears → Hears plan text (Err why)
+heard_stop : (plan : Plan) (text : List ℕ) (left : ℕ) (old : ReadSoFar) (ears : Ears) (new : ReadSoFar) (heard : Ears) (why : AuditStop) → HearsOn plan old ears new heard (Err why)
+    → IsBehind plan text (suc left) old ears → Hears plan text (Err why)
 heard_stop plan text left old ears new heard (stop.Form line) hears behind = hears text left behind
 heard_stop plan text left old ears new heard (stop.Isolated line) hears behind = absurd hears
 heard_stop plan text left old ears new heard (stop.Split line) hears behind = absurd hears
 heard_stop plan text left old ears new heard (stop.Once line) hears behind = absurd hears
 heard_stop plan text left old ears new heard stop.NoMemory hears behind = tt
 
-pub heard_err : (plan : Plan) (text : List ℕ) (left : ℕ) (old : ReadSoFar) (ears : Ears) (new : ReadSoFar) (heard : Ears) (result : Result Bool AuditStop) (why : AuditStop) → HearsOn plan old ears new heard result → result ≡ Err why → 0 < left → IsBehind plan text left old ears
+pub heard_err : (plan : Plan) (text : List ℕ) (left : ℕ) (old : ReadSoFar) (ears : Ears) (new : ReadSoFar) (heard : Ears) (result : Result Bool AuditStop) (why : AuditStop)
+    → HearsOn plan old ears new heard result → result ≡ Err why → 0 < left → IsBehind plan text left old ears
     → Hears plan text (Err why)
-heard_err plan text left old ears new heard result why hears is some behind = heard_stop plan text (left - 1) old ears new heard why (subst (HearsOn plan old ears new heard) is hears) (one_less plan text left old ears some behind)
+heard_err plan text left old ears new heard result why hears is some behind =
+    heard_stop plan text (left - 1) old ears new heard why (subst (HearsOn plan old ears new heard) is hears) (one_less plan text left old ears some behind)
 
 -- what was heard was some trace
 pub was_told : (plan : Plan) (text : List ℕ) (ears : Ears) → IsHeard plan text ears → WasTold plan ears
 was_told plan text ears is = record { trace = is.trace; heard = is.heard }
 
 -- the first rule that fails is told
-pub audited : (plan : Plan) (text : List ℕ) (ears : Ears) (result : Result (Unit {0}) AuditStop) → IsHeard plan text ears → ((trace : List Entry) → HasHeardAll plan trace ears → Answers plan trace result) → IsAudited plan text result
+pub audited : (plan : Plan) (text : List ℕ) (ears : Ears) (result : Result (Unit {0}) AuditStop) → IsHeard plan text ears
+    → ((trace : List Entry) → HasHeardAll plan trace ears → Answers plan trace result) → IsAudited plan text result
 audited plan text ears (Ok done) is answers = record { trace = is.trace; told = is.told; is = answers is.trace is.heard }
 audited plan text ears (Err (stop.Form line)) is answers = absurd (answers is.trace is.heard)
 audited plan text ears (Err (stop.Isolated line)) is answers = record { trace = is.trace; told = is.told; is = answers is.trace is.heard }

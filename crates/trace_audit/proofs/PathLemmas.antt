@@ -96,7 +96,8 @@ abbrev named : ℕ → ServiceId → List ℕ → Entered
 named number service frame = record { number = number; service = service.0; frame = frame }
 
 here_came : (plan : Plan) (circuit : CircuitId) (number : ℕ) (octets : List ℕ) (es : List Entry) (origin : ℕ) (service : ServiceId) (frame : List ℕ) (of : Option ServiceId) (inner : Result (List ℕ) DropCause)
-    → service_of plan circuit ≡ of → inner_at plan circuit octets ≡ inner → has_come (with_one [] (entered_by number of (ok_of inner))) (named origin service frame) ≡ true → HasCome plan (entry.In circuit number octets ∷ es) origin service frame
+    → service_of plan circuit ≡ of → inner_at plan circuit octets ≡ inner → has_come (with_one [] (entered_by number of (ok_of inner))) (named origin service frame) ≡ true
+    → HasCome plan (entry.In circuit number octets ∷ es) origin service frame
 here_came plan circuit number octets es origin service frame None inner is_of is_inner any = clash any
 here_came plan circuit number octets es origin service frame (Some own) (Err why) is_of is_inner any = clash any
 here_came plan circuit number octets es origin service frame (Some own) (Ok mine) is_of is_inner any = record {
@@ -117,14 +118,16 @@ here_came plan circuit number octets es origin service frame (Some own) (Ok mine
 later_came : (plan : Plan) (e : Entry) (es : List Entry) (origin : ℕ) (service : ServiceId) (frame : List ℕ) → HasCome plan es origin service frame → HasCome plan (e ∷ es) origin service frame
 later_came plan e es origin service frame come = record { sender = come.sender; entered = come.entered; before = inr come.before; of_service = come.of_service; as_entered = come.as_entered }
 
-come_found : (plan : Plan) (es : List Entry) (origin : ℕ) (service : ServiceId) (frame : List ℕ) → has_come (came_list plan es) (named origin service frame) ≡ true → HasCome plan es origin service frame
+come_found : (plan : Plan) (es : List Entry) (origin : ℕ) (service : ServiceId) (frame : List ℕ) → has_come (came_list plan es) (named origin service frame) ≡ true
+    → HasCome plan es origin service frame
 unfolding came_list
 come_found plan [] origin service frame any = clash any
 come_found plan (entry.In circuit number octets ∷ es) origin service frame any = by (has_come (with_one [] (entered_at plan circuit number octets)) (named origin service frame)) refl (come_found plan es origin service frame) where
   by : (b : Bool) → has_come (with_one [] (entered_at plan circuit number octets)) (named origin service frame) ≡ b
       → (has_come (came_list plan es) (named origin service frame) ≡ true → HasCome plan es origin service frame) → HasCome plan (entry.In circuit number octets ∷ es) origin service frame
   by true here rest = here_came plan circuit number octets es origin service frame (service_of plan circuit) (inner_at plan circuit octets) refl refl here
-  by false not_here rest = later_came plan (entry.In circuit number octets) es origin service frame (rest (sym (ap (λ (b : Bool). b || has_come (came_list plan es) (named origin service frame)) not_here)
+  by false not_here rest = later_came plan (entry.In circuit number octets) es origin service frame
+      (rest (sym (ap (λ (b : Bool). b || has_come (came_list plan es) (named origin service frame)) not_here)
       ∙ (sym (any-append (is_entered (named origin service frame)) (with_one [] (entered_at plan circuit number octets)) (came_list plan es)) ∙ any)))
 come_found plan (entry.Did event ∷ es) origin service frame any = later_came plan _ es origin service frame (come_found plan es origin service frame any)
 come_found plan (entry.Idle ∷ es) origin service frame any = later_came plan _ es origin service frame (come_found plan es origin service frame any)
@@ -142,9 +145,11 @@ one_came : (plan : Plan) (sender : CircuitId) (origin : ℕ) (entered : List ℕ
     → has_come (entry_came plan (entry.In sender origin entered)) (named origin service frame) ≡ true
 one_came plan sender origin entered service frame of_service as_entered =
     ap (λ (of : Option ServiceId). has_come (with_one [] (entered_by origin of (inner_found plan sender entered))) (named origin service frame)) of_service
-    ∙ (ap (λ (inner : Result (List ℕ) DropCause). has_come (with_one [] (entered_by origin (Some service) (ok_of inner))) (named origin service frame)) as_entered ∙ rw (entered_itself (named origin service frame)) refl)
+    ∙ (ap (λ (inner : Result (List ℕ) DropCause). has_come (with_one [] (entered_by origin (Some service) (ok_of inner))) (named origin service frame)) as_entered
+    ∙ rw (entered_itself (named origin service frame)) refl)
 
-come_listed : (plan : Plan) (es : List Entry) (sender : CircuitId) (origin : ℕ) (entered : List ℕ) (service : ServiceId) (frame : List ℕ) → Among (entry.In sender origin entered) es → service_of plan sender ≡ Some service → inner_at plan sender entered ≡ Ok frame
+come_listed : (plan : Plan) (es : List Entry) (sender : CircuitId) (origin : ℕ) (entered : List ℕ) (service : ServiceId) (frame : List ℕ) → Among (entry.In sender origin entered) es
+    → service_of plan sender ≡ Some service → inner_at plan sender entered ≡ Ok frame
     → has_come (came_list plan es) (named origin service frame) ≡ true
 unfolding came_list
 come_listed plan [] sender origin entered service frame among of_service as_entered = absurd among
@@ -152,15 +157,27 @@ come_listed plan (e ∷ es) sender origin entered service frame (inl here) of_se
     ∙ or_left (has_come (entry_came plan e) (named origin service frame)) (has_come (came_list plan es) (named origin service frame))
     (ap (λ (x : Entry). has_come (entry_came plan x) (named origin service frame)) (sym here) ∙ one_came plan sender origin entered service frame of_service as_entered)
 come_listed plan (e ∷ es) sender origin entered service frame (inr later) of_service as_entered = any-append (is_entered (named origin service frame)) (entry_came plan e) (came_list plan es)
-    ∙ or_right (has_come (entry_came plan e) (named origin service frame)) (has_come (came_list plan es) (named origin service frame)) (come_listed plan es sender origin entered service frame later of_service as_entered)
+    ∙ or_right (has_come (entry_came plan e) (named origin service frame)) (has_come (came_list plan es) (named origin service frame))
+    (come_listed plan es sender origin entered service frame later of_service as_entered)
 
-come_in : (plan : Plan) (earlier : List Entry) (circuit : CircuitId) (origin : ℕ) (octets : List ℕ) (of : Option ServiceId) (inner : Result (List ℕ) DropCause) → service_of plan circuit ≡ of → inner_at plan circuit octets ≡ inner
+come_in : (plan : Plan) (earlier : List Entry) (circuit : CircuitId) (origin : ℕ) (octets : List ℕ) (of : Option ServiceId) (inner : Result (List ℕ) DropCause)
+    → service_of plan circuit ≡ of → inner_at plan circuit octets ≡ inner
     → has_one (came_list plan earlier) (entered_by origin of (ok_of inner)) ≡ true → CameIn plan earlier circuit origin octets
 come_in plan earlier circuit origin octets None inner is_of is_inner come = clash come
 come_in plan earlier circuit origin octets (Some service) (Err why) is_of is_inner come = clash come
 come_in plan earlier circuit origin octets (Some service) (Ok frame) is_of is_inner come =
     let has : HasCome plan earlier origin service frame = come_found plan earlier origin service frame come in
-    record { sender = has.sender; entered = has.entered; before = has.before; service = service; sender_service = has.of_service; receiver_service = is_of; frame = frame; as_entered = has.as_entered; as_left = is_inner }
+    record {
+      sender = has.sender;
+      entered = has.entered;
+      before = has.before;
+      service = service;
+      sender_service = has.of_service;
+      receiver_service = is_of;
+      frame = frame;
+      as_entered = has.as_entered;
+      as_left = is_inner;
+    }
 
 -- what is no stray is isolated, and what is isolated is no stray
 pub entry_isolated : (plan : Plan) (earlier : List Entry) (e : Entry) → is_stray plan (came_list plan earlier) e ≡ false → IsolatedEntry plan earlier e
@@ -246,7 +263,8 @@ pub isolated_by : (plan : Plan) (earlier es : List Entry) (judge : Judge) → Kn
 unfolding judges
 isolated_by plan earlier [] judge knows none last = tt
 isolated_by plan earlier (e ∷ es) judge knows none last = by (is_stray plan judge.came e) refl (λ next. isolated_by plan (earlier ++ e ∷ []) es (judges plan e judge) (knows_more plan earlier judge e knows) next last) where
-  by : (b : Bool) → is_stray plan judge.came e ≡ b → ((judges plan e judge).stray ≡ None → IsolatedAfter plan (earlier ++ e ∷ []) es) → IsolatedEntry plan earlier e × IsolatedAfter plan (earlier ++ e ∷ []) es
+  by : (b : Bool) → is_stray plan judge.came e ≡ b → ((judges plan e judge).stray ≡ None → IsolatedAfter plan (earlier ++ e ∷ []) es) → IsolatedEntry plan earlier e
+      × IsolatedAfter plan (earlier ++ e ∷ []) es
   by true strays rest = none_some (judge.line + 1) (sym last ∙ stray_stays plan es (judges plan e judge) (judge.line + 1) (rw (none, strays) refl))
   by false stays rest = (entry_isolated plan earlier e (sym (stray_same plan earlier judge e knows) ∙ stays), rest (rw (none, stays) refl))
 
@@ -259,7 +277,8 @@ by_isolated plan earlier (e ∷ es) judge knows none is = by_isolated plan (earl
 
 -- ---- split horizon
 
-by_one_mesh : (plan : Plan) (from : EdgeId) (wire came : WireId) → crosses plan from wire (arrival.Wire came) ≡ false → is_mesh_wire plan wire ≡ true → is_mesh_wire plan came ≡ true → (came ≡ wire) × (is_switching_point plan from wire ≡ true)
+by_one_mesh : (plan : Plan) (from : EdgeId) (wire came : WireId) → crosses plan from wire (arrival.Wire came) ≡ false → is_mesh_wire plan wire ≡ true → is_mesh_wire plan came ≡ true
+    → (came ≡ wire) × (is_switching_point plan from wire ≡ true)
 by_one_mesh plan from wire came none over by_mesh = by (nat_eq came.0 wire.0) (is_switching_point plan from wire) refl refl where
   by : (a b : Bool) → nat_eq came.0 wire.0 ≡ a → is_switching_point plan from wire ≡ b → (came ≡ wire) × (is_switching_point plan from wire ≡ true)
   by true true same inside = (ap (λ (n : ℕ). record { 0 = n }) (eqb-true came.0 wire.0 same), inside)

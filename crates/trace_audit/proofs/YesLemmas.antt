@@ -14,7 +14,8 @@ use Rattle.trace_audit.specs.Yes.{GoodReportsGetYes}
 -- what holds of all entries holds of one
 isolated_at : (plan : Plan) (earlier before after : List Entry) (entry : Entry) → IsolatedAfter plan earlier (before ++ entry ∷ after) → IsolatedEntry plan (earlier ++ before) entry
 isolated_at plan earlier [] after entry is = subst (λ (l : List Entry). IsolatedEntry plan l entry) (sym (append-nil earlier)) is.0
-isolated_at plan earlier (e ∷ before) after entry is = subst (λ (l : List Entry). IsolatedEntry plan l entry) (append_assoc earlier (e ∷ []) before) (isolated_at plan (earlier ++ e ∷ []) before after entry is.1)
+isolated_at plan earlier (e ∷ before) after entry is =
+    subst (λ (l : List Entry). IsolatedEntry plan l entry) (append_assoc earlier (e ∷ []) before) (isolated_at plan (earlier ++ e ∷ []) before after entry is.1)
 
 split_at : (plan : Plan) (before after : List Entry) (entry : Entry) → Split plan (before ++ entry ∷ after) → SplitEntry plan entry
 split_at plan [] after entry is = is.0
@@ -49,5 +50,6 @@ good_yes plan text (Ok done) good is = tt
 good_yes plan text (Err (stop.Form line)) good is = no_fault (told_of plan text) good.trace line good.told is
 good_yes plan text (Err (stop.Isolated line)) good is = no_stray plan is.trace line (good_told plan (told_of plan text) good.trace is.trace good.told is.told good.is).isolated is.is
 good_yes plan text (Err (stop.Split line)) good is = no_crossing plan is.trace line (good_told plan (told_of plan text) good.trace is.trace good.told is.told good.is).split is.is.crossing
-good_yes plan text (Err (stop.Once line)) good is = none_unserved plan is.trace is.is.place (good_told plan (told_of plan text) good.trace is.trace good.told is.told good.is).once is.is.unserved.unserved
+good_yes plan text (Err (stop.Once line)) good is =
+    none_unserved plan is.trace is.is.place (good_told plan (told_of plan text) good.trace is.trace good.told is.told good.is).once is.is.unserved.unserved
 good_yes plan text (Err stop.NoMemory) good is = tt

@@ -29,8 +29,10 @@ sums_of header message h m size =
 -- the parts of a request are octets
 front_octets : AreOctets (69 ∷ 0 ∷ 0 ∷ 28 ∷ 0 ∷ 0 ∷ 0 ∷ 0 ∷ 255 ∷ 1 ∷ [])
 front_octets = octets_append (69 ∷ 0 ∷ 0 ∷ 28 ∷ 0 ∷ []) (0 ∷ 0 ∷ 0 ∷ 255 ∷ 1 ∷ [])
-    (octets_cons 69 (0 ∷ 0 ∷ 28 ∷ 0 ∷ []) (omega arith) (octets_cons 0 (0 ∷ 28 ∷ 0 ∷ []) (omega arith) (octets_cons 0 (28 ∷ 0 ∷ []) (omega arith) (octets_cons 28 (0 ∷ []) (omega arith) (octets_cons 0 [] (omega arith) octets_none)))))
-    (octets_cons 0 (0 ∷ 0 ∷ 255 ∷ 1 ∷ []) (omega arith) (octets_cons 0 (0 ∷ 255 ∷ 1 ∷ []) (omega arith) (octets_cons 0 (255 ∷ 1 ∷ []) (omega arith) (octets_cons 255 (1 ∷ []) (omega arith) (octets_cons 1 [] (omega arith) octets_none)))))
+    (octets_cons 69 (0 ∷ 0 ∷ 28 ∷ 0 ∷ []) (omega arith)
+    (octets_cons 0 (0 ∷ 28 ∷ 0 ∷ []) (omega arith) (octets_cons 0 (28 ∷ 0 ∷ []) (omega arith) (octets_cons 28 (0 ∷ []) (omega arith) (octets_cons 0 [] (omega arith) octets_none)))))
+    (octets_cons 0 (0 ∷ 0 ∷ 255 ∷ 1 ∷ []) (omega arith)
+    (octets_cons 0 (0 ∷ 255 ∷ 1 ∷ []) (omega arith) (octets_cons 0 (255 ∷ 1 ∷ []) (omega arith) (octets_cons 255 (1 ∷ []) (omega arith) (octets_cons 1 [] (omega arith) octets_none)))))
 
 two_octets : (n : ℕ) → AreOctets (big_bytes 2 n)
 two_octets n = octets_cons (n / 256 % 256) (n % 256 ∷ []) (omega arith) (octets_cons (n % 256) [] (omega arith) octets_none)
@@ -122,7 +124,8 @@ pub request_answered : (ip : List ℕ) → AreOctets ip → IsRequest ip → IsA
 request_answered ip octets is = answer_to ip octets (request_long ip is)
 
 -- the packet of a payload that is read as a request, cut to its length, is a request
-pub cut_is_request : (channel : Bool) (number : ℕ) (octets : List ℕ) (from to : Addr) (sequence len : ℕ) → reading channel number octets ≡ Ok (Request from to sequence len) → IsRequest (take len (behind_header channel octets))
+pub cut_is_request : (channel : Bool) (number : ℕ) (octets : List ℕ) (from to : Addr) (sequence len : ℕ) → reading channel number octets ≡ Ok (Request from to sequence len)
+    → IsRequest (take len (behind_header channel octets))
 cut_is_request channel number octets from to sequence len e =
     let q : List ℕ = behind_header channel octets in
     let r : IsRead number q from to sequence len = read_as channel number octets from to sequence len e in

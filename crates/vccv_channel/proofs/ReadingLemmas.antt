@@ -51,7 +51,8 @@ unfolding reading
 read_as channel number octets from to sequence len e =
     let q : List ℕ = behind_header channel octets in
     let p : List ℕ = take (total_length q) q in
-    let none = none_found (has_fault channel number octets Version) (has_fault channel number octets Channel) (not (is_ip_packet q)) (not (has_sums p)) (not (is_echo number p)) Version Channel Ip Checksum Icmp (echo_in p) (Request from to sequence len) e in
+    let none = none_found (has_fault channel number octets Version) (has_fault channel number octets Channel) (not (is_ip_packet q)) (not (has_sums p))
+    (not (is_echo number p)) Version Channel Ip Checksum Icmp (echo_in p) (Request from to sequence len) e in
     let is : is_ip_packet q ≡ true = not-false (is_ip_packet q) none.0 in
     let sized = and_parts (is_whole_icmp q) (is_of_length q) is in
     let bounds = of_length (total_length q) (length q) sized.1 in
@@ -107,7 +108,8 @@ pub reads_version : (channel : Bool) (number : ℕ) (octets : List ℕ) → has_
 unfolding reading
 reads_version channel number octets version = rw version refl
 
-pub reads_channel : (channel : Bool) (number : ℕ) (octets : List ℕ) → has_fault channel number octets Version ≡ false → has_fault channel number octets Channel ≡ true → Err Channel ≡ reading channel number octets
+pub reads_channel : (channel : Bool) (number : ℕ) (octets : List ℕ) → has_fault channel number octets Version ≡ false → has_fault channel number octets Channel ≡ true → Err Channel
+    ≡ reading channel number octets
 unfolding reading
 reads_channel channel number octets version kind = rw (version, kind) refl
 
@@ -122,12 +124,14 @@ unfolding reading
 reads_checksum channel number octets version kind ip sums = rw (version, kind, ip, sums) refl
 
 pub reads_icmp : (channel : Bool) (number : ℕ) (octets : List ℕ) → has_fault channel number octets Version ≡ false → has_fault channel number octets Channel ≡ false
-    → is_ip_packet (behind_header channel octets) ≡ true → has_sums (ip_packet_of channel octets) ≡ true → is_echo number (ip_packet_of channel octets) ≡ false → Err Icmp ≡ reading channel number octets
+    → is_ip_packet (behind_header channel octets) ≡ true → has_sums (ip_packet_of channel octets) ≡ true → is_echo number (ip_packet_of channel octets) ≡ false → Err Icmp
+    ≡ reading channel number octets
 unfolding reading
 reads_icmp channel number octets version kind ip sums echo = rw (version, kind, ip, sums, echo) refl
 
 pub reads_echo : (channel : Bool) (number : ℕ) (octets : List ℕ) → has_fault channel number octets Version ≡ false → has_fault channel number octets Channel ≡ false
-    → is_ip_packet (behind_header channel octets) ≡ true → has_sums (ip_packet_of channel octets) ≡ true → is_echo number (ip_packet_of channel octets) ≡ true → Ok (echo_in (ip_packet_of channel octets)) ≡ reading channel number octets
+    → is_ip_packet (behind_header channel octets) ≡ true → has_sums (ip_packet_of channel octets) ≡ true → is_echo number (ip_packet_of channel octets) ≡ true
+    → Ok (echo_in (ip_packet_of channel octets)) ≡ reading channel number octets
 unfolding reading
 reads_echo channel number octets version kind ip sums echo = rw (version, kind, ip, sums, echo) refl
 

@@ -31,7 +31,8 @@ sum_starts xs =
     let none : drop (length xs + length xs % 2) xs ≡ [] = drop_all (length xs + length xs % 2) xs (omega arith) in
     record { within = omega arith; even = omega arith; sum_of = sym (ap ones_sum none) }
 
-pub sum_more : (xs : List ℕ) (sum word at more : ℕ) → IsSummedFrom sum at xs → 2 ≤ at → words (drop (at - 2) xs) ≡ word ∷ words (drop (at - 2 + 2) xs) → more ≡ ones_plus word sum → IsSummedFrom more (at - 2) xs
+pub sum_more : (xs : List ℕ) (sum word at more : ℕ) → IsSummedFrom sum at xs → 2 ≤ at → words (drop (at - 2) xs) ≡ word ∷ words (drop (at - 2 + 2) xs) → more ≡ ones_plus word sum
+    → IsSummedFrom more (at - 2) xs
 sum_more xs sum word at more from two is added =
     let back : at - 2 + 2 ≡ at = omega arith in
     let rest : ones_sum (drop (at - 2 + 2) xs) ≡ sum = ap (λ (n : ℕ). ones_sum (drop n xs)) back ∙ sym from.sum_of in

@@ -52,7 +52,8 @@ says_want around (Audit file report) network untouched = untouched
 says_want around (Decode file) network untouched = inl untouched
 
 -- what is refused before any run
-pub refused_answers : (around : Around) (asked : Asked) (network : Option NetLists) (outcome : Outcome) → IsRefused around.files around.shelf_before around.shelf_after asked outcome → IsUntouched around network
+pub refused_answers : (around : Around) (asked : Asked) (network : Option NetLists) (outcome : Outcome) → IsRefused around.files around.shelf_before around.shelf_after asked outcome
+    → IsUntouched around network
     → SaysOutcome around asked network outcome
 refused_answers around asked network ReadFault refused untouched = (refused, untouched)
 refused_answers around asked network (TooLong named limit) refused untouched = (refused, untouched)
@@ -93,7 +94,8 @@ stream_own (Pending at (octet ∷ rest)) = refl
 stream_own (Refused base fault) = refl
 
 -- what was made and taken whole is an answer
-whole_answers : (around : Around) (asked : Asked) (network : Option NetLists) (outcome : Outcome) → is_own outcome ≡ true → IsWhole around asked network outcome → SaysOutcome around asked network outcome
+whole_answers : (around : Around) (asked : Asked) (network : Option NetLists) (outcome : Outcome) → is_own outcome ≡ true → IsWhole around asked network outcome
+    → SaysOutcome around asked network outcome
 whole_answers around asked network Done own whole = whole
 whole_answers around asked network (Stopped stop) own whole = whole
 whole_answers around asked network (DecodeRefused fault) own whole = whole
@@ -116,12 +118,14 @@ old_of around = written around.taken_before around.sink_before []
 abbrev pub now_of : Around → Written
 now_of around = written around.taken_after around.sink_after []
 
-pub none_answers : (around : Around) (asked : Asked) (network : Option NetLists) (outcome : Outcome) → WritesNone (old_of around) (now_of around) network outcome → SaysOutcome around asked network outcome
+pub none_answers : (around : Around) (asked : Asked) (network : Option NetLists) (outcome : Outcome) → WritesNone (old_of around) (now_of around) network outcome
+    → SaysOutcome around asked network outcome
 none_answers around asked network outcome none =
     subst (λ (o : Outcome). SaysOutcome around asked network o) (sym none.outcome_is) (says_want around asked network (record { taken = none.taken; no_run = none.no_run }))
 
 -- how the writing of a text ended that the command makes
-pub text_answers : (around : Around) (asked : Asked) (text : List ℕ) (left : Option NetLists) (made : Outcome) (network : Option NetLists) (outcome : Outcome) → is_own made ≡ true → IsMade around asked text left made
+pub text_answers : (around : Around) (asked : Asked) (text : List ℕ) (left : Option NetLists) (made : Outcome) (network : Option NetLists) (outcome : Outcome) → is_own made ≡ true
+    → IsMade around asked text left made
     → EndsText text left made (old_of around) (now_of around) network outcome → SaysOutcome around asked network outcome
 text_answers around asked text left made network outcome own is (inl whole) =
     subst (λ (o : Outcome). SaysOutcome around asked network o) (sym whole.outcome_is)
@@ -137,7 +141,8 @@ run_made : (asked : Asked) (scenario : Scenario) (captures : List (List (List �
 run_made asked scenario captures left None run = record { left = left; network_is = refl; is_run = run; text_is = refl }
 run_made asked scenario captures left (Some reason) run = record { left = left; network_is = refl; is_run = run; text_is = refl }
 
-pub run_answers : (around : Around) (asked : Asked) (scenario : Scenario) (captures : List (List (List ℕ))) (network : Option NetLists) (outcome : Outcome) → ComesTo (Has around.files) asked (Works (Run scenario captures))
+pub run_answers : (around : Around) (asked : Asked) (scenario : Scenario) (captures : List (List (List ℕ))) (network : Option NetLists) (outcome : Outcome)
+    → ComesTo (Has around.files) asked (Works (Run scenario captures))
     → EndsRun scenario captures asked (written around.taken_before around.sink_before []) (written around.taken_after around.sink_after []) network outcome → SaysOutcome around asked network outcome
 run_answers around asked scenario captures network outcome come (inl run) =
     text_answers around asked (run_text asked run.left run.reason) (Some run.left) (outcome_by run.reason) network outcome (run_own run.reason)
@@ -145,13 +150,15 @@ run_answers around asked scenario captures network outcome come (inl run) =
 run_answers around asked scenario captures network outcome come (inr none) = none_answers around asked network outcome none
 
 -- a stream's file was not had
-pub stream_not_had : (around : Around) (file : List ℕ) (network : Option NetLists) (outcome : Outcome) → IsNotHad around.files around.shelf_before around.shelf_after file stream_limit outcome → IsUntouched around network
+pub stream_not_had : (around : Around) (file : List ℕ) (network : Option NetLists) (outcome : Outcome)
+    → IsNotHad around.files around.shelf_before around.shelf_after file stream_limit outcome → IsUntouched around network
     → SaysOutcome around (Decode file) network outcome
 stream_not_had around file network outcome why untouched = refused_answers around (Decode file) network outcome (by outcome why) untouched where
   first : ComesTo (Has around.files) (Decode file) (Reads (record { name = file; limit = stream_limit }))
   first = record { read = []; are_read = tt; is_next = refl }
 
-  longer_of : (files : Files) (named : List ℕ) (limit : ℕ) → named ≡ file → limit ≡ stream_limit → IfSome files (λ held. IsLonger stream_limit (held file)) → IfSome files (λ held. IsLonger limit (held named))
+  longer_of : (files : Files) (named : List ℕ) (limit : ℕ) → named ≡ file → limit ≡ stream_limit → IfSome files (λ held. IsLonger stream_limit (held file))
+      → IfSome files (λ held. IsLonger limit (held named))
   longer_of None named limit is_name is_limit longer = tt
   longer_of (Some held) named limit is_name is_limit longer =
       subst (λ (n : List ℕ). IsLonger limit (held n)) (sym is_name) (subst (λ (l : ℕ). IsLonger l (held file)) (sym is_limit) longer)
@@ -159,7 +166,8 @@ stream_not_had around file network outcome why untouched = refused_answers aroun
   by : (o : Outcome) → IsNotHad around.files around.shelf_before around.shelf_after file stream_limit o → IsRefused around.files around.shelf_before around.shelf_after (Decode file) o
   by ReadFault why = record { wanted = record { name = file; limit = stream_limit }; come = first; cause = why }
   by (TooLong named limit) why = record {
-    come = subst (λ (w : Wanted). ComesTo (Has around.files) (Decode file) (Reads w)) (sym (ap (λ (n : List ℕ). record { name = n; limit = limit }) why.0 ∙ ap (λ (l : ℕ). record { name = file; limit = l }) why.1)) first;
+    come = subst (λ (w : Wanted). ComesTo (Has around.files) (Decode file) (Reads w))
+        (sym (ap (λ (n : List ℕ). record { name = n; limit = limit }) why.0 ∙ ap (λ (l : ℕ). record { name = file; limit = l }) why.1)) first;
     longer = longer_of around.files named limit why.0 why.1 why.2;
   }
   by NoMemory why = tt
@@ -196,7 +204,8 @@ stream_answers around file octets network outcome has fits (inl told) =
 stream_answers around file octets network outcome has fits (inr none) = none_answers around (Decode file) network outcome none
 
 -- the same of octets that were lent
-pub stream_ended : (around : Around) (file octets lent : List ℕ) (network : Option NetLists) (made outcome : Outcome) → lent ≡ octets → network ≡ None → outcome ≡ made → Has around.files file octets → length octets ≤ stream_limit
+pub stream_ended : (around : Around) (file octets lent : List ℕ) (network : Option NetLists) (made outcome : Outcome) → lent ≡ octets → network ≡ None → outcome ≡ made
+    → Has around.files file octets → length octets ≤ stream_limit
     → EndsStream lent (written around.taken_before around.sink_before []) (written around.taken_after around.sink_after []) None made → SaysOutcome around (Decode file) network outcome
 stream_ended around file octets lent network made outcome same none is has fits ends =
     subst (λ (n : Option NetLists). SaysOutcome around (Decode file) n outcome) (sym none)
@@ -224,22 +233,26 @@ migration_answers around file scenario network outcome of (inl told) =
     }) told.ends
 migration_answers around file scenario network outcome of (inr none) = none_answers around (Migrate file) network outcome none
 
-pub migration_ended : (around : Around) (file : List ℕ) (scenario : Scenario) (network : Option NetLists) (made outcome : Outcome) → network ≡ None → outcome ≡ made → IsOfFile around.files file scenario
+pub migration_ended : (around : Around) (file : List ℕ) (scenario : Scenario) (network : Option NetLists) (made outcome : Outcome) → network ≡ None → outcome ≡ made
+    → IsOfFile around.files file scenario
     → EndsMigration scenario (written around.taken_before around.sink_before []) (written around.taken_after around.sink_after []) None made → SaysOutcome around (Migrate file) network outcome
 migration_ended around file scenario network made outcome none is of ends =
     subst (λ (n : Option NetLists). SaysOutcome around (Migrate file) n outcome) (sym none)
     (subst (λ (o : Outcome). SaysOutcome around (Migrate file) None o) (sym is) (migration_answers around file scenario None made of ends))
 
 -- it was not had
-pub no_migration : (around : Around) (file : List ℕ) (network : Option NetLists) (outcome : Outcome) → HasNoScenario around.files around.shelf_before around.shelf_after file outcome → IsUntouched around network
+pub no_migration : (around : Around) (file : List ℕ) (network : Option NetLists) (outcome : Outcome) → HasNoScenario around.files around.shelf_before around.shelf_after file outcome
+    → IsUntouched around network
     → SaysOutcome around (Migrate file) network outcome
 no_migration around file network outcome why untouched =
     refused_answers around (Migrate file) network outcome
-    (refused_first around.files around.shelf_before around.shelf_after (Migrate file) file outcome refl (λ octets fault is. migrated_next octets (Err fault) (Refuses (ScenarioRefused fault)) is refl) why) untouched
+    (refused_first around.files around.shelf_before around.shelf_after (Migrate file) file outcome refl
+    (λ octets fault is. migrated_next octets (Err fault) (Refuses (ScenarioRefused fault)) is refl) why) untouched
 
 -- ---- one thing comes next
 
-one_played : (scenario : Scenario) (captures : List (List (List ℕ))) (files read : List (List ℕ)) (next other : Next) → IsNextPlayed scenario captures files read next → IsNextPlayed scenario captures files read other → next ≡ other
+one_played : (scenario : Scenario) (captures : List (List (List ℕ))) (files read : List (List ℕ)) (next other : Next) → IsNextPlayed scenario captures files read next
+    → IsNextPlayed scenario captures files read other → next ≡ other
 one_played scenario captures [] read next other a b = a ∙ sym b
 one_played scenario captures (file ∷ files) [] next other a b = a ∙ sym b
 one_played scenario captures (file ∷ files) (octets ∷ read) next other (inl (frames, is, a)) (inl (others, are, b)) =
@@ -318,7 +331,8 @@ record ReadsOn (Holds : List ℕ → List ℕ → Type 0) (next : Next) : Type 0
   holds : Holds wanted.name octets
   fits : length octets ≤ wanted.limit
 
-reads_on : (Holds : List ℕ → List ℕ → Type 0) (asked : Asked) (before : List (List ℕ)) (octets : List ℕ) (next : Next) → IsReadNext Holds asked before octets → IsNext asked before next → ReadsOn Holds next
+reads_on : (Holds : List ℕ → List ℕ → Type 0) (asked : Asked) (before : List (List ℕ)) (octets : List ℕ) (next : Next) → IsReadNext Holds asked before octets → IsNext asked before next
+    → ReadsOn Holds next
 reads_on Holds asked before octets next reads is = record {
   wanted = reads.wanted;
   is = one_next asked before next (Reads reads.wanted) is reads.next;
@@ -347,7 +361,8 @@ followed around asked before (octets ∷ read) (same ∷ others) next other are 
     (subst (λ (l : List (List ℕ)). IsNext asked l other) (sym (append_assoc before (octets ∷ []) others)) (subst (λ (o : List ℕ). IsNext asked (before ++ o ∷ others) other) equal calls))
 
 -- the reading of an answer, beside that of a sound surrounding
-met : (around : Around) (asked : Asked) (next : Next) (called : Outcome) → ComesTo (Has around.files) asked next → (sound : IsSoundOutcome around asked called) → (next ≡ sound.next) ⊎ ReadsOn (IsSound around) next ⊎ ReadsOn (Has around.files) sound.next
+met : (around : Around) (asked : Asked) (next : Next) (called : Outcome) → ComesTo (Has around.files) asked next → (sound : IsSoundOutcome around asked called) → (next ≡ sound.next)
+    ⊎ ReadsOn (IsSound around) next ⊎ ReadsOn (Has around.files) sound.next
 met around asked next called come sound = followed around asked [] come.read sound.come.read next sound.next come.are_read come.is_next sound.come.are_read sound.come.is_next
 
 -- what calls for an outcome does not read on
@@ -388,7 +403,8 @@ unread_never around asked called unread sound = elim (met around asked (Reads un
   ]
 ]
 
-long_called : (around : Around) (asked : Asked) (named : List ℕ) (limit : ℕ) (called : Outcome) → IsTooLong around.files asked named limit → IsSoundOutcome around asked called → TooLong named limit ≡ called
+long_called : (around : Around) (asked : Asked) (named : List ℕ) (limit : ℕ) (called : Outcome) → IsTooLong around.files asked named limit → IsSoundOutcome around asked called
+    → TooLong named limit ≡ called
 long_called around asked named limit called long sound = elim (met around asked (Reads (record { name = named; limit = limit })) called long.come sound) [
   | inl same ↦ sym (calls_same around (Reads (record { name = named; limit = limit })) sound.next called same sound.calls).is
   | inr more ↦ elim more [
@@ -407,7 +423,8 @@ long_called around asked named limit called long sound = elim (met around asked 
         omega (arith, is_limit, beyond, on.fits)
 
 -- a run has one outcome
-run_end : (asked : Asked) (scenario : Scenario) (captures : List (List (List ℕ))) (text : List ℕ) (network : Option NetLists) (outcome called : Outcome) → MakesRun asked scenario captures text network outcome
+run_end : (asked : Asked) (scenario : Scenario) (captures : List (List (List ℕ))) (text : List ℕ) (network : Option NetLists) (outcome called : Outcome)
+    → MakesRun asked scenario captures text network outcome
     → called ≡ outcome_by (whole_run scenario captures).stop → outcome ≡ called
 run_end asked scenario captures text network Done called makes is = sym (is ∙ sym (ap (λ (r : Ended). outcome_by r.stop) makes.is_run.ends))
 run_end asked scenario captures text network (Stopped stop) called makes is = sym (is ∙ sym (ap (λ (r : Ended). outcome_by r.stop) makes.is_run.ends))
@@ -505,13 +522,15 @@ completes around asked network NoMemory answers called sound = inr refl
 
 -- ---- what is said of what was asked for is said of the words that ask for it
 
-pub usage_by : (around : Around) (asked : Asked) (words : Option Asked) (network : Option NetLists) (outcome : Outcome) → Some asked ≡ words → SaysOutcome around asked network outcome → (outcome ≡ Usage) ↔ (words ≡ None)
+pub usage_by : (around : Around) (asked : Asked) (words : Option Asked) (network : Option NetLists) (outcome : Outcome) → Some asked ≡ words → SaysOutcome around asked network outcome
+    → (outcome ≡ Usage) ↔ (words ≡ None)
 usage_by around asked words network outcome is says = (
   λ usage. absurd (subst (λ (o : Outcome). SaysOutcome around asked network o) usage says),
   λ none. absurd (cc (is, none)),
 )
 
-pub finishes_by : (around : Around) (asked : Asked) (words : Option Asked) (network : Option NetLists) (outcome : Outcome) → Some asked ≡ words → SaysOutcome around asked network outcome → Finishes around words network outcome
+pub finishes_by : (around : Around) (asked : Asked) (words : Option Asked) (network : Option NetLists) (outcome : Outcome) → Some asked ≡ words
+    → SaysOutcome around asked network outcome → Finishes around words network outcome
 finishes_by around asked words network outcome is says = subst (λ (o : Option Asked). Finishes around o network outcome) is says
 
 pub completes_by : (around : Around) (asked : Asked) (words : Option Asked) (network : Option NetLists) (outcome : Outcome) → Some asked ≡ words → SaysOutcome around asked network outcome

@@ -25,16 +25,19 @@ use Rattle.vplsnet.proofs.WritingLemmas.{ends_front, ends_whole}
 
 -- ---- the judgement
 
-pub yes_whole : (plan : Plan) (octets text : List ℕ) (old now : Written) (outcome : Outcome) → IsGood plan octets → text ≡ yes → outcome ≡ Done → Writes old.taken now.taken text → EndsAudit plan octets old now None outcome
+pub yes_whole : (plan : Plan) (octets text : List ℕ) (old now : Written) (outcome : Outcome) → IsGood plan octets → text ≡ yes → outcome ≡ Done → Writes old.taken now.taken text
+    → EndsAudit plan octets old now None outcome
 yes_whole plan octets text old now outcome good same ends taken =
     inl (record { good = good; ends = ends_whole yes None Done old now None outcome ends refl (subst (λ (l : List ℕ). Writes old.taken now.taken l) same taken) })
 
-pub yes_front : (plan : Plan) (octets text : List ℕ) (old now : Written) (outcome : Outcome) → IsGood plan octets → text ≡ yes → outcome ≡ WriteFault → AppendsFront old.taken now.taken text → Rose old.faults now.faults
+pub yes_front : (plan : Plan) (octets text : List ℕ) (old now : Written) (outcome : Outcome) → IsGood plan octets → text ≡ yes → outcome ≡ WriteFault
+    → AppendsFront old.taken now.taken text → Rose old.faults now.faults
     → EndsAudit plan octets old now None outcome
 yes_front plan octets text old now outcome good same ends taken cause =
     inl (record { good = good; ends = ends_front yes None Done old now None outcome ends refl (subst (λ (l : List ℕ). AppendsFront old.taken now.taken l) same taken) cause })
 
-pub no_audit : (plan : Plan) (octets : List ℕ) (why : AuditStop) (old : Written) (outcome : Outcome) → IsAudited plan octets (Err why) → outcome ≡ outcome_of_stop why → EndsAudit plan octets old old None outcome
+pub no_audit : (plan : Plan) (octets : List ℕ) (why : AuditStop) (old : Written) (outcome : Outcome) → IsAudited plan octets (Err why) → outcome ≡ outcome_of_stop why
+    → EndsAudit plan octets old old None outcome
 no_audit plan octets (stop.Form line) old outcome judged is = inr (inl (record { line = line; rule = rule.Form; judged = judged; outcome_is = is; taken = refl; no_run = refl }))
 no_audit plan octets (stop.Isolated line) old outcome judged is = inr (inl (record { line = line; rule = rule.Isolated; judged = judged; outcome_is = is; taken = refl; no_run = refl }))
 no_audit plan octets (stop.Split line) old outcome judged is = inr (inl (record { line = line; rule = rule.Split; judged = judged; outcome_is = is; taken = refl; no_run = refl }))
@@ -56,19 +59,22 @@ reads_report file report = record {
   next = λ octets scenario is. next_after (λ scenario it. IsNextBehind (report_file report) (IsNextReport scenario) [] it) octets (Ok scenario) (report_file report) is refl;
 }
 
-report_comes : (files : Files) (file report octets : List ℕ) (scenario : Scenario) → HasBoth files file (report_wanted report) scenario octets → ComesTo (Has files) (Audit file report) (Works (Report scenario.plan octets))
+report_comes : (files : Files) (file report octets : List ℕ) (scenario : Scenario) → HasBoth files file (report_wanted report) scenario octets
+    → ComesTo (Has files) (Audit file report) (Works (Report scenario.plan octets))
 report_comes files file report octets scenario both =
     comes_behind_both files (Audit file report) file octets (report_wanted report) scenario (Works (Report scenario.plan octets)) (reads_report file report) both
     (λ text is. next_after (λ s it. IsNextBehind (report_file report) (IsNextReport s) (octets ∷ []) it) text (Ok scenario) (Works (Report scenario.plan octets)) is refl)
 
 -- one of the files was not had
-pub audit_lacks : (around : Around) (file report : List ℕ) (network : Option NetLists) (outcome : Outcome) → LacksOne around.files around.shelf_before around.shelf_after file (report_wanted report) outcome → IsUntouched around network
+pub audit_lacks : (around : Around) (file report : List ℕ) (network : Option NetLists) (outcome : Outcome)
+    → LacksOne around.files around.shelf_before around.shelf_after file (report_wanted report) outcome → IsUntouched around network
     → SaysOutcome around (Audit file report) network outcome
 audit_lacks around file report network outcome lacks untouched =
     refused_answers around (Audit file report) network outcome
     (two_refused around.files around.shelf_before around.shelf_after (Audit file report) file (report_wanted report) outcome (reads_report file report) lacks) untouched
 
-pub audit_reads : (files : Files) (file report : List ℕ) (before after : List ReadCall) → GainsReads (IsReadOfTwo files file (report_wanted report)) before after → GainsReads (IsReadOfNext (Has files) (Audit file report)) before after
+pub audit_reads : (files : Files) (file report : List ℕ) (before after : List ReadCall) → GainsReads (IsReadOfTwo files file (report_wanted report)) before after
+    → GainsReads (IsReadOfNext (Has files) (Audit file report)) before after
 audit_reads files file report before after gains = two_read files (Audit file report) file (report_wanted report) before after (reads_report file report) gains
 
 -- the report was judged
@@ -76,7 +82,11 @@ audit_answers : (around : Around) (file report octets : List ℕ) (scenario : Sc
     → EndsAudit scenario.plan octets (old_of around) (now_of around) network outcome → SaysOutcome around (Audit file report) network outcome
 audit_answers around file report octets scenario network outcome both (inl told) =
     text_answers around (Audit file report) yes None Done network outcome refl
-    (record { work = Report scenario.plan octets; come = report_comes around.files file report octets scenario both; makes = record { good = told.good; text_is = refl; ends = refl; no_run = refl } }) told.ends
+    (record {
+      work = Report scenario.plan octets;
+      come = report_comes around.files file report octets scenario both;
+      makes = record { good = told.good; text_is = refl; ends = refl; no_run = refl };
+    }) told.ends
 audit_answers around file report octets scenario network outcome both (inr (inl told)) =
     subst (λ (o : Outcome). SaysOutcome around (Audit file report) network o) (sym told.outcome_is)
     (record { plan = scenario.plan; octets = octets; come = report_comes around.files file report octets scenario both; judged = told.judged }, record { taken = told.taken; no_run = told.no_run })
@@ -84,7 +94,8 @@ audit_answers around file report octets scenario network outcome both (inr (inr 
 
 pub audit_ended : (around : Around) (file report octets lent : List ℕ) (scenario : Scenario) (network : Option NetLists) (made outcome : Outcome) → lent ≡ octets → network ≡ None → outcome ≡ made
     → HasBoth around.files file (report_wanted report) scenario octets
-    → EndsAudit scenario.plan lent (written around.taken_before around.sink_before []) (written around.taken_after around.sink_after []) None made → SaysOutcome around (Audit file report) network outcome
+    → EndsAudit scenario.plan lent (written around.taken_before around.sink_before []) (written around.taken_after around.sink_after []) None made
+    → SaysOutcome around (Audit file report) network outcome
 audit_ended around file report octets lent scenario network made outcome same none is both ends =
     subst (λ (n : Option NetLists). SaysOutcome around (Audit file report) n outcome) (sym none)
     (subst (λ (o : Outcome). SaysOutcome around (Audit file report) None o) (sym is)

@@ -47,7 +47,8 @@ told_as Holds name fault (Stopped stop) holds told = absurd told
 told_as Holds name fault (DecodeRefused other) holds told = absurd told
 told_as Holds name fault (Unfinished at) holds told = absurd told
 
-pub told_first : (octets name : List ℕ) (fault : CaptureFault) (outcome : Outcome) → fault ≢ capture_fault.NoMemory → TellsCaptureFault (IsFirstFault octets) fault → IsToldAs (λ told. told ≡ fault) name outcome
+pub told_first : (octets name : List ℕ) (fault : CaptureFault) (outcome : Outcome) → fault ≢ capture_fault.NoMemory → TellsCaptureFault (IsFirstFault octets) fault
+    → IsToldAs (λ told. told ≡ fault) name outcome
     → IsToldAs (IsFirstFault octets) name outcome
 told_first octets name fault outcome some tells told = told_as (IsFirstFault octets) name fault outcome (tells_it (IsFirstFault octets) fault some tells) told
 
@@ -81,7 +82,8 @@ pub has_frames : (files : Files) (name octets : List ℕ) (frames : List (List �
 has_frames files name octets frames has fits is = record { octets = octets; file = record { has = has; fits = fits; is = is } }
 
 -- the octets of a file are no capture
-pub no_capture : (files : Files) (before after : List ℕ → ℕ) (name octets : List ℕ) (outcome : Outcome) → Has files name octets → length octets ≤ capture_limit → IsToldAs (IsFirstFault octets) name outcome
+pub no_capture : (files : Files) (before after : List ℕ → ℕ) (name octets : List ℕ) (outcome : Outcome) → Has files name octets → length octets ≤ capture_limit
+    → IsToldAs (IsFirstFault octets) name outcome
     → IsNoCapture files before after name outcome
 no_capture files before after name octets (CaptureRefused named fault) has fits told = (told.0, record { octets = octets; has = has; fits = fits; first = told.1 }, told.2)
 no_capture files before after name octets NoMemory has fits told = tt
@@ -111,7 +113,8 @@ captures_both files (name ∷ names) more [] others captures gained are rest = a
 captures_both files (name ∷ names) more (octets ∷ read) others [] gained are rest = absurd are
 captures_both files (name ∷ names) more (octets ∷ read) others (frames ∷ captures) gained are rest = (are.0, captures_both files names more read others captures gained are.1 rest)
 
-pub played_both : (files : Files) (names more : List (List ℕ)) (captures gained : List (List (List ℕ))) → HasPlayed files names captures → HasPlayed files more gained → HasPlayed files (names ++ more) (captures ++ gained)
+pub played_both : (files : Files) (names more : List (List ℕ)) (captures gained : List (List (List ℕ))) → HasPlayed files names captures → HasPlayed files more gained
+    → HasPlayed files (names ++ more) (captures ++ gained)
 played_both files names more captures gained one two = record {
   read = one.read ++ two.read;
   are = captures_both files names more one.read two.read captures gained one.are two.are;
@@ -125,7 +128,8 @@ pub gains_none : (files : Files) (captures : List (List (List ℕ))) → GainsPl
 gains_none files captures = record { gained = []; played = played_none files; short = All-nil (All IsFrame); adds = sym (append-nil captures) }
 
 -- one file is played
-pub gains_one : (files : Files) (name : List ℕ) (frames : List (List ℕ)) (captures now : List (List (List ℕ))) → HasFrames files name frames → All IsFrame frames → now ≡ captures ++ frames ∷ [] → GainsPlayed files (name ∷ []) captures now
+pub gains_one : (files : Files) (name : List ℕ) (frames : List (List ℕ)) (captures now : List (List (List ℕ))) → HasFrames files name frames → All IsFrame frames → now
+    ≡ captures ++ frames ∷ [] → GainsPlayed files (name ∷ []) captures now
 gains_one files name frames captures now has short adds = record {
   gained = frames ∷ [];
   played = record { read = has.octets ∷ []; are = (has.file, tt) };
@@ -143,7 +147,8 @@ fails_want files before after name outcome want = fails_one files before after n
 pub ruleset add_steps = (gains_one, fails_one, fails_want)
 
 -- a fault that was counted later was counted
-no_capture_later : (files : Files) (before between after : List ℕ → ℕ) (name : List ℕ) (outcome : Outcome) → NeverFall before between → IsNoCapture files between after name outcome → IsNoCapture files before after name outcome
+no_capture_later : (files : Files) (before between after : List ℕ → ℕ) (name : List ℕ) (outcome : Outcome) → NeverFall before between → IsNoCapture files between after name outcome
+    → IsNoCapture files before after name outcome
 no_capture_later files before between after name ReadFault later why = rose_later (before name) (between name) (after name) (later name) why
 no_capture_later files before between after name (TooLong named limit) later why = why
 no_capture_later files before between after name (CaptureRefused named fault) later why = why
@@ -186,7 +191,8 @@ played_more files here names commands i d captures now same within so_far gains 
     }
 
 -- all were read
-pub played_end : (files : Files) (names : List (List ℕ)) (commands : List Command) (i : ℕ) (captures : List (List (List ℕ))) → length commands ≤ i → IsPlayedTo files names (played (drop i commands)) captures → HasPlayed files names captures
+pub played_end : (files : Files) (names : List (List ℕ)) (commands : List Command) (i : ℕ) (captures : List (List (List ℕ))) → length commands ≤ i
+    → IsPlayedTo files names (played (drop i commands)) captures → HasPlayed files names captures
 played_end files names commands i captures all so_far =
     let none : played (drop i commands) ≡ [] = ap played (drop_all i commands all) in
     let same : names ≡ so_far.had = so_far.split ∙ (ap (λ (l : List (List ℕ)). so_far.had ++ l) none ∙ append-nil so_far.had) in

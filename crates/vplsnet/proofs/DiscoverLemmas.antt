@@ -68,7 +68,8 @@ abbrev AreBelow : ℕ → List Lapse → Type 0
 AreBelow most [] = Unit {0}
 AreBelow most (lapse ∷ lapses) = ((lapse.edge.0 < most) × (lapse.peer.0 < most)) × AreBelow most lapses
 
-with_below : (most : ℕ) (ends : ℕ → Bool) (edge : EdgeId) (place count : ℕ) (behind : List Lapse) → edge.0 < most → place + count ≤ most → AreBelow most behind → AreBelow most (lapses_with ends edge place count behind)
+with_below : (most : ℕ) (ends : ℕ → Bool) (edge : EdgeId) (place count : ℕ) (behind : List Lapse) → edge.0 < most → place + count ≤ most → AreBelow most behind
+    → AreBelow most (lapses_with ends edge place count behind)
 with_below most ends edge place zero behind here within are = are
 with_below most ends edge place (suc count) behind here within are =
     by (ends place) (with_below most ends edge (place + 1) count behind here (omega (arith, within)) are)
@@ -135,8 +136,10 @@ acts_planned plan d (l ∷ lines) are =
 
 -- ---- the run of a script
 
-discovery_run : (plan : Plan) (lines : List ScriptLine) (net : DiscoveryLists) (reason : Option NetStop) → IsChecked plan → All (IsLineOf plan) lines → HasTypes plan → net.network.plan ≡ plan → net.network.failed ≡ false
-    → ended_at net reason ≡ script_course plan lines → ended net.network reason ≡ ran plan (empty_network plan) [] (events_made plan lines) → HoldsBehindEach plan lines → IsDiscoveryRun plan lines net.network net.notes reason
+discovery_run : (plan : Plan) (lines : List ScriptLine) (net : DiscoveryLists) (reason : Option NetStop) → IsChecked plan → All (IsLineOf plan) lines → HasTypes plan → net.network.plan
+    ≡ plan → net.network.failed ≡ false
+    → ended_at net reason ≡ script_course plan lines → ended net.network reason ≡ ran plan (empty_network plan) [] (events_made plan lines) → HoldsBehindEach plan lines
+    → IsDiscoveryRun plan lines net.network net.notes reason
 discovery_run plan lines net reason checked are types kept going course ends standing = record {
   is_run = is_run_over plan (events_made plan lines) net.network reason checked (acts_planned plan (opened plan) lines are) (record { plan_is = kept; going = going; ends = ends; types = types });
   course = course;
@@ -144,13 +147,16 @@ discovery_run plan lines net reason checked are types kept going course ends sta
 }
 
 -- how the writing of its report ended
-pub ends_script : (plan : Plan) (lines : List ScriptLine) (net : DiscoveryLists) (reason : Option NetStop) (old now : Written) (network : Option NetLists) (outcome : Outcome) → IsChecked plan → All (IsLineOf plan) lines → HasTypes plan
-    → net.network.plan ≡ plan → net.network.failed ≡ false → ended_at net reason ≡ script_course plan lines → ended net.network reason ≡ ran plan (empty_network plan) [] (events_made plan lines) → HoldsBehindEach plan lines
+pub ends_script : (plan : Plan) (lines : List ScriptLine) (net : DiscoveryLists) (reason : Option NetStop) (old now : Written) (network : Option NetLists) (outcome : Outcome)
+    → IsChecked plan → All (IsLineOf plan) lines → HasTypes plan
+    → net.network.plan ≡ plan → net.network.failed ≡ false → ended_at net reason ≡ script_course plan lines → ended net.network reason
+    ≡ ran plan (empty_network plan) [] (events_made plan lines) → HoldsBehindEach plan lines
     → EndsText (discovery_text net.network net.notes reason) (Some net.network) (outcome_by reason) old now network outcome → EndsDiscovery plan lines old now network outcome
 ends_script plan lines net reason old now network outcome checked are types kept going course ends standing text =
     inl (record { left = net.network; notes = net.notes; reason = reason; is_run = discovery_run plan lines net reason checked are types kept going course ends standing; ends = text })
 
-pub ends_no_script : (plan : Plan) (lines : List ScriptLine) (old now : Written) (network : Option NetLists) (outcome : Outcome) → outcome ≡ NoMemory → network ≡ None → now.taken ≡ old.taken → EndsDiscovery plan lines old now network outcome
+pub ends_no_script : (plan : Plan) (lines : List ScriptLine) (old now : Written) (network : Option NetLists) (outcome : Outcome) → outcome ≡ NoMemory → network ≡ None → now.taken
+    ≡ old.taken → EndsDiscovery plan lines old now network outcome
 ends_no_script plan lines old now network outcome is none taken = inr (record { outcome_is = is; no_run = none; taken = taken })
 
 -- ---- answers
@@ -170,10 +176,12 @@ reads_script file script = record {
 script_next : (file script octets : List ℕ) (scenario : Scenario) (text : List ℕ) → document text ≡ Ok scenario
     → IsNext (Discover file script) (text ∷ octets ∷ []) (next_script (Discovery scenario.plan) (lines_in (names_of scenario.plan) octets))
 script_next file script octets scenario text is =
-    next_after (λ s it. IsNextBehind (script_file script) (IsNextDiscovery s) (octets ∷ []) it) text (Ok scenario) (next_script (Discovery scenario.plan) (lines_in (names_of scenario.plan) octets)) is refl
+    next_after (λ s it. IsNextBehind (script_file script) (IsNextDiscovery s) (octets ∷ []) it) text (Ok scenario)
+    (next_script (Discovery scenario.plan) (lines_in (names_of scenario.plan) octets)) is refl
 
 -- one of the files was not had
-pub discovery_lacks : (around : Around) (file script : List ℕ) (network : Option NetLists) (outcome : Outcome) → LacksOne around.files around.shelf_before around.shelf_after file (script_wanted script) outcome → IsUntouched around network
+pub discovery_lacks : (around : Around) (file script : List ℕ) (network : Option NetLists) (outcome : Outcome)
+    → LacksOne around.files around.shelf_before around.shelf_after file (script_wanted script) outcome → IsUntouched around network
     → SaysOutcome around (Discover file script) network outcome
 discovery_lacks around file script network outcome lacks untouched =
     refused_answers around (Discover file script) network outcome
@@ -190,14 +198,16 @@ script_made plan lines left notes None run = record { left = left; notes = notes
 script_made plan lines left notes (Some reason) run = record { left = left; notes = notes; network_is = refl; is_run = run; text_is = refl }
 
 -- its report was written
-lines_answer : (around : Around) (file script : List ℕ) (plan : Plan) (lines : List ScriptLine) (network : Option NetLists) (outcome : Outcome) → ComesTo (Has around.files) (Discover file script) (Works (Discovery plan lines))
+lines_answer : (around : Around) (file script : List ℕ) (plan : Plan) (lines : List ScriptLine) (network : Option NetLists) (outcome : Outcome)
+    → ComesTo (Has around.files) (Discover file script) (Works (Discovery plan lines))
     → EndsDiscovery plan lines (old_of around) (now_of around) network outcome → SaysOutcome around (Discover file script) network outcome
 lines_answer around file script plan lines network outcome come (inl told) =
     text_answers around (Discover file script) (discovery_text told.left told.notes told.reason) (Some told.left) (outcome_by told.reason) network outcome (run_own told.reason)
     (record { work = Discovery plan lines; come = come; makes = script_made plan lines told.left told.notes told.reason told.is_run }) told.ends
 lines_answer around file script plan lines network outcome come (inr none) = none_answers around (Discover file script) network outcome none
 
-pub discovery_answers : (around : Around) (file script octets lent : List ℕ) (scenario : Scenario) (network : Option NetLists) (outcome : Outcome) → lent ≡ octets → HasBoth around.files file (script_wanted script) scenario octets
+pub discovery_answers : (around : Around) (file script octets lent : List ℕ) (scenario : Scenario) (network : Option NetLists) (outcome : Outcome) → lent ≡ octets
+    → HasBoth around.files file (script_wanted script) scenario octets
     → EndsScript (lines_in (names_of scenario.plan) lent)
     (λ lines. EndsDiscovery scenario.plan lines (written around.taken_before around.sink_before []) (written around.taken_after around.sink_after []) network outcome)
     (written around.taken_before around.sink_before []) (written around.taken_after around.sink_after []) network outcome
@@ -206,17 +216,20 @@ discovery_answers around file script octets lent scenario network outcome same b
     script_ended around (Discover file script) file octets (script_wanted script) scenario (lines_in (names_of scenario.plan) octets) (Discovery scenario.plan)
     (λ lines. EndsDiscovery scenario.plan lines (old_of around) (now_of around) network outcome) network outcome (reads_script file script) both (script_next file script octets scenario)
     (λ lines come it. lines_answer around file script scenario.plan lines network outcome come it)
-    (subst (λ (o : List ℕ). EndsScript (lines_in (names_of scenario.plan) o) (λ lines. EndsDiscovery scenario.plan lines (old_of around) (now_of around) network outcome) (old_of around) (now_of around) network outcome) same ends)
+    (subst (λ (o : List ℕ). EndsScript (lines_in (names_of scenario.plan) o) (λ lines. EndsDiscovery scenario.plan lines (old_of around) (now_of around) network outcome)
+    (old_of around) (now_of around) network outcome) same ends)
 
 pub ruleset file_steps = (discovery_lacks, discovery_reads, discovery_answers)
 
 -- ---- on the way
 
-pub lines_end : (plan : Plan) (octets : List ℕ) (lines : List ScriptLine) (old now : Written) (network : Option NetLists) (outcome : Outcome) → lines_in (names_of plan) octets ≡ Ok lines → EndsDiscovery plan lines old now network outcome
+pub lines_end : (plan : Plan) (octets : List ℕ) (lines : List ScriptLine) (old now : Written) (network : Option NetLists) (outcome : Outcome) → lines_in (names_of plan) octets
+    ≡ Ok lines → EndsDiscovery plan lines old now network outcome
     → EndsScript (lines_in (names_of plan) octets) (λ ls. EndsDiscovery plan ls old now network outcome) old now network outcome
 lines_end plan octets lines old now network outcome is ends = inl (record { lines = lines; is = is; ends = ends })
 
-pub refused_end : (plan : Plan) (octets : List ℕ) (fault : ScriptFault) (old : Written) (network : Option NetLists) (made outcome : Outcome) → Fails fault (lines_in (names_of plan) octets) → made ≡ outcome_of_script fault → network ≡ None
+pub refused_end : (plan : Plan) (octets : List ℕ) (fault : ScriptFault) (old : Written) (network : Option NetLists) (made outcome : Outcome)
+    → Fails fault (lines_in (names_of plan) octets) → made ≡ outcome_of_script fault → network ≡ None
     → outcome ≡ made → EndsScript (lines_in (names_of plan) octets) (λ ls. EndsDiscovery plan ls old old network outcome) old old network outcome
 refused_end plan octets fault old network made outcome fails is none same =
     inr (record { why = no_lines (lines_in (names_of plan) octets) fault outcome fails (same ∙ is); taken = refl; no_run = none })

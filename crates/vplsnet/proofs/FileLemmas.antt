@@ -18,14 +18,17 @@ pub record IsRead (files : Option Held) (name octets : List ℕ) : Type 0 where
 pub read_none : (files : Option Held) (name : List ℕ) → IsRead files name []
 read_none files name = record { front = λ held e bytes h. (omega arith, refl); some = λ held e more. absurd (omega arith) }
 
-joined : (octets piece bytes : List ℕ) (count : ℕ) → octets ≡ take (length octets) bytes → piece ≡ take count (drop (length octets) bytes) → length piece ≡ count → octets ++ piece ≡ take (length (octets ++ piece)) bytes
+joined : (octets piece bytes : List ℕ) (count : ℕ) → octets ≡ take (length octets) bytes → piece ≡ take count (drop (length octets) bytes) → length piece ≡ count → octets ++ piece
+    ≡ take (length (octets ++ piece)) bytes
 joined octets piece bytes count e1 e2 len =
     let sum : length (octets ++ piece) ≡ length octets + count = omega (arith, length-append octets piece, len) in
-    let right : take (length (octets ++ piece)) bytes ≡ take (length octets) bytes ++ take count (drop (length octets) bytes) = ap (λ (k : ℕ). take k bytes) sum ∙ take-add (length octets) count bytes in
+    let right : take (length (octets ++ piece)) bytes ≡ take (length octets) bytes ++ take count (drop (length octets) bytes) =
+    ap (λ (k : ℕ). take k bytes) sum ∙ take-add (length octets) count bytes in
     let left : octets ++ piece ≡ take (length octets) bytes ++ take count (drop (length octets) bytes) = ap (λ (l : List ℕ). l ++ piece) e1 ∙ ap (λ (l : List ℕ). take (length octets) bytes ++ l) e2 in
     left ∙ sym right
 
-pub read_more : (files : Option Held) (name octets piece buffer : List ℕ) (count : ℕ) → IsRead files name octets → IfSome files (λ held. ReadsFrom (held name) (length octets) count buffer) → piece ≡ take count buffer → count ≤ length buffer → IsRead files name (octets ++ piece)
+pub read_more : (files : Option Held) (name octets piece buffer : List ℕ) (count : ℕ) → IsRead files name octets
+    → IfSome files (λ held. ReadsFrom (held name) (length octets) count buffer) → piece ≡ take count buffer → count ≤ length buffer → IsRead files name (octets ++ piece)
 read_more None name octets piece buffer count so_far reads is fits = record { front = λ held e bytes h. absurd (cc); some = λ held e more. absurd (cc) }
 read_more (Some files) name octets piece buffer count so_far reads is fits =
     let len : length piece ≡ count = omega (arith, ap length is, length-take count buffer, fits) in
@@ -43,7 +46,8 @@ read_more (Some files) name octets piece buffer count so_far reads is fits =
     }
 
 -- after a call that read into the front of a buffer
-pub read_next : (files now : Option Held) (name octets next buffer rest : List ℕ) (from count : ℕ) → now ≡ files → from ≡ length octets → IsRead files name octets → IfSome now (λ held. ReadsFrom (held name) from count buffer) → count ≤ length buffer → next ≡ octets ++ take count (buffer ++ rest) → IsRead files name next
+pub read_next : (files now : Option Held) (name octets next buffer rest : List ℕ) (from count : ℕ) → now ≡ files → from ≡ length octets → IsRead files name octets
+    → IfSome now (λ held. ReadsFrom (held name) from count buffer) → count ≤ length buffer → next ≡ octets ++ take count (buffer ++ rest) → IsRead files name next
 read_next files now name octets next buffer rest from count same at so_far reads fits is =
     let there : IfSome files (λ held. ReadsFrom (held name) from count buffer) = subst (λ (f : Option Held). IfSome f (λ held. ReadsFrom (held name) from count buffer)) same reads in
     let here : IfSome files (λ held. ReadsFrom (held name) (length octets) count buffer) = subst (λ (k : ℕ). IfSome files (λ held. ReadsFrom (held name) k count buffer)) at there in
@@ -52,7 +56,8 @@ read_next files now name octets next buffer rest from count same at so_far reads
     subst (λ (l : List ℕ). IsRead files name l) (sym piece) more
 
 -- the file has no more than what was read, and that is within the limit
-pub read_all : (files : Option Held) (name octets buffer : List ℕ) (limit : ℕ) → IsRead files name octets → IfSome files (λ held. ReadsFrom (held name) (length octets) 0 buffer) → 0 < length buffer → length octets ≤ limit → IfSome files (λ held. IsFrontOf limit (held name) octets)
+pub read_all : (files : Option Held) (name octets buffer : List ℕ) (limit : ℕ) → IsRead files name octets → IfSome files (λ held. ReadsFrom (held name) (length octets) 0 buffer)
+    → 0 < length buffer → length octets ≤ limit → IfSome files (λ held. IsFrontOf limit (held name) octets)
 read_all None name octets buffer limit so_far reads some fits = tt
 read_all (Some held) name octets buffer limit so_far reads some fits =
     let had = so_far.front held refl reads.octets reads.held in

@@ -24,11 +24,13 @@ pub has_both : (files here : Files) (file second octets : List ℕ) (limit : ℕ
     → HasBoth files file (record { name = second; limit = limit }) scenario octets
 has_both files here file second octets limit scenario kept of has fits = record { of = of; has = subst (λ (f : Files). Has f second octets) kept has; fits = fits }
 
-pub lacks_first : (files : Files) (before after : List ℕ → ℕ) (file : List ℕ) (second : Wanted) (outcome : Outcome) → HasNoScenario files before after file outcome → LacksOne files before after file second outcome
+pub lacks_first : (files : Files) (before after : List ℕ → ℕ) (file : List ℕ) (second : Wanted) (outcome : Outcome) → HasNoScenario files before after file outcome
+    → LacksOne files before after file second outcome
 lacks_first files before after file second outcome why = inl why
 
 -- a file was not had later
-not_had_later : (files : Files) (before between after : List ℕ → ℕ) (name : List ℕ) (limit : ℕ) (outcome : Outcome) → NeverFall before between → IsNotHad files between after name limit outcome → IsNotHad files before after name limit outcome
+not_had_later : (files : Files) (before between after : List ℕ → ℕ) (name : List ℕ) (limit : ℕ) (outcome : Outcome) → NeverFall before between
+    → IsNotHad files between after name limit outcome → IsNotHad files before after name limit outcome
 not_had_later files before between after name limit ReadFault later why = rose_later (before name) (between name) (after name) (later name) why
 not_had_later files before between after name limit (TooLong named most) later why = why
 not_had_later files before between after name limit NoMemory later why = tt
@@ -44,12 +46,19 @@ not_had_later files before between after name limit (Stopped stop) later why = a
 not_had_later files before between after name limit (DecodeRefused fault) later why = absurd why
 not_had_later files before between after name limit (Unfinished at) later why = absurd why
 
-pub lacks_second : (files here : Files) (before between after : List ℕ → ℕ) (file second : List ℕ) (limit : ℕ) (scenario : Scenario) (outcome : Outcome) → here ≡ files → NeverFall before between → IsOfFile files file scenario
+pub lacks_second : (files here : Files) (before between after : List ℕ → ℕ) (file second : List ℕ) (limit : ℕ) (scenario : Scenario) (outcome : Outcome) → here ≡ files
+    → NeverFall before between → IsOfFile files file scenario
     → IsNotHad here between after second limit outcome → LacksOne files before after file (record { name = second; limit = limit }) outcome
 lacks_second files here before between after file second limit scenario outcome kept later of why =
-    inr (record { scenario = scenario; of = of; why = not_had_later files before between after second limit outcome later (subst (λ (f : Files). IsNotHad f between after second limit outcome) kept why) })
+    inr (record {
+      scenario = scenario;
+      of = of;
+      why = not_had_later files before between after second limit outcome later
+          (subst (λ (f : Files). IsNotHad f between after second limit outcome) kept why);
+    })
 
-pub first_reads : (files : Files) (file : List ℕ) (second : Wanted) (before after : List ReadCall) → GainsReads (IsReadOf (record { name = file; limit = scenario_limit })) before after → GainsReads (IsReadOfTwo files file second) before after
+pub first_reads : (files : Files) (file : List ℕ) (second : Wanted) (before after : List ReadCall) → GainsReads (IsReadOf (record { name = file; limit = scenario_limit })) before after
+    → GainsReads (IsReadOfTwo files file second) before after
 first_reads files file second before after one = reads_as _ _ before after (λ read is. inl is) one
 
 pub both_reads : (files : Files) (file : List ℕ) (second : Wanted) (scenario : Scenario) (before between after : List ReadCall) → IsOfFile files file scenario
@@ -62,15 +71,19 @@ pub ruleset two_file_steps = (has_both, lacks_first, lacks_second, first_reads, 
 -- ---- what comes next
 
 -- the scenario's file was read whole
-file_read : (files : Files) (asked : Asked) (file : List ℕ) (second : Wanted) (scenario : Scenario) → ReadsSecond asked file second → (of : IsOfFile files file scenario) → AreReadNext (Has files) asked [] (of.octets ∷ [])
+file_read : (files : Files) (asked : Asked) (file : List ℕ) (second : Wanted) (scenario : Scenario) → ReadsSecond asked file second → (of : IsOfFile files file scenario)
+    → AreReadNext (Has files) asked [] (of.octets ∷ [])
 file_read files asked file second scenario reads of = (record { wanted = record { name = file; limit = scenario_limit }; next = reads.first; holds = of.has; fits = of.fits }, tt)
 
 -- and the second file comes next
-second_next : (files : Files) (asked : Asked) (file : List ℕ) (second : Wanted) (scenario : Scenario) → ReadsSecond asked file second → IsOfFile files file scenario → ComesTo (Has files) asked (Reads second)
-second_next files asked file second scenario reads of = record { read = of.octets ∷ []; are_read = file_read files asked file second scenario reads of; is_next = reads.next of.octets scenario of.document_is }
+second_next : (files : Files) (asked : Asked) (file : List ℕ) (second : Wanted) (scenario : Scenario) → ReadsSecond asked file second → IsOfFile files file scenario
+    → ComesTo (Has files) asked (Reads second)
+second_next files asked file second scenario reads of =
+    record { read = of.octets ∷ []; are_read = file_read files asked file second scenario reads of; is_next = reads.next of.octets scenario of.document_is }
 
 -- behind both
-pub comes_behind_both : (files : Files) (asked : Asked) (file octets : List ℕ) (second : Wanted) (scenario : Scenario) (next : Next) → ReadsSecond asked file second → HasBoth files file second scenario octets
+pub comes_behind_both : (files : Files) (asked : Asked) (file octets : List ℕ) (second : Wanted) (scenario : Scenario) (next : Next) → ReadsSecond asked file second
+    → HasBoth files file second scenario octets
     → ((text : List ℕ) → document text ≡ Ok scenario → IsNext asked (text ∷ octets ∷ []) next) → ComesTo (Has files) asked next
 comes_behind_both files asked file octets second scenario next reads both comes = record {
   read = both.of.octets ∷ octets ∷ [];
@@ -81,15 +94,18 @@ comes_behind_both files asked file octets second scenario next reads both comes 
   is_next = comes both.of.octets both.of.document_is;
 }
 
-second_refused : (files : Files) (before after : List ℕ → ℕ) (asked : Asked) (second : Wanted) (outcome : Outcome) → ComesTo (Has files) asked (Reads second) → IsNotHad files before after second.name second.limit outcome
+second_refused : (files : Files) (before after : List ℕ → ℕ) (asked : Asked) (second : Wanted) (outcome : Outcome) → ComesTo (Has files) asked (Reads second)
+    → IsNotHad files before after second.name second.limit outcome
     → IsRefused files before after asked outcome
 second_refused files before after asked second ReadFault come why = record { wanted = second; come = come; cause = why }
 second_refused files before after asked second (TooLong named limit) come why = record {
-  come = subst (λ (w : Wanted). ComesTo (Has files) asked (Reads w)) (sym (ap (λ (n : List ℕ). record { name = n; limit = limit }) why.0 ∙ ap (λ (l : ℕ). record { name = second.name; limit = l }) why.1)) come;
+  come = subst (λ (w : Wanted). ComesTo (Has files) asked (Reads w))
+      (sym (ap (λ (n : List ℕ). record { name = n; limit = limit }) why.0 ∙ ap (λ (l : ℕ). record { name = second.name; limit = l }) why.1)) come;
   longer = longer_of files named limit why.0 why.1 why.2;
 }
   where
-    longer_of : (held : Files) (named : List ℕ) (limit : ℕ) → named ≡ second.name → limit ≡ second.limit → IfSome held (λ h. IsLonger second.limit (h second.name)) → IfSome held (λ h. IsLonger limit (h named))
+    longer_of : (held : Files) (named : List ℕ) (limit : ℕ) → named ≡ second.name → limit ≡ second.limit → IfSome held (λ h. IsLonger second.limit (h second.name))
+        → IfSome held (λ h. IsLonger limit (h named))
     longer_of None named limit is_name is_limit longer = tt
     longer_of (Some h) named limit is_name is_limit longer =
         subst (λ (n : List ℕ). IsLonger limit (h n)) (sym is_name) (subst (λ (l : ℕ). IsLonger l (h second.name)) (sym is_limit) longer)
@@ -107,13 +123,16 @@ second_refused files before after asked second (DecodeRefused fault) come why = 
 second_refused files before after asked second (Unfinished at) come why = absurd why
 
 -- one of both was not had
-pub two_refused : (files : Files) (before after : List ℕ → ℕ) (asked : Asked) (file : List ℕ) (second : Wanted) (outcome : Outcome) → ReadsSecond asked file second → LacksOne files before after file second outcome
+pub two_refused : (files : Files) (before after : List ℕ → ℕ) (asked : Asked) (file : List ℕ) (second : Wanted) (outcome : Outcome) → ReadsSecond asked file second
+    → LacksOne files before after file second outcome
     → IsRefused files before after asked outcome
 two_refused files before after asked file second outcome reads (inl none) = refused_first files before after asked file outcome reads.first reads.refuses none
-two_refused files before after asked file second outcome reads (inr lacks) = second_refused files before after asked second outcome (second_next files asked file second lacks.scenario reads lacks.of) lacks.why
+two_refused files before after asked file second outcome reads (inr lacks) =
+    second_refused files before after asked second outcome (second_next files asked file second lacks.scenario reads lacks.of) lacks.why
 
 -- what was read of both came next
-pub two_read : (files : Files) (asked : Asked) (file : List ℕ) (second : Wanted) (before after : List ReadCall) → ReadsSecond asked file second → GainsReads (IsReadOfTwo files file second) before after
+pub two_read : (files : Files) (asked : Asked) (file : List ℕ) (second : Wanted) (before after : List ReadCall) → ReadsSecond asked file second
+    → GainsReads (IsReadOfTwo files file second) before after
     → GainsReads (IsReadOfNext (Has files) asked) before after
 two_read files asked file second before after reads gains = reads_as _ _ before after one gains where
   one : (read : ReadCall) → IsReadOfTwo files file second read → IsReadOfNext (Has files) asked read
@@ -121,5 +140,6 @@ two_read files asked file second before after reads gains = reads_as _ _ before 
   one read (inr later) = record { wanted = second; come = second_next files asked file second later.scenario reads later.of; is = later.is }
 
 -- by what the scenario's file reads as
-pub next_after : (IsNextOfIt : Scenario → Next → Type 0) (text : List ℕ) (result : Result Scenario ScenarioFault) (next : Next) → document text ≡ result → IsNextAfter IsNextOfIt result next → IsNextAfter IsNextOfIt (document text) next
+pub next_after : (IsNextOfIt : Scenario → Next → Type 0) (text : List ℕ) (result : Result Scenario ScenarioFault) (next : Next) → document text ≡ result
+    → IsNextAfter IsNextOfIt result next → IsNextAfter IsNextOfIt (document text) next
 next_after IsNextOfIt text result next is comes = subst (λ (r : Result Scenario ScenarioFault). IsNextAfter IsNextOfIt r next) (sym is) comes

@@ -47,7 +47,8 @@ reads_more name limit from room before between after one is within =
 -- ---- captures
 
 -- of the one file that a command plays
-pub played_reads : (files : Files) (name : List ℕ) (before after : List ReadCall) → GainsReads (IsReadOf (record { name = name; limit = capture_limit })) before after → GainsReads (IsPlayedRead files (name ∷ [])) before after
+pub played_reads : (files : Files) (name : List ℕ) (before after : List ReadCall) → GainsReads (IsReadOf (record { name = name; limit = capture_limit })) before after
+    → GainsReads (IsPlayedRead files (name ∷ [])) before after
 played_reads files name before after one =
     reads_as _ _ before after (λ read is. record { had = []; name = name; later = []; split = refl; captures = []; played = record { read = []; are = tt }; is = is }) one
 
@@ -80,7 +81,8 @@ played_on files here names commands i command captures before between after same
       }
 
 -- of a scenario that has the circuit
-pub capture_reads : (files : Files) (asked : Asked) (scenario : Scenario) (before after : List ReadCall) → None ≡ lacks_circuit asked scenario.plan → GainsReads (IsPlayedRead files (played scenario.commands)) before after
+pub capture_reads : (files : Files) (asked : Asked) (scenario : Scenario) (before after : List ReadCall) → None ≡ lacks_circuit asked scenario.plan
+    → GainsReads (IsPlayedRead files (played scenario.commands)) before after
     → GainsReads (IsCaptureRead files asked scenario) before after
 capture_reads files asked scenario before after has one = reads_as _ _ before after (λ read is. record { circuit = sym has; played = is }) one
 
@@ -88,13 +90,16 @@ pub ruleset capture_steps = (capture_reads, reads_none)
 
 -- ---- the file of a scenario, and what it plays
 
-pub file_first : (files : Files) (asked : Asked) (file : List ℕ) (before after : List ReadCall) → ReadsScenario asked file → GainsReads (IsReadOf (record { name = file; limit = scenario_limit })) before after
+pub file_first : (files : Files) (asked : Asked) (file : List ℕ) (before after : List ReadCall) → ReadsScenario asked file
+    → GainsReads (IsReadOf (record { name = file; limit = scenario_limit })) before after
     → GainsReads (IsReadOfNext (Has files) asked) before after
 file_first files asked file before after reads one =
     reads_as _ _ before after (λ read is. record { wanted = record { name = file; limit = scenario_limit }; come = record { read = []; are_read = tt; is_next = reads.first }; is = is }) one
 
-pub file_then : (files here : Files) (asked : Asked) (file : List ℕ) (scenario : Scenario) (before between after : List ReadCall) → here ≡ files → ReadsScenario asked file → IsOfFile files file scenario
-    → GainsReads (IsReadOf (record { name = file; limit = scenario_limit })) before between → GainsReads (IsCaptureRead here asked scenario) between after → GainsReads (IsReadOfNext (Has files) asked) before after
+pub file_then : (files here : Files) (asked : Asked) (file : List ℕ) (scenario : Scenario) (before between after : List ReadCall) → here ≡ files → ReadsScenario asked file
+    → IsOfFile files file scenario
+    → GainsReads (IsReadOf (record { name = file; limit = scenario_limit })) before between → GainsReads (IsCaptureRead here asked scenario) between after
+    → GainsReads (IsReadOfNext (Has files) asked) before after
 file_then files here asked file scenario before between after same reads of one other =
     reads_then _ before between after (file_first files asked file before between reads one) (reads_as _ _ between after behind other)
   where
@@ -113,19 +118,22 @@ pub ruleset file_reads = (file_first, file_then)
 
 -- ---- the file of a stream
 
-pub stream_reads : (files : Files) (file : List ℕ) (before after : List ReadCall) → GainsReads (IsReadOf (record { name = file; limit = stream_limit })) before after → GainsReads (IsReadOfNext (Has files) (Decode file)) before after
+pub stream_reads : (files : Files) (file : List ℕ) (before after : List ReadCall) → GainsReads (IsReadOf (record { name = file; limit = stream_limit })) before after
+    → GainsReads (IsReadOfNext (Has files) (Decode file)) before after
 stream_reads files file before after one =
     reads_as _ _ before after (λ read is. record { wanted = record { name = file; limit = stream_limit }; come = record { read = []; are_read = tt; is_next = refl }; is = is }) one
 
 -- ---- the file of a scenario that is migrated
 
-pub migrate_reads : (files : Files) (file : List ℕ) (before after : List ReadCall) → GainsReads (IsReadOf (record { name = file; limit = scenario_limit })) before after → GainsReads (IsReadOfNext (Has files) (Migrate file)) before after
+pub migrate_reads : (files : Files) (file : List ℕ) (before after : List ReadCall) → GainsReads (IsReadOf (record { name = file; limit = scenario_limit })) before after
+    → GainsReads (IsReadOfNext (Has files) (Migrate file)) before after
 migrate_reads files file before after one =
     reads_as _ _ before after (λ read is. record { wanted = record { name = file; limit = scenario_limit }; come = record { read = []; are_read = tt; is_next = refl }; is = is }) one
 
 -- ---- what the words ask for
 
-pub asked_reads : (files : Files) (asked : Asked) (words : Option Asked) (before after : List ReadCall) → Some asked ≡ words → GainsReads (IsReadOfNext (Has files) asked) before after → GainsReads (MayRead files words) before after
+pub asked_reads : (files : Files) (asked : Asked) (words : Option Asked) (before after : List ReadCall) → Some asked ≡ words → GainsReads (IsReadOfNext (Has files) asked) before after
+    → GainsReads (MayRead files words) before after
 asked_reads files asked words before after is one = subst (λ (o : Option Asked). GainsReads (MayRead files o) before after) is one
 
 pub ruleset run_reads = (asked_reads, reads_none)

@@ -81,7 +81,8 @@ done_first plan all done trace count None same planned = subst (λ (es : List Ev
 done_first plan all done trace count (Some stop) stopped planned =
     front_all (IsEventOf plan) done (stopped.event ∷ stopped.rest) (subst (λ (es : List Event). All (IsEventOf plan) es) stopped.split planned)
 
-pub is_run_over : (plan : Plan) (events : List Event) (left : NetLists) (reason : Option NetStop) → IsChecked plan → All (IsEventOf plan) events → HasRunOver plan events left reason → IsRunOver plan events left reason
+pub is_run_over : (plan : Plan) (events : List Event) (left : NetLists) (reason : Option NetStop) → IsChecked plan → All (IsEventOf plan) events → HasRunOver plan events left reason
+    → IsRunOver plan events left reason
 is_run_over plan events left reason checked planned has =
     let run : IsRunOf plan (empty_network plan) [] events left reason = run_of plan (empty_network plan) [] events left reason has.ends in
     let done : All (IsEventOf plan) run.done = done_first plan events run.done left.trace (length (seen left).under_way) reason run.are_done planned in
@@ -96,7 +97,8 @@ is_run_over plan events left reason checked planned has =
       promises = promises_kept plan run.done (record { checked = checked; types = has.types; planned = done });
     }
 
-pub is_scenario_run : (scenario : Scenario) (captures : List (List (List ℕ))) (left : NetLists) (reason : Option NetStop) → IsChecked scenario.plan → All (IsPlanned scenario.plan) scenario.commands → All (All IsFrame) captures
+pub is_scenario_run : (scenario : Scenario) (captures : List (List (List ℕ))) (left : NetLists) (reason : Option NetStop) → IsChecked scenario.plan
+    → All (IsPlanned scenario.plan) scenario.commands → All (All IsFrame) captures
     → HasRun scenario captures left reason → IsScenarioRun scenario captures left reason
 is_scenario_run scenario captures left reason checked planned short has =
     is_run_over scenario.plan (events_of scenario captures) left reason checked (made_planned scenario.plan (empty_network scenario.plan) captures scenario.commands short planned) has

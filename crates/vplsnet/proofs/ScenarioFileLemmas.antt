@@ -58,7 +58,8 @@ next_of files asked file octets scenario read next is comes =
     is.reads.behind octets read next (subst (λ (r : Result Scenario ScenarioFault). IsNextRead asked r read next) (sym is.document_is) circuit)
 
 -- the captures were read next, one after another
-captures_read : (files : Files) (asked : Asked) (file octets : List ℕ) (scenario : Scenario) (captures later : List (List (List ℕ))) (had names rest read more : List (List ℕ)) → IsScenarioFile files asked file octets scenario
+captures_read : (files : Files) (asked : Asked) (file octets : List ℕ) (scenario : Scenario) (captures later : List (List (List ℕ))) (had names rest read more : List (List ℕ))
+    → IsScenarioFile files asked file octets scenario
     → played scenario.commands ≡ had ++ (names ++ rest) → AreCaptures files had read captures → AreCaptures files names more later → AreReadNext (Has files) asked (octets ∷ read) more
 captures_read files asked file octets scenario captures later had [] rest read [] is split are_had are = tt
 captures_read files asked file octets scenario captures [] had [] rest read (o ∷ more) is split are_had are = absurd are
@@ -66,9 +67,11 @@ captures_read files asked file octets scenario captures (frames ∷ later) had [
 captures_read files asked file octets scenario captures later had (name ∷ names) rest read [] is split are_had are = absurd are
 captures_read files asked file octets scenario captures [] had (name ∷ names) rest read (o ∷ more) is split are_had are = absurd are
 captures_read files asked file octets scenario captures (frames ∷ later) had (name ∷ names) rest read (o ∷ more) is split are_had are =
-    let here : IsNextPlayed scenario [] (had ++ name ∷ (names ++ rest)) (read ++ []) (capture_file name) = next_played files scenario [] captures had (name ∷ (names ++ rest)) read [] (capture_file name) are_had refl in
+    let here : IsNextPlayed scenario [] (had ++ name ∷ (names ++ rest)) (read ++ []) (capture_file name) =
+    next_played files scenario [] captures had (name ∷ (names ++ rest)) read [] (capture_file name) are_had refl in
     let all : IsNextPlayed scenario [] (played scenario.commands) read (capture_file name) =
-    subst (λ (l : List (List ℕ)). IsNextPlayed scenario [] l read (capture_file name)) (sym split) (subst (λ (l : List (List ℕ)). IsNextPlayed scenario [] (had ++ name ∷ (names ++ rest)) l (capture_file name)) (append-nil read) here) in (
+    subst (λ (l : List (List ℕ)). IsNextPlayed scenario [] l read (capture_file name)) (sym split)
+    (subst (λ (l : List (List ℕ)). IsNextPlayed scenario [] (had ++ name ∷ (names ++ rest)) l (capture_file name)) (append-nil read) here) in (
       record {
         wanted = record { name = name; limit = capture_limit };
         next = next_of files asked file octets scenario read (capture_file name) is all;
@@ -80,7 +83,8 @@ captures_read files asked file octets scenario captures (frames ∷ later) had (
           (snoc files had read captures name o frames are_had are.0) are.1,
     )
   where
-    snoc : (files : Files) (names read : List (List ℕ)) (captures : List (List (List ℕ))) (name octets : List ℕ) (frames : List (List ℕ)) → AreCaptures files names read captures → IsCaptureFile files name octets frames
+    snoc : (files : Files) (names read : List (List ℕ)) (captures : List (List (List ℕ))) (name octets : List ℕ) (frames : List (List ℕ)) → AreCaptures files names read captures
+        → IsCaptureFile files name octets frames
         → AreCaptures files (names ++ name ∷ []) (read ++ octets ∷ []) (captures ++ frames ∷ [])
     snoc files [] [] [] name octets frames are one = (one, tt)
     snoc files [] [] (f ∷ captures) name octets frames are one = absurd are
@@ -90,7 +94,8 @@ captures_read files asked file octets scenario captures (frames ∷ later) had (
     snoc files (n ∷ names) (o ∷ read) (f ∷ captures) name octets frames are one = (are.0, snoc files names read captures name octets frames are.1 one)
 
 -- the first captures were read, and what comes next behind them comes next behind the whole reading
-comes_behind : (files : Files) (asked : Asked) (file octets : List ℕ) (scenario : Scenario) (captures : List (List (List ℕ))) (names rest : List (List ℕ)) (next : Next) → IsScenarioFile files asked file octets scenario
+comes_behind : (files : Files) (asked : Asked) (file octets : List ℕ) (scenario : Scenario) (captures : List (List (List ℕ))) (names rest : List (List ℕ)) (next : Next)
+    → IsScenarioFile files asked file octets scenario
     → played scenario.commands ≡ names ++ rest → (read more : List (List ℕ)) → AreCaptures files names read captures → AreReadNext (Has files) asked (octets ∷ read) more
     → IsNextPlayed scenario captures rest more next → ComesTo (Has files) asked next
 comes_behind files asked file octets scenario captures names rest next is split read more are are_more comes = record {
@@ -103,19 +108,23 @@ comes_behind files asked file octets scenario captures names rest next is split 
       (subst (λ (l : List (List ℕ)). IsNextPlayed scenario [] l (read ++ more) next) (sym split) (next_played files scenario [] captures names rest read more next are comes));
 }
   where
-    read_both : (asked : Asked) (before read more : List (List ℕ)) → AreReadNext (Has files) asked before read → AreReadNext (Has files) asked (before ++ read) more → AreReadNext (Has files) asked before (read ++ more)
+    read_both : (asked : Asked) (before read more : List (List ℕ)) → AreReadNext (Has files) asked before read → AreReadNext (Has files) asked (before ++ read) more
+        → AreReadNext (Has files) asked before (read ++ more)
     read_both asked before [] more one two = subst (λ (l : List (List ℕ)). AreReadNext (Has files) asked l more) (append-nil before) two
     read_both asked before (o ∷ read) more one two =
         (one.0, read_both asked (before ++ o ∷ []) read more one.1 (subst (λ (l : List (List ℕ)). AreReadNext (Has files) asked l more) (sym (append_assoc before (o ∷ []) read)) two))
 
-pub comes_to : (files : Files) (asked : Asked) (file octets : List ℕ) (scenario : Scenario) (captures : List (List (List ℕ))) (names rest : List (List ℕ)) (next : Next) → IsScenarioFile files asked file octets scenario
+pub comes_to : (files : Files) (asked : Asked) (file octets : List ℕ) (scenario : Scenario) (captures : List (List (List ℕ))) (names rest : List (List ℕ)) (next : Next)
+    → IsScenarioFile files asked file octets scenario
     → played scenario.commands ≡ names ++ rest → HasPlayed files names captures → IsNextPlayed scenario captures rest [] next → ComesTo (Has files) asked next
-comes_to files asked file octets scenario captures names rest next is split played comes = comes_behind files asked file octets scenario captures names rest next is split played.read [] played.are tt comes
+comes_to files asked file octets scenario captures names rest next is split played comes =
+    comes_behind files asked file octets scenario captures names rest next is split played.read [] played.are tt comes
 
 -- ---- the file of a scenario
 
 -- all was read
-pub comes_to_run : (files here : Files) (asked : Asked) (file : List ℕ) (scenario work : Scenario) (captures : List (List (List ℕ))) → here ≡ files → ReadsScenario asked file → IsOfFile files file scenario
+pub comes_to_run : (files here : Files) (asked : Asked) (file : List ℕ) (scenario work : Scenario) (captures : List (List (List ℕ))) → here ≡ files → ReadsScenario asked file
+    → IsOfFile files file scenario
     → HasAll here asked scenario captures → work ≡ scenario → ComesTo (Has files) asked (Works (Run work captures))
 comes_to_run files here asked file scenario work captures kept reads of had same =
     let all : HasAll files asked scenario captures = subst (λ (f : Files). HasAll f asked scenario captures) kept had in
@@ -124,7 +133,8 @@ comes_to_run files here asked file scenario work captures kept reads of had same
     (comes_to files asked file of.octets scenario captures (played scenario.commands) [] (Works (Run scenario captures)) is (sym (append-nil (played scenario.commands))) all.played refl)
 
 -- behind the file alone
-comes_first : (files : Files) (asked : Asked) (file octets : List ℕ) (read : Result Scenario ScenarioFault) (next : Next) → ReadsScenario asked file → Has files file octets → length octets ≤ scenario_limit → document octets ≡ read
+comes_first : (files : Files) (asked : Asked) (file octets : List ℕ) (read : Result Scenario ScenarioFault) (next : Next) → ReadsScenario asked file → Has files file octets
+    → length octets ≤ scenario_limit → document octets ≡ read
     → IsNextRead asked read [] next → ComesTo (Has files) asked next
 comes_first files asked file octets read next reads has fits document_is comes = record {
   read = octets ∷ [];
@@ -148,8 +158,10 @@ no_scenario_by octets fault outcome fails is = subst (λ (o : Outcome). IsNoScen
 
 -- the scenario of the file that is read first was not had
 pub refused_first : (files : Files) (before after : List ℕ → ℕ) (asked : Asked) (file : List ℕ) (outcome : Outcome) → IsNext asked [] (scenario_file file)
-    → ((octets : List ℕ) (fault : ScenarioFault) → document octets ≡ Err fault → IsNext asked (octets ∷ []) (Refuses (ScenarioRefused fault))) → HasNoScenario files before after file outcome → IsRefused files before after asked outcome
-refused_first files before after asked file ReadFault first refuses why = record { wanted = record { name = file; limit = scenario_limit }; come = record { read = []; are_read = tt; is_next = first }; cause = why }
+    → ((octets : List ℕ) (fault : ScenarioFault) → document octets ≡ Err fault → IsNext asked (octets ∷ []) (Refuses (ScenarioRefused fault)))
+    → HasNoScenario files before after file outcome → IsRefused files before after asked outcome
+refused_first files before after asked file ReadFault first refuses why =
+    record { wanted = record { name = file; limit = scenario_limit }; come = record { read = []; are_read = tt; is_next = first }; cause = why }
 refused_first files before after asked file (TooLong named limit) first refuses why =
     record {
       come = subst (λ (w : Wanted). ComesTo (Has files) asked (Reads w)) (sym (ap (λ (n : List ℕ). record { name = n; limit = limit }) why.0 ∙ ap (λ (l : ℕ). record { name = file; limit = l }) why.1))
@@ -157,7 +169,8 @@ refused_first files before after asked file (TooLong named limit) first refuses 
       longer = longer_as files named limit file scenario_limit why.0 why.1 why.2;
     }
   where
-    longer_as : (files : Files) (named : List ℕ) (limit : ℕ) (name : List ℕ) (most : ℕ) → named ≡ name → limit ≡ most → IfSome files (λ held. IsLonger most (held name)) → IfSome files (λ held. IsLonger limit (held named))
+    longer_as : (files : Files) (named : List ℕ) (limit : ℕ) (name : List ℕ) (most : ℕ) → named ≡ name → limit ≡ most → IfSome files (λ held. IsLonger most (held name))
+        → IfSome files (λ held. IsLonger limit (held named))
     longer_as None named limit name most is_name is_limit longer = tt
     longer_as (Some held) named limit name most is_name is_limit longer =
         subst (λ (n : List ℕ). IsLonger limit (held n)) (sym is_name) (subst (λ (l : ℕ). IsLonger l (held name)) (sym is_limit) longer)
@@ -181,10 +194,12 @@ refused_first files before after asked file (Stopped stop) first refuses why = a
 refused_first files before after asked file (DecodeRefused fault) first refuses why = absurd why
 refused_first files before after asked file (Unfinished at) first refuses why = absurd why
 
-pub not_had : (files : Files) (before after : List ℕ → ℕ) (asked : Asked) (file : List ℕ) (outcome : Outcome) → ReadsScenario asked file → HasNoScenario files before after file outcome → IsRefused files before after asked outcome
+pub not_had : (files : Files) (before after : List ℕ → ℕ) (asked : Asked) (file : List ℕ) (outcome : Outcome) → ReadsScenario asked file → HasNoScenario files before after file outcome
+    → IsRefused files before after asked outcome
 not_had files before after asked file outcome reads why =
     refused_first files before after asked file outcome reads.first
-    (λ octets fault is. reads.behind octets [] (Refuses (ScenarioRefused fault)) (subst (λ (r : Result Scenario ScenarioFault). IsNextRead asked r [] (Refuses (ScenarioRefused fault))) (sym is) refl)) why
+    (λ octets fault is. reads.behind octets [] (Refuses (ScenarioRefused fault))
+    (subst (λ (r : Result Scenario ScenarioFault). IsNextRead asked r [] (Refuses (ScenarioRefused fault))) (sym is) refl)) why
 
 -- a capture was not had
 capture_wanted : (files : Files) (before after : List ℕ → ℕ) (asked : Asked) (file octets : List ℕ) (scenario : Scenario) (outcome : Outcome) → IsScenarioFile files asked file octets scenario
@@ -192,11 +207,13 @@ capture_wanted : (files : Files) (before after : List ℕ → ℕ) (asked : Aske
 capture_wanted files before after asked file octets scenario outcome is fails =
     comes_to files asked file octets scenario fails.captures fails.had (fails.name ∷ fails.later) (capture_file fails.name) is fails.split fails.played refl
 
-capture_refused : (files : Files) (asked : Asked) (file octets name : List ℕ) (scenario : Scenario) (before after : List ℕ → ℕ) (named : List ℕ) (fault : CaptureFault) → IsScenarioFile files asked file octets scenario
+capture_refused : (files : Files) (asked : Asked) (file octets name : List ℕ) (scenario : Scenario) (before after : List ℕ → ℕ) (named : List ℕ) (fault : CaptureFault)
+    → IsScenarioFile files asked file octets scenario
     → (fails : FailsToPlay files before after (played scenario.commands) (CaptureRefused named fault)) → ComesTo (Has files) asked (Refuses (CaptureRefused fails.name fault))
 capture_refused files asked file octets name scenario before after named fault is fails =
     let (is_name, broken, some) = fails.why in
-    comes_behind files asked file octets scenario fails.captures fails.had (fails.name ∷ fails.later) (Refuses (CaptureRefused fails.name fault)) is fails.split fails.played.read (broken.octets ∷ []) fails.played.are (
+    comes_behind files asked file octets scenario fails.captures fails.had (fails.name ∷ fails.later) (Refuses (CaptureRefused fails.name fault)) is fails.split fails.played.read
+    (broken.octets ∷ []) fails.played.are (
       record {
         wanted = record { name = fails.name; limit = capture_limit };
         next = next_of files asked file octets scenario fails.played.read (capture_file fails.name) is
@@ -211,7 +228,8 @@ capture_refused files asked file octets name scenario before after named fault i
     (inr (fault, broken.first, refl))
 
 -- the scenario lacks the circuit, or a capture was not had
-pub lacks_some : (files here : Files) (before between after : List ℕ → ℕ) (asked : Asked) (file : List ℕ) (scenario : Scenario) (outcome : Outcome) → here ≡ files → NeverFall before between → ReadsScenario asked file
+pub lacks_some : (files here : Files) (before between after : List ℕ → ℕ) (asked : Asked) (file : List ℕ) (scenario : Scenario) (outcome : Outcome) → here ≡ files
+    → NeverFall before between → ReadsScenario asked file
     → IsOfFile files file scenario → LacksSome here between after asked scenario outcome → IsRefused files before after asked outcome
 lacks_some files here before between after asked file scenario outcome same later reads of lacks =
     by outcome (subst (λ (f : Files). LacksSome f between after asked scenario outcome) same lacks)
@@ -219,7 +237,8 @@ lacks_some files here before between after asked file scenario outcome same late
     file_is : lacks_circuit asked scenario.plan ≡ None → IsScenarioFile files asked file of.octets scenario
     file_is circuit = record { reads = reads; has = of.has; fits = of.fits; document_is = of.document_is; circuit = circuit }
 
-    longer_of : (held : Files) (named : List ℕ) (limit : ℕ) (name : List ℕ) → named ≡ name → limit ≡ capture_limit → IfSome held (λ h. IsLonger capture_limit (h name)) → IfSome held (λ h. IsLonger limit (h named))
+    longer_of : (held : Files) (named : List ℕ) (limit : ℕ) (name : List ℕ) → named ≡ name → limit ≡ capture_limit → IfSome held (λ h. IsLonger capture_limit (h name))
+        → IfSome held (λ h. IsLonger limit (h named))
     longer_of None named limit name is_name is_limit longer = tt
     longer_of (Some h) named limit name is_name is_limit longer =
         subst (λ (n : List ℕ). IsLonger limit (h n)) (sym is_name) (subst (λ (l : ℕ). IsLonger l (h name)) (sym is_limit) longer)
@@ -245,7 +264,8 @@ lacks_some files here before between after asked file scenario outcome same late
           some,
         )
     by (NoCircuit circuit) lacks =
-        comes_first files asked file of.octets (Ok scenario) (Refuses (NoCircuit circuit)) reads of.has of.fits of.document_is (subst (λ (o : Option (List ℕ)). IsNextOf o scenario [] (Refuses (NoCircuit circuit))) (sym lacks) refl)
+        comes_first files asked file of.octets (Ok scenario) (Refuses (NoCircuit circuit)) reads of.has of.fits of.document_is
+        (subst (λ (o : Option (List ℕ)). IsNextOf o scenario [] (Refuses (NoCircuit circuit))) (sym lacks) refl)
     by NoMemory lacks = tt
     by Done lacks = absurd lacks
     by Usage lacks = absurd lacks
@@ -258,7 +278,8 @@ lacks_some files here before between after asked file scenario outcome same late
     by (Unfinished at) lacks = absurd lacks
 
 -- the circuit that is named is not there
-pub lacks_named : (files : Files) (before after : List ℕ → ℕ) (asked : Asked) (scenario : Scenario) (circuit : List ℕ) (outcome : Outcome) → Some circuit ≡ lacks_circuit asked scenario.plan → IsNoCircuit circuit outcome
+pub lacks_named : (files : Files) (before after : List ℕ → ℕ) (asked : Asked) (scenario : Scenario) (circuit : List ℕ) (outcome : Outcome) → Some circuit
+    ≡ lacks_circuit asked scenario.plan → IsNoCircuit circuit outcome
     → LacksSome files before after asked scenario outcome
 lacks_named files before after asked scenario circuit (NoCircuit named) lacks told = sym lacks ∙ ap Some (sym told)
 lacks_named files before after asked scenario circuit NoMemory lacks told = tt
@@ -276,7 +297,8 @@ lacks_named files before after asked scenario circuit (DecodeRefused fault) lack
 lacks_named files before after asked scenario circuit (Unfinished at) lacks told = absurd told
 
 -- a file that is played was not had
-pub lacks_file : (files : Files) (before after : List ℕ → ℕ) (asked : Asked) (scenario : Scenario) (outcome : Outcome) → None ≡ lacks_circuit asked scenario.plan → FailsToPlay files before after (played scenario.commands) outcome
+pub lacks_file : (files : Files) (before after : List ℕ → ℕ) (asked : Asked) (scenario : Scenario) (outcome : Outcome) → None ≡ lacks_circuit asked scenario.plan
+    → FailsToPlay files before after (played scenario.commands) outcome
     → LacksSome files before after asked scenario outcome
 lacks_file files before after asked scenario ReadFault has fails = record { circuit = sym has; fails = fails }
 lacks_file files before after asked scenario (TooLong named limit) has fails = record { circuit = sym has; fails = fails }
@@ -293,7 +315,8 @@ lacks_file files before after asked scenario (Stopped stop) has fails = absurd f
 lacks_file files before after asked scenario (DecodeRefused fault) has fails = absurd fails.why
 lacks_file files before after asked scenario (Unfinished at) has fails = absurd fails.why
 
-pub has_all : (files : Files) (asked : Asked) (scenario : Scenario) (captures : List (List (List ℕ))) → None ≡ lacks_circuit asked scenario.plan → HasPlayed files (played scenario.commands) captures → HasAll files asked scenario captures
+pub has_all : (files : Files) (asked : Asked) (scenario : Scenario) (captures : List (List (List ℕ))) → None ≡ lacks_circuit asked scenario.plan
+    → HasPlayed files (played scenario.commands) captures → HasAll files asked scenario captures
 has_all files asked scenario captures has played = record { circuit = sym has; played = played }
 
 pub ruleset lack_steps = (lacks_named, lacks_file, has_all)
@@ -324,7 +347,8 @@ no_file files before after file (Stopped stop) why = absurd why
 no_file files before after file (DecodeRefused fault) why = absurd why
 no_file files before after file (Unfinished at) why = absurd why
 
-pub no_document : (files : Files) (before after : List ℕ → ℕ) (file octets : List ℕ) (outcome : Outcome) → Has files file octets → length octets ≤ scenario_limit → IsNoScenario octets outcome → HasNoScenario files before after file outcome
+pub no_document : (files : Files) (before after : List ℕ → ℕ) (file octets : List ℕ) (outcome : Outcome) → Has files file octets → length octets ≤ scenario_limit
+    → IsNoScenario octets outcome → HasNoScenario files before after file outcome
 no_document files before after file octets (ScenarioRefused fault) has fits told = (record { octets = octets; has = has; fits = fits; document_is = told.0 }, told.1)
 no_document files before after file octets NoMemory has fits told = tt
 no_document files before after file octets Done has fits told = absurd told
@@ -354,7 +378,8 @@ pub reads_capture : (file circuit : List ℕ) → ReadsScenario (Capture file ci
 reads_capture file circuit = record { first = refl; behind = λ octets read next comes. comes }
 
 -- a seed makes a scenario, and no file is read
-pub comes_to_rehearsal : (files : Files) (seed : ℕ) (scenario : Scenario) (captures : List (List (List ℕ))) → scenario ≡ rehearsal seed → captures ≡ [] → ComesTo (Has files) (Rehearse seed) (Works (Run scenario captures))
+pub comes_to_rehearsal : (files : Files) (seed : ℕ) (scenario : Scenario) (captures : List (List (List ℕ))) → scenario ≡ rehearsal seed → captures ≡ []
+    → ComesTo (Has files) (Rehearse seed) (Works (Run scenario captures))
 comes_to_rehearsal files seed scenario captures is none = record {
   read = [];
   are_read = tt;

@@ -50,7 +50,8 @@ place_near base count few =
 -- ---- one PDU
 
 -- the lines of what is lent of the PDU in front were added
-pub puts_front : (s : StreamState) (seen : SeenPdu) (fed base : ℕ) (before after : List ℕ) → IsGoing s fed → base ≡ fed - length s.held → IsPeeked s seen → HasNext s → AddsLines base seen.spellings before after → PutsFront s before after
+pub puts_front : (s : StreamState) (seen : SeenPdu) (fed base : ℕ) (before after : List ℕ) → IsGoing s fed → base ≡ fed - length s.held → IsPeeked s seen → HasNext s
+    → AddsLines base seen.spellings before after → PutsFront s before after
 puts_front s seen fed base before after going is peeked ready adds =
     let place : base ≡ s.base = omega (arith, is, going.place) in
     record {
@@ -83,11 +84,13 @@ record IsSplit (s : StreamState) (pdu : Pdu) (piece rest more whole : List ℕ) 
   all : whole ≡ decoded_lines s.base pdu.messages ++ text
   left : IsTextFrom (s.base + length piece) (rest ++ more) text ending
 
-split_text : (s : StreamState) (pdu : Pdu) (piece rest more whole : List ℕ) (ending : Ending) → s.max ≡ largest_pdu → s.held ≡ piece ++ rest → Spells piece s.max pdu → IsTextFrom s.base (s.held ++ more) whole ending → IsSplit s pdu piece rest more whole ending
+split_text : (s : StreamState) (pdu : Pdu) (piece rest more whole : List ℕ) (ending : Ending) → s.max ≡ largest_pdu → s.held ≡ piece ++ rest → Spells piece s.max pdu
+    → IsTextFrom s.base (s.held ++ more) whole ending → IsSplit s pdu piece rest more whole ending
 split_text s pdu piece rest more whole ending max split spelled is =
     let spells : Spells piece largest_pdu pdu = subst (λ (m : ℕ). Spells piece m pdu) max spelled in
     let joins : s.held ++ more ≡ piece ++ (rest ++ more) = ap (λ (l : List ℕ). l ++ more) split ∙ append_assoc piece rest more in
-    let step = one_parsing.stepped s.base largest_pdu piece (rest ++ more) pdu is.pdus ending (omega arith) spells (subst (λ (l : List ℕ). IsParsedFrom s.base largest_pdu l is.pdus ending) joins is.parsed) in
+    let step = one_parsing.stepped s.base largest_pdu piece (rest ++ more) pdu is.pdus ending (omega arith) spells
+    (subst (λ (l : List ℕ). IsParsedFrom s.base largest_pdu l is.pdus ending) joins is.parsed) in
     record {
       text = stream_lines step.others;
       all = is.text_is ∙ ap stream_lines step.are;
@@ -103,7 +106,8 @@ goes_both : (a b c : Written) (first second : List ℕ) → GoesOn a b first →
 goes_both a b c first second one two = puts_two {T = Unit {0}} {E = Unit {0}} (Ok tt) a b c first second one two
 
 -- a front of a text was put, and then more of it
-stops_behind : (reason : StreamStop) (front rest whole : List ℕ) (ending : Ending) (a b c : Written) → whole ≡ front ++ rest → GoesOn a b front → StopsText reason rest ending b c → StopsText reason whole ending a c
+stops_behind : (reason : StreamStop) (front rest whole : List ℕ) (ending : Ending) (a b c : Written) → whole ≡ front ++ rest → GoesOn a b front → StopsText reason rest ending b c
+    → StopsText reason whole ending a c
 stops_behind (stop.Fault (fault.Refused base refusal)) front rest whole ending a b c all goes stops = record {
   fault = stops.fault;
   names = stops.names;
@@ -130,7 +134,8 @@ stopped_at s fed refusal a going refused = subst (λ (f : StreamFault). IsStoppe
 
   at : (more whole : List ℕ) (ending : Ending) → IsTextFrom s.base (s.held ++ more) whole ending → PutsToFault s.base (refusal_of refused.fault) whole ending a a
   at more whole ending is_text =
-      let same = one_parsing.one s.base largest_pdu (s.held ++ more) is_text.pdus [] ending (Refused s.base refused.fault) (omega arith) is_text.parsed (one_parsing.faulty s.base largest_pdu s.held more refused.fault front) in
+      let same = one_parsing.one s.base largest_pdu (s.held ++ more) is_text.pdus [] ending (Refused s.base refused.fault) (omega arith) is_text.parsed
+      (one_parsing.faulty s.base largest_pdu s.held more refused.fault front) in
       record {
         fault = refused.fault;
         names = refl;
@@ -236,7 +241,8 @@ taken_going more old new fed a b went going few takes =
     let adds = (takes_more more old new a b went takes).adds in
     passed_going old new fed adds.pdu going few adds.passes
 
-pub taken_on : (more : Bool) (first old new : StreamState) (fed : ℕ) (a b c : Written) → more ≡ true → IsGoing old fed → fed < 2 ^ 63 → TextGoesOn first old a b → TakesOne more old new b c → TextGoesOn first new a c
+pub taken_on : (more : Bool) (first old new : StreamState) (fed : ℕ) (a b c : Written) → more ≡ true → IsGoing old fed → fed < 2 ^ 63 → TextGoesOn first old a b
+    → TakesOne more old new b c → TextGoesOn first new a c
 taken_on more first old new fed a b c went going few goes takes = goes_on_more first old new a b c goes (passed_on old new fed b c going few (takes_more more old new b c went takes))
 
 pub taken_less : (more : Bool) (old new : StreamState) (a b : Written) → more ≡ true → TakesOne more old new a b → length new.held < length old.held
@@ -274,14 +280,16 @@ pub record IsFed (octets : List ℕ) (at : ℕ) (piece : List ℕ) (s new : Stre
   pub fed : new ≡ record s { held = s.held ++ take n piece }
 
 -- it is some octets, and no more than the piece
-fed_count : (octets : List ℕ) (at : ℕ) (piece : List ℕ) (s new : StreamState) (n : ℕ) (a b : Written) → IsFedTo octets at s a b → IsFed octets at piece s new n → (0 < n) × (n ≤ length piece) × (at + n ≤ length octets)
+fed_count : (octets : List ℕ) (at : ℕ) (piece : List ℕ) (s new : StreamState) (n : ℕ) (a b : Written) → IsFedTo octets at s a b → IsFed octets at piece s new n → (0 < n)
+    × (n ≤ length piece) × (at + n ≤ length octets)
 fed_count octets at piece s new n a b so_far fed =
     let count : n ≡ min (length piece) (4100 - length s.held) = fed.count ∙ ap (λ (r : Option Fault). taken_count r (length s.held) (length piece)) so_far.going.going in
     let room = pending_room s.held so_far.pending in
     let size : length piece ≡ min (length octets - at) 2048 = ap length fed.piece_is ∙ length-take-le (min (length octets - at) 2048) (drop at octets) (omega (arith, length-drop at octets)) in
     (omega (arith, count, room, size, fed.before), omega (arith, count), omega (arith, count, size, fed.before))
 
-pub fed_less : (octets : List ℕ) (at : ℕ) (piece : List ℕ) (s new : StreamState) (n : ℕ) (a b : Written) → IsFedTo octets at s a b → IsFed octets at piece s new n → length octets - (at + n) < length octets - at
+pub fed_less : (octets : List ℕ) (at : ℕ) (piece : List ℕ) (s new : StreamState) (n : ℕ) (a b : Written) → IsFedTo octets at s a b → IsFed octets at piece s new n
+    → length octets - (at + n) < length octets - at
 fed_less octets at piece s new n a b so_far fed =
     let counts = fed_count octets at piece s new n a b so_far fed in
     omega (arith, counts.0, fed.before)
@@ -309,7 +317,8 @@ fed_text octets at piece s new n a b whole ending so_far fed is_text =
     let up_to = so_far.on whole ending is_text in
     record {
       part = up_to.part;
-      left = subst (λ (b : ℕ). IsTextFrom b (new.held ++ drop (at + n) octets) up_to.part.rest ending) (sym base) (subst (λ (l : List ℕ). IsTextFrom s.base l up_to.part.rest ending) (sym same) up_to.left);
+      left = subst (λ (b : ℕ). IsTextFrom b (new.held ++ drop (at + n) octets) up_to.part.rest ending) (sym base)
+          (subst (λ (l : List ℕ). IsTextFrom s.base l up_to.part.rest ending) (sym same) up_to.left);
     }
 
 -- nothing was fed yet
@@ -391,7 +400,8 @@ abbrev Ends : List ℕ → Ending → Written → Written → Outcome → Type 0
 Ends whole ending a c outcome = EndsText whole None (outcome_of_ending ending) a c None outcome ⊎ GivesUp whole a c None outcome
 
 -- each stream has a text
-tells : (octets : List ℕ) (a c : Written) (outcome : Outcome) → AreOctets octets → ((whole : List ℕ) (ending : Ending) → IsStreamText octets whole ending → Ends whole ending a c outcome) → EndsStream octets a c None outcome
+tells : (octets : List ℕ) (a c : Written) (outcome : Outcome) → AreOctets octets
+    → ((whole : List ℕ) (ending : Ending) → IsStreamText octets whole ending → Ends whole ending a c outcome) → EndsStream octets a c None outcome
 tells octets a c outcome are ends =
     let read = each_has_front.parsing 0 largest_pdu octets are (omega arith) in
     let is_text : IsStreamText octets (stream_lines read.pdus) read.ending = record { pdus = read.pdus; parsed = read.parsed; text_is = refl } in
@@ -410,7 +420,8 @@ ends_cut : (whole : List ℕ) (ending : Ending) (a c : Written) (outcome : Outco
 ends_cut whole ending a c outcome none is cut = inl (inr (inl (record { outcome_is = is; network_is = refl; taken = cut_text a c whole none cut; cause = cut.rose })))
 
 -- the whole text was put, and what waited was written
-ends_all : (whole : List ℕ) (ending : Ending) (a b c : Written) (made outcome : Outcome) → a.waiting ≡ [] → GoesOn a b whole → made ≡ outcome_of_ending ending → Flushes made outcome b c → Ends whole ending a c outcome
+ends_all : (whole : List ℕ) (ending : Ending) (a b c : Written) (made outcome : Outcome) → a.waiting ≡ [] → GoesOn a b whole → made ≡ outcome_of_ending ending
+    → Flushes made outcome b c → Ends whole ending a c outcome
 ends_all whole ending a b c made outcome none goes is (inl flushed) =
     inl (inl (record { outcome_is = flushed.is ∙ is; network_is = refl; taken = whole_text a b c.taken whole none goes flushed.taken }))
 ends_all whole ending a b c made outcome none goes is (inr failed) = ends_cut whole ending a c outcome none failed.is (cut_behind a b c whole goes failed.cut)
@@ -425,24 +436,29 @@ ends_part whole ending a b c outcome none part (inr failed) =
     ends_cut whole ending a c outcome none failed.is (subst (λ (l : List ℕ). IsCut a c l) (sym part.all) (cut_first a c part.front part.rest (cut_behind a b c part.front part.goes failed.cut)))
 
 -- where nothing waited at first: all octets were fed, ..
-pub stream_left : (octets waiting : List ℕ) (taken : Option (List ℕ)) (faults left : ℕ) (b c : Written) (made outcome : Outcome) → AreOctets octets → waiting ≡ [] → LeavesSome octets (written taken faults waiting) b left
+pub stream_left : (octets waiting : List ℕ) (taken : Option (List ℕ)) (faults left : ℕ) (b c : Written) (made outcome : Outcome) → AreOctets octets → waiting ≡ []
+    → LeavesSome octets (written taken faults waiting) b left
     → made ≡ (if left == 0 then Done else Unfinished (length octets - left)) → Flushes made outcome b c → EndsStream octets (written taken faults []) c None outcome
 stream_left octets waiting taken faults left b c made outcome are none leaves is flushes = tells octets (written taken faults []) c outcome are on where
   on : (whole : List ℕ) (ending : Ending) → IsStreamText octets whole ending → Ends whole ending (written taken faults []) c outcome
   on whole ending is_text =
       let all = (subst (λ (w : List ℕ). LeavesSome octets (written taken faults w) b left) none leaves).on whole ending is_text in
-      ends_all whole ending (written taken faults []) b c made outcome refl all.goes (is ∙ (ends_of all.at left (length octets) all.rest all.left_is all.place ∙ ap outcome_of_ending (sym all.ends))) flushes
+      ends_all whole ending (written taken faults []) b c made outcome refl all.goes
+      (is ∙ (ends_of all.at left (length octets) all.rest all.left_is all.place ∙ ap outcome_of_ending (sym all.ends))) flushes
 
 -- what was put before a fault, or where memory was refused, and then what waited was written
-ends_at : (refusal : StreamFault) (whole : List ℕ) (ending : Ending) (a b c : Written) (outcome : Outcome) → a.waiting ≡ [] → StopsText (stop.Fault refusal) whole ending a b → Flushes (outcome_at refusal) outcome b c → Ends whole ending a c outcome
+ends_at : (refusal : StreamFault) (whole : List ℕ) (ending : Ending) (a b c : Written) (outcome : Outcome) → a.waiting ≡ [] → StopsText (stop.Fault refusal) whole ending a b
+    → Flushes (outcome_at refusal) outcome b c → Ends whole ending a c outcome
 ends_at (fault.Refused base refusal) whole ending a b c outcome none stops flushes =
     ends_all whole ending a b c (DecodeRefused (fault.Refused base refusal)) outcome none stops.goes
     (ap (λ (r : DecodeFault). DecodeRefused (fault.Refused base r)) stops.names ∙ ap outcome_of_ending (sym stops.ends)) flushes
 ends_at fault.NoMemory whole ending a b c outcome none stops flushes = ends_part whole ending a b c outcome none stops flushes
 
 -- .. there was a fault or memory was refused, ..
-pub stream_faulty : (octets waiting : List ℕ) (taken : Option (List ℕ)) (faults : ℕ) (reason : StreamStop) (refusal : StreamFault) (b c : Written) (made outcome : Outcome) → AreOctets octets → waiting ≡ []
-    → reason ≡ stop.Fault refusal → StopsIn reason octets (written taken faults waiting) b → made ≡ outcome_at refusal → Flushes made outcome b c → EndsStream octets (written taken faults []) c None outcome
+pub stream_faulty : (octets waiting : List ℕ) (taken : Option (List ℕ)) (faults : ℕ) (reason : StreamStop) (refusal : StreamFault) (b c : Written) (made outcome : Outcome)
+    → AreOctets octets → waiting ≡ []
+    → reason ≡ stop.Fault refusal → StopsIn reason octets (written taken faults waiting) b → made ≡ outcome_at refusal → Flushes made outcome b c
+    → EndsStream octets (written taken faults []) c None outcome
 stream_faulty octets waiting taken faults reason refusal b c made outcome are none names stops is flushes = tells octets (written taken faults []) c outcome are on where
   on : (whole : List ℕ) (ending : Ending) → IsStreamText octets whole ending → Ends whole ending (written taken faults []) c outcome
   on whole ending is_text =
@@ -451,7 +467,8 @@ stream_faulty octets waiting taken faults reason refusal b c made outcome are no
       (subst (λ (m : Outcome). Flushes m outcome b c) is flushes)
 
 -- .. or the sink failed.
-pub stream_cut : (octets waiting last : List ℕ) (taken now : Option (List ℕ)) (faults later : ℕ) (outcome : Outcome) → AreOctets octets → waiting ≡ [] → StopsIn stop.Failed octets (written taken faults waiting) (written now later last)
+pub stream_cut : (octets waiting last : List ℕ) (taken now : Option (List ℕ)) (faults later : ℕ) (outcome : Outcome) → AreOctets octets → waiting ≡ []
+    → StopsIn stop.Failed octets (written taken faults waiting) (written now later last)
     → outcome ≡ WriteFault → EndsStream octets (written taken faults []) (written now later []) None outcome
 stream_cut octets waiting last taken now faults later outcome are none stops is = tells octets (written taken faults []) (written now later []) outcome are on where
   on : (whole : List ℕ) (ending : Ending) → IsStreamText octets whole ending → Ends whole ending (written taken faults []) (written now later []) outcome

@@ -53,7 +53,8 @@ switch_types plan types = record {
 agrees_each : (plan : Plan) (lines : List SwitchLine) → IsChecked plan → HasFieldTypes plan → AgreesBehindEach plan lines
 agrees_each plan lines checked types front behind split a b wire row is between = scripts_agree plan checked (switch_types plan types) front a b wire row is between
 
-pub exchange_whole : (plan : Plan) (lines : List SwitchLine) (text : List ℕ) (old now : Written) (outcome : Outcome) → IsChecked plan → HasFieldTypes plan → text ≡ switchover_report plan lines → outcome ≡ Done → Writes old.taken now.taken text
+pub exchange_whole : (plan : Plan) (lines : List SwitchLine) (text : List ℕ) (old now : Written) (outcome : Outcome) → IsChecked plan → HasFieldTypes plan → text
+    ≡ switchover_report plan lines → outcome ≡ Done → Writes old.taken now.taken text
     → EndsExchange plan lines old now None outcome
 exchange_whole plan lines text old now outcome checked types same ends taken =
     inl (record {
@@ -61,7 +62,8 @@ exchange_whole plan lines text old now outcome checked types same ends taken =
       ends = ends_whole (switchover_report plan lines) None Done old now None outcome ends refl (subst (λ (l : List ℕ). Writes old.taken now.taken l) same taken);
     })
 
-pub exchange_front : (plan : Plan) (lines : List SwitchLine) (text : List ℕ) (old now : Written) (outcome : Outcome) → IsChecked plan → HasFieldTypes plan → text ≡ switchover_report plan lines → outcome ≡ WriteFault
+pub exchange_front : (plan : Plan) (lines : List SwitchLine) (text : List ℕ) (old now : Written) (outcome : Outcome) → IsChecked plan → HasFieldTypes plan → text
+    ≡ switchover_report plan lines → outcome ≡ WriteFault
     → AppendsFront old.taken now.taken text → Rose old.faults now.faults → EndsExchange plan lines old now None outcome
 exchange_front plan lines text old now outcome checked types same ends taken cause =
     inl (record {
@@ -76,7 +78,8 @@ pub ruleset line_steps = (exchange_whole, exchange_front, exchange_none)
 
 -- ---- the script
 
-pub lines_end : (plan : Plan) (octets : List ℕ) (lines lent : List SwitchLine) (old now : Written) (outcome : Outcome) → lent ≡ lines → switch_lines_in plan octets ≡ Ok lines → EndsExchange plan lent old now None outcome
+pub lines_end : (plan : Plan) (octets : List ℕ) (lines lent : List SwitchLine) (old now : Written) (outcome : Outcome) → lent ≡ lines → switch_lines_in plan octets ≡ Ok lines
+    → EndsExchange plan lent old now None outcome
     → EndsScript (switch_lines_in plan octets) (λ ls. EndsExchange plan ls old now None outcome) old now None outcome
 lines_end plan octets lines lent old now outcome same is ends = inl (record { lines = lines; is = is; ends = subst (λ (ls : List SwitchLine). EndsExchange plan ls old now None outcome) same ends })
 
@@ -106,7 +109,8 @@ script_next file script octets scenario text is =
     next_after (λ s it. IsNextBehind (script_file script) (IsNextExchange s) (octets ∷ []) it) text (Ok scenario) (next_script (Exchange scenario.plan) (switch_lines_in scenario.plan octets)) is refl
 
 -- one of the files was not had
-pub exchange_lacks : (around : Around) (file script : List ℕ) (network : Option NetLists) (outcome : Outcome) → LacksOne around.files around.shelf_before around.shelf_after file (script_wanted script) outcome → IsUntouched around network
+pub exchange_lacks : (around : Around) (file script : List ℕ) (network : Option NetLists) (outcome : Outcome)
+    → LacksOne around.files around.shelf_before around.shelf_after file (script_wanted script) outcome → IsUntouched around network
     → SaysOutcome around (Switchover file script) network outcome
 exchange_lacks around file script network outcome lacks untouched =
     refused_answers around (Switchover file script) network outcome
@@ -117,14 +121,16 @@ pub exchange_reads : (files : Files) (file script : List ℕ) (before after : Li
 exchange_reads files file script before after gains = two_read files (Switchover file script) file (script_wanted script) before after (reads_script file script) gains
 
 -- what comes of the lines was written
-lines_answer : (around : Around) (file script : List ℕ) (plan : Plan) (lines : List SwitchLine) (network : Option NetLists) (outcome : Outcome) → ComesTo (Has around.files) (Switchover file script) (Works (Exchange plan lines))
+lines_answer : (around : Around) (file script : List ℕ) (plan : Plan) (lines : List SwitchLine) (network : Option NetLists) (outcome : Outcome)
+    → ComesTo (Has around.files) (Switchover file script) (Works (Exchange plan lines))
     → EndsExchange plan lines (old_of around) (now_of around) network outcome → SaysOutcome around (Switchover file script) network outcome
 lines_answer around file script plan lines network outcome come (inl told) =
     text_answers around (Switchover file script) (switchover_report plan lines) None Done network outcome refl
     (record { work = Exchange plan lines; come = come; makes = record { text_is = refl; agrees = told.agrees; ends = refl; no_run = refl } }) told.ends
 lines_answer around file script plan lines network outcome come (inr none) = none_answers around (Switchover file script) network outcome none
 
-exchange_answers : (around : Around) (file script octets : List ℕ) (scenario : Scenario) (network : Option NetLists) (outcome : Outcome) → HasBoth around.files file (script_wanted script) scenario octets
+exchange_answers : (around : Around) (file script octets : List ℕ) (scenario : Scenario) (network : Option NetLists) (outcome : Outcome)
+    → HasBoth around.files file (script_wanted script) scenario octets
     → EndsScript (switch_lines_in scenario.plan octets) (λ lines. EndsExchange scenario.plan lines (old_of around) (now_of around) network outcome) (old_of around) (now_of around) network outcome
     → SaysOutcome around (Switchover file script) network outcome
 exchange_answers around file script octets scenario network outcome both ends =
@@ -142,6 +148,7 @@ exchange_ended around file script octets lent scenario network made outcome same
     subst (λ (n : Option NetLists). SaysOutcome around (Switchover file script) n outcome) (sym none)
     (subst (λ (o : Outcome). SaysOutcome around (Switchover file script) None o) (sym is)
     (exchange_answers around file script octets scenario None made both
-    (subst (λ (o : List ℕ). EndsScript (switch_lines_in scenario.plan o) (λ lines. EndsExchange scenario.plan lines (old_of around) (now_of around) None made) (old_of around) (now_of around) None made) same ends)))
+    (subst (λ (o : List ℕ). EndsScript (switch_lines_in scenario.plan o) (λ lines. EndsExchange scenario.plan lines (old_of around) (now_of around) None made) (old_of around)
+    (now_of around) None made) same ends)))
 
 pub ruleset file_steps = (exchange_lacks, exchange_reads, exchange_ended)

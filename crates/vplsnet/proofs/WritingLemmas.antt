@@ -31,26 +31,31 @@ pub ruleset flush_steps = (whole_text, front_flushed, rose_flushed, cut_text, ro
 
 -- ---- the end of a call
 
-pub ends_whole : (text : List ℕ) (left : Option NetLists) (made : Outcome) (old now : Written) (network : Option NetLists) (outcome : Outcome) → outcome ≡ made → network ≡ left → Writes old.taken now.taken text
+pub ends_whole : (text : List ℕ) (left : Option NetLists) (made : Outcome) (old now : Written) (network : Option NetLists) (outcome : Outcome) → outcome ≡ made → network ≡ left
+    → Writes old.taken now.taken text
     → EndsText text left made old now network outcome
 ends_whole text left made old now network outcome is same taken = inl (record { outcome_is = is; network_is = same; taken = taken })
 
-pub ends_front : (text : List ℕ) (left : Option NetLists) (made : Outcome) (old now : Written) (network : Option NetLists) (outcome : Outcome) → outcome ≡ WriteFault → network ≡ left → AppendsFront old.taken now.taken text
+pub ends_front : (text : List ℕ) (left : Option NetLists) (made : Outcome) (old now : Written) (network : Option NetLists) (outcome : Outcome) → outcome ≡ WriteFault → network ≡ left
+    → AppendsFront old.taken now.taken text
     → Rose old.faults now.faults → EndsText text left made old now network outcome
 ends_front text left made old now network outcome is same taken cause = inr (inl (record { outcome_is = is; network_is = same; taken = taken; cause = cause }))
 
-pub ends_none : (text : List ℕ) (left : Option NetLists) (made : Outcome) (old now : Written) (network : Option NetLists) (outcome : Outcome) → outcome ≡ NoMemory → network ≡ None → now.taken ≡ old.taken
+pub ends_none : (text : List ℕ) (left : Option NetLists) (made : Outcome) (old now : Written) (network : Option NetLists) (outcome : Outcome) → outcome ≡ NoMemory → network ≡ None
+    → now.taken ≡ old.taken
     → EndsText text left made old now network outcome
 ends_none text left made old now network outcome is none taken = inr (inr (record { outcome_is = is; no_run = none; taken = taken }))
 
 pub ruleset text_steps = (ends_whole, ends_front, ends_none)
 
 -- that of a migration
-pub migrated_whole : (scenario : Scenario) (text lent : List ℕ) (old now : Written) (outcome : Outcome) → IsMigrated scenario text → lent ≡ text → outcome ≡ Done → Writes old.taken now.taken lent → EndsMigration scenario old now None outcome
+pub migrated_whole : (scenario : Scenario) (text lent : List ℕ) (old now : Written) (outcome : Outcome) → IsMigrated scenario text → lent ≡ text → outcome ≡ Done
+    → Writes old.taken now.taken lent → EndsMigration scenario old now None outcome
 migrated_whole scenario text lent old now outcome is same ends taken =
     inl (record { text = text; is_migrated = is; ends = ends_whole text None Done old now None outcome ends refl (subst (λ (l : List ℕ). Writes old.taken now.taken l) same taken) })
 
-pub migrated_front : (scenario : Scenario) (text lent : List ℕ) (old now : Written) (outcome : Outcome) → IsMigrated scenario text → lent ≡ text → outcome ≡ WriteFault → AppendsFront old.taken now.taken lent → Rose old.faults now.faults
+pub migrated_front : (scenario : Scenario) (text lent : List ℕ) (old now : Written) (outcome : Outcome) → IsMigrated scenario text → lent ≡ text → outcome ≡ WriteFault
+    → AppendsFront old.taken now.taken lent → Rose old.faults now.faults
     → EndsMigration scenario old now None outcome
 migrated_front scenario text lent old now outcome is same ends taken cause =
     inl (record { text = text; is_migrated = is; ends = ends_front text None Done old now None outcome ends refl (subst (λ (l : List ℕ). AppendsFront old.taken now.taken l) same taken) cause })
@@ -62,10 +67,12 @@ pub ruleset migrated_steps = (migrated_whole, migrated_front, migrated_none)
 
 -- that of a run
 pub ends_run : (scenario : Scenario) (captures : List (List (List ℕ))) (asked : Asked) (left : NetLists) (reason : Option NetStop) (old now : Written) (network : Option NetLists) (outcome : Outcome)
-    → IsScenarioRun scenario captures left reason → EndsText (run_text asked left reason) (Some left) (outcome_by reason) old now network outcome → EndsRun scenario captures asked old now network outcome
+    → IsScenarioRun scenario captures left reason → EndsText (run_text asked left reason) (Some left) (outcome_by reason) old now network outcome
+    → EndsRun scenario captures asked old now network outcome
 ends_run scenario captures asked left reason old now network outcome is ends = inl (record { left = left; reason = reason; is_run = is; ends = ends })
 
-pub ends_no_run : (scenario : Scenario) (captures : List (List (List ℕ))) (asked : Asked) (old now : Written) (network : Option NetLists) (outcome : Outcome) → outcome ≡ NoMemory → network ≡ None → now.taken ≡ old.taken
+pub ends_no_run : (scenario : Scenario) (captures : List (List (List ℕ))) (asked : Asked) (old now : Written) (network : Option NetLists) (outcome : Outcome) → outcome ≡ NoMemory
+    → network ≡ None → now.taken ≡ old.taken
     → EndsRun scenario captures asked old now network outcome
 ends_no_run scenario captures asked old now network outcome is none taken = inr (record { outcome_is = is; no_run = none; taken = taken })
 

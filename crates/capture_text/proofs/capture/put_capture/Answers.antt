@@ -7,7 +7,8 @@ use Rattle.capture_text.proofs.capture.put_capture.Goals as goal
 
 pub returns-in-Ok : goal.returns-in-Ok
 unfolding capture_text
-returns-in-Ok g c = puts_behind c.put_frames.result _ _ _ _ written_header (flat_map written_frame (frames_left c.args.circuit 0 c.args.trace.now)) c.header.ensures c.in-Ok.ensures c.put_frames.ensures
+returns-in-Ok g c = puts_behind c.put_frames.result _ _ _ _ written_header
+    (flat_map written_frame (frames_left c.args.circuit 0 c.args.trace.now)) c.header.ensures c.in-Ok.ensures c.put_frames.ensures
 
 pub returns-in-Err : goal.returns-in-Err
 unfolding capture_text

@@ -8,5 +8,6 @@ use Rattle.capture_text.proofs.capture.put_frames.Given as goal
 abbrev pub invariant-loop-entry : goal.invariant-loop-entry
 invariant-loop-entry g l = record {
   few : l.ticks ≤ l.entry-index;
-  putting : Putting (written (g.K.Sink.taken l.fn.sink) (g.K.Sink.faults l.fn.sink) l.fn.page) (written (g.K.Sink.taken l.sink) (g.K.Sink.faults l.sink) l.page) (flat_map written_frame (frames_left l.circuit l.ticks (drop l.entry-index l.trace))) (flat_map written_frame (frames_left l.circuit 0 l.trace));
+  putting : Putting (written (g.K.Sink.taken l.fn.sink) (g.K.Sink.faults l.fn.sink) l.fn.page) (written (g.K.Sink.taken l.sink) (g.K.Sink.faults l.sink) l.page)
+      (flat_map written_frame (frames_left l.circuit l.ticks (drop l.entry-index l.trace))) (flat_map written_frame (frames_left l.circuit 0 l.trace));
 }

@@ -17,7 +17,8 @@ loop-frame-preserved c = (
   record {
     plan = c.in-Ok.ensures.plan ∙ c.loop-frame.invariant.2.plan;
     going = c.in-Ok.ensures.going.1;
-    ran = entering_next c.args.network.now.plan c.loop-frame.network c.enter.new.self (ran c.args.network.now.plan (seen c.args.network.now) c.args.network.now.trace (entering c.args.circuit c.args.frames))
+    ran = entering_next c.args.network.now.plan c.loop-frame.network c.enter.new.self
+        (ran c.args.network.now.plan (seen c.args.network.now) c.args.network.now.trace (entering c.args.circuit c.args.frames))
         c.args.circuit c.in-Some.frame c.loop-frame.frame-iterator.rest.items c.next.new.self.rest.items c.in-Some.ensures.steps.0 c.loop-frame.invariant.2.plan c.loop-frame.invariant.2.ran (ran_one c.loop-frame.network.plan c.loop-frame.network c.enter.new.self (Frame c.args.circuit c.in-Some.frame) c.in-Ok.ensures.within c.in-Ok.ensures.state c.in-Ok.ensures.told);
     short = All-rest IsFrame c.in-Some.frame c.next.new.self.rest.items c.loop-frame.frame-iterator.rest.items c.in-Some.ensures.steps.0 c.loop-frame.invariant.2.short;
   },

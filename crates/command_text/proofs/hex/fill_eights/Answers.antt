@@ -16,7 +16,8 @@ filling-preserved c =
     let octets = c.eight-are.result.0 in
     let same : length c.put_eight.new.room ≡ length room = ap (λ (l : List ℕ). length l) c.put_eight.ensures ∙ length-put_chunk at room octets in (
       ap (λ (r : List ℕ). filled c.args.digits.now r (at + 8) (c.filling.all && c.eight-are.result.1)) c.put_eight.ensures
-          ∙ filled_eight c.args.digits.now room octets at c.filling.all c.eight-are.result.1 (omega arith) c.filling.invariant.3 c.eight-are.ensures.size (ap unhex (sym c.sixteen_at.ensures) ∙ c.eight-are.ensures.octets) c.filling.invariant.0,
+          ∙ filled_eight c.args.digits.now room octets at c.filling.all c.eight-are.result.1 (omega arith) c.filling.invariant.3 c.eight-are.ensures.size
+          (ap unhex (sym c.sixteen_at.ensures) ∙ c.eight-are.ensures.octets) c.filling.invariant.0,
       omega (arith, same),
       omega (arith, same),
       omega (arith, same, c.filling.invariant.3),

@@ -5,7 +5,8 @@ use Rattle.command_text.proofs.HexLemmas.{filled}
 use Rattle.command_text.proofs.hex.fill_eights.Given as goal
 
 abbrev pub invariant-filling : goal.invariant-filling
-invariant-filling l = (filled l.digits l.room l.at l.all ≡ unhex l.digits) × (l.at ≤ length l.room) × ((length l.room - l.at) % 8 ≡ 0) × (length l.digits ≡ 2 * length l.room) × (length l.room ≡ length l.fn.room)
+invariant-filling l = (filled l.digits l.room l.at l.all ≡ unhex l.digits) × (l.at ≤ length l.room) × ((length l.room - l.at) % 8 ≡ 0) × (length l.digits ≡ 2 * length l.room)
+    × (length l.room ≡ length l.fn.room)
 
 abbrev pub decreases-filling : goal.decreases-filling
 decreases-filling l = length l.room - l.at

@@ -18,14 +18,16 @@ loop-one-preserved c = elim c.if-is_free.branch [
       let n : Reverse ℕ = record { 0 = w.number.result } in
       let pushed : IsPermutation (n ∷ heap_items c.loop-one.free) (heap_items w.push.new.self) = search rules in
       let heap : IsHeap (λ x y. nat_cmp y.0 x.0) (heap_items w.push.new.self) = search rules in
-      let labels : All (λ m. IsLabel m.0) (heap_items w.push.new.self) = All-permutation (λ m. IsLabel m.0) _ _ pushed (All-cons (λ m. IsLabel m.0) n (heap_items c.loop-one.free) (search rules) so_far.1) in
+      let labels : All (λ m. IsLabel m.0) (heap_items w.push.new.self) =
+      All-permutation (λ m. IsLabel m.0) _ _ pushed (All-cons (λ m. IsLabel m.0) n (heap_items c.loop-one.free) (search rules) so_far.1) in
       let free : is_free c.one-item.result ≡ true = search rules in
       let long : heap_len w.push.new.self ≡ heap_len c.loop-one.free + 1 = search rules in
       let room : heap_capacity c.loop-one.free ≤ heap_capacity w.push.new.self = search rules in
       rw w.free-is (
         heap,
         labels,
-        freed_more (map freed_number (heap_items c.args.free.now)) c.args.kept.now c.loop-one.one-index c.one-item.result n (heap_items c.loop-one.free) (heap_items w.push.new.self) c.loop-one-test.true c.one-item.is free (search rules) so_far.2 pushed,
+        freed_more (map freed_number (heap_items c.args.free.now)) c.args.kept.now c.loop-one.one-index c.one-item.result n (heap_items c.loop-one.free)
+            (heap_items w.push.new.self) c.loop-one-test.true c.one-item.is free (search rules) so_far.2 pushed,
         omega (arith, long, room, so_far.3),
         omega (arith, room, so_far.4),
       ))
@@ -35,7 +37,8 @@ loop-one-preserved c = elim c.if-is_free.branch [
       rw w.free-is (
         so_far.0,
         so_far.1,
-        freed_same (map freed_number (heap_items c.args.free.now)) c.args.kept.now c.loop-one.one-index c.one-item.result (heap_items c.loop-one.free) c.loop-one-test.true c.one-item.is other so_far.2,
+        freed_same (map freed_number (heap_items c.args.free.now)) c.args.kept.now c.loop-one.one-index c.one-item.result
+            (heap_items c.loop-one.free) c.loop-one-test.true c.one-item.is other so_far.2,
         omega (arith, so_far.3),
         so_far.4,
       ))

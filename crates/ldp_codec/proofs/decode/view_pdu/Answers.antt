@@ -20,4 +20,5 @@ returns-in-Err-clause-accepts c = λ pdu is. absurd (never_both (c.args.front.no
 
 pub returns-in-Err-clause-refuses : goal.returns-in-Err-clause-refuses
 unfolding joined
-returns-in-Err-clause-refuses c = λ fault is. ap Err (c.from.ensures ∙ ap refusal_of (one_first (Names (c.args.front.now ++ c.args.back.now) c.args.max) c.in-Err.fault fault c.in-Err.ensures.fault is))
+returns-in-Err-clause-refuses c = λ fault is. ap Err
+    (c.from.ensures ∙ ap refusal_of (one_first (Names (c.args.front.now ++ c.args.back.now) c.args.max) c.in-Err.fault fault c.in-Err.ensures.fault is))

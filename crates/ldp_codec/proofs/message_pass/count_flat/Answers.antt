@@ -14,5 +14,6 @@ passing-preserved c =
 pub returns-in-Err-clause-fault : goal.returns-in-Err-clause-fault
 returns-in-Err-clause-fault c =
     let body = c.args.body.now in
-    let faults : (before : List Spelling) → IsFirstMessageFault before (drop c.passing.at body) c.in-Err.fault = λ before. subst (λ (l : List ℕ). IsFirstMessageFault before l c.in-Err.fault) c.split_at.ensures.back (c.in-Err.ensures.fault before) in
+    let faults : (before : List Spelling) → IsFirstMessageFault before (drop c.passing.at body) c.in-Err.fault =
+    λ before. subst (λ (l : List ℕ). IsFirstMessageFault before l c.in-Err.fault) c.split_at.ensures.back (c.in-Err.ensures.fault before) in
     subst (IsFirst (NamesMessages body)) (sym c.behind.ensures) (passes_fault body c.passing.at c.passing.count c.in-Err.fault c.passing.invariant faults)

@@ -13,4 +13,7 @@ returns g c =
     let head = c.tlv_header.ensures ∙ (λ i. two (c.word.ensures i) ++ two (c.size.ensures i)) in
     let first : IsPut old c.put-behind.new.out c.args.at (two word ++ two (length value)) = subst (IsPut old c.put-behind.new.out c.args.at) head c.put-behind.ensures.put in
     let next = c.put-behind.ensures.end ∙ ap (λ (l : List ℕ). c.args.at + length l) head in
-    record { put = put_one old c.put-behind.new.out c.put.new.out value word c.args.at c.put-behind.result c.put.result (omega (arith, c.requires.room)) next c.put.ensures.end first c.put.ensures.put }
+    record {
+      put = put_one old c.put-behind.new.out c.put.new.out value word c.args.at c.put-behind.result c.put.result
+          (omega (arith, c.requires.room)) next c.put.ensures.end first c.put.ensures.put;
+    }

@@ -10,7 +10,8 @@ pub returns-in-Some-clause-numbers : goal.returns-in-Some-clause-numbers
 returns-in-Some-clause-numbers c =
     let is : c.insert.new.self.entries ≡ insert_entry nat_eq c.args.ticks.now.entries c.args.tick (c.in-Some.number - 1) = search rules in
     let found : lookup (nat_eq c.args.tick) c.args.ticks.now.entries ≡ Some c.in-Some.number = search rules in
-    λ at. ap (tick_number at) is ∙ number_put at c.args.tick (c.in-Some.number - 1) c.args.ticks.now.entries ∙ number_less at c.args.tick c.in-Some.number (c.in-Some.number - 1) c.args.ticks.now.entries found refl
+    λ at. ap (tick_number at) is ∙ number_put at c.args.tick (c.in-Some.number - 1) c.args.ticks.now.entries
+    ∙ number_less at c.args.tick c.in-Some.number (c.in-Some.number - 1) c.args.ticks.now.entries found refl
 
 pub returns-in-Some-clause-rising : goal.returns-in-Some-clause-rising
 returns-in-Some-clause-rising c =

@@ -11,7 +11,8 @@ pub returns-then-number-gt1-clause-numbers : goal.returns-then-number-gt1-clause
 returns-then-number-gt1-clause-numbers c =
     let is : c.insert.new.self.entries ≡ insert_entry nat_eq c.args.ticks.now.entries c.args.tick (c.in-Some.number - 1) = search rules in
     let found : lookup (nat_eq c.args.tick) c.args.ticks.now.entries ≡ Some c.in-Some.number = search rules in
-    λ rising at. ap (tick_number at) is ∙ number_put at c.args.tick (c.in-Some.number - 1) c.args.ticks.now.entries ∙ number_less at c.args.tick c.in-Some.number (c.in-Some.number - 1) c.args.ticks.now.entries found (omega arith)
+    λ rising at. ap (tick_number at) is ∙ number_put at c.args.tick (c.in-Some.number - 1) c.args.ticks.now.entries
+    ∙ number_less at c.args.tick c.in-Some.number (c.in-Some.number - 1) c.args.ticks.now.entries found (omega arith)
 
 pub returns-then-number-gt1-clause-rising : goal.returns-then-number-gt1-clause-rising
 returns-then-number-gt1-clause-rising c =

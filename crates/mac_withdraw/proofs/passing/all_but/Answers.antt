@@ -16,4 +16,5 @@ loop-port-preserved c = elim c.if-is_passed.branch [
 ]
 
 pub returns : goal.returns
-returns c = all_passed c.args.ports.now c.args.from c.loop-port.port (has c.loop-port.passed) (subst (λ (n : ℕ). n ≤ c.loop-port.port) c.len-port-end.ensures.len c.loop-port-test.false) c.loop-port.invariant
+returns c = all_passed c.args.ports.now c.args.from c.loop-port.port (has c.loop-port.passed)
+    (subst (λ (n : ℕ). n ≤ c.loop-port.port) c.len-port-end.ensures.len c.loop-port-test.false) c.loop-port.invariant

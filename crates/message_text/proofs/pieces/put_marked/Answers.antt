@@ -15,4 +15,5 @@ pub loop-number-init : goal.loop-number-init
 loop-number-init c = refl
 
 pub returns : goal.returns
-returns c = all_told (λ (numbers : List ℕ). marked c.args.mark.now (map decimal numbers)) refl c.args.numbers.now c.loop-number.number-index c.loop-number.text.items _ c.loop-number-test.false c.loop-number.invariant
+returns c = all_told (λ (numbers : List ℕ). marked c.args.mark.now
+    (map decimal numbers)) refl c.args.numbers.now c.loop-number.number-index c.loop-number.text.items _ c.loop-number-test.false c.loop-number.invariant

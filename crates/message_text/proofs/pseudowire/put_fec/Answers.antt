@@ -15,5 +15,6 @@ returns c =
     let p = fec.params in
     let first = both_told begun c.put_mtu.new.text.items c.put_description.new.text.items (mtu_words p.mtu) (description_words p.description) c.in_ok-put_mtu.ensures c.in_ok-put_description.ensures in
     let second = both_told begun c.put_description.new.text.items c.put_vlan.new.text.items (mtu_words p.mtu ++ description_words p.description) (vlan_words p.vlan) first c.in_ok-put_vlan.ensures in
-    on_ok_weaker c.put_vccv.result (λ told. both_told begun c.put_vlan.new.text.items c.put_vccv.new.text.items ((mtu_words p.mtu ++ description_words p.description) ++ vlan_words p.vlan) (vccv_words p.vccv) second told
+    on_ok_weaker c.put_vccv.result (λ told. both_told begun c.put_vlan.new.text.items c.put_vccv.new.text.items
+    ((mtu_words p.mtu ++ description_words p.description) ++ vlan_words p.vlan) (vccv_words p.vccv) second told
     ∙ (ap (λ (text : List ℕ). text ++ spaced (params_words p)) c.in_ok-put_element.ensures ∙ append_assoc old (codes " " ++ element_word fec) (spaced (params_words p)))) c.put_vccv.ensures

@@ -7,7 +7,8 @@ use Rattle.pw_tlvs.proofs.fec_writing.put_parameters.Goals as goal
 pub returns-clause-octets : goal.returns-clause-octets
 returns-clause-octets c =
     let p = c.args.params.now in
-    added_four c.args.out.now (mtu_octets p) (description_octets p) (vlan_octets p) (vccv_octets p) c.put_pair-first.new.out c.put_description-second.new.out c.put_pair-third.new.out c.put_vccv.new.out
+    added_four c.args.out.now (mtu_octets p) (description_octets p) (vlan_octets p)
+    (vccv_octets p) c.put_pair-first.new.out c.put_description-second.new.out c.put_pair-third.new.out c.put_vccv.new.out
     c.args.at c.put_pair-first.result c.put_description-second.result c.put_pair-third.result c.put_vccv.result (omega (arith, c.requires))
     c.put_pair-first.ensures.end c.put_pair-first.ensures.octets c.put_description-second.ensures.end c.put_description-second.ensures.octets
     c.put_pair-third.ensures.end c.put_pair-third.ensures.octets c.put_vccv.ensures.end c.put_vccv.ensures.octets

@@ -12,6 +12,7 @@ loop-mac-preserved c =
     let same = c.as_slice-mac-items.ensures in
     let mac = get_or c.as_slice-mac-items.result.now i no_mac in
     let more : take (i + 1) c.args.list.now ≡ take i c.args.list.now ++ mac ∷ [] =
-    take_more c.args.list.now i no_mac (subst (λ (l : List Mac). i < length l) same c.loop-mac-test.true) ∙ ap (λ (m : Mac). take i c.args.list.now ++ m ∷ []) (ap (λ (l : List Mac). get_or l i no_mac) (sym same)) in
+    take_more c.args.list.now i no_mac (subst (λ (l : List Mac). i < length l) same c.loop-mac-test.true)
+    ∙ ap (λ (m : Mac). take i c.args.list.now ++ m ∷ []) (ap (λ (l : List Mac). get_or l i no_mac) (sym same)) in
     subst (λ (l : List Mac). AreWritten l (i + 1) c.put_mac-at.result c.args.out.now c.put_mac-at.new.out) (sym more)
     (written_more (take i c.args.list.now) mac i c.loop-mac.at c.put_mac-at.result c.args.out.now c.loop-mac.out c.put_mac-at.new.out c.loop-mac.invariant c.put_mac-at.ensures.whole c.put_mac-at.ensures.end c.put_mac-at.ensures.octets)

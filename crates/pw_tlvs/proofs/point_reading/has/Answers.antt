@@ -13,7 +13,9 @@ returns-in-1 c = λ subs says.
     stood_by SwitchingPointPart 0x01 c.args.kind subs c.is_some.result c.in-1.is (c.is_some.ensures ∙ (ap is_some says.pw_id ∙ is_some_map (λ (value : List ℕ). big_number 4 value) (said 0x01 subs)))
 
 pub returns-in-3 : goal.returns-in-3
-returns-in-3 c = λ subs says. stood_by SwitchingPointPart 0x03 c.args.kind subs c.is_some-in-3.result c.in-3.is (c.is_some-in-3.ensures ∙ (ap is_some says.local ∙ is_some_map address_of (said 0x03 subs)))
+returns-in-3 c = λ subs says. stood_by SwitchingPointPart 0x03 c.args.kind subs c.is_some-in-3.result c.in-3.is
+    (c.is_some-in-3.ensures ∙ (ap is_some says.local ∙ is_some_map address_of (said 0x03 subs)))
 
 pub returns-in-4 : goal.returns-in-4
-returns-in-4 c = λ subs says. stood_by SwitchingPointPart 0x04 c.args.kind subs c.is_some-in-4.result c.in-4.is (c.is_some-in-4.ensures ∙ (ap is_some says.remote ∙ is_some_map address_of (said 0x04 subs)))
+returns-in-4 c = λ subs says. stood_by SwitchingPointPart 0x04 c.args.kind subs c.is_some-in-4.result c.in-4.is
+    (c.is_some-in-4.ensures ∙ (ap is_some says.remote ∙ is_some_map address_of (said 0x04 subs)))

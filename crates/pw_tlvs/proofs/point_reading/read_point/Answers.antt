@@ -6,7 +6,8 @@ use Rattle.pw_tlvs.proofs.ExactLemmas.{exact_ok, exact_err, err_of_named}
 use Rattle.pw_tlvs.proofs.point_reading.read_point.Goals as goal
 
 pub returns-clause-value : goal.returns-clause-value
-returns-clause-value c = exact_ok (IsPoint c.args.value.now) (IsPointFault c.args.value.now) (one_point c.args.value.now) (never_point c.args.value.now) c.point_of.result c.point_of.ensures.ok c.point_of.ensures.fault
+returns-clause-value c = exact_ok (IsPoint c.args.value.now) (IsPointFault c.args.value.now) (one_point c.args.value.now)
+    (never_point c.args.value.now) c.point_of.result c.point_of.ensures.ok c.point_of.ensures.fault
 
 pub returns-clause-fault : goal.returns-clause-fault
 returns-clause-fault c = exact_err (IsPoint c.args.value.now) (IsPointFault c.args.value.now) (never_point c.args.value.now) c.point_of.result c.point_of.ensures.ok c.point_of.ensures.fault

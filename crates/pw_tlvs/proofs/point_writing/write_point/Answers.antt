@@ -12,7 +12,9 @@ returns-clause-octets c =
     let b = local_octets p in
     let d = remote_octets p in
     let one = added_behind base [] a base c.put_number-first.new.out 0 c.put_number-first.result refl refl c.put_number-first.ensures.end c.put_number-first.ensures.octets in
-    let two = added_behind base a b c.put_number-first.new.out c.put_address-second.new.out c.put_number-first.result c.put_address-second.result one (omega (arith, c.put_number-first.ensures.end)) c.put_address-second.ensures.end c.put_address-second.ensures.octets in
+    let two = added_behind base a b c.put_number-first.new.out c.put_address-second.new.out c.put_number-first.result c.put_address-second.result one
+    (omega (arith, c.put_number-first.ensures.end)) c.put_address-second.ensures.end c.put_address-second.ensures.octets in
     let parts = length-append a b in
-    let three = added_behind base (a ++ b) d c.put_address-second.new.out c.put_address.new.out c.put_address-second.result c.put_address.result two (omega (arith, c.put_number-first.ensures.end, c.put_address-second.ensures.end, parts)) c.put_address.ensures.end c.put_address.ensures.octets in
+    let three = added_behind base (a ++ b) d c.put_address-second.new.out c.put_address.new.out c.put_address-second.result c.put_address.result two
+    (omega (arith, c.put_number-first.ensures.end, c.put_address-second.ensures.end, parts)) c.put_address.ensures.end c.put_address.ensures.octets in
     three ∙ ap (λ (l : List ℕ). l ++ drop c.put_address.result base) (sym (point_parts p))

@@ -7,4 +7,5 @@ use Rattle.pw_tlvs.proofs.sub_tlv.fault_at.Goals as goal
 
 pub returns-then-rest-eq1-clause-first : goal.returns-then-rest-eq1-clause-first
 returns-then-rest-eq1-clause-first c = λ before stood.
-    subst (λ (f : FieldFault). IsFirstWrong c.args.registry before c.args.rest.now c.args.place.at f) (sym c.lone_fault.ensures) (lone_first c.args.registry before c.args.rest.now c.args.place.at c.if-rest-eq1.true)
+    subst (λ (f : FieldFault). IsFirstWrong c.args.registry before c.args.rest.now c.args.place.at f) (sym c.lone_fault.ensures)
+    (lone_first c.args.registry before c.args.rest.now c.args.place.at c.if-rest-eq1.true)

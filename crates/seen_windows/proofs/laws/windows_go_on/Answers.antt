@@ -2,4 +2,7 @@ use Rattle.seen_windows.proofs.PastLemmas.{still_open, still_owed}
 use Rattle.seen_windows.proofs.laws.windows_go_on.Goals as goal
 
 pub returns : goal.returns
-returns c = λ plan done event rest bare found lasting owed lasting2 owed2 are_open are_owed is_opened passed. (still_open plan done event rest bare found lasting owed lasting2 owed2 are_open are_owed is_opened passed, still_owed plan done event rest bare found lasting owed lasting2 owed2 are_open are_owed is_opened passed)
+returns c = λ plan done event rest bare found lasting owed lasting2 owed2 are_open are_owed is_opened passed. (
+  still_open plan done event rest bare found lasting owed lasting2 owed2 are_open are_owed is_opened passed,
+  still_owed plan done event rest bare found lasting owed lasting2 owed2 are_open are_owed is_opened passed,
+)

@@ -19,7 +19,8 @@ pub loop-place-preserved : goal.loop-place-preserved
 loop-place-preserved c =
     let within : c.loop-place.place < length c.args.lines.now = omega (arith, c.loop-place-test.true) in
     let line : SwitchLine = slice_index_or c.args.lines.now c.loop-place.place (Connect (record { 0 = 0 }) (record { 0 = 0 })) in
-    more_played c.args.plan.now c.args.lines.now c.loop-place.place line c.loop-place.network c.line.new.self c.loop-place.told c.push.new.self c.in_ok-line.field-0 within (get_or_default c.args.lines.now c.loop-place.place (Connect (record { 0 = 0 }) (record { 0 = 0 })) line within) c.in_ok-line.ensures.plan
+    more_played c.args.plan.now c.args.lines.now c.loop-place.place line c.loop-place.network c.line.new.self c.loop-place.told c.push.new.self c.in_ok-line.field-0 within
+    (get_or_default c.args.lines.now c.loop-place.place (Connect (record { 0 = 0 }) (record { 0 = 0 })) line within) c.in_ok-line.ensures.plan
     c.in_ok-line.ensures.reached c.in_ok-line.ensures.state c.in_ok-line.ensures.entries c.in_ok-push.ensures.ok c.loop-place.invariant
 
 pub returns-clause-agrees : goal.returns-clause-agrees

@@ -11,7 +11,8 @@ unfolding edge_text
 returns-in-Err g c =
     let edge = c.args.edge.now in
     cut_first _ _ (edge_line edge.plan edge.me (seen edge))
-    (session_lines edge.plan edge.me (seen edge) 0 edge.plan.edges ++ (end_lines edge.plan (seen edge) (end_places edge.plan edge.me) ++ service_lines edge.plan edge.me (seen edge) 0 edge.plan.services))
+    (session_lines edge.plan edge.me (seen edge) 0 edge.plan.edges
+    ++ (end_lines edge.plan (seen edge) (end_places edge.plan edge.me) ++ service_lines edge.plan edge.me (seen edge) 0 edge.plan.services))
     (rw c.words.ensures at c.in-Err.ensures)
 
 pub returns-in-Err-put_sessions : goal.returns-in-Err-put_sessions
@@ -29,7 +30,8 @@ returns-in-Ok g c =
     let edge = c.args.edge.now in
     let ends = end_lines edge.plan (seen edge) (end_places edge.plan edge.me) in
     let services = service_lines edge.plan edge.me (seen edge) 0 edge.plan.services in
-    puts_two c.put_addresses.result _ _ _ (edge_line edge.plan edge.me (seen edge)) (session_lines edge.plan edge.me (seen edge) 0 edge.plan.edges ++ (ends ++ services)) (rw c.words.ensures at c.in_default.ensures)
+    puts_two c.put_addresses.result _ _ _ (edge_line edge.plan edge.me (seen edge)) (session_lines edge.plan edge.me (seen edge) 0 edge.plan.edges ++ (ends ++ services))
+    (rw c.words.ensures at c.in_default.ensures)
     (puts_two c.put_addresses.result _ _ _ (session_lines edge.plan edge.me (seen edge) 0 edge.plan.edges) (ends ++ services) c.in_default-put_sessions.ensures
     (puts_two c.put_addresses.result _ _ _ ends services c.in-Ok.ensures c.put_addresses.ensures))
 

@@ -6,4 +6,5 @@ use Rattle.text_lines.proofs.WrittenLemmas.{Putting}
 use Rattle.tables_text.proofs.sessions.put_sessions.Given as goal
 
 abbrev pub invariant-loop-place : goal.invariant-loop-place
-invariant-loop-place g l = Putting (written (g.K.Sink.taken l.fn.sink) (g.K.Sink.faults l.fn.sink) l.fn.page) (written (g.K.Sink.taken l.sink) (g.K.Sink.faults l.sink) l.page) (session_lines l.edge.plan l.edge.me (seen l.edge) l.place (drop l.place l.edge.plan.edges)) (session_lines l.edge.plan l.edge.me (seen l.edge) 0 l.edge.plan.edges)
+invariant-loop-place g l = Putting (written (g.K.Sink.taken l.fn.sink) (g.K.Sink.faults l.fn.sink) l.fn.page) (written (g.K.Sink.taken l.sink) (g.K.Sink.faults l.sink) l.page)
+    (session_lines l.edge.plan l.edge.me (seen l.edge) l.place (drop l.place l.edge.plan.edges)) (session_lines l.edge.plan l.edge.me (seen l.edge) 0 l.edge.plan.edges)

@@ -6,7 +6,8 @@ use Rattle.text_pieces.proofs.hexadecimal.sixteen.Goals as goal
 pub writing-preserved : goal.writing-preserved
 writing-preserved c = record {
   size = search rules;
-  told = encode_step lower_digits c.args.eight.now c.writing.digits c.writing.i _ _ (omega arith) (omega (arith, c.writing.invariant.size)) c.digit.ensures c.digit-in-writing.ensures c.writing.invariant.told;
+  told = encode_step lower_digits c.args.eight.now c.writing.digits c.writing.i _ _ (omega arith)
+      (omega (arith, c.writing.invariant.size)) c.digit.ensures c.digit-in-writing.ensures c.writing.invariant.told;
 }
 
 pub returns : goal.returns

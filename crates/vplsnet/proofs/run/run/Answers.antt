@@ -17,23 +17,27 @@ returns-in-Decode-clause-complete g c =
 pub returns-in-Migrate-clause-complete : goal.returns-in-Migrate-clause-complete
 returns-in-Migrate-clause-complete g c =
     let here : Around = around g.F.Shelf.files g.F.Shelf.faults g.K.Sink.taken g.K.Sink.faults c.args.shelf.now c.args.sink.now c.migrate_file.new.shelf c.migrate_file.new.sink in
-    completes_by here (Migrate c.in-Migrate.file.now) (asked (map string_bytes c.args.words.now)) c.migrate_file.result.network c.migrate_file.result.outcome (search rules) c.migrate_file.ensures.answers
+    completes_by here (Migrate c.in-Migrate.file.now) (asked (map string_bytes c.args.words.now)) c.migrate_file.result.network c.migrate_file.result.outcome
+    (search rules) c.migrate_file.ensures.answers
 
 pub returns-in-Discover-clause-complete : goal.returns-in-Discover-clause-complete
 returns-in-Discover-clause-complete g c =
     let here : Around = around g.F.Shelf.files g.F.Shelf.faults g.K.Sink.taken g.K.Sink.faults c.args.shelf.now c.args.sink.now c.discover_files.new.shelf c.discover_files.new.sink in
-    completes_by here (Discover c.in-Discover.file.now c.in-Discover.script.now) (asked (map string_bytes c.args.words.now)) c.discover_files.result.network c.discover_files.result.outcome (search rules)
+    completes_by here (Discover c.in-Discover.file.now c.in-Discover.script.now)
+    (asked (map string_bytes c.args.words.now)) c.discover_files.result.network c.discover_files.result.outcome (search rules)
     c.discover_files.ensures.answers
 
 pub returns-in-Switchover-clause-complete : goal.returns-in-Switchover-clause-complete
 returns-in-Switchover-clause-complete g c =
     let here : Around = around g.F.Shelf.files g.F.Shelf.faults g.K.Sink.taken g.K.Sink.faults c.args.shelf.now c.args.sink.now c.switchover_files.new.shelf c.switchover_files.new.sink in
-    completes_by here (Switchover c.in-Switchover.file.now c.in-Switchover.script.now) (asked (map string_bytes c.args.words.now)) c.switchover_files.result.network c.switchover_files.result.outcome (search rules)
+    completes_by here (Switchover c.in-Switchover.file.now c.in-Switchover.script.now)
+    (asked (map string_bytes c.args.words.now)) c.switchover_files.result.network c.switchover_files.result.outcome (search rules)
     c.switchover_files.ensures.answers
 
 pub returns-in-Switchover-clause-reads : goal.returns-in-Switchover-clause-reads
 returns-in-Switchover-clause-reads g c =
-    asked_reads (g.F.Shelf.files c.args.shelf.now) (Switchover c.in-Switchover.file.now c.in-Switchover.script.now) (asked (map string_bytes c.args.words.now)) (g.F.Shelf.reads c.args.shelf.now) (g.F.Shelf.reads c.switchover_files.new.shelf) (search rules) c.switchover_files.ensures.reads
+    asked_reads (g.F.Shelf.files c.args.shelf.now) (Switchover c.in-Switchover.file.now c.in-Switchover.script.now) (asked (map string_bytes c.args.words.now))
+    (g.F.Shelf.reads c.args.shelf.now) (g.F.Shelf.reads c.switchover_files.new.shelf) (search rules) c.switchover_files.ensures.reads
 
 pub returns-in-Audit-clause-complete : goal.returns-in-Audit-clause-complete
 returns-in-Audit-clause-complete g c =
@@ -43,7 +47,8 @@ returns-in-Audit-clause-complete g c =
 
 pub returns-in-Audit-clause-reads : goal.returns-in-Audit-clause-reads
 returns-in-Audit-clause-reads g c =
-    asked_reads (g.F.Shelf.files c.args.shelf.now) (Audit c.in-Audit.file.now c.in-Audit.report.now) (asked (map string_bytes c.args.words.now)) (g.F.Shelf.reads c.args.shelf.now) (g.F.Shelf.reads c.audit_files.new.shelf) (search rules) c.audit_files.ensures.reads
+    asked_reads (g.F.Shelf.files c.args.shelf.now) (Audit c.in-Audit.file.now c.in-Audit.report.now) (asked (map string_bytes c.args.words.now)) (g.F.Shelf.reads c.args.shelf.now)
+    (g.F.Shelf.reads c.audit_files.new.shelf) (search rules) c.audit_files.ensures.reads
 
 pub returns-in-Ok : goal.returns-in-Ok
 returns-in-Ok g c =
@@ -64,7 +69,8 @@ returns-in-Err g c =
     let here : Around = around g.F.Shelf.files g.F.Shelf.faults g.K.Sink.taken g.K.Sink.faults c.args.shelf.now c.args.sink.now c.work_of.new.shelf c.args.sink.now in
     let says : SaysOutcome here (asked_by c.in-Some.request) c.without_run-in-Err.result.network c.without_run-in-Err.result.outcome =
     subst (λ (o : Outcome). SaysOutcome here (asked_by c.in-Some.request) c.without_run-in-Err.result.network o) (sym c.without_run-in-Err.ensures.outcome)
-    (refused_answers here (asked_by c.in-Some.request) c.without_run-in-Err.result.network c.in-Err.outcome c.in-Err.ensures.refused (record { taken = refl; no_run = c.without_run-in-Err.ensures.network })) in
+    (refused_answers here (asked_by c.in-Some.request) c.without_run-in-Err.result.network c.in-Err.outcome c.in-Err.ensures.refused
+    (record { taken = refl; no_run = c.without_run-in-Err.ensures.network })) in
     record {
       status = c.without_run-in-Err.ensures.status ∙ ap status_of (sym c.without_run-in-Err.ensures.outcome);
       usage = usage_by here _ _ c.without_run-in-Err.result.network _ c.in-Some.ensures says;

@@ -15,7 +15,8 @@ invariant-loop-command l =
     × record {
       plan : l.network.plan ≡ l.fn.work.scenario.plan;
       going : l.network.failed ≡ false;
-      ran : ran l.fn.work.scenario.plan (seen l.network) l.network.trace (made l.fn.work.scenario.plan (seen l.network) l.captures l.command-iterator.rest.items) ≡ whole_run l.fn.work.scenario l.fn.work.captures;
+      ran : ran l.fn.work.scenario.plan (seen l.network) l.network.trace (made l.fn.work.scenario.plan (seen l.network) l.captures l.command-iterator.rest.items)
+          ≡ whole_run l.fn.work.scenario l.fn.work.captures;
       planned : All (IsPlanned l.fn.work.scenario.plan) l.command-iterator.rest.items;
       short : All (All IsFrame) l.captures;
     }

@@ -11,9 +11,12 @@ use Rattle.discovery_net.proofs.discovery_net.DiscoveryNet.age.Goals.{then-conta
 pub returns-in_err-take_down-clause-downs : goal.returns-in_err-take_down-clause-downs
 returns-in_err-take_down-clause-downs c = λ histories are.
     let p = err_from_is_err_and c.from_residual.result c.from_residual.ensures.1 in
-    rw (p.1, p.2) (taken_stopped (λ p. slice_index_or c.tick-lapsed.result p false) (ends_by_tick (histories c.args.edge.0)) c.args.edge (record { 0 = c.loop-place.place }) (length c.args.self.now.network.plan.edges) c.loop-place.place
-    c.args.self.now c.loop-place.self c.take_down.new.self c.in_err-take_down.field-0.0 (omega (arith, c.loop-place-test.true, c.count-place-end.ensures.count, ap (λ (n : DiscoveryLists). length n.network.plan.edges) c.self.view_is)) refl (sym c.contains.ensures ∙ c.if-contains.true)
-    (λ p below. c.tick-lapsed.ensures.lapsed histories p (subst (λ (n : DiscoveryLists). AreAfter histories n.adjacencies) (sym c.self.view_is) are) (omega (arith, below, c.self.invariant.edges.count, ap (λ (n : DiscoveryLists). length n.network.plan.edges) c.self.view_is))) c.loop-place.invariant.taken c.in_err-take_down.ensures.downs)
+    rw (p.1, p.2) (taken_stopped (λ p. slice_index_or c.tick-lapsed.result p false) (ends_by_tick (histories c.args.edge.0)) c.args.edge (record { 0 = c.loop-place.place })
+    (length c.args.self.now.network.plan.edges) c.loop-place.place
+    c.args.self.now c.loop-place.self c.take_down.new.self c.in_err-take_down.field-0.0
+    (omega (arith, c.loop-place-test.true, c.count-place-end.ensures.count, ap (λ (n : DiscoveryLists). length n.network.plan.edges) c.self.view_is)) refl (sym c.contains.ensures ∙ c.if-contains.true)
+    (λ p below. c.tick-lapsed.ensures.lapsed histories p (subst (λ (n : DiscoveryLists). AreAfter histories n.adjacencies) (sym c.self.view_is) are)
+    (omega (arith, below, c.self.invariant.edges.count, ap (λ (n : DiscoveryLists). length n.network.plan.edges) c.self.view_is))) c.loop-place.invariant.taken c.in_err-take_down.ensures.downs)
 
 pub loop-place-preserved : goal.loop-place-preserved
 loop-place-preserved c = elim c.if-contains.branch [
@@ -21,9 +24,12 @@ loop-place-preserved c = elim c.if-contains.branch [
     plan = w.in_ok-take_down.ensures.plan ∙ c.loop-place.invariant.plan;
     going = w.in_ok-take_down.ensures.going;
     hellos = w.in_ok-take_down.ensures.hellos ∙ c.loop-place.invariant.hellos;
-    histories = λ histories are. subst (λ (all : List AdjacencyLists). AreAfter (with_deed c.args.edge ticked histories) all) (sym w.in_ok-take_down.ensures.adjacencies) (c.loop-place.invariant.histories histories are);
+    histories = λ histories are. subst (λ (all : List AdjacencyLists). AreAfter (with_deed c.args.edge ticked histories) all) (sym w.in_ok-take_down.ensures.adjacencies)
+        (c.loop-place.invariant.histories histories are);
     taken = taken_next (λ p. slice_index_or c.tick-lapsed.result p false) c.args.edge (record { 0 = c.loop-place.place }) (length c.args.self.now.network.plan.edges) c.loop-place.place
-        c.args.self.now c.loop-place.self w.take_down.new.self (omega (arith, c.loop-place-test.true, c.count-place-end.ensures.count, ap (λ (n : DiscoveryLists). length n.network.plan.edges) c.self.view_is)) refl (sym c.contains.ensures ∙ w.if-contains.true) c.loop-place.invariant.taken w.in_ok-take_down.ensures.downs;
+        c.args.self.now c.loop-place.self w.take_down.new.self
+        (omega (arith, c.loop-place-test.true, c.count-place-end.ensures.count, ap (λ (n : DiscoveryLists). length n.network.plan.edges) c.self.view_is)) refl
+        (sym c.contains.ensures ∙ w.if-contains.true) c.loop-place.invariant.taken w.in_ok-take_down.ensures.downs;
   })
   | else-contains w ↦ rw w.self-is (record {
     plan = c.loop-place.invariant.plan;
@@ -31,11 +37,15 @@ loop-place-preserved c = elim c.if-contains.branch [
     hellos = c.loop-place.invariant.hellos;
     histories = c.loop-place.invariant.histories;
     taken = taken_passed (λ p. slice_index_or c.tick-lapsed.result p false) c.args.edge (length c.args.self.now.network.plan.edges) c.loop-place.place c.args.self.now c.loop-place.self
-        (omega (arith, c.loop-place-test.true, c.count-place-end.ensures.count, ap (λ (n : DiscoveryLists). length n.network.plan.edges) c.self.view_is)) (sym c.contains.ensures ∙ w.if-contains.false) c.loop-place.invariant.taken;
+        (omega (arith, c.loop-place-test.true, c.count-place-end.ensures.count, ap (λ (n : DiscoveryLists). length n.network.plan.edges) c.self.view_is))
+        (sym c.contains.ensures ∙ w.if-contains.false) c.loop-place.invariant.taken;
   })
 ]
 
 pub returns-clause-downs : goal.returns-clause-downs
 returns-clause-downs c = λ histories are.
-    taken_all (λ p. slice_index_or c.tick-lapsed.result p false) (ends_by_tick (histories c.args.edge.0)) c.args.edge (length c.args.self.now.network.plan.edges) c.loop-place.place c.args.self.now c.loop-place.self
-    (omega (arith, c.loop-place-test.false, c.count-place-end.ensures.count, ap (λ (n : DiscoveryLists). length n.network.plan.edges) c.self.view_is)) (λ p below. c.tick-lapsed.ensures.lapsed histories p (subst (λ (n : DiscoveryLists). AreAfter histories n.adjacencies) (sym c.self.view_is) are) (omega (arith, below, c.self.invariant.edges.count, ap (λ (n : DiscoveryLists). length n.network.plan.edges) c.self.view_is))) c.loop-place.invariant.taken
+    taken_all (λ p. slice_index_or c.tick-lapsed.result p false) (ends_by_tick (histories c.args.edge.0)) c.args.edge
+    (length c.args.self.now.network.plan.edges) c.loop-place.place c.args.self.now c.loop-place.self
+    (omega (arith, c.loop-place-test.false, c.count-place-end.ensures.count, ap (λ (n : DiscoveryLists). length n.network.plan.edges) c.self.view_is))
+    (λ p below. c.tick-lapsed.ensures.lapsed histories p (subst (λ (n : DiscoveryLists). AreAfter histories n.adjacencies) (sym c.self.view_is) are)
+    (omega (arith, below, c.self.invariant.edges.count, ap (λ (n : DiscoveryLists). length n.network.plan.edges) c.self.view_is))) c.loop-place.invariant.taken

@@ -9,8 +9,10 @@ use Rattle.edge_forwarding.proofs.domain.Domain.close_wires.Goals as goal
 pub loop-port-preserved : goal.loop-port-preserved
 loop-port-preserved c = record {
   bridge = c.close.ensures.bridge ∙ c.loop-port.invariant.bridge;
-  forwarding = closed_next c.args.self.now.bridge.ports (has c.args.self.now.forwarding) (has c.loop-port.self.forwarding) (has c.close.new.self.forwarding) c.loop-port.port c.loop-port.invariant.forwarding
-      (λ p. c.close.ensures.forwarding p ∙ ap (λ (b : BridgeState). has c.loop-port.self.forwarding p && not (nat_eq p c.loop-port.port && is_wire (slice_get b.ports c.loop-port.port))) c.loop-port.invariant.bridge);
+  forwarding = closed_next c.args.self.now.bridge.ports (has c.args.self.now.forwarding) (has c.loop-port.self.forwarding)
+      (has c.close.new.self.forwarding) c.loop-port.port c.loop-port.invariant.forwarding
+      (λ p. c.close.ensures.forwarding p ∙ ap (λ (b : BridgeState). has c.loop-port.self.forwarding p && not
+      (nat_eq p c.loop-port.port && is_wire (slice_get b.ports c.loop-port.port))) c.loop-port.invariant.bridge);
 }
 
 pub returns : goal.returns

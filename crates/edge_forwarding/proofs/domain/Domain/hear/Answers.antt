@@ -6,4 +6,5 @@ use Rattle.edge_forwarding.proofs.domain.Domain.hear.Goals as goal
 pub returns-clause-targets : goal.returns-clause-targets
 returns-clause-targets c = λ p.
     c.decide.ensures.targets p
-    ∙ ap (λ (octets : List ℕ). is_target c.args.self.now.bridge.ports (has c.args.self.now.forwarding) c.args.arrival (known_port c.decide.new.self.entries (record { 0 = octets })) p) c.address_at-destination.ensures
+    ∙ ap (λ (octets : List ℕ). is_target c.args.self.now.bridge.ports (has c.args.self.now.forwarding) c.args.arrival
+    (known_port c.decide.new.self.entries (record { 0 = octets })) p) c.address_at-destination.ensures

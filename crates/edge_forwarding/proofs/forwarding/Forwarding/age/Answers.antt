@@ -14,12 +14,14 @@ change_all-requires c = none_later (the_view c.self.inside) c.self.invariant
 pub invariant_of-self : goal.invariant_of-self
 invariant_of-self c =
     let v : ForwardingLists = the_view c.self.inside in
-    let aged : c.change_all.new.domains.items ≡ map (aged_kept v.ticks) v.domains = all_mapped (aged_kept v.ticks) v.domains c.change_all.new.domains.items c.change_all.ensures.len c.change_all.ensures.each in
+    let aged : c.change_all.new.domains.items ≡ map (aged_kept v.ticks) v.domains =
+    all_mapped (aged_kept v.ticks) v.domains c.change_all.new.domains.items c.change_all.ensures.len c.change_all.ensures.each in
     subst (λ (domains : List (Option Domain)). IsForwarding (record v { domains = domains })) (sym aged) (aged_is v c.self.invariant)
 
 pub returns-clause-step : goal.returns-clause-step
 returns-clause-step c = λ edge.
     let v : ForwardingLists = the_view c.self.inside in
-    let aged : c.change_all.new.domains.items ≡ map (aged_kept v.ticks) v.domains = all_mapped (aged_kept v.ticks) v.domains c.change_all.new.domains.items c.change_all.ensures.len c.change_all.ensures.each in
+    let aged : c.change_all.new.domains.items ≡ map (aged_kept v.ticks) v.domains =
+    all_mapped (aged_kept v.ticks) v.domains c.change_all.new.domains.items c.change_all.ensures.len c.change_all.ensures.each in
     subst (λ (n : ForwardingLists). with_forwarding (record v { domains = c.change_all.new.domains.items }) edge ≡ forgetting n.plan (with_forwarding n edge)) c.self.view_is
     (ap (λ (domains : List (Option Domain)). with_forwarding (record v { domains = domains }) edge) aged ∙ aged_seen v edge c.self.invariant)

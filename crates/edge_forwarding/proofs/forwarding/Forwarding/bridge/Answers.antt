@@ -17,7 +17,8 @@ returns-in-Some-clause-none c =
     ap (λ (kept : List (Option Domain)). slice_get kept c.args.service.0) (sym c.deref.ensures.value)
     ∙ (slice_get_read c.deref.result.now (length c.deref.result.now) c.args.service.0 c.in_ok-domain.field-0.now refl within c.in_ok-domain.ensures.lookup.1
     ∙ ap (λ (kept : Option Domain). Some kept) c.in-Some.is) in
-    subst (λ (n : ForwardingLists). (true ≡ false → HasNone n c.args.service) × (HasNone n c.args.service → true ≡ false)) c.self.view_is (lent_some v c.args.service c.in-Some.domain c.self.invariant found)
+    subst (λ (n : ForwardingLists). (true ≡ false → HasNone n c.args.service) × (HasNone n c.args.service → true ≡ false)) c.self.view_is
+    (lent_some v c.args.service c.in-Some.domain c.self.invariant found)
 
 pub returns-in-Some-clause-learned : goal.returns-in-Some-clause-learned
 returns-in-Some-clause-learned c =

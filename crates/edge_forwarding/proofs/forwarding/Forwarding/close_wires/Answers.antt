@@ -10,7 +10,8 @@ invariant_of-self c = closed_is (the_view c.self.inside) c.change_all.new.domain
 pub returns-clause-step : goal.returns-clause-step
 returns-clause-step c = λ edge.
     let v : ForwardingLists = the_view c.self.inside in
-    subst (λ (n : ForwardingLists). with_forwarding (record v { domains = c.change_all.new.domains.items; told_down = c.forget_told.new.told_down.items }) edge ≡ without_told (with_forwarding n edge)) c.self.view_is
+    subst (λ (n : ForwardingLists). with_forwarding (record v { domains = c.change_all.new.domains.items; told_down = c.forget_told.new.told_down.items }) edge
+    ≡ without_told (with_forwarding n edge)) c.self.view_is
     (closed_seen v c.change_all.new.domains.items c.forget_told.new.told_down.items edge c.change_all.ensures c.forget_told.ensures)
 
 pub change_all-requires : goal.change_all-requires

@@ -9,14 +9,18 @@ use Rattle.edge_forwarding.proofs.forwarding.Forwarding.tell.Goals as goal
 pub invariant_of-self : goal.invariant_of-self
 invariant_of-self c =
     let v : ForwardingLists = the_view c.self.inside in
-    let of : IsServiceOf v.plan c.args.wire c.service_of-service.result = subst (λ (n : ForwardingLists). IsServiceOf n.plan c.args.wire c.service_of-service.result) (sym c.self.view_is) c.service_of-service.ensures in
+    let of : IsServiceOf v.plan c.args.wire c.service_of-service.result =
+    subst (λ (n : ForwardingLists). IsServiceOf n.plan c.args.wire c.service_of-service.result) (sym c.self.view_is) c.service_of-service.ensures in
     let was : WasRead v c.service_of-service.result c.index_mut.result.now = record { is = c.self.invariant; within = of.within; read = c.index_mut.ensures.value } in
-    told_is v c.args.wire of.row c.service_of-service.result c.index_mut.result.now c.change_kept.new.kept c.args.down c.is_none-on.result was of.is of.same (no_cause c.args.down c.is_none-on.result c.is_none-on.ensures) c.change_kept.ensures
+    told_is v c.args.wire of.row c.service_of-service.result c.index_mut.result.now c.change_kept.new.kept c.args.down c.is_none-on.result was of.is of.same
+    (no_cause c.args.down c.is_none-on.result c.is_none-on.ensures) c.change_kept.ensures
 
 pub returns-clause-step : goal.returns-clause-step
 returns-clause-step c = λ edge.
     let v : ForwardingLists = the_view c.self.inside in
-    let of : IsServiceOf v.plan c.args.wire c.service_of-service.result = subst (λ (n : ForwardingLists). IsServiceOf n.plan c.args.wire c.service_of-service.result) (sym c.self.view_is) c.service_of-service.ensures in
+    let of : IsServiceOf v.plan c.args.wire c.service_of-service.result =
+    subst (λ (n : ForwardingLists). IsServiceOf n.plan c.args.wire c.service_of-service.result) (sym c.self.view_is) c.service_of-service.ensures in
     let was : WasRead v c.service_of-service.result c.index_mut.result.now = record { is = c.self.invariant; within = of.within; read = c.index_mut.ensures.value } in
-    subst (λ (n : ForwardingLists). with_forwarding (told_forwarding v c.args.wire c.service_of-service.result c.args.down c.change_kept.new.kept) edge ≡ with_told_down c.args.wire c.args.down (with_forwarding n edge)) c.self.view_is
+    subst (λ (n : ForwardingLists). with_forwarding (told_forwarding v c.args.wire c.service_of-service.result c.args.down c.change_kept.new.kept) edge
+    ≡ with_told_down c.args.wire c.args.down (with_forwarding n edge)) c.self.view_is
     (told_seen v c.args.wire of.row c.service_of-service.result c.index_mut.result.now c.change_kept.new.kept c.args.down c.is_none-on.result edge was of.is c.change_kept.ensures)

@@ -17,5 +17,6 @@ returns-clause-step c = λ edge.
     let v : ForwardingLists = the_view c.self.inside in
     let within : c.args.service.0 < length v.plan.services = subst (λ (n : ForwardingLists). c.args.service.0 < length n.plan.services) (sym c.self.view_is) c.requires in
     let was : WasRead v c.args.service c.index_mut.result.now = record { is = c.self.invariant; within = within; read = c.index_mut.ensures.value } in
-    subst (λ (n : ForwardingLists). with_forwarding (put_kept v c.args.service c.change_kept.new.kept) edge ≡ withdrawing_at c.args.service c.args.addresses.now c.args.from (with_forwarding n edge)) c.self.view_is
+    subst (λ (n : ForwardingLists). with_forwarding (put_kept v c.args.service c.change_kept.new.kept) edge
+    ≡ withdrawing_at c.args.service c.args.addresses.now c.args.from (with_forwarding n edge)) c.self.view_is
     (withdrew_seen v c.args.service c.args.from c.args.addresses.now c.index_mut.result.now c.change_kept.new.kept edge was c.change_kept.ensures)

@@ -15,14 +15,19 @@ returns-in-Err-hear_messages-clause-step g c = λ told more agrees octets.
     let next_is : c.next.result ≡ Ok (Some c.in-Ok-Some.pdu) = cc (c.in-Ok-Some.is, c.in-Ok-Some.field-0-is) in
     let calls = g.L.Link.calls c.pdus.link in
     let after = g.L.Link.calls c.hear_messages.new.link in
-    hears_stopped c.args.self.now.plan told c.args.self.now.me.0 c.args.peer (Unit {0}) (Unit {0}) c.in-Err-hear_messages.stop c.pdus.receiver c.next.new.self c.in-Ok-Some.pdu more _ (seen c.pdus.self) (seen c.hear_messages.new.self) calls after
+    hears_stopped c.args.self.now.plan told c.args.self.now.me.0 c.args.peer (Unit {0}) (Unit {0}) c.in-Err-hear_messages.stop c.pdus.receiver c.next.new.self c.in-Ok-Some.pdu more _
+    (seen c.pdus.self) (seen c.hear_messages.new.self) calls after
     (subst (IsNext c.pdus.receiver c.next.new.self) next_is c.next.ensures.next) octets
     (c.pdus.invariant.step told more (agrees_before told calls after c.hear_messages.ensures.goes agrees) octets)
     (subst (λ r. NeverRefused r) c.in-Err-hear_messages.is c.hear_messages.ensures.never)
-    (subst (λ r. Comes r (seen c.hear_messages.new.self) after (hears_messages c.args.self.now.plan told c.args.self.now.me.0 c.args.peer c.in-Ok-Some.pdu.messages (seen c.pdus.self) calls)) c.in-Err-hear_messages.is
-    (subst (λ (p : Plan). Comes c.hear_messages.result (seen c.hear_messages.new.self) after (hears_messages p told c.args.self.now.me.0 c.args.peer c.in-Ok-Some.pdu.messages (seen c.pdus.self) calls)) c.pdus.invariant.keeps.plan
-    (subst (λ (m : EdgeId). Comes c.hear_messages.result (seen c.hear_messages.new.self) after (hears_messages c.pdus.self.plan told m.0 c.args.peer c.in-Ok-Some.pdu.messages (seen c.pdus.self) calls)) c.pdus.invariant.keeps.me
-    (subst (λ (ms : List Message). Comes c.hear_messages.result (seen c.hear_messages.new.self) after (hears_messages c.pdus.self.plan told c.pdus.self.me.0 c.args.peer ms (seen c.pdus.self) calls)) c.as_slice.ensures
+    (subst (λ r. Comes r (seen c.hear_messages.new.self) after
+    (hears_messages c.args.self.now.plan told c.args.self.now.me.0 c.args.peer c.in-Ok-Some.pdu.messages (seen c.pdus.self) calls)) c.in-Err-hear_messages.is
+    (subst (λ (p : Plan). Comes c.hear_messages.result (seen c.hear_messages.new.self) after
+    (hears_messages p told c.args.self.now.me.0 c.args.peer c.in-Ok-Some.pdu.messages (seen c.pdus.self) calls)) c.pdus.invariant.keeps.plan
+    (subst (λ (m : EdgeId). Comes c.hear_messages.result (seen c.hear_messages.new.self) after
+    (hears_messages c.pdus.self.plan told m.0 c.args.peer c.in-Ok-Some.pdu.messages (seen c.pdus.self) calls)) c.pdus.invariant.keeps.me
+    (subst (λ (ms : List Message). Comes c.hear_messages.result (seen c.hear_messages.new.self) after
+    (hears_messages c.pdus.self.plan told c.pdus.self.me.0 c.args.peer ms (seen c.pdus.self) calls)) c.as_slice.ensures
     (c.hear_messages.ensures.step told agrees)))))
 
 pub returns-in-Err-clause-step : goal.returns-in-Err-clause-step

@@ -8,4 +8,5 @@ use Rattle.label_space.proofs.kept_labels.KeptLabels.has_free.Goals as goal
 pub returns : goal.returns
 returns c =
     let none : c.is_empty.result ≡ (length (heap_items c.self.inside.free) == 0) = search rules in
-    ap not none ∙ sym (free_here c.self.inside.waiting.items c.self.inside.resting.items (heap_items c.self.inside.free) c.self.invariant.wait c.self.invariant.rest) ∙ ap (λ l. is_some (least_free l)) c.self.view_is
+    ap not none ∙ sym (free_here c.self.inside.waiting.items c.self.inside.resting.items (heap_items c.self.inside.free) c.self.invariant.wait c.self.invariant.rest)
+    ∙ ap (λ l. is_some (least_free l)) c.self.view_is

@@ -10,7 +10,8 @@ pub invariant_of-self : goal.invariant_of-self
 invariant_of-self c =
     let wait : c.drop_resting.new.kept.items ≡ filter (λ k. not (rests k)) (met c.args.peer c.self.inside.waiting.items) = search rules in
     let rest : c.add_resting.new.resting.items ≡ c.self.inside.resting.items ++ filter rests (met c.args.peer c.self.inside.waiting.items) = search rules in
-    held_met c.args.peer _ _ _ _ _ c.self.inside.waiting.items c.drop_resting.new.kept.items c.self.inside.resting.items c.add_resting.new.resting.items (heap_items c.self.inside.free) c.self.invariant wait rest (search rules) (search rules)
+    held_met c.args.peer _ _ _ _ _ c.self.inside.waiting.items c.drop_resting.new.kept.items c.self.inside.resting.items c.add_resting.new.resting.items
+    (heap_items c.self.inside.free) c.self.invariant wait rest (search rules) (search rules)
 
 pub returns : goal.returns
 returns c =

@@ -17,13 +17,15 @@ pub invariant_of-self-2 : goal.invariant_of-self-2
 invariant_of-self-2 c =
     let popped : IsPermutation (heap_items c.self.inside.free) (c.in-Some.field-0 ∷ heap_items c.pop.new.self) = search rules in
     let heap : IsHeap (λ x y. nat_cmp y.0 x.0) (heap_items c.pop.new.self) = search rules in
-    held_popped c.in-Some.field-0 _ _ _ _ c.self.inside.waiting.items c.self.inside.resting.items (heap_items c.self.inside.free) (heap_items c.pop.new.self) c.self.invariant popped heap (search rules)
+    held_popped c.in-Some.field-0 _ _ _ _ c.self.inside.waiting.items c.self.inside.resting.items (heap_items c.self.inside.free)
+    (heap_items c.pop.new.self) c.self.invariant popped heap (search rules)
 
 pub returns-clause-label : goal.returns-clause-label
 returns-clause-label c =
     let popped : IsPermutation (heap_items c.self.inside.free) (c.in-Some.field-0 ∷ heap_items c.pop.new.self) = search rules in
     let bound : IsUpperBound (λ x y. nat_cmp y.0 x.0) c.in-Some.field-0 (heap_items c.pop.new.self) = search rules in
-    let label : c.new.result ≡ Some c.in-Some.field-0.0 = label_of_some c.in-Some.field-0.0 c.new.result (search rules) (search rules) (number_of c.in-Some.field-0 _ _ popped c.self.invariant.labels) in
+    let label : c.new.result ≡ Some c.in-Some.field-0.0 =
+    label_of_some c.in-Some.field-0.0 c.new.result (search rules) (search rules) (number_of c.in-Some.field-0 _ _ popped c.self.invariant.labels) in
     let taken = taken c.in-Some.field-0 _ _ _ c.self.inside.waiting.items c.self.inside.resting.items (heap_items c.self.inside.free) (heap_items c.pop.new.self) c.self.invariant popped bound in
     label ∙ sym taken.least ∙ ap least_free c.self.view_is
 
@@ -31,7 +33,8 @@ pub returns-clause-rest : goal.returns-clause-rest
 returns-clause-rest c =
     let popped : IsPermutation (heap_items c.self.inside.free) (c.in-Some.field-0 ∷ heap_items c.pop.new.self) = search rules in
     let bound : IsUpperBound (λ x y. nat_cmp y.0 x.0) c.in-Some.field-0 (heap_items c.pop.new.self) = search rules in
-    let label : c.new.result ≡ Some c.in-Some.field-0.0 = label_of_some c.in-Some.field-0.0 c.new.result (search rules) (search rules) (number_of c.in-Some.field-0 _ _ popped c.self.invariant.labels) in
+    let label : c.new.result ≡ Some c.in-Some.field-0.0 =
+    label_of_some c.in-Some.field-0.0 c.new.result (search rules) (search rules) (number_of c.in-Some.field-0 _ _ popped c.self.invariant.labels) in
     let taken = taken c.in-Some.field-0 _ _ _ c.self.inside.waiting.items c.self.inside.resting.items (heap_items c.self.inside.free) (heap_items c.pop.new.self) c.self.invariant popped bound in
     taken.rest ∙ ap (λ r. without_one r (kept_of c.self.inside.waiting.items c.self.inside.resting.items (heap_items c.self.inside.free))) (sym label) ∙ ap (without_one c.new.result) c.self.view_is
 
@@ -39,6 +42,7 @@ pub returns-clause-free : goal.returns-clause-free
 returns-clause-free c =
     let popped : IsPermutation (heap_items c.self.inside.free) (c.in-Some.field-0 ∷ heap_items c.pop.new.self) = search rules in
     let bound : IsUpperBound (λ x y. nat_cmp y.0 x.0) c.in-Some.field-0 (heap_items c.pop.new.self) = search rules in
-    let label : c.new.result ≡ Some c.in-Some.field-0.0 = label_of_some c.in-Some.field-0.0 c.new.result (search rules) (search rules) (number_of c.in-Some.field-0 _ _ popped c.self.invariant.labels) in
+    let label : c.new.result ≡ Some c.in-Some.field-0.0 =
+    label_of_some c.in-Some.field-0.0 c.new.result (search rules) (search rules) (number_of c.in-Some.field-0 _ _ popped c.self.invariant.labels) in
     let taken = taken c.in-Some.field-0 _ _ _ c.self.inside.waiting.items c.self.inside.resting.items (heap_items c.self.inside.free) (heap_items c.pop.new.self) c.self.invariant popped bound in
     subst (λ r. IfSome r (λ l. kept_at l c.args.self.now ≡ Some state.Free)) (sym label) (ap (kept_at c.in-Some.field-0.0) (sym c.self.view_is) ∙ taken.free)

@@ -18,5 +18,6 @@ invariant_of-self c =
       held_owned o _ _ _ _ c.self.inside.owners.items c.insert.new.self.items c.self.inside.kept c.self.invariant.0 (search rules) none unkept (search rules) items (search rules),
       subst (λ (l : List Owner). IsLabelIndex c.add-self-inside.result c.add-self-inside.new.self.slab c.add-self-inside.new.self.index l) (sym items)
           (index_put c.add-self-inside.result c.add-self-inside.new.self.slab c.add-self-inside.new.self.index c.self.inside.owners.items o none
-          (subst (λ (l : List Owner). IsLabelIndex c.add-self-inside.result c.add-self-inside.new.self.slab c.add-self-inside.new.self.index (l ++ o ∷ [])) c.as_slice.ensures.value c.add-self-inside.ensures)),
+          (subst (λ (l : List Owner). IsLabelIndex c.add-self-inside.result c.add-self-inside.new.self.slab c.add-self-inside.new.self.index
+          (l ++ o ∷ [])) c.as_slice.ensures.value c.add-self-inside.ensures)),
     )

@@ -17,8 +17,10 @@ invariant_of-self c =
     let within : c.args.place < length xs = subst (λ (t : AddressTable). c.args.place < length t.entries) (sym c.self.view_is) c.requires in
     let is : c.index.result.now ≡ get_or xs c.args.place none = read_at xs c.args.place c.index.result.now none within c.index.ensures in
     let less : AreRisingTicks before → (at : ℕ) → tick_number at c.forget.new.ticks.entries ≡ tick_number at before - (if nat_eq at (get_or xs c.args.place none).tick then 1 else 0) =
-    subst (λ (e : MacEntry). AreRisingTicks before → (at : ℕ) → tick_number at c.forget.new.ticks.entries ≡ tick_number at before - (if nat_eq at e.tick then 1 else 0)) is c.forget.ensures.numbers in (
+    subst (λ (e : MacEntry). AreRisingTicks before → (at : ℕ) → tick_number at c.forget.new.ticks.entries
+    ≡ tick_number at before - (if nat_eq at e.tick then 1 else 0)) is c.forget.ensures.numbers in (
       held_removed _ _ _ _ _ c.args.place c.self.invariant.0 within c.remove.ensures.items c.remove.ensures.capacity,
       index_removed _ _ _ _ c.args.place c.self.invariant.1 c.shift_remove_index.ensures.entries c.remove.ensures.items,
-      subst (IsTickIndex c.forget.new.ticks.entries) (sym c.remove.ensures.items) (ticks_removed before c.forget.new.ticks.entries xs c.args.place none within c.self.invariant.2 less c.forget.ensures.rising c.forget.ensures.positive c.forget.ensures.empty),
+      subst (IsTickIndex c.forget.new.ticks.entries) (sym c.remove.ensures.items)
+          (ticks_removed before c.forget.new.ticks.entries xs c.args.place none within c.self.invariant.2 less c.forget.ensures.rising c.forget.ensures.positive c.forget.ensures.empty),
     )

@@ -24,8 +24,10 @@ taking-preserved c =
     let goes : keep (get_or xs at none) ≡ false = subst (λ (e : MacEntry). keep e ≡ false) is (search rules) in
     let shorter : length c.take_at.new.self.entries + 1 ≡ length xs = ap (λ (t : AddressTable). length t.entries + 1) left ∙ length_removed xs at within in (
       omega (arith, shorter, within),
-      ap (λ (t : AddressTable). record t { entries = filter keep t.entries }) left ∙ (ap (λ (l : List MacEntry). record table { entries = l }) (filter_removed keep xs at none within goes) ∙ c.taking.invariant.1),
-      subst (λ (t : AddressTable). All (λ (e : MacEntry). keep e ≡ true) (take at t.entries)) (sym left) (subst (All (λ (e : MacEntry). keep e ≡ true)) (sym (front_removed xs at within)) c.taking.invariant.2),
+      ap (λ (t : AddressTable). record t { entries = filter keep t.entries }) left
+          ∙ (ap (λ (l : List MacEntry). record table { entries = l }) (filter_removed keep xs at none within goes) ∙ c.taking.invariant.1),
+      subst (λ (t : AddressTable). All (λ (e : MacEntry). keep e ≡ true) (take at t.entries)) (sym left)
+          (subst (All (λ (e : MacEntry). keep e ≡ true)) (sym (front_removed xs at within)) c.taking.invariant.2),
     )
 
 pub returns-clause-all : goal.returns-clause-all

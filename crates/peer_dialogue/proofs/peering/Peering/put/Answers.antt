@@ -10,10 +10,13 @@ use Rattle.peer_dialogue.proofs.peering.Peering.put.Goals as goal
 
 pub returns-then-branch-clause-step : goal.returns-then-branch-clause-step
 returns-then-branch-clause-step g c = λ told edge agrees.
-    subst (λ (p : Peering). at_peer c.args.peer (Some (record { session = state_of c.put_reply.new.self.peers (view_of c.spoke.result); held = c.self.inside.held; next_id = c.put_reply.new.self.next_id })) edge (g.L.Link.calls c.put_reply.new.work.link.now) c.put_reply.new.work.effects.now.list
+    subst (λ (p : Peering). at_peer c.args.peer (Some
+    (record { session = state_of c.put_reply.new.self.peers (view_of c.spoke.result); held = c.self.inside.held; next_id = c.put_reply.new.self.next_id })) edge
+    (g.L.Link.calls c.put_reply.new.work.link.now) c.put_reply.new.work.effects.now.list
     ≡ had_put c.args.peer (put_reply told c.args.peer c.args.reply (at_peer c.args.peer (Some p) edge (g.L.Link.calls c.args.work.now.link.now) c.args.work.now.effects.now.list))) c.self.view_is
     (ap (λ (s : Spoken). s.work)
-    (put_on (put_reply told c.args.peer c.args.reply) c.args.peer c.self.inside.held c.self.inside.speaker.peers c.put_reply.new.self.peers (view_of c.self.inside.session) (view_of c.spoke.result) c.self.inside.speaker.next_id c.put_reply.new.self.next_id c.in_ok-put_reply.field-0 edge
+    (put_on (put_reply told c.args.peer c.args.reply) c.args.peer c.self.inside.held c.self.inside.speaker.peers c.put_reply.new.self.peers (view_of c.self.inside.session)
+    (view_of c.spoke.result) c.self.inside.speaker.next_id c.put_reply.new.self.next_id c.in_ok-put_reply.field-0 edge
     (g.L.Link.calls c.args.work.now.link.now) (g.L.Link.calls c.put_reply.new.work.link.now) c.args.work.now.effects.now.list c.put_reply.new.work.effects.now.list c.self.invariant c.spoke.ensures.session c.if-branch.true
     (λ s between. c.in_ok-put_reply.ensures.step told s c.self.inside.held edge agrees between)))
 
@@ -22,6 +25,9 @@ returns-clause-step g c = λ told edge agrees.
     subst (λ (p : Peering). at_peer c.args.peer None edge (g.L.Link.calls c.end.new.work.link.now) c.end.new.work.effects.now.list
     ≡ had_put c.args.peer (put_reply told c.args.peer c.args.reply (at_peer c.args.peer (Some p) edge (g.L.Link.calls c.args.work.now.link.now) c.args.work.now.effects.now.list))) c.self.view_is
     (ap (λ (s : Spoken). s.work)
-    (put_off (put_reply told c.args.peer c.args.reply) c.args.peer c.self.inside.held c.self.inside.speaker.peers (view_of c.self.inside.session) c.self.inside.speaker.next_id c.put_reply.new.self.next_id c.in_ok-put_reply.field-0 edge
-    (g.L.Link.calls c.args.work.now.link.now) (g.L.Link.calls c.put_reply.new.work.link.now) (g.L.Link.calls c.end.new.work.link.now) c.args.work.now.effects.now.list c.put_reply.new.work.effects.now.list c.end.new.work.effects.now.list c.self.invariant c.if-branch.false
-    (λ s between. c.in_ok-put_reply.ensures.step told s c.self.inside.held edge (agrees_before told _ _ c.in_ok-end.ensures.goes.calls agrees) between) (ap g.L.Link.calls c.in_ok-end.ensures.link) c.in_ok-end.ensures.told))
+    (put_off (put_reply told c.args.peer c.args.reply) c.args.peer c.self.inside.held c.self.inside.speaker.peers
+    (view_of c.self.inside.session) c.self.inside.speaker.next_id c.put_reply.new.self.next_id c.in_ok-put_reply.field-0 edge
+    (g.L.Link.calls c.args.work.now.link.now) (g.L.Link.calls c.put_reply.new.work.link.now)
+    (g.L.Link.calls c.end.new.work.link.now) c.args.work.now.effects.now.list c.put_reply.new.work.effects.now.list c.end.new.work.effects.now.list c.self.invariant c.if-branch.false
+    (λ s between. c.in_ok-put_reply.ensures.step told s c.self.inside.held edge (agrees_before told _ _ c.in_ok-end.ensures.goes.calls agrees) between)
+    (ap g.L.Link.calls c.in_ok-end.ensures.link) c.in_ok-end.ensures.told))

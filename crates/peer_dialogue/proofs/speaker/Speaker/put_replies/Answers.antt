@@ -18,7 +18,9 @@ returns-then-not-branch-clause-step g c = λ told s held edge agrees between. la
     (c.in_ok-put_reply.ensures.step told _ held edge agrees (same_peers c.loop-place.spoke s _ (between ∙ sym c.loop-place.invariant.peers)))
 
 pub returns-in_default-clause-step : goal.returns-in_default-clause-step
-returns-in_default-clause-step g c = λ told s held edge agrees between. all_put told c.args.peer c.args.replies.now c.loop-place.place _ _ (sym c.get.ensures ∙ c.in_default.is) (c.loop-place.invariant.step told s held edge agrees between)
+returns-in_default-clause-step g c = λ told s held edge agrees between. all_put told c.args.peer c.args.replies.now c.loop-place.place _ _ (sym c.get.ensures ∙ c.in_default.is)
+    (c.loop-place.invariant.step told s held edge agrees between)
 
 pub returns-clause-step : goal.returns-clause-step
-returns-clause-step g c = λ told s held edge agrees between. c.loop-place.invariant.step told s held edge agrees between ∙ replies_end told c.args.peer c.args.replies.now c.loop-place.place _ (omega (arith, c.loop-place-test.false, c.len-place-end.ensures.count))
+returns-clause-step g c = λ told s held edge agrees between. c.loop-place.invariant.step told s held edge agrees between
+    ∙ replies_end told c.args.peer c.args.replies.now c.loop-place.place _ (omega (arith, c.loop-place-test.false, c.len-place-end.ensures.count))

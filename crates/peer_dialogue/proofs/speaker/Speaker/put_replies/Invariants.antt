@@ -13,5 +13,6 @@ invariant-loop-place g l = record {
   goes : WorkGoes g.L.Link.calls l.fn.work l.work;
   step : (told : Answers) (s : SessionState) (held : List ℕ) (edge : EdgeState) → Agrees told (g.L.Link.calls l.work.link.now) → s.peers ≡ l.fn.self.peers
       → put_replies told l.peer l.replies (at_peer l.peer (Some (record { session = s; held = held; next_id = l.fn.self.next_id })) edge (g.L.Link.calls l.fn.work.link.now) l.fn.work.effects.now.list)
-      ≡ put_replies told l.peer (drop l.place l.replies) (at_peer l.peer (Some (record { session = having_put l.spoke s; held = held; next_id = l.self.next_id })) edge (g.L.Link.calls l.work.link.now) l.work.effects.now.list);
+      ≡ put_replies told l.peer (drop l.place l.replies)
+      (at_peer l.peer (Some (record { session = having_put l.spoke s; held = held; next_id = l.self.next_id })) edge (g.L.Link.calls l.work.link.now) l.work.effects.now.list);
 }

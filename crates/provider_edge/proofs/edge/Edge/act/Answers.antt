@@ -18,13 +18,15 @@ returns-in-LabelMapping-clause-step g c = map_on _ _ c.hear_mapping.result
 
 pub returns-in-LabelRelease-clause-step : goal.returns-in-LabelRelease-clause-step
 returns-in-LabelRelease-clause-step g c = λ told agrees.
-    release_acts c.args.self.now.plan told c.args.peer c.args.message.now c.in-LabelRelease.id c.in-LabelRelease.fec c.in-LabelRelease.label (seen c.args.self.now) (seen c.hear_release.new.self) (g.L.Link.calls c.args.work.now.link.now) c.args.work.now.effects.now.list
+    release_acts c.args.self.now.plan told c.args.peer c.args.message.now c.in-LabelRelease.id c.in-LabelRelease.fec c.in-LabelRelease.label (seen c.args.self.now)
+    (seen c.hear_release.new.self) (g.L.Link.calls c.args.work.now.link.now) c.args.work.now.effects.now.list
     c.in-LabelRelease.is (c.hear_release.ensures.step)
 
 pub returns-in-AddressWithdraw-clause-step : goal.returns-in-AddressWithdraw-clause-step
 returns-in-AddressWithdraw-clause-step g c = map_on _ _ c.hear_mac_withdraw.result
     (λ puts told agrees.
-    withdraw_acts c.args.self.now.plan told c.args.peer c.args.message.now c.in-AddressWithdraw.id c.in-AddressWithdraw.addresses c.in-AddressWithdraw.fec c.in-AddressWithdraw.macs (at_work g.L.Link.calls c.args.self.now c.args.work.now) _
+    withdraw_acts c.args.self.now.plan told c.args.peer c.args.message.now c.in-AddressWithdraw.id c.in-AddressWithdraw.addresses c.in-AddressWithdraw.fec c.in-AddressWithdraw.macs
+    (at_work g.L.Link.calls c.args.self.now c.args.work.now) _
     c.in-AddressWithdraw.is (puts told agrees))
     c.hear_mac_withdraw.ensures.step
 

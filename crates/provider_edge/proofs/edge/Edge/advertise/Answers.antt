@@ -27,5 +27,9 @@ returns-clause-none c = λ is.
 pub returns-clause-step : goal.returns-clause-step
 unfolding seen
 returns-clause-step c =
-    subst (λ (n : EdgeLists). IfSome c.advertise-label.result (λ label. (label_to_give (seen n) ≡ Some label) × (seen (record (the_view c.self.inside) { ends = c.advertise-label.new.self; marks = c.marks_at-marks.result }) ≡ advertising (place_of n.ends c.args.slot) label c.args.told.now (seen n)))) c.self.view_is
-    (advertised_some (the_view c.self.inside) c.advertise-label.new.self (place_of (the_view c.self.inside).ends c.args.slot) c.args.told.now c.advertise-label.result c.advertise-label.ensures.places c.advertise-label.ensures.label c.advertise-label.ensures.next c.advertise-label.ensures.kept c.advertise-label.ensures.seen)
+    subst (λ (n : EdgeLists). IfSome c.advertise-label.result
+    (λ label. (label_to_give (seen n) ≡ Some label)
+    × (seen (record (the_view c.self.inside) { ends = c.advertise-label.new.self; marks = c.marks_at-marks.result })
+    ≡ advertising (place_of n.ends c.args.slot) label c.args.told.now (seen n)))) c.self.view_is
+    (advertised_some (the_view c.self.inside) c.advertise-label.new.self
+    (place_of (the_view c.self.inside).ends c.args.slot) c.args.told.now c.advertise-label.result c.advertise-label.ensures.places c.advertise-label.ensures.label c.advertise-label.ensures.next c.advertise-label.ensures.kept c.advertise-label.ensures.seen)

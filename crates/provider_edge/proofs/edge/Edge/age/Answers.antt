@@ -13,7 +13,8 @@ pub invariant_of-self : goal.invariant_of-self
 invariant_of-self c =
     let v : EdgeLists = the_view c.self.inside in
     holds_kept v c.age.new.self c.age.ensures.keeps (ap (λ (e : EdgeLists). e.stopped) c.self.view_is ∙ c.requires.working)
-    (subst (λ (e : EdgeState). IfSome v.marks (IsTidy v.plan e)) (sym (seen_aged v c.age.new.self c.self.invariant c.age.ensures.keeps c.age.ensures.step)) (tidy_aged v.plan (seen v) v.marks c.self.invariant.tidy)) c.self.invariant
+    (subst (λ (e : EdgeState). IfSome v.marks (IsTidy v.plan e)) (sym (seen_aged v c.age.new.self c.self.invariant c.age.ensures.keeps c.age.ensures.step))
+    (tidy_aged v.plan (seen v) v.marks c.self.invariant.tidy)) c.self.invariant
 
 pub returns-clause-step : goal.returns-clause-step
 returns-clause-step c =

@@ -23,10 +23,12 @@ pub invariant_of-self : goal.invariant_of-self
 invariant_of-self c =
     end_marked (the_view c.self.inside) c.args.self.now c.on_mapping.new.self (bound c.args.binding.now) c.args.slot c.place_at.result c.marks_at-marks.result
     c.self.view_is c.self.invariant c.requires.working c.on_mapping.ensures.places c.on_mapping.ensures.seen c.on_mapping.ensures.next
-    (leaves_none (the_view c.self.inside).ends c.on_mapping.new.self c.args.slot (bound c.args.binding.now) (keeps_bound c.args.binding.now) c.on_mapping.ensures.kept) c.place_at.ensures.place c.marks_at-marks.ensures
+    (leaves_none (the_view c.self.inside).ends c.on_mapping.new.self c.args.slot (bound c.args.binding.now)
+    (keeps_bound c.args.binding.now) c.on_mapping.ensures.kept) c.place_at.ensures.place c.marks_at-marks.ensures
 
 pub returns-clause-step : goal.returns-clause-step
 returns-clause-step c =
-    end_seen (the_view c.self.inside) c.args.self.now c.on_mapping.new.self (bound c.args.binding.now) c.args.slot c.marks_at-marks.result c.self.view_is c.on_mapping.ensures.places c.on_mapping.ensures.seen c.on_mapping.ensures.next
+    end_seen (the_view c.self.inside) c.args.self.now c.on_mapping.new.self
+    (bound c.args.binding.now) c.args.slot c.marks_at-marks.result c.self.view_is c.on_mapping.ensures.places c.on_mapping.ensures.seen c.on_mapping.ensures.next
     (leaves_none (the_view c.self.inside).ends c.on_mapping.new.self c.args.slot (bound c.args.binding.now) (keeps_bound c.args.binding.now) c.on_mapping.ensures.kept)
     ∙ changing_keeps (bound c.args.binding.now) (place_of c.args.self.now.ends c.args.slot) (seen c.args.self.now) (keeps_bound c.args.binding.now)

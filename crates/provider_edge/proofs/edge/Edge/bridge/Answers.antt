@@ -14,8 +14,10 @@ use Rattle.provider_edge.proofs.edge.Edge.bridge.Goals as goal
 pub returns-clause-none : goal.returns-clause-none
 returns-clause-none c =
     subst (λ (n : EdgeLists). IsNone c.bridge.result ↔ ((service_row n.plan c.args.service ≡ None) ⊎ (ports_of n.plan c.args.service n.me ≡ []))) c.self.view_is
-    (subst (λ (m : EdgeId). IsNone c.bridge.result ↔ ((service_row (the_view c.self.inside).plan c.args.service ≡ None) ⊎ (ports_of (the_view c.self.inside).plan c.args.service m ≡ []))) c.self.invariant.me
-    (subst (λ (p : Plan). IsNone c.bridge.result ↔ ((service_row p c.args.service ≡ None) ⊎ (ports_of p c.args.service (the_view c.self.inside).forwarding.me ≡ []))) c.self.invariant.plan c.bridge.ensures.none))
+    (subst (λ (m : EdgeId). IsNone c.bridge.result
+    ↔ ((service_row (the_view c.self.inside).plan c.args.service ≡ None) ⊎ (ports_of (the_view c.self.inside).plan c.args.service m ≡ []))) c.self.invariant.me
+    (subst (λ (p : Plan). IsNone c.bridge.result ↔ ((service_row p c.args.service ≡ None)
+    ⊎ (ports_of p c.args.service (the_view c.self.inside).forwarding.me ≡ []))) c.self.invariant.plan c.bridge.ensures.none))
 
 pub returns-clause-learned : goal.returns-clause-learned
 returns-clause-learned c =

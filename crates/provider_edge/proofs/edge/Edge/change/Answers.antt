@@ -11,4 +11,5 @@ invariant_of-self c =
 
 pub returns-clause-step : goal.returns-clause-step
 returns-clause-step c =
-    end_seen (the_view c.self.inside) c.args.self.now c.change.new.self (changed c.args.change.now) c.args.slot c.marks_at-marks.result c.self.view_is c.change.ensures.places c.change.ensures.seen c.change.ensures.next c.change.ensures.kept
+    end_seen (the_view c.self.inside) c.args.self.now c.change.new.self
+    (changed c.args.change.now) c.args.slot c.marks_at-marks.result c.self.view_is c.change.ensures.places c.change.ensures.seen c.change.ensures.next c.change.ensures.kept

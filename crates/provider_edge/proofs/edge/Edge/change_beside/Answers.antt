@@ -19,5 +19,6 @@ invariant_of-self c =
 pub returns-clause-step : goal.returns-clause-step
 returns-clause-step c =
     let v : EdgeLists = the_view c.self.inside in
-    group_seen v c.args.self.now c.change_beside.new.self c.args.peer (changed c.args.change.now) c.marks_beside-marks.result c.self.view_is c.change_beside.ensures.places c.change_beside.ensures.seen c.change_beside.ensures.next
+    group_seen v c.args.self.now c.change_beside.new.self c.args.peer
+    (changed c.args.change.now) c.marks_beside-marks.result c.self.view_is c.change_beside.ensures.places c.change_beside.ensures.seen c.change_beside.ensures.next
     (c.change_beside.ensures.kept ∙ group_keeps c.args.peer (changed c.args.change.now) (seen_ends v.ends) v.ends.places v.ends.labels.kept c.requires.labels)

@@ -10,14 +10,17 @@ use Rattle.provider_edge.proofs.edge.Edge.change_named.Goals as goal
 
 pub returns-in-Some-slot_named-clause-step : goal.returns-in-Some-slot_named-clause-step
 returns-in-Some-slot_named-clause-step c =
-    with_named_some c.args.self.now.plan c.args.peer c.args.fec.now (changed c.args.one.now) (changed c.args.all.now) c.args.fec.now.pw_id c.in-Some.pw_id c.args.self.now (seen c.change.new.self) c.in-Some.is
-    (one_some (changed c.args.one.now) (end_named c.args.self.now.plan c.args.self.now.me c.args.peer c.in-Some.pw_id) (place_of c.args.self.now.ends c.in-Some-slot_named.slot) (seen c.args.self.now) (seen c.change.new.self)
+    with_named_some c.args.self.now.plan c.args.peer c.args.fec.now (changed c.args.one.now) (changed c.args.all.now) c.args.fec.now.pw_id c.in-Some.pw_id c.args.self.now
+    (seen c.change.new.self) c.in-Some.is
+    (one_some (changed c.args.one.now) (end_named c.args.self.now.plan c.args.self.now.me c.args.peer c.in-Some.pw_id) (place_of c.args.self.now.ends c.in-Some-slot_named.slot)
+    (seen c.args.self.now) (seen c.change.new.self)
     (named_some c.slot_named.result c.in-Some-slot_named.slot c.args.self.now.ends _ c.slot_named.ensures.named c.in-Some-slot_named.is)
     (c.change.ensures.step ∙ changing_keeps (changed c.args.one.now) (place_of c.args.self.now.ends c.in-Some-slot_named.slot) (seen c.args.self.now) c.requires.one))
 
 pub returns-in_default-clause-step : goal.returns-in_default-clause-step
 returns-in_default-clause-step c =
-    with_named_some c.args.self.now.plan c.args.peer c.args.fec.now (changed c.args.one.now) (changed c.args.all.now) c.args.fec.now.pw_id c.in-Some.pw_id c.args.self.now (seen c.args.self.now) c.in-Some.is
+    with_named_some c.args.self.now.plan c.args.peer c.args.fec.now (changed c.args.one.now) (changed c.args.all.now) c.args.fec.now.pw_id c.in-Some.pw_id c.args.self.now
+    (seen c.args.self.now) c.in-Some.is
     (one_none (changed c.args.one.now) (end_named c.args.self.now.plan c.args.self.now.me c.args.peer c.in-Some.pw_id) (seen c.args.self.now)
     (named_none c.slot_named.result c.args.self.now.ends _ c.slot_named.ensures.named c.in_default.is))
 

@@ -18,8 +18,11 @@ use Rattle.provider_edge.proofs.edge.Edge.circuit.Goals as goal
 
 pub returns-in_default-clause-step : goal.returns-in_default-clause-step
 returns-in_default-clause-step g c = λ told agrees.
-    subst (λ (e : Effects). worked c.args.self.now (g.L.Link.calls c.args.work.now.link.now) (record e { idle = true }) ≡ circuit_input c.args.self.now.plan told c.args.circuit c.args.on (circuit_row c.args.self.now.plan c.args.circuit) (beginning (seen c.args.self.now) (g.L.Link.calls c.args.work.now.link.now))) (sym c.requires.fresh)
-    (circuit_other c.args.self.now told c.args.circuit c.args.on (circuit_row c.args.self.now.plan c.args.circuit) (g.L.Link.calls c.args.work.now.link.now) (sym c.own_service.ensures ∙ c.in_default.is))
+    subst (λ (e : Effects). worked c.args.self.now (g.L.Link.calls c.args.work.now.link.now) (record e { idle = true })
+    ≡ circuit_input c.args.self.now.plan told c.args.circuit c.args.on (circuit_row c.args.self.now.plan c.args.circuit)
+    (beginning (seen c.args.self.now) (g.L.Link.calls c.args.work.now.link.now))) (sym c.requires.fresh)
+    (circuit_other c.args.self.now told c.args.circuit c.args.on (circuit_row c.args.self.now.plan c.args.circuit) (g.L.Link.calls c.args.work.now.link.now)
+    (sym c.own_service.ensures ∙ c.in_default.is))
 
 pub is_on-requires : goal.is_on-requires
 is_on-requires g c =
@@ -28,8 +31,11 @@ is_on-requires g c =
 
 pub returns-then-is_on-on-clause-step : goal.returns-then-is_on-on-clause-step
 returns-then-is_on-on-clause-step g c = λ told agrees.
-    subst (λ (e : Effects). worked c.args.self.now (g.L.Link.calls c.args.work.now.link.now) (record e { idle = true }) ≡ circuit_input c.args.self.now.plan told c.args.circuit c.args.on (circuit_row c.args.self.now.plan c.args.circuit) (beginning (seen c.args.self.now) (g.L.Link.calls c.args.work.now.link.now))) (sym c.requires.fresh)
-    (circuit_already c.args.self.now told c.args.circuit c.args.on (circuit_row c.args.self.now.plan c.args.circuit) c.in-Some.service (g.L.Link.calls c.args.work.now.link.now) (sym c.own_service.ensures ∙ c.in-Some.is)
+    subst (λ (e : Effects). worked c.args.self.now (g.L.Link.calls c.args.work.now.link.now) (record e { idle = true })
+    ≡ circuit_input c.args.self.now.plan told c.args.circuit c.args.on (circuit_row c.args.self.now.plan c.args.circuit)
+    (beginning (seen c.args.self.now) (g.L.Link.calls c.args.work.now.link.now))) (sym c.requires.fresh)
+    (circuit_already c.args.self.now told c.args.circuit c.args.on (circuit_row c.args.self.now.plan c.args.circuit) c.in-Some.service (g.L.Link.calls c.args.work.now.link.now)
+    (sym c.own_service.ensures ∙ c.in-Some.is)
     (ap (λ (b : Bool). beq b c.args.on) (sym c.is_on.ensures) ∙ c.if-is_on-on.true))
 
 pub returns-clause-step : goal.returns-clause-step
@@ -38,9 +44,12 @@ returns-clause-step g c = map_on _ _ c.mend.result
     let found = own_row c.args.self.now.me (circuit_row c.args.self.now.plan c.args.circuit) c.in-Some.service (sym c.own_service.ensures ∙ c.in-Some.is) in
     circuit_done c.args.self.now told c.args.circuit c.args.on (circuit_row c.args.self.now.plan c.args.circuit) c.in-Some.service (g.L.Link.calls c.args.work.now.link.now) _ found
     (ap (λ (b : Bool). beq b c.args.on) (sym c.is_on.ensures) ∙ c.if-is_on-on.false)
-    (mended c.args.self.now c.turn_circuit.new.self c.mend.new.self told (g.L.Link.calls c.args.work.now.link.now) (g.L.Link.calls c.mend.new.work.link.now) c.args.work.now.effects.now.list c.mend.new.work.effects.now
-    (changes (turned c.args.self.now.plan c.args.circuit found.circuit c.args.on) (beginning (seen c.args.self.now) (g.L.Link.calls c.args.work.now.link.now))) (c.mend.ensures.goes.on.idle ∙ ap (λ (e : Effects). e.idle) c.requires.fresh) c.turn_circuit.ensures.keeps
-    (subst (λ (e : Effects). at_edge (seen c.turn_circuit.new.self) (g.L.Link.calls c.args.work.now.link.now) e.list ≡ changes (turned c.args.self.now.plan c.args.circuit found.circuit c.args.on) (beginning (seen c.args.self.now) (g.L.Link.calls c.args.work.now.link.now))) (sym c.requires.fresh)
+    (mended c.args.self.now c.turn_circuit.new.self c.mend.new.self told (g.L.Link.calls c.args.work.now.link.now)
+    (g.L.Link.calls c.mend.new.work.link.now) c.args.work.now.effects.now.list c.mend.new.work.effects.now
+    (changes (turned c.args.self.now.plan c.args.circuit found.circuit c.args.on) (beginning (seen c.args.self.now) (g.L.Link.calls c.args.work.now.link.now)))
+    (c.mend.ensures.goes.on.idle ∙ ap (λ (e : Effects). e.idle) c.requires.fresh) c.turn_circuit.ensures.keeps
+    (subst (λ (e : Effects). at_edge (seen c.turn_circuit.new.self) (g.L.Link.calls c.args.work.now.link.now) e.list
+    ≡ changes (turned c.args.self.now.plan c.args.circuit found.circuit c.args.on) (beginning (seen c.args.self.now) (g.L.Link.calls c.args.work.now.link.now))) (sym c.requires.fresh)
     (circuit_at c.args.self.now c.turn_circuit.new.self c.args.circuit found.circuit c.args.on (g.L.Link.calls c.args.work.now.link.now) (c.turn_circuit.ensures.step found.circuit found.is)))
     (step told agrees)))
     c.mend.ensures.step
@@ -52,4 +61,5 @@ pub returns-then-is_on-on-clause-goes : goal.returns-then-is_on-on-clause-goes
 returns-then-is_on-on-clause-goes g c = record { keeps = keeps_same c.args.self.now; link = refl; effects = refl; calls = goes_nowhere (g.L.Link.calls c.args.work.now.link.now) }
 
 pub returns-clause-goes : goal.returns-clause-goes
-returns-clause-goes g c = takes_by g.L.Link.calls _ _ _ _ (keeps_both c.args.self.now c.turn_circuit.new.self c.mend.new.self c.turn_circuit.ensures.keeps c.mend.ensures.goes.keeps) c.mend.ensures.goes.on
+returns-clause-goes g c = takes_by g.L.Link.calls _ _ _ _
+    (keeps_both c.args.self.now c.turn_circuit.new.self c.mend.new.self c.turn_circuit.ensures.keeps c.mend.ensures.goes.keeps) c.mend.ensures.goes.on

@@ -19,7 +19,8 @@ returns-clause-step g c = map_on _ _ c.happens.result
     (λ begins told agrees.
     connected_at told c.args.peer (connection_with c.args.peers) (seen c.args.self.now) (seen c.keep_marks.new.self)
     (g.L.Link.calls c.args.work.now.link.now) c.args.work.now.effects.now.list c.push.new.self (at_work g.L.Link.calls c.happens.new.self c.happens.new.work)
-    (c.keep_marks.ensures.step ∙ c.put_peering.ensures.step ∙ ap (λ (d : Peering). with_peering c.args.peer (Some d) (seen c.meet.new.self)) c.open.ensures ∙ ap (with_peering c.args.peer (Some (connection_with c.args.peers))) c.meet.ensures.step)
+    (c.keep_marks.ensures.step ∙ c.put_peering.ensures.step ∙ ap (λ (d : Peering). with_peering c.args.peer (Some d) (seen c.meet.new.self)) c.open.ensures
+    ∙ ap (with_peering c.args.peer (Some (connection_with c.args.peers))) c.meet.ensures.step)
     c.in_ok-push.ensures.ok (begins told agrees))
     c.happens.ensures.step
 

@@ -12,7 +12,8 @@ pub invariant_of-self : goal.invariant_of-self
 invariant_of-self c =
     let v : EdgeLists = the_view c.self.inside in
     holds_kept v c.count_tick.new.self c.count_tick.ensures.keeps (ap (λ (e : EdgeLists). e.stopped) c.self.view_is ∙ c.requires.working)
-    (subst (λ (e : EdgeState). IfSome v.marks (IsTidy v.plan e)) (sym (seen_later v c.count_tick.new.self c.self.invariant c.count_tick.ensures.keeps c.count_tick.ensures.step)) (tidy_ticked v.plan (seen v) (later (seen v).ticks) v.marks c.self.invariant.tidy)) c.self.invariant
+    (subst (λ (e : EdgeState). IfSome v.marks (IsTidy v.plan e)) (sym (seen_later v c.count_tick.new.self c.self.invariant c.count_tick.ensures.keeps c.count_tick.ensures.step))
+    (tidy_ticked v.plan (seen v) (later (seen v).ticks) v.marks c.self.invariant.tidy)) c.self.invariant
 
 pub returns-clause-step : goal.returns-clause-step
 returns-clause-step c =

@@ -10,7 +10,8 @@ use Rattle.provider_edge.proofs.edge.Edge.down.Goals as goal
 
 pub returns-in-Some : goal.returns-in-Some
 returns-in-Some c =
-    for_place (λ place. c.down_of.result ≡ down_at c.args.self.now.plan (seen c.args.self.now) place) (find (is_end_of_wire c.args.wire) (end_places c.args.self.now.plan c.args.self.now.me)) (λ place here.
+    for_place (λ place. c.down_of.result ≡ down_at c.args.self.now.plan (seen c.args.self.now) place)
+    (find (is_end_of_wire c.args.wire) (end_places c.args.self.now.plan c.args.self.now.me)) (λ place here.
     c.down_of.ensures
     ∙ ap (down_at c.args.self.now.plan (seen c.args.self.now))
     (slot_place (the_view c.self.inside) c.args.self.now (is_end_of_wire c.args.wire) c.terminal.result c.in-Some.slot place c.self.view_is c.self.invariant

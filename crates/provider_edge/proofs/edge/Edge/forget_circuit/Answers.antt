@@ -25,10 +25,12 @@ pub invariant_of-self : goal.invariant_of-self
 invariant_of-self c =
     let v : EdgeLists = the_view c.self.inside in
     holds_kept v c.forget_circuit.new.self c.forget_circuit.ensures.keeps (ap (λ (e : EdgeLists). e.stopped) c.self.view_is ∙ c.requires.working)
-    (subst (λ (e : EdgeState). IfSome v.marks (IsTidy v.plan e)) (sym (seen_forgot (is_circuit_port c.args.circuit) v c.forget_circuit.new.self c.args.service c.self.invariant c.forget_circuit.ensures.keeps c.forget_circuit.ensures.step))
+    (subst (λ (e : EdgeState). IfSome v.marks (IsTidy v.plan e))
+    (sym (seen_forgot (is_circuit_port c.args.circuit) v c.forget_circuit.new.self c.args.service c.self.invariant c.forget_circuit.ensures.keeps c.forget_circuit.ensures.step))
     (tidy_without v.plan (seen v) c.args.service (position (is_circuit_port c.args.circuit) (ports_of v.plan c.args.service v.me)) v.marks c.self.invariant.tidy)) c.self.invariant
 
 pub returns-clause-step : goal.returns-clause-step
 returns-clause-step c =
-    subst (λ (n : EdgeLists). seen (record (the_view c.self.inside) { forwarding = c.forget_circuit.new.self }) ≡ with_addresses c.args.service (without_port (position (is_circuit_port c.args.circuit) (ports_of n.plan c.args.service n.me)) (addresses_of (seen n) c.args.service)) (seen n)) c.self.view_is
+    subst (λ (n : EdgeLists). seen (record (the_view c.self.inside) { forwarding = c.forget_circuit.new.self })
+    ≡ with_addresses c.args.service (without_port (position (is_circuit_port c.args.circuit) (ports_of n.plan c.args.service n.me)) (addresses_of (seen n) c.args.service)) (seen n)) c.self.view_is
     (seen_forgot (is_circuit_port c.args.circuit) (the_view c.self.inside) c.forget_circuit.new.self c.args.service c.self.invariant c.forget_circuit.ensures.keeps c.forget_circuit.ensures.step)

@@ -12,7 +12,8 @@ use Rattle.provider_edge.specs.Tidy.{IsTidy}
 use Rattle.provider_edge.proofs.edge.Edge.forget_wire.Goals as goal
 
 pub forget_wire-requires : goal.forget_wire-requires
-forget_wire-requires c = subst (λ (p : Plan). c.args.wire.0 < length p.wires) (sym c.self.invariant.plan) (subst (λ (n : EdgeLists). c.args.wire.0 < length n.plan.wires) (sym c.self.view_is) c.requires.within)
+forget_wire-requires c = subst (λ (p : Plan). c.args.wire.0 < length p.wires) (sym c.self.invariant.plan)
+    (subst (λ (n : EdgeLists). c.args.wire.0 < length n.plan.wires) (sym c.self.view_is) c.requires.within)
 
 pub invariant_of-self : goal.invariant_of-self
 invariant_of-self c =

@@ -17,20 +17,23 @@ pdus-preserved g c =
       step = λ told more agrees octets.
           on_both c.args.self.now.plan told c.args.peer _ (c.pdus.held ++ more) _ _ (at_work g.L.Link.calls c.pdus.self c.pdus.work) _
           (c.pdus.invariant.step told more (agrees_before told _ _ c.in_ok-hear_pdu-in-Pdu.ensures.goes.on.calls agrees) octets)
-          (pdu_on c.args.self.now.plan c.pdus.self.plan told c.args.peer c.pdus.held c.next.new.self more c.in-Pdu.pdu c.in-Some.peering.now c.max_pdu.result (seen c.pdus.self) (g.L.Link.calls c.pdus.work.link.now) c.pdus.work.effects.now.list _
+          (pdu_on c.args.self.now.plan c.pdus.self.plan told c.args.peer c.pdus.held c.next.new.self more c.in-Pdu.pdu c.in-Some.peering.now c.max_pdu.result (seen c.pdus.self)
+          (g.L.Link.calls c.pdus.work.link.now) c.pdus.work.effects.now.list _
           c.pdus.invariant.goes.keeps.plan c.next.ensures.octets octets c.max_pdu.ensures.longest c.max_pdu.ensures.value
           (ap (λ d. (option_copied d)) (sym c.in-Some.is) ∙ c.peering.ensures) at (c.in_ok-hear_pdu-in-Pdu.ensures.step told agrees));
     }
 
 pub pdus-preserved-in-Continue-branch-3 : goal.pdus-preserved-in-Continue-branch-3
 pdus-preserved-in-Continue-branch-3 g c =
-    let at : IsAtPdu c.max_pdu.result c.pdus.held c.next.new.self (alive c.in-KeepAlive.sender c.in-KeepAlive.id) = subst (StandsNext c.max_pdu.result c.pdus.held c.next.new.self) c.in-KeepAlive.is c.in_ok-next.ensures.next in
+    let at : IsAtPdu c.max_pdu.result c.pdus.held c.next.new.self (alive c.in-KeepAlive.sender c.in-KeepAlive.id) =
+    subst (StandsNext c.max_pdu.result c.pdus.held c.next.new.self) c.in-KeepAlive.is c.in_ok-next.ensures.next in
     record {
       goes = works_both g.L.Link.calls _ _ _ _ _ _ c.pdus.invariant.goes c.in_ok-hear_keep_alive-in-KeepAlive.ensures.goes;
       step = λ told more agrees octets.
           on_both c.args.self.now.plan told c.args.peer _ (c.pdus.held ++ more) _ _ (at_work g.L.Link.calls c.pdus.self c.pdus.work) _
           (c.pdus.invariant.step told more (agrees_before told _ _ c.in_ok-hear_keep_alive-in-KeepAlive.ensures.goes.on.calls agrees) octets)
-          (pdu_on c.args.self.now.plan c.pdus.self.plan told c.args.peer c.pdus.held c.next.new.self more (alive c.in-KeepAlive.sender c.in-KeepAlive.id) c.in-Some.peering.now c.max_pdu.result (seen c.pdus.self) (g.L.Link.calls c.pdus.work.link.now) c.pdus.work.effects.now.list _
+          (pdu_on c.args.self.now.plan c.pdus.self.plan told c.args.peer c.pdus.held c.next.new.self more
+          (alive c.in-KeepAlive.sender c.in-KeepAlive.id) c.in-Some.peering.now c.max_pdu.result (seen c.pdus.self) (g.L.Link.calls c.pdus.work.link.now) c.pdus.work.effects.now.list _
           c.pdus.invariant.goes.keeps.plan c.next.ensures.octets octets c.max_pdu.ensures.longest c.max_pdu.ensures.value
           (ap (λ d. (option_copied d)) (sym c.in-Some.is) ∙ c.peering.ensures) at (c.in_ok-hear_keep_alive-in-KeepAlive.ensures.step told agrees));
     }

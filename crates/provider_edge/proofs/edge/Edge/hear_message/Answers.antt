@@ -13,7 +13,8 @@ use Rattle.provider_edge.proofs.edge.Edge.hear_message.Goals as goal
 
 pub returns-then-not-has_end-clause-step : goal.returns-then-not-has_end-clause-step
 returns-then-not-has_end-clause-step g c = λ told agrees.
-    message_none c.args.self.now.plan told c.args.peer c.args.message.now (seen c.args.self.now) (g.L.Link.calls c.args.work.now.link.now) c.args.work.now.effects.now.list (sym (c.has_end.ensures) ∙ c.if-not-has_end.true)
+    message_none c.args.self.now.plan told c.args.peer c.args.message.now (seen c.args.self.now) (g.L.Link.calls c.args.work.now.link.now) c.args.work.now.effects.now.list
+    (sym (c.has_end.ensures) ∙ c.if-not-has_end.true)
 
 pub returns-clause-goes : goal.returns-clause-goes
 returns-clause-goes g c =
@@ -35,20 +36,25 @@ returns-clause-step g c =
     → at_work g.L.Link.calls c.if-was_up.self c.if-was_up.work ≡ hears_one c.args.self.now.plan told c.args.peer c.args.message.now (at_work g.L.Link.calls c.args.self.now c.args.work.now) =
     elim c.if-was_up.branch [
       | then-was_up+then-has_end+in_ok-act w ↦ rw w.self-is (rw w.work-is (λ told agrees.
-          one_heard c.args.self.now.plan c.happens.new.self.plan told c.args.peer c.args.message.now (seen c.args.self.now) (g.L.Link.calls c.args.work.now.link.now) c.args.work.now.effects.now.list true
+          one_heard c.args.self.now.plan c.happens.new.self.plan told c.args.peer c.args.message.now (seen c.args.self.now)
+          (g.L.Link.calls c.args.work.now.link.now) c.args.work.now.effects.now.list true
           (at_work g.L.Link.calls c.happens.new.self c.happens.new.work) (at_work g.L.Link.calls w.act.new.self w.act.new.work)
           (sym w.if-was_up.true ∙ c.is_up-was_up.ensures) c.in_ok-happens.ensures.goes.keeps.plan
           (c.in_ok-happens.ensures.step told (agrees_before told _ _ w.in_ok-act.ensures.goes.on.calls agrees))
-          (acts_there c.happens.new.self.plan told c.args.peer c.args.message.now (seen c.happens.new.self) (g.L.Link.calls c.happens.new.work.link.now) c.happens.new.work.effects.now.list _ (sym w.has_end-then-was_up.ensures ∙ w.if-has_end.true) (w.in_ok-act.ensures.step told agrees))))
+          (acts_there c.happens.new.self.plan told c.args.peer c.args.message.now (seen c.happens.new.self)
+          (g.L.Link.calls c.happens.new.work.link.now) c.happens.new.work.effects.now.list _ (sym w.has_end-then-was_up.ensures ∙ w.if-has_end.true) (w.in_ok-act.ensures.step told agrees))))
       | else-was_up w ↦ rw w.self-is (rw w.work-is (λ told agrees. elim w.else-was_up.branch [
         | else-was_up-via-then-was_up+else-has_end v ↦
-            one_heard c.args.self.now.plan c.happens.new.self.plan told c.args.peer c.args.message.now (seen c.args.self.now) (g.L.Link.calls c.args.work.now.link.now) c.args.work.now.effects.now.list true
+            one_heard c.args.self.now.plan c.happens.new.self.plan told c.args.peer c.args.message.now (seen c.args.self.now)
+            (g.L.Link.calls c.args.work.now.link.now) c.args.work.now.effects.now.list true
             (at_work g.L.Link.calls c.happens.new.self c.happens.new.work) (at_work g.L.Link.calls c.happens.new.self c.happens.new.work)
             (sym v.if-was_up.true ∙ c.is_up-was_up.ensures) c.in_ok-happens.ensures.goes.keeps.plan
             (c.in_ok-happens.ensures.step told agrees)
-            (acts_not c.happens.new.self.plan told c.args.peer c.args.message.now (seen c.happens.new.self) (g.L.Link.calls c.happens.new.work.link.now) c.happens.new.work.effects.now.list (sym v.has_end-then-was_up.ensures ∙ v.if-has_end.false))
+            (acts_not c.happens.new.self.plan told c.args.peer c.args.message.now (seen c.happens.new.self)
+            (g.L.Link.calls c.happens.new.work.link.now) c.happens.new.work.effects.now.list (sym v.has_end-then-was_up.ensures ∙ v.if-has_end.false))
         | else-was_up-via-else-was_up v ↦
-            one_heard c.args.self.now.plan c.happens.new.self.plan told c.args.peer c.args.message.now (seen c.args.self.now) (g.L.Link.calls c.args.work.now.link.now) c.args.work.now.effects.now.list false
+            one_heard c.args.self.now.plan c.happens.new.self.plan told c.args.peer c.args.message.now (seen c.args.self.now)
+            (g.L.Link.calls c.args.work.now.link.now) c.args.work.now.effects.now.list false
             (at_work g.L.Link.calls c.happens.new.self c.happens.new.work) (at_work g.L.Link.calls c.happens.new.self c.happens.new.work)
             (sym v.if-was_up.false ∙ c.is_up-was_up.ensures) c.in_ok-happens.ensures.goes.keeps.plan
             (c.in_ok-happens.ensures.step told agrees) refl

@@ -9,7 +9,8 @@ pub loop-place-init : goal.loop-place-init
 loop-place-init g c = record {
   goes = c.in_ok-happens.ensures.goes;
   step = λ told agrees.
-      pdu_begun c.args.self.now.plan told c.args.peer c.args.pdu.now c.as_slice-messages.result.now (at_work g.L.Link.calls c.args.self.now c.args.work.now) (at_work g.L.Link.calls c.happens.new.self c.happens.new.work)
+      pdu_begun c.args.self.now.plan told c.args.peer c.args.pdu.now c.as_slice-messages.result.now (at_work g.L.Link.calls c.args.self.now c.args.work.now)
+      (at_work g.L.Link.calls c.happens.new.self c.happens.new.work)
       (c.in_ok-happens.ensures.step told agrees) c.as_slice-messages.ensures;
 }
 

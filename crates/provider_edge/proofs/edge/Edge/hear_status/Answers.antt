@@ -10,4 +10,5 @@ change_named-requires c = record { working = c.requires.working; one = keeps_sta
 
 pub returns-then-code-eq-PW_STATUS_CODE-clause-step : goal.returns-then-code-eq-PW_STATUS_CODE-clause-step
 returns-then-code-eq-PW_STATUS_CODE-clause-step c = λ calls out.
-    status_heard c.args.self.now.plan c.args.peer c.args.code c.args.status c.in-Some.status (option_copied c.args.fec) c.in-Some-fec.fec.now (seen c.args.self.now) (seen c.change_named.new.self) calls out c.in-Some.is (ap option_copied c.in-Some-fec.is) (eq-eqb c.args.code.code 40 c.if-code-eq-PW_STATUS_CODE.true) (c.change_named.ensures.step)
+    status_heard c.args.self.now.plan c.args.peer c.args.code c.args.status c.in-Some.status (option_copied c.args.fec) c.in-Some-fec.fec.now (seen c.args.self.now)
+    (seen c.change_named.new.self) calls out c.in-Some.is (ap option_copied c.in-Some-fec.is) (eq-eqb c.args.code.code 40 c.if-code-eq-PW_STATUS_CODE.true) (c.change_named.ensures.step)

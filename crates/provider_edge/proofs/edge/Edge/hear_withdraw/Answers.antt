@@ -10,6 +10,7 @@ change_named-requires g c = record { working = c.requires.working; one = keeps_u
 pub returns-clause-step : goal.returns-clause-step
 returns-clause-step g c = map_on _ _ c.release.result
     (λ puts told agrees.
-    withdraw_heard c.args.self.now.plan told c.args.peer c.args.fec.now c.args.label.now (seen c.args.self.now) (seen c.change_named.new.self) (g.L.Link.calls c.args.work.now.link.now) c.args.work.now.effects.now.list _
+    withdraw_heard c.args.self.now.plan told c.args.peer c.args.fec.now c.args.label.now (seen c.args.self.now) (seen c.change_named.new.self)
+    (g.L.Link.calls c.args.work.now.link.now) c.args.work.now.effects.now.list _
     (c.change_named.ensures.step) (puts told agrees))
     c.release.ensures.step

@@ -11,18 +11,21 @@ use Rattle.provider_edge.proofs.edge.Edge.held_beside.Goals as goal
 
 pub returns-in-Some-clause-held : goal.returns-in-Some-clause-held
 returns-in-Some-clause-held c =
-    held_read c.args.self.now c.args.slot c.in-Some.other c.place_at.result.wire c.args.peer (end_of c.end_in.result.now) (option_copied c.remote.result) (ap (λ (p : EndPlace). p.wire) c.place_at.ensures.place)
+    held_read c.args.self.now c.args.slot c.in-Some.other c.place_at.result.wire c.args.peer (end_of c.end_in.result.now) (option_copied c.remote.result)
+    (ap (λ (p : EndPlace). p.wire) c.place_at.ensures.place)
     (subst (λ (n : EdgeLists). (place_of n.ends c.in-Some.other).wire ≡ c.place_at.result.wire) c.self.view_is c.in-Some.ensures.wire)
     (subst (λ (n : EdgeLists). (place_of n.ends c.in-Some.other).peer ≡ c.args.peer) c.self.view_is c.in-Some.ensures.peer)
     c.end_in.ensures.end c.remote.ensures.remote
 
 pub returns-in-Some-clause-kind : goal.returns-in-Some-clause-kind
 returns-in-Some-clause-kind c =
-    read_kind (place_of c.args.self.now.ends c.in-Some.other) (option_copied c.remote.result) (end_of c.end_in.result.now) (end_in c.args.self.now.ends c.in-Some.other) c.remote.ensures.remote c.end_in.ensures.end c.end_in.ensures.holds
+    read_kind (place_of c.args.self.now.ends c.in-Some.other) (option_copied c.remote.result) (end_of c.end_in.result.now)
+    (end_in c.args.self.now.ends c.in-Some.other) c.remote.ensures.remote c.end_in.ensures.end c.end_in.ensures.holds
 
 pub returns-in-Some-clause-vlan : goal.returns-in-Some-clause-vlan
 returns-in-Some-clause-vlan c =
-    read_vlan (place_of c.args.self.now.ends c.in-Some.other) (option_copied c.remote.result) (end_of c.end_in.result.now) (end_in c.args.self.now.ends c.in-Some.other) c.remote.ensures.remote c.end_in.ensures.end c.end_in.ensures.holds
+    read_vlan (place_of c.args.self.now.ends c.in-Some.other) (option_copied c.remote.result) (end_of c.end_in.result.now)
+    (end_in c.args.self.now.ends c.in-Some.other) c.remote.ensures.remote c.end_in.ensures.end c.end_in.ensures.holds
 
 pub returns-in-Some-clause-room : goal.returns-in-Some-clause-room
 returns-in-Some-clause-room c = λ switching.

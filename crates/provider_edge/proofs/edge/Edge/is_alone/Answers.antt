@@ -11,5 +11,6 @@ pub returns : goal.returns
 returns c = record {
   alone =
       subst (λ (n : EdgeLists). (c.is_none_kept.result ≡ true) ↔ ((peer : EdgeId) → has_end (seen n) peer ≡ false)) c.self.view_is
-      (alone (the_view c.self.inside) c.is_none_kept.result (c.is_none_kept.ensures ∙ ap (λ (peerings : List (Option Peering)). list_all (λ kept. not (is_there kept)) peerings) c.deref.ensures.value));
+      (alone (the_view c.self.inside) c.is_none_kept.result
+      (c.is_none_kept.ensures ∙ ap (λ (peerings : List (Option Peering)). list_all (λ kept. not (is_there kept)) peerings) c.deref.ensures.value));
 }

@@ -11,12 +11,14 @@ pub returns-then-is_chosen : goal.returns-then-is_chosen
 returns-then-is_chosen c =
     new_read (the_view c.self.inside) c.args.self.now c.args.slot c.place_at.result c.in-Some.row.now (view None c.args.chosen.now) _ c.self.view_is c.place_at.ensures.place
     (sym (c.in-Some.ensures ∙ ap (λ (p : Plan). slice_get p.wires c.place_at.result.wire.0) c.deref.ensures))
-    (new_there (is_chosen_wire c.place_at.result.wire ((seen c.args.self.now).chosen c.in-Some.row.now.service.0)) (is_chosen_wire c.place_at.result.wire (view None c.args.chosen.now c.in-Some.row.now.service.0)) c.is_chosen.result c.is_wire_of.result
+    (new_there (is_chosen_wire c.place_at.result.wire ((seen c.args.self.now).chosen c.in-Some.row.now.service.0))
+    (is_chosen_wire c.place_at.result.wire (view None c.args.chosen.now c.in-Some.row.now.service.0)) c.is_chosen.result c.is_wire_of.result
     c.is_chosen.ensures c.if-is_chosen.true c.is_wire_of.ensures)
 
 pub returns-else-is_chosen : goal.returns-else-is_chosen
 returns-else-is_chosen c =
     new_read (the_view c.self.inside) c.args.self.now c.args.slot c.place_at.result c.in-Some.row.now (view None c.args.chosen.now) _ c.self.view_is c.place_at.ensures.place
     (sym (c.in-Some.ensures ∙ ap (λ (p : Plan). slice_get p.wires c.place_at.result.wire.0) c.deref.ensures))
-    (new_away (is_chosen_wire c.place_at.result.wire ((seen c.args.self.now).chosen c.in-Some.row.now.service.0)) (is_chosen_wire c.place_at.result.wire (view None c.args.chosen.now c.in-Some.row.now.service.0)) c.is_chosen.result
+    (new_away (is_chosen_wire c.place_at.result.wire ((seen c.args.self.now).chosen c.in-Some.row.now.service.0))
+    (is_chosen_wire c.place_at.result.wire (view None c.args.chosen.now c.in-Some.row.now.service.0)) c.is_chosen.result
     c.is_chosen.ensures c.if-is_chosen.false)

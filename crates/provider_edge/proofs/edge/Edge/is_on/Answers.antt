@@ -7,7 +7,8 @@ use Rattle.provider_edge.specs.Lists.{EdgeLists, seen}
 use Rattle.provider_edge.proofs.edge.Edge.is_on.Goals as goal
 
 pub is_on-requires : goal.is_on-requires
-is_on-requires c = subst (λ (p : Plan). c.args.circuit.0 < length p.circuits) (sym c.self.invariant.plan) (subst (λ (n : EdgeLists). c.args.circuit.0 < length n.plan.circuits) (sym c.self.view_is) c.requires)
+is_on-requires c = subst (λ (p : Plan). c.args.circuit.0 < length p.circuits) (sym c.self.invariant.plan)
+    (subst (λ (n : EdgeLists). c.args.circuit.0 < length n.plan.circuits) (sym c.self.view_is) c.requires)
 
 pub returns : goal.returns
 returns c =

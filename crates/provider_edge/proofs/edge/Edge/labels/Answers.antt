@@ -27,6 +27,7 @@ pub returns : goal.returns
 returns c = record {
   next = subst (λ (n : EdgeLists). c.labels.result.now.next ≡ (seen n).next_label) c.self.view_is (ap (λ (l : LabelNumbers). l.next) c.labels.ensures.labels ∙ next_at (the_view c.self.inside));
   kept = subst (λ (n : EdgeLists). c.labels.result.now.kept ≡ (seen n).kept) c.self.view_is (ap (λ (l : LabelNumbers). l.kept) c.labels.ensures.labels ∙ kept_now (the_view c.self.inside));
-  owners = λ label. subst (λ (n : EdgeLists). owner_of label c.labels.result.now.owners ≡ option_map named (find (λ place. owns_label label (end_at (seen n) place)) (end_places n.plan n.me))) c.self.view_is
+  owners = λ label. subst (λ (n : EdgeLists). owner_of label c.labels.result.now.owners
+      ≡ option_map named (find (λ place. owns_label label (end_at (seen n) place)) (end_places n.plan n.me))) c.self.view_is
       (owned_at (the_view c.self.inside) c.labels.result.now.owners label c.self.invariant (c.labels.ensures.owners label));
 }

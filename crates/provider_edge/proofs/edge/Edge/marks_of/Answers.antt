@@ -5,4 +5,5 @@ use Rattle.provider_edge.proofs.edge.Edge.marks_of.Goals as goal
 
 pub returns : goal.returns
 returns c =
-    each_tidy (the_view c.self.inside) c.args.self.now (starts_spoke c.args.self.now.plan c.args.self.now.me (record { 0 = c.args.service })) c.marks_with_spokes.result c.self.view_is c.self.invariant c.marks_with_spokes.ensures
+    each_tidy (the_view c.self.inside) c.args.self.now
+    (starts_spoke c.args.self.now.plan c.args.self.now.me (record { 0 = c.args.service })) c.marks_with_spokes.result c.self.view_is c.self.invariant c.marks_with_spokes.ensures

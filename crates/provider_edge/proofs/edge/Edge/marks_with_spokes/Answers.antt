@@ -20,11 +20,14 @@ loop-slot-init c =
 
 pub loop-slot-preserved : goal.loop-slot-preserved
 loop-slot-preserved c =
-    known_more (λ (old : EndMarks). MarksFirst c.slots_of-slots.result.now c.loop-slot.slot-index old c.loop-slot.marks) (λ (old : EndMarks). MarksFirst c.slots_of-slots.result.now (c.loop-slot.slot-index + 1) old c.with-marks.result) c.args.self.now.marks
-    (λ old some. first_more c.slots_of-slots.result.now c.loop-slot.slot-index (slice_index_or c.slots_of-slots.result.now c.loop-slot.slot-index 0) old c.loop-slot.marks c.with-marks.result some c.loop-slot-test.true refl c.with-marks.ensures.wider c.with-marks.ensures.within)
+    known_more (λ (old : EndMarks). MarksFirst c.slots_of-slots.result.now c.loop-slot.slot-index old c.loop-slot.marks)
+    (λ (old : EndMarks). MarksFirst c.slots_of-slots.result.now (c.loop-slot.slot-index + 1) old c.with-marks.result) c.args.self.now.marks
+    (λ old some. first_more c.slots_of-slots.result.now c.loop-slot.slot-index
+    (slice_index_or c.slots_of-slots.result.now c.loop-slot.slot-index 0) old c.loop-slot.marks c.with-marks.result some c.loop-slot-test.true refl c.with-marks.ensures.wider c.with-marks.ensures.within)
     c.loop-slot.invariant
 
 pub returns : goal.returns
 returns c =
-    first_all (starts_spoke c.args.self.now.plan c.args.self.now.me (record { 0 = c.args.service })) c.args.self.now.ends.places c.slots_of-slots.result.now c.loop-slot.slot-index c.args.self.now.marks c.in_ok-marks.marks c.loop-slot.marks
+    first_all (starts_spoke c.args.self.now.plan c.args.self.now.me
+    (record { 0 = c.args.service })) c.args.self.now.ends.places c.slots_of-slots.result.now c.loop-slot.slot-index c.args.self.now.marks c.in_ok-marks.marks c.loop-slot.marks
     (sym (ap (λ (n : EdgeLists). n.marks) c.self.view_is) ∙ c.in_ok-marks.was) c.slots_of-slots.ensures.slots c.loop-slot-test.false c.loop-slot.invariant

@@ -12,5 +12,6 @@ invariant-loop-slot g l = record {
   places : l.fn.self.ends.places ≡ end_places l.fn.self.plan l.fn.self.me;
   step : (told : Answers) → Agrees told (g.L.Link.calls l.work.link.now)
       → each_end (mends_choice l.fn.self.plan told (view None l.chosen)) (end_places l.fn.self.plan l.fn.self.me) (record { work = at_work g.L.Link.calls l.fn.self l.fn.work; failed = l.before })
-      ≡ each_end (mends_choice l.fn.self.plan told (view None l.chosen)) (drop l.slot (end_places l.fn.self.plan l.fn.self.me)) (record { work = at_work g.L.Link.calls l.self l.work; failed = l.failed });
+      ≡ each_end (mends_choice l.fn.self.plan told (view None l.chosen)) (drop l.slot (end_places l.fn.self.plan l.fn.self.me))
+      (record { work = at_work g.L.Link.calls l.self l.work; failed = l.failed });
 }

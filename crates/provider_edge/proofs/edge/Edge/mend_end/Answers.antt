@@ -20,7 +20,8 @@ use Rattle.provider_edge.proofs.edge.Edge.mend_end.Goals as goal
 pub returns-then-is_declined-clause-step : goal.returns-then-is_declined-clause-step
 returns-then-is_declined-clause-step g c = λ told agrees.
     idle_declined c.args.self.now.plan told (place_of c.args.self.now.ends c.args.slot) (at_work g.L.Link.calls c.args.self.now c.args.work.now) c.in-Idle.end.declined
-    (local_is c.args.self.now (g.L.Link.calls c.args.work.now.link.now) c.args.work.now.effects.now.list c.args.slot c.end_in.result.now _ c.end_in.ensures.end c.in-Idle.is) (sym c.is_declined.ensures.declined ∙ c.if-is_declined.true)
+    (local_is c.args.self.now (g.L.Link.calls c.args.work.now.link.now) c.args.work.now.effects.now.list c.args.slot c.end_in.result.now _ c.end_in.ensures.end c.in-Idle.is)
+    (sym c.is_declined.ensures.declined ∙ c.if-is_declined.true)
 
 pub returns-else-is_declined-clause-step : goal.returns-else-is_declined-clause-step
 unfolding at_edge
@@ -28,7 +29,8 @@ returns-else-is_declined-clause-step g c =
     map_ok _ _ c.put_mapping.result (λ failed said. λ told agrees.
     idle_wishes c.args.self.now.plan told (place_of c.args.self.now.ends c.args.slot) (at_work g.L.Link.calls c.args.self.now c.args.work.now) c.in-Idle.end.declined
     (record { work = at_work g.L.Link.calls c.put_mapping.new.self c.put_mapping.new.work; failed = failed })
-    (local_is c.args.self.now (g.L.Link.calls c.args.work.now.link.now) c.args.work.now.effects.now.list c.args.slot c.end_in.result.now _ c.end_in.ensures.end c.in-Idle.is) (sym c.is_declined.ensures.declined ∙ c.if-is_declined.false)
+    (local_is c.args.self.now (g.L.Link.calls c.args.work.now.link.now) c.args.work.now.effects.now.list c.args.slot c.end_in.result.now _ c.end_in.ensures.end c.in-Idle.is)
+    (sym c.is_declined.ensures.declined ∙ c.if-is_declined.false)
     (said told agrees))
     c.put_mapping.ensures.step
 
@@ -39,7 +41,9 @@ returns-then-still_stands-clause-step g c = λ told agrees.
     _
     (local_is c.args.self.now (g.L.Link.calls c.args.work.now.link.now) c.args.work.now.effects.now.list c.args.slot c.end_in.result.now _ c.end_in.ensures.end c.in-Advertised.is
     ∙ ap (λ (t : Told). Advertised c.in-Advertised.end.label t) (sym c.told.ensures.told))
-    (unless_stands told (place_of c.args.self.now.ends c.args.slot) (place_of c.args.self.now.ends c.args.slot) c.in-Advertised.end.label c.told.result.now (wish c.args.self.now.plan (seen c.args.self.now) (place_of c.args.self.now.ends c.args.slot)) (wish c.args.self.now.plan (seen c.args.self.now) (place_of c.args.self.now.ends c.args.slot)) c.still_stands.result (at_work g.L.Link.calls c.args.self.now c.args.work.now)
+    (unless_stands told (place_of c.args.self.now.ends c.args.slot) (place_of c.args.self.now.ends c.args.slot) c.in-Advertised.end.label c.told.result.now
+    (wish c.args.self.now.plan (seen c.args.self.now) (place_of c.args.self.now.ends c.args.slot))
+    (wish c.args.self.now.plan (seen c.args.self.now) (place_of c.args.self.now.ends c.args.slot)) c.still_stands.result (at_work g.L.Link.calls c.args.self.now c.args.work.now)
     refl refl c.still_stands.ensures c.if-still_stands.true)
 
 pub returns-else-still_stands-clause-step : goal.returns-else-still_stands-clause-step
@@ -51,11 +55,14 @@ returns-else-still_stands-clause-step g c =
     advertised_ends c.args.self.now.plan told (place_of c.args.self.now.ends c.args.slot) (at_work g.L.Link.calls c.args.self.now c.args.work.now) c.label-label.result c.told-content.result.now put
     (local_is c.args.self.now (g.L.Link.calls c.args.work.now.link.now) c.args.work.now.effects.now.list c.args.slot c.end_in.result.now _ c.end_in.ensures.end c.in-Advertised.is
     ∙ (ap (λ (n : ℕ). Advertised n c.in-Advertised.end.told) (sym c.label-label.ensures.label) ∙ ap (λ (t : Told). Advertised c.label-label.result t) (sym c.told-content.ensures.told)))
-    (unless_stands_not told (place_of c.args.self.now.ends c.args.slot) (place_of c.args.self.now.ends c.args.slot) c.label-label.result c.told-content.result.now wished wished c.still_stands.result (at_work g.L.Link.calls c.args.self.now c.args.work.now) put
+    (unless_stands_not told (place_of c.args.self.now.ends c.args.slot)
+    (place_of c.args.self.now.ends c.args.slot) c.label-label.result c.told-content.result.now wished wished c.still_stands.result (at_work g.L.Link.calls c.args.self.now c.args.work.now) put
     refl refl (c.still_stands.ensures ∙ ap (λ (t : Told). stands (place_of c.args.self.now.ends c.args.slot) t wished) (c.told.ensures.told ∙ sym c.told-content.ensures.told)) c.if-still_stands.false
-    (withdraws_at told (place_of c.args.self.now.ends c.args.slot) c.label-label.result c.told-content.result.now (seen c.args.self.now) (seen c.change.new.self) (g.L.Link.calls c.args.work.now.link.now) c.args.work.now.effects.now.list put
+    (withdraws_at told (place_of c.args.self.now.ends c.args.slot) c.label-label.result c.told-content.result.now (seen c.args.self.now) (seen c.change.new.self)
+    (g.L.Link.calls c.args.work.now.link.now) c.args.work.now.effects.now.list put
     (c.change.ensures.step ∙ changing_keeps withdrawn (place_of c.args.self.now.ends c.args.slot) (seen c.args.self.now) keeps_withdrawn)
-    (said told agrees ∙ ap (λ (p : EndPlace). says told p.peer (withdrawal p.pw_id c.label-label.result c.told-content.result.now) (at_work g.L.Link.calls c.change.new.self c.args.work.now)) c.place_at-place.ensures.place))))
+    (said told agrees ∙ ap (λ (p : EndPlace). says told p.peer (withdrawal p.pw_id c.label-label.result c.told-content.result.now)
+    (at_work g.L.Link.calls c.change.new.self c.args.work.now)) c.place_at-place.ensures.place))))
     c.say.ensures.step
 
 pub returns-in-Withdrawing-clause-step : goal.returns-in-Withdrawing-clause-step

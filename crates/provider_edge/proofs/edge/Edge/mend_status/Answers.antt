@@ -25,7 +25,9 @@ returns-in_default-clause-step g c = λ told agrees.
     _
     (local_is c.args.self.now (g.L.Link.calls c.args.work.now.link.now) c.args.work.now.effects.now.list c.args.slot c.end_in.result.now _ c.end_in.ensures.end c.in-Advertised.is
     ∙ ap (λ (t : Told). Advertised c.in-Advertised.end.label t) (sym c.told.ensures.told))
-    (over_none told (place_of c.args.self.now.ends c.args.slot) c.told.result.now (status_to_tell c.args.self.now.plan (seen c.args.self.now) (place_of c.args.self.now.ends c.args.slot)) c.told.result.now.status (at_work g.L.Link.calls c.args.self.now c.args.work.now) c.in_default.is)
+    (over_none told (place_of c.args.self.now.ends c.args.slot) c.told.result.now
+    (status_to_tell c.args.self.now.plan (seen c.args.self.now) (place_of c.args.self.now.ends c.args.slot)) c.told.result.now.status
+    (at_work g.L.Link.calls c.args.self.now c.args.work.now) c.in_default.is)
 
 pub returns-then-last-status-clause-step : goal.returns-then-last-status-clause-step
 unfolding at_edge
@@ -34,7 +36,9 @@ returns-then-last-status-clause-step g c = λ told agrees.
     _
     (local_is c.args.self.now (g.L.Link.calls c.args.work.now.link.now) c.args.work.now.effects.now.list c.args.slot c.end_in.result.now _ c.end_in.ensures.end c.in-Advertised.is
     ∙ ap (λ (t : Told). Advertised c.in-Advertised.end.label t) (sym c.told.ensures.told))
-    (over_same told (place_of c.args.self.now.ends c.args.slot) c.told.result.now c.status_to_tell-status.result (status_to_tell c.args.self.now.plan (seen c.args.self.now) (place_of c.args.self.now.ends c.args.slot)) c.told.result.now.status c.in-Some.last (at_work g.L.Link.calls c.args.self.now c.args.work.now)
+    (over_same told (place_of c.args.self.now.ends c.args.slot) c.told.result.now c.status_to_tell-status.result
+    (status_to_tell c.args.self.now.plan (seen c.args.self.now) (place_of c.args.self.now.ends c.args.slot)) c.told.result.now.status c.in-Some.last
+    (at_work g.L.Link.calls c.args.self.now c.args.work.now)
     c.status_to_tell-status.ensures c.in-Some.is (eq-eqb c.in-Some.last.0 c.status_to_tell-status.result.0 c.if-last-status.true))
 
 pub returns-else-last-status-clause-step : goal.returns-else-last-status-clause-step
@@ -45,11 +49,16 @@ returns-else-last-status-clause-step g c =
     status_over c.args.self.now.plan told (place_of c.args.self.now.ends c.args.slot) (at_work g.L.Link.calls c.args.self.now c.args.work.now) c.in-Advertised.end.label c.told-content.result.now put
     (local_is c.args.self.now (g.L.Link.calls c.args.work.now.link.now) c.args.work.now.effects.now.list c.args.slot c.end_in.result.now _ c.end_in.ensures.end c.in-Advertised.is
     ∙ ap (λ (t : Told). Advertised c.in-Advertised.end.label t) (sym c.told-content.ensures.told))
-    (over_new told (place_of c.args.self.now.ends c.args.slot) c.told-content.result.now c.status_to_tell-status.result (status_to_tell c.args.self.now.plan (seen c.args.self.now) (place_of c.args.self.now.ends c.args.slot)) c.told-content.result.now.status c.in-Some.last (at_work g.L.Link.calls c.args.self.now c.args.work.now) put
-    c.status_to_tell-status.ensures (ap (λ (t : Told). t.status) (c.told-content.ensures.told ∙ sym c.told.ensures.told) ∙ c.in-Some.is) (ne_eqb c.in-Some.last.0 c.status_to_tell-status.result.0 c.if-last-status.false)
-    (tells_at told (place_of c.args.self.now.ends c.args.slot) c.told-content.result.now c.status_to_tell-status.result (seen c.args.self.now) (seen c.change.new.self) (g.L.Link.calls c.args.work.now.link.now) c.args.work.now.effects.now.list put
+    (over_new told (place_of c.args.self.now.ends c.args.slot) c.told-content.result.now c.status_to_tell-status.result
+    (status_to_tell c.args.self.now.plan (seen c.args.self.now) (place_of c.args.self.now.ends c.args.slot)) c.told-content.result.now.status c.in-Some.last
+    (at_work g.L.Link.calls c.args.self.now c.args.work.now) put
+    c.status_to_tell-status.ensures (ap (λ (t : Told). t.status) (c.told-content.ensures.told ∙ sym c.told.ensures.told) ∙ c.in-Some.is)
+    (ne_eqb c.in-Some.last.0 c.status_to_tell-status.result.0 c.if-last-status.false)
+    (tells_at told (place_of c.args.self.now.ends c.args.slot) c.told-content.result.now c.status_to_tell-status.result (seen c.args.self.now) (seen c.change.new.self)
+    (g.L.Link.calls c.args.work.now.link.now) c.args.work.now.effects.now.list put
     (c.change.ensures.step ∙ changing_keeps (telling c.status_to_tell-status.result) (place_of c.args.self.now.ends c.args.slot) (seen c.args.self.now) (keeps_telling c.status_to_tell-status.result))
-    (said told agrees ∙ ap (λ (p : EndPlace). says told p.peer (status_notification p.pw_id c.status_to_tell-status.result c.told-content.result.now) (at_work g.L.Link.calls c.change.new.self c.args.work.now)) c.place_at-place.ensures.place))))
+    (said told agrees ∙ ap (λ (p : EndPlace). says told p.peer (status_notification p.pw_id c.status_to_tell-status.result c.told-content.result.now)
+    (at_work g.L.Link.calls c.change.new.self c.args.work.now)) c.place_at-place.ensures.place))))
     c.say.ensures.step
 
 pub returns-in-Idle-clause-step : goal.returns-in-Idle-clause-step

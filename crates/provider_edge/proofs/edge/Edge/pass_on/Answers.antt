@@ -16,13 +16,16 @@ use Rattle.provider_edge.proofs.edge.Edge.pass_on.Goals as goal
 
 pub returns-clause-step : goal.returns-clause-step
 returns-clause-step g c = λ told agrees.
-    let past : length (ports_of c.args.self.now.plan c.args.service c.args.self.now.me) ≤ c.loop-port.port = omega (arith, c.len-port-end.ensures.len, ap length c.in-Some-ports.ensures.some, c.loop-port-test.false) in
-    passed_to c.args.self.now told c.args.addresses.now c.args.service c.args.from c.in-Some.role c.role.result (role_of c.args.self.now.plan c.args.service c.args.self.now.me) c.in-Some-ports.ports.now (has c.pass_to-passed.result)
+    let past : length (ports_of c.args.self.now.plan c.args.service c.args.self.now.me) ≤ c.loop-port.port =
+    omega (arith, c.len-port-end.ensures.len, ap length c.in-Some-ports.ensures.some, c.loop-port-test.false) in
+    passed_to c.args.self.now told c.args.addresses.now c.args.service c.args.from c.in-Some.role c.role.result
+    (role_of c.args.self.now.plan c.args.service c.args.self.now.me) c.in-Some-ports.ports.now (has c.pass_to-passed.result)
     (g.L.Link.calls c.args.work.now.link.now) c.args.work.now.effects.now.list _
     (c.role.ensures.role
     ∙ (ap (λ (p : Plan). role_of p c.args.service c.self.inside.me) c.deref.ensures ∙ ap (λ (n : EdgeLists). role_of n.plan c.args.service n.me) c.self.view_is))
     c.in-Some.is c.in-Some-ports.ensures.some c.pass_to-passed.ensures
-    (sym (copies_end (has c.pass_to-passed.result) (tells_at c.args.self.now.plan told c.args.addresses.now) c.loop-port.port c.loop-port.port (ports_of c.args.self.now.plan c.args.service c.args.self.now.me) _ past) ∙ c.loop-port.invariant.step told agrees)
+    (sym (copies_end (has c.pass_to-passed.result) (tells_at c.args.self.now.plan told c.args.addresses.now) c.loop-port.port c.loop-port.port
+    (ports_of c.args.self.now.plan c.args.service c.args.self.now.me) _ past) ∙ c.loop-port.invariant.step told agrees)
 
 pub loop-port-preserved : goal.loop-port-preserved
 loop-port-preserved g c =
@@ -30,18 +33,27 @@ loop-port-preserved g c =
       | then-contains+in_ok-tell_at w ↦ rw w.self-is (rw w.work-is (record {
         goes = works_both g.L.Link.calls _ _ _ _ _ _ c.loop-port.invariant.goes w.in_ok-tell_at.ensures.goes;
         step = λ told agrees.
-            let within : c.loop-port.port < length (ports_of c.args.self.now.plan c.args.service c.args.self.now.me) = omega (arith, c.len-port-end.ensures.len, ap length c.in-Some-ports.ensures.some, c.loop-port-test.true) in
-            copied_next (has c.pass_to-passed.result) (tells_at c.args.self.now.plan told c.args.addresses.now) c.loop-port.port (ports_of c.args.self.now.plan c.args.service c.args.self.now.me) (at_work g.L.Link.calls c.loop-port.self c.loop-port.work) (at_work g.L.Link.calls w.tell_at.new.self w.tell_at.new.work) _ within
-            (where_kept c.args.self.now c.loop-port.self told c.args.addresses.now c.args.service c.loop-port.port (has c.pass_to-passed.result c.loop-port.port) (at_work g.L.Link.calls c.loop-port.self c.loop-port.work) (at_work g.L.Link.calls w.tell_at.new.self w.tell_at.new.work) c.loop-port.invariant.goes.keeps
-            (copied_if (has c.pass_to-passed.result c.loop-port.port) (at_work g.L.Link.calls c.loop-port.self c.loop-port.work) _ _ (sym c.contains.ensures ∙ w.if-contains.true) (w.in_ok-tell_at.ensures.step told agrees)))
+            let within : c.loop-port.port < length (ports_of c.args.self.now.plan c.args.service c.args.self.now.me) =
+            omega (arith, c.len-port-end.ensures.len, ap length c.in-Some-ports.ensures.some, c.loop-port-test.true) in
+            copied_next (has c.pass_to-passed.result) (tells_at c.args.self.now.plan told c.args.addresses.now) c.loop-port.port
+            (ports_of c.args.self.now.plan c.args.service c.args.self.now.me) (at_work g.L.Link.calls c.loop-port.self c.loop-port.work)
+            (at_work g.L.Link.calls w.tell_at.new.self w.tell_at.new.work) _ within
+            (where_kept c.args.self.now c.loop-port.self told c.args.addresses.now c.args.service c.loop-port.port (has c.pass_to-passed.result c.loop-port.port)
+            (at_work g.L.Link.calls c.loop-port.self c.loop-port.work) (at_work g.L.Link.calls w.tell_at.new.self w.tell_at.new.work) c.loop-port.invariant.goes.keeps
+            (copied_if (has c.pass_to-passed.result c.loop-port.port) (at_work g.L.Link.calls c.loop-port.self c.loop-port.work) _ _ (sym c.contains.ensures ∙ w.if-contains.true)
+            (w.in_ok-tell_at.ensures.step told agrees)))
             (c.loop-port.invariant.step told (agrees_before told _ _ w.in_ok-tell_at.ensures.goes.on.calls agrees));
       }))
       | else-contains w ↦ rw w.self-is (rw w.work-is (record {
         goes = c.loop-port.invariant.goes;
         step = λ told agrees.
-            let within : c.loop-port.port < length (ports_of c.args.self.now.plan c.args.service c.args.self.now.me) = omega (arith, c.len-port-end.ensures.len, ap length c.in-Some-ports.ensures.some, c.loop-port-test.true) in
-            copied_next (has c.pass_to-passed.result) (tells_at c.args.self.now.plan told c.args.addresses.now) c.loop-port.port (ports_of c.args.self.now.plan c.args.service c.args.self.now.me) (at_work g.L.Link.calls c.loop-port.self c.loop-port.work) (at_work g.L.Link.calls c.loop-port.self c.loop-port.work) _ within
-            (where_kept c.args.self.now c.loop-port.self told c.args.addresses.now c.args.service c.loop-port.port (has c.pass_to-passed.result c.loop-port.port) (at_work g.L.Link.calls c.loop-port.self c.loop-port.work) (at_work g.L.Link.calls c.loop-port.self c.loop-port.work) c.loop-port.invariant.goes.keeps
+            let within : c.loop-port.port < length (ports_of c.args.self.now.plan c.args.service c.args.self.now.me) =
+            omega (arith, c.len-port-end.ensures.len, ap length c.in-Some-ports.ensures.some, c.loop-port-test.true) in
+            copied_next (has c.pass_to-passed.result) (tells_at c.args.self.now.plan told c.args.addresses.now) c.loop-port.port
+            (ports_of c.args.self.now.plan c.args.service c.args.self.now.me) (at_work g.L.Link.calls c.loop-port.self c.loop-port.work)
+            (at_work g.L.Link.calls c.loop-port.self c.loop-port.work) _ within
+            (where_kept c.args.self.now c.loop-port.self told c.args.addresses.now c.args.service c.loop-port.port (has c.pass_to-passed.result c.loop-port.port)
+            (at_work g.L.Link.calls c.loop-port.self c.loop-port.work) (at_work g.L.Link.calls c.loop-port.self c.loop-port.work) c.loop-port.invariant.goes.keeps
             (copied_else (has c.pass_to-passed.result c.loop-port.port) (at_work g.L.Link.calls c.loop-port.self c.loop-port.work) _ (sym c.contains.ensures ∙ w.if-contains.false)))
             (c.loop-port.invariant.step told agrees);
       }))

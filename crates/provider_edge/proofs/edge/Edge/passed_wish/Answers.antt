@@ -16,6 +16,8 @@ returns-in_err-from-clause-wish c =
 pub returns-clause-wish : goal.returns-clause-wish
 returns-clause-wish c =
     let here : c.address_of.result ≡ edge_address c.args.self.now.plan c.args.self.now.me = c.address_of.ensures ∙ ap (λ (n : EdgeLists). edge_address c.args.self.now.plan n.me) c.self.view_is in
-    passed_read c.args.self.now c.args.slot c.args.row.now c.place_at-place.result c.in_ok-from.from c.mate.result (own_point c.args.row.now.pw_id c.address_of.result c.address_of-2.result) (option_copied c.held_beside.result) c.wanted.result c.place_at-place.ensures.place
+    passed_read c.args.self.now c.args.slot c.args.row.now c.place_at-place.result c.in_ok-from.from c.mate.result
+    (own_point c.args.row.now.pw_id c.address_of.result c.address_of-2.result) (option_copied c.held_beside.result) c.wanted.result c.place_at-place.ensures.place
     (c.mate.ensures ∙ ap (λ (n : EdgeLists). mate c.args.row.now n.me.0 c.place_at-place.result.peer.0) c.self.view_is) (c.in_ok-from.was)
-    (ap (λ (a : Option Addr). own_point c.args.row.now.pw_id a c.address_of-2.result) here ∙ ap (own_point c.args.row.now.pw_id (edge_address c.args.self.now.plan c.args.self.now.me)) c.address_of-2.ensures) c.held_beside.ensures.held c.wanted.ensures.told
+    (ap (λ (a : Option Addr). own_point c.args.row.now.pw_id a c.address_of-2.result) here
+    ∙ ap (own_point c.args.row.now.pw_id (edge_address c.args.self.now.plan c.args.self.now.me)) c.address_of-2.ensures) c.held_beside.ensures.held c.wanted.ensures.told

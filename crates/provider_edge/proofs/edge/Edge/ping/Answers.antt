@@ -20,16 +20,20 @@ use Rattle.provider_edge.proofs.edge.Edge.ping.Goals as goal
 pub returns-in_default-clause-step : goal.returns-in_default-clause-step
 returns-in_default-clause-step g c = λ told agrees.
     let is : IsEdge c.args.self.now = subst IsEdge c.self.view_is c.self.invariant in
-    subst (λ (e : Effects). worked c.args.self.now (g.L.Link.calls c.args.work.now.link.now) (record e { idle = true }) ≡ ping_input c.args.self.now.plan told c.args.wire (beginning (seen c.args.self.now) (g.L.Link.calls c.args.work.now.link.now))) (sym c.requires.fresh)
+    subst (λ (e : Effects). worked c.args.self.now (g.L.Link.calls c.args.work.now.link.now) (record e { idle = true })
+    ≡ ping_input c.args.self.now.plan told c.args.wire (beginning (seen c.args.self.now) (g.L.Link.calls c.args.work.now.link.now))) (sym c.requires.fresh)
     (unended c.args.self.now told c.args.wire (g.L.Link.calls c.args.work.now.link.now)
-    (none_found c.args.self.now (is_end_of_wire c.args.wire) c.terminal.result is (c.terminal.ensures.slot ∙ ap (λ (n : EdgeLists). position (is_end_of_wire c.args.wire) n.ends.places) c.self.view_is) c.in_default.is))
+    (none_found c.args.self.now (is_end_of_wire c.args.wire) c.terminal.result is
+    (c.terminal.ensures.slot ∙ ap (λ (n : EdgeLists). position (is_end_of_wire c.args.wire) n.ends.places) c.self.view_is) c.in_default.is))
 
 pub returns-in_default-2-clause-step : goal.returns-in_default-2-clause-step
 returns-in_default-2-clause-step g c = λ told agrees.
     let is : IsEdge c.args.self.now = subst IsEdge c.self.view_is c.self.invariant in
-    subst (λ (e : Effects). worked c.args.self.now (g.L.Link.calls c.args.work.now.link.now) (record e { idle = true }) ≡ ping_input c.args.self.now.plan told c.args.wire (beginning (seen c.args.self.now) (g.L.Link.calls c.args.work.now.link.now))) (sym c.requires.fresh)
+    subst (λ (e : Effects). worked c.args.self.now (g.L.Link.calls c.args.work.now.link.now) (record e { idle = true })
+    ≡ ping_input c.args.self.now.plan told c.args.wire (beginning (seen c.args.self.now) (g.L.Link.calls c.args.work.now.link.now))) (sym c.requires.fresh)
     (unasked c.args.self.now told c.args.wire (g.L.Link.calls c.args.work.now.link.now) (place_of c.args.self.now.ends c.in-Some.slot)
-    (slot_found c.args.self.now (is_end_of_wire c.args.wire) c.terminal.result c.in-Some.slot is (c.terminal.ensures.slot ∙ ap (λ (n : EdgeLists). position (is_end_of_wire c.args.wire) n.ends.places) c.self.view_is) c.in-Some.is)
+    (slot_found c.args.self.now (is_end_of_wire c.args.wire) c.terminal.result c.in-Some.slot is
+    (c.terminal.ensures.slot ∙ ap (λ (n : EdgeLists). position (is_end_of_wire c.args.wire) n.ends.places) c.self.view_is) c.in-Some.is)
     (sym c.in_default-2.is ∙ c.in_ok-packet.ensures))
 
 pub returns-in_default-clause-goes : goal.returns-in_default-clause-goes
@@ -40,10 +44,12 @@ returns-clause-step g c = map_on _ _ c.send.result
     (λ step. λ told agrees.
     let is : IsEdge c.args.self.now = subst IsEdge c.self.view_is c.self.invariant in
     asked c.args.self.now told c.args.wire (g.L.Link.calls c.args.work.now.link.now) (place_of c.args.self.now.ends c.in-Some.slot) c.in-Some-2.packet _
-    (slot_found c.args.self.now (is_end_of_wire c.args.wire) c.terminal.result c.in-Some.slot is (c.terminal.ensures.slot ∙ ap (λ (n : EdgeLists). position (is_end_of_wire c.args.wire) n.ends.places) c.self.view_is) c.in-Some.is)
+    (slot_found c.args.self.now (is_end_of_wire c.args.wire) c.terminal.result c.in-Some.slot is
+    (c.terminal.ensures.slot ∙ ap (λ (n : EdgeLists). position (is_end_of_wire c.args.wire) n.ends.places) c.self.view_is) c.in-Some.is)
     (sym c.in-Some-2.is ∙ c.in_ok-packet.ensures)
     (given_out c.count_ping.new.self (g.L.Link.calls c.send.new.work.link.now) c.send.new.work.effects.now (c.send.ensures.goes.idle ∙ ap (λ (e : Effects). e.idle) c.requires.fresh)
-    ∙ (asks_counted c.args.self.now c.count_ping.new.self told (place_of c.args.self.now.ends c.in-Some.slot) (place_of c.count_ping.new.self.ends c.in-Some.slot) c.in-Some-2.packet (g.L.Link.calls c.args.work.now.link.now) c.args.work.now.effects.now.list _
+    ∙ (asks_counted c.args.self.now c.count_ping.new.self told (place_of c.args.self.now.ends c.in-Some.slot) (place_of c.count_ping.new.self.ends c.in-Some.slot) c.in-Some-2.packet
+    (g.L.Link.calls c.args.work.now.link.now) c.args.work.now.effects.now.list _
     (counted_at c.args.self.now c.count_ping.new.self (place_of c.args.self.now.ends c.in-Some.slot) c.place_at.result c.place_at.ensures.place c.count_ping.ensures.step)
     (placed_same c.args.self.now c.count_ping.new.self c.in-Some.slot c.count_ping.ensures.keeps) (step told agrees)
     ∙ ap (asks_with told (place_of c.args.self.now.ends c.in-Some.slot) c.in-Some-2.packet)

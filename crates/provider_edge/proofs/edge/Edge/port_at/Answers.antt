@@ -15,7 +15,8 @@ use Rattle.provider_edge.specs.Lists.{EdgeLists, seen}
 use Rattle.provider_edge.proofs.edge.Edge.port_at.Goals as goal
 
 pub port_of-requires : goal.port_of-requires
-port_of-requires c = subst (λ (p : Plan). c.args.service.0 < length p.services) (sym c.self.invariant.plan) (subst (λ (n : EdgeLists). c.args.service.0 < length n.plan.services) (sym c.self.view_is) c.requires.service)
+port_of-requires c = subst (λ (p : Plan). c.args.service.0 < length p.services) (sym c.self.invariant.plan)
+    (subst (λ (n : EdgeLists). c.args.service.0 < length n.plan.services) (sym c.self.view_is) c.requires.service)
 
 pub returns-clause-port : goal.returns-clause-port
 returns-clause-port c =

@@ -11,7 +11,8 @@ use Rattle.provider_edge.specs.Lists.{EdgeLists, seen}
 use Rattle.provider_edge.proofs.edge.Edge.port_of.Goals as goal
 
 pub port_of-requires : goal.port_of-requires
-port_of-requires c = subst (λ (p : Plan). c.args.service.0 < length p.services) (sym c.self.invariant.plan) (subst (λ (n : EdgeLists). c.args.service.0 < length n.plan.services) (sym c.self.view_is) c.requires)
+port_of-requires c = subst (λ (p : Plan). c.args.service.0 < length p.services) (sym c.self.invariant.plan)
+    (subst (λ (n : EdgeLists). c.args.service.0 < length n.plan.services) (sym c.self.view_is) c.requires)
 
 pub returns-clause-port : goal.returns-clause-port
 returns-clause-port c =

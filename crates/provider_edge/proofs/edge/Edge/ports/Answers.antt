@@ -8,7 +8,8 @@ use Rattle.provider_edge.specs.Lists.{EdgeLists}
 use Rattle.provider_edge.proofs.edge.Edge.ports.Goals as goal
 
 pub ports-requires : goal.ports-requires
-ports-requires c = subst (λ (p : Plan). c.args.service.0 < length p.services) (sym c.self.invariant.plan) (subst (λ (n : EdgeLists). c.args.service.0 < length n.plan.services) (sym c.self.view_is) c.requires)
+ports-requires c = subst (λ (p : Plan). c.args.service.0 < length p.services) (sym c.self.invariant.plan)
+    (subst (λ (n : EdgeLists). c.args.service.0 < length n.plan.services) (sym c.self.view_is) c.requires)
 
 pub returns-clause-some : goal.returns-clause-some
 returns-clause-some c =

@@ -14,16 +14,20 @@ pub returns-in-Mesh-clause-step : goal.returns-in-Mesh-clause-step
 returns-in-Mesh-clause-step g c = map_on _ _ c.send_copy.result
     (λ step. λ told agrees.
     copied_if (has c.args.egress.now.targets.now c.args.port) (at_work g.L.Link.calls c.args.self.now c.args.work.now) _ _ (sym c.contains.ensures ∙ c.if-not-contains.false)
-    (told_by_some (copy_by c.args.self.now.plan told c.args.egress.now.came c.args.egress.now.frame.now) c.get.result (slice_get c.args.ports.now c.args.port) c.in-Some.port (at_work g.L.Link.calls c.args.self.now c.args.work.now) _ c.get.ensures c.in-Some.is
-    (copied_mesh c.args.self.now told c.args.egress.now.came c.args.egress.now.frame.now c.in-Some.port c.in-Mesh.wire (g.L.Link.calls c.args.work.now.link.now) c.args.work.now.effects.now.list _ c.in-Mesh.is (step told agrees))))
+    (told_by_some (copy_by c.args.self.now.plan told c.args.egress.now.came c.args.egress.now.frame.now) c.get.result (slice_get c.args.ports.now c.args.port) c.in-Some.port
+    (at_work g.L.Link.calls c.args.self.now c.args.work.now) _ c.get.ensures c.in-Some.is
+    (copied_mesh c.args.self.now told c.args.egress.now.came c.args.egress.now.frame.now c.in-Some.port c.in-Mesh.wire
+    (g.L.Link.calls c.args.work.now.link.now) c.args.work.now.effects.now.list _ c.in-Mesh.is (step told agrees))))
     c.send_copy.ensures.step
 
 pub returns-in-Spoke-clause-step : goal.returns-in-Spoke-clause-step
 returns-in-Spoke-clause-step g c = map_on _ _ c.send_copy-in-Spoke.result
     (λ step. λ told agrees.
     copied_if (has c.args.egress.now.targets.now c.args.port) (at_work g.L.Link.calls c.args.self.now c.args.work.now) _ _ (sym c.contains.ensures ∙ c.if-not-contains.false)
-    (told_by_some (copy_by c.args.self.now.plan told c.args.egress.now.came c.args.egress.now.frame.now) c.get.result (slice_get c.args.ports.now c.args.port) c.in-Some.port (at_work g.L.Link.calls c.args.self.now c.args.work.now) _ c.get.ensures c.in-Some.is
-    (copied_spoke c.args.self.now told c.args.egress.now.came c.args.egress.now.frame.now c.in-Some.port c.in-Spoke.wire (g.L.Link.calls c.args.work.now.link.now) c.args.work.now.effects.now.list _ c.in-Spoke.is (step told agrees))))
+    (told_by_some (copy_by c.args.self.now.plan told c.args.egress.now.came c.args.egress.now.frame.now) c.get.result (slice_get c.args.ports.now c.args.port) c.in-Some.port
+    (at_work g.L.Link.calls c.args.self.now c.args.work.now) _ c.get.ensures c.in-Some.is
+    (copied_spoke c.args.self.now told c.args.egress.now.came c.args.egress.now.frame.now c.in-Some.port c.in-Spoke.wire
+    (g.L.Link.calls c.args.work.now.link.now) c.args.work.now.effects.now.list _ c.in-Spoke.is (step told agrees))))
     c.send_copy-in-Spoke.ensures.step
 
 pub returns-clause-step : goal.returns-clause-step
@@ -32,7 +36,9 @@ returns-clause-step g c =
     map_on _ _ c.push.result
     (λ gave. λ told agrees.
     copied_if (has c.args.egress.now.targets.now c.args.port) (at_work g.L.Link.calls c.args.self.now c.args.work.now) _ _ (sym c.contains.ensures ∙ c.if-not-contains.false)
-    (told_by_some (copy_by c.args.self.now.plan told c.args.egress.now.came c.args.egress.now.frame.now) c.get.result (slice_get c.args.ports.now c.args.port) c.in-Some.port (at_work g.L.Link.calls c.args.self.now c.args.work.now) _ c.get.ensures c.in-Some.is
-    (copied_circuit c.args.self.now.plan told c.args.egress.now.came c.args.egress.now.frame.now c.in-Some.port c.in-Circuit.circuit (seen c.args.self.now) (g.L.Link.calls c.args.work.now.link.now) c.args.work.now.effects.now.list _ c.in-Circuit.is
+    (told_by_some (copy_by c.args.self.now.plan told c.args.egress.now.came c.args.egress.now.frame.now) c.get.result (slice_get c.args.ports.now c.args.port) c.in-Some.port
+    (at_work g.L.Link.calls c.args.self.now c.args.work.now) _ c.get.ensures c.in-Some.is
+    (copied_circuit c.args.self.now.plan told c.args.egress.now.came c.args.egress.now.frame.now c.in-Some.port c.in-Circuit.circuit (seen c.args.self.now)
+    (g.L.Link.calls c.args.work.now.link.now) c.args.work.now.effects.now.list _ c.in-Circuit.is
     (gave ∙ ap (λ (l : List ℕ). c.args.work.now.effects.now.list ++ Left c.in-Circuit.circuit l ∷ []) bytes))))
     c.push.ensures.ok

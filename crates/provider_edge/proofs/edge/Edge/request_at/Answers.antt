@@ -20,20 +20,23 @@ returns-in_default c =
 
 pub returns-in_default-channel_at : goal.returns-in_default-channel_at
 returns-in_default-channel_at c =
-    request_unpicked c.args.self.now c.args.slot c.has_told.result c.in-Some.binding.now c.channel_at.result (slot_wire c.args.self.now c.args.slot (subst IsEdge c.self.view_is c.self.invariant) c.requires)
+    request_unpicked c.args.self.now c.args.slot c.has_told.result c.in-Some.binding.now c.channel_at.result
+    (slot_wire c.args.self.now c.args.slot (subst IsEdge c.self.view_is c.self.invariant) c.requires)
     (c.has_told.ensures ∙ ap (λ (e : EndState). has_told e.local) c.end_in-end.ensures.end) c.if-not-has_told.false
     (sym (c.remote.ensures.remote ∙ ap (λ (e : EndState). e.remote) c.end_in-end.ensures.end) ∙ ap option_copied c.in-Some.is) c.channel_at.ensures c.in_default-channel_at.is
 
 pub returns-in_default-ping_at : goal.returns-in_default-ping_at
 returns-in_default-ping_at c =
-    request_made c.args.self.now c.args.slot c.has_told.result c.in-Some.binding.now c.channel_at.result c.in-Some-channel_at.kind c.ping_at.result _ (slot_wire c.args.self.now c.args.slot (subst IsEdge c.self.view_is c.self.invariant) c.requires)
+    request_made c.args.self.now c.args.slot c.has_told.result c.in-Some.binding.now c.channel_at.result c.in-Some-channel_at.kind c.ping_at.result _
+    (slot_wire c.args.self.now c.args.slot (subst IsEdge c.self.view_is c.self.invariant) c.requires)
     (c.has_told.ensures ∙ ap (λ (e : EndState). has_told e.local) c.end_in-end.ensures.end) c.if-not-has_told.false
     (sym (c.remote.ensures.remote ∙ ap (λ (e : EndState). e.remote) c.end_in-end.ensures.end) ∙ ap option_copied c.in-Some.is) c.channel_at.ensures c.in-Some-channel_at.is c.ping_at.ensures
     (sym (ap (request_by c.in-Some-channel_at.kind c.in-Some.binding.now) c.in_default-ping_at.is))
 
 pub returns : goal.returns
 returns c =
-    request_made c.args.self.now c.args.slot c.has_told.result c.in-Some.binding.now c.channel_at.result c.in-Some-channel_at.kind c.ping_at.result _ (slot_wire c.args.self.now c.args.slot (subst IsEdge c.self.view_is c.self.invariant) c.requires)
+    request_made c.args.self.now c.args.slot c.has_told.result c.in-Some.binding.now c.channel_at.result c.in-Some-channel_at.kind c.ping_at.result _
+    (slot_wire c.args.self.now c.args.slot (subst IsEdge c.self.view_is c.self.invariant) c.requires)
     (c.has_told.ensures ∙ ap (λ (e : EndState). has_told e.local) c.end_in-end.ensures.end) c.if-not-has_told.false
     (sym (c.remote.ensures.remote ∙ ap (λ (e : EndState). e.remote) c.end_in-end.ensures.end) ∙ ap option_copied c.in-Some.is) c.channel_at.ensures c.in-Some-channel_at.is c.ping_at.ensures
     (ap Some c.in_ok-packet.ensures ∙ sym (ap (request_by c.in-Some-channel_at.kind c.in-Some.binding.now) c.in-Some-ping_at.is))

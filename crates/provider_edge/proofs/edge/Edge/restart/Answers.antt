@@ -30,7 +30,14 @@ pub returns-clause-step : goal.returns-clause-step
 returns-clause-step c = λ calls.
     let v : EdgeLists = the_view c.self.inside in
     let working : v.stopped ≡ true = ap (λ (e : EdgeLists). e.stopped) c.self.view_is ∙ c.requires.working in
-    let now : EdgeLists = record v { peerings = c.drop_all.new.peerings.items; ends = c.restarted.new.self; pings = c.forget_pings.new.pings.items; spokes = c.clear.new.self; forwarding = c.clear-2.new.self; marks = None } in
+    let now : EdgeLists = record v {
+      peerings = c.drop_all.new.peerings.items;
+      ends = c.restarted.new.self;
+      pings = c.forget_pings.new.pings.items;
+      spokes = c.clear.new.self;
+      forwarding = c.clear-2.new.self;
+      marks = None;
+    } in
     restart_done c.args.self.now now calls
     (subst (λ (n : EdgeLists). seen now ≡ with_learned (λ service. []) (without_ends (keeping_all (without_peerings (seen n))))) c.self.view_is
     (restart_seen v c.drop_all.new.peerings.items c.restarted.new.self c.forget_pings.new.pings.items c.clear.new.self c.close_wires.new.self c.clear-2.new.self working c.self.invariant (record {

@@ -19,5 +19,6 @@ returns-in-Err-Failed-clause-step g c = map_on _ _ c.drop_for.result
     (λ gave. λ told agrees.
     sent_not told (place_of c.args.self.now.ends c.args.slot) c.place_at-place.result c.args.came c.args.packet _ false (seen c.args.self.now) _ _ c.args.work.now.effects.now.list _
     c.place_at-place.ensures.place c.as_slice.ensures refl
-    (subst (λ (s : LinkStop). IsCallAnswer {T = Unit {0}} (g.L.Link.calls c.args.work.now.link.now) (g.L.Link.calls c.send.new.self) c.place_at-place.result.peer true c.as_slice.result.now (Err s)) c.in-Err-Failed.field-0-is c.in-Err-Failed.ensures.calls) gave agrees)
+    (subst (λ (s : LinkStop). IsCallAnswer {T = Unit {0}} (g.L.Link.calls c.args.work.now.link.now)
+    (g.L.Link.calls c.send.new.self) c.place_at-place.result.peer true c.as_slice.result.now (Err s)) c.in-Err-Failed.field-0-is c.in-Err-Failed.ensures.calls) gave agrees)
     c.drop_for.ensures

@@ -12,7 +12,8 @@ use Rattle.provider_edge.proofs.edge.Edge.set_told.Goals as goal
 use Rattle.provider_edge.proofs.EdgeLemmas.{seen_marks}
 
 pub tell-requires : goal.tell-requires
-tell-requires c = subst (λ (p : Plan). c.args.wire.0 < length p.wires) (sym c.self.invariant.plan) (subst (λ (n : EdgeLists). c.args.wire.0 < length n.plan.wires) (sym c.self.view_is) c.requires.within)
+tell-requires c = subst (λ (p : Plan). c.args.wire.0 < length p.wires) (sym c.self.invariant.plan)
+    (subst (λ (n : EdgeLists). c.args.wire.0 < length n.plan.wires) (sym c.self.view_is) c.requires.within)
 
 pub invariant_of-self : goal.invariant_of-self
 invariant_of-self c =
@@ -27,4 +28,5 @@ pub returns-clause-step : goal.returns-clause-step
 returns-clause-step c =
     let v : EdgeLists = the_view c.self.inside in
     subst (λ (n : EdgeLists). seen (record v { forwarding = c.tell.new.self; marks = c.marks_at-marks.result }) ≡ with_told_down c.args.wire c.args.down (seen n)) c.self.view_is
-    (seen_marks (record v { forwarding = c.tell.new.self }) c.marks_at-marks.result ∙ seen_kept (with_told_down c.args.wire c.args.down) v c.tell.new.self c.self.invariant c.tell.ensures.keeps c.tell.ensures.step)
+    (seen_marks (record v { forwarding = c.tell.new.self }) c.marks_at-marks.result
+    ∙ seen_kept (with_told_down c.args.wire c.args.down) v c.tell.new.self c.self.invariant c.tell.ensures.keeps c.tell.ensures.step)

@@ -12,7 +12,8 @@ use Rattle.provider_edge.proofs.edge.Edge.slot_beyond.Goals as goal
 pub returns-in-Some-clause-place : goal.returns-in-Some-clause-place
 returns-in-Some-clause-place c =
     let is : IsEdge c.args.self.now = subst IsEdge c.self.view_is c.self.invariant in
-    slot_beyond c.args.self.now (place_of c.args.self.now.ends c.args.slot) c.mate_at.result (option_map (place_of c.args.self.now.ends) c.beside.result) c.mate_at.ensures.within c.mate_at.ensures.mate
+    slot_beyond c.args.self.now (place_of c.args.self.now.ends c.args.slot) c.mate_at.result
+    (option_map (place_of c.args.self.now.ends) c.beside.result) c.mate_at.ensures.within c.mate_at.ensures.mate
     (found_beside c.args.self.now (is_at c.place_at.result.wire.0 c.in-Some.mate.0) c.beside.result is
     (c.beside.ensures.slot ∙ ap (λ (n : EdgeLists). position (is_at c.place_at.result.wire.0 c.in-Some.mate.0) n.ends.places) c.self.view_is)
     ∙ (ap (λ (p : EndPlace). find (is_at p.wire.0 c.in-Some.mate.0) (end_places c.args.self.now.plan c.args.self.now.me)) c.place_at.ensures.place

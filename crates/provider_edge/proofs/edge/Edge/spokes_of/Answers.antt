@@ -13,16 +13,19 @@ spoke_at-requires c =
 
 pub loop-slot-preserved : goal.loop-slot-preserved
 loop-slot-preserved c =
-    spokes_more (λ slot. spoke_at (seen c.args.self.now) (place_of c.args.self.now.ends slot)) c.slots_of-slots.result.now c.loop-slot.slot-index 0 c.loop-slot.spokes.items c.push.new.self.items c.spoke_at.result
+    spokes_more (λ slot. spoke_at (seen c.args.self.now)
+    (place_of c.args.self.now.ends slot)) c.slots_of-slots.result.now c.loop-slot.slot-index 0 c.loop-slot.spokes.items c.push.new.self.items c.spoke_at.result
     c.loop-slot-test.true (c.loop-slot.invariant) (c.spoke_at.ensures) c.in_ok-push.ensures.items
 
 pub returns-clause-count : goal.returns-clause-count
 returns-clause-count c =
     ap (λ (l : List Spoke). length l)
-    (spokes_end (λ slot. spoke_at (seen c.args.self.now) (place_of c.args.self.now.ends slot)) c.slots_of-slots.result.now c.loop-slot.slot-index c.loop-slot.spokes.items c.loop-slot-test.false c.loop-slot.invariant)
+    (spokes_end (λ slot. spoke_at (seen c.args.self.now)
+    (place_of c.args.self.now.ends slot)) c.slots_of-slots.result.now c.loop-slot.slot-index c.loop-slot.spokes.items c.loop-slot-test.false c.loop-slot.invariant)
     ∙ (length-map c.slots_of-slots.result.now (λ slot. spoke_at (seen c.args.self.now) (place_of c.args.self.now.ends slot)) ∙ ap (λ (l : List ℕ). length l) c.slots_of-slots.ensures.slots)
 
 pub returns-clause-spokes : goal.returns-clause-spokes
 returns-clause-spokes c =
     spokes_read c.args.self.now c.args.service c.slots_of-slots.result.now c.loop-slot.spokes.items c.slots_of-slots.ensures.places c.slots_of-slots.ensures.slots
-    (spokes_end (λ slot. spoke_at (seen c.args.self.now) (place_of c.args.self.now.ends slot)) c.slots_of-slots.result.now c.loop-slot.slot-index c.loop-slot.spokes.items c.loop-slot-test.false (c.loop-slot.invariant))
+    (spokes_end (λ slot. spoke_at (seen c.args.self.now)
+    (place_of c.args.self.now.ends slot)) c.slots_of-slots.result.now c.loop-slot.slot-index c.loop-slot.spokes.items c.loop-slot-test.false (c.loop-slot.invariant))

@@ -71,7 +71,8 @@ returns-in-Ok-clause-fit g c =
     let effects : Effects = c.work.new.work.effects.now in
     let steps : Steps v c.work.new.self c.args.input effects before after = λ told agrees.
     c.in-Ok.ensures.step told agrees ∙ ap (λ (s : EdgeState). edge_step v.plan told c.args.input (beginning s before)) (seen_stopped v true) in
-    let fits : AllFit c.args.self.now.plan effects.list = subst (λ (n : EdgeLists). AllFit n.plan effects.list) c.self.view_is (steps_fit v c.work.new.self c.args.input effects before after c.self.invariant steps) in
+    let fits : AllFit c.args.self.now.plan effects.list =
+    subst (λ (n : EdgeLists). AllFit n.plan effects.list) c.self.view_is (steps_fit v c.work.new.self c.args.input effects before after c.self.invariant steps) in
     search (rules, fits)
 
 pub returns-in-Ok-clause-local : goal.returns-in-Ok-clause-local

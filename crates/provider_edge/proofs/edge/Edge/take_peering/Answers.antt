@@ -19,7 +19,8 @@ returns-then-peer-len-clause-step c =
 pub invariant_of-self : goal.invariant_of-self
 invariant_of-self c =
     let v : EdgeLists = the_view c.self.inside in
-    holds_peerings v (slice_set v.peerings c.args.peer.0 c.take.new.self) (length-set v.peerings c.args.peer.0 c.take.new.self) (few_ended v.peerings c.args.peer.0 c.take.new.self c.take.ensures.after c.self.invariant.held)
+    holds_peerings v (slice_set v.peerings c.args.peer.0 c.take.new.self) (length-set v.peerings c.args.peer.0 c.take.new.self)
+    (few_ended v.peerings c.args.peer.0 c.take.new.self c.take.ensures.after c.self.invariant.held)
     (ap (λ (e : EdgeLists). e.stopped) c.self.view_is ∙ c.requires.working) c.self.invariant
 
 pub returns-clause-taken : goal.returns-clause-taken
@@ -30,6 +31,7 @@ returns-clause-taken c =
 
 pub returns-clause-step : goal.returns-clause-step
 returns-clause-step c =
-    subst (λ (n : EdgeLists). seen (record (the_view c.self.inside) { peerings = slice_set (the_view c.self.inside).peerings c.args.peer.0 c.take.new.self; marks = None }) ≡ with_peering c.args.peer None (seen n)) c.self.view_is
+    subst (λ (n : EdgeLists). seen (record (the_view c.self.inside) { peerings = slice_set (the_view c.self.inside).peerings c.args.peer.0 c.take.new.self; marks = None })
+    ≡ with_peering c.args.peer None (seen n)) c.self.view_is
     (seen_put (the_view c.self.inside) c.args.peer c.take.new.self (omega (arith, c.if-peer-len.false, c.len.ensures))
     ∙ ap (λ k. with_peering c.args.peer (k) (seen (the_view c.self.inside))) c.take.ensures.after)

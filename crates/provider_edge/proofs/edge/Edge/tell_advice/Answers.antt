@@ -21,9 +21,12 @@ returns-in_default-take_peering-clause-step g c = λ told agrees.
 
 pub returns-clause-step : goal.returns-clause-step
 returns-clause-step g c = λ told agrees.
-    advised told c.args.peer c.in-Some.reply (at_work g.L.Link.calls c.args.self.now c.args.work.now) (at_edge (seen c.put_peering.new.self) (g.L.Link.calls c.put.new.work.link.now) c.put.new.work.effects.now.list) (at_edge (seen c.clear_ends.new.self) (g.L.Link.calls c.put.new.work.link.now) c.put.new.work.effects.now.list)
+    advised told c.args.peer c.in-Some.reply (at_work g.L.Link.calls c.args.self.now c.args.work.now)
+    (at_edge (seen c.put_peering.new.self) (g.L.Link.calls c.put.new.work.link.now) c.put.new.work.effects.now.list)
+    (at_edge (seen c.clear_ends.new.self) (g.L.Link.calls c.put.new.work.link.now) c.put.new.work.effects.now.list)
     (done_edge (λ (w : Work). had_put c.args.peer (put_reply told c.args.peer c.in-Some.reply w)) c.args.peer (c.take_peering.result) (c.in_ok-left.left) ((Some c.in-Some-take_peering.peering))
-    (seen c.args.self.now) (seen c.take_peering.new.self) (seen c.put_peering.new.self) (g.L.Link.calls c.args.work.now.link.now) (g.L.Link.calls c.put.new.work.link.now) c.args.work.now.effects.now.list c.put.new.work.effects.now.list
+    (seen c.args.self.now) (seen c.take_peering.new.self) (seen c.put_peering.new.self) (g.L.Link.calls c.args.work.now.link.now)
+    (g.L.Link.calls c.put.new.work.link.now) c.args.work.now.effects.now.list c.put.new.work.effects.now.list
     (c.take_peering.ensures.taken) (c.in-Some-take_peering.is) (c.take_peering.ensures.step) (c.put_peering.ensures.step)
     (c.in_ok-left.ensures.step told (seen c.args.self.now) agrees))
     (c.clear_ends.ensures.step (g.L.Link.calls c.put.new.work.link.now) c.put.new.work.effects.now.list)

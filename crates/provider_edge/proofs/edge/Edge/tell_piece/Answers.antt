@@ -18,7 +18,8 @@ returns-in-Advertised-clause-step g c =
     (record { work = at_work g.L.Link.calls c.say.new.self c.say.new.work; failed = failed })
     (local_is c.args.self.now (g.L.Link.calls c.args.work.now.link.now) c.args.work.now.effects.now.list c.args.slot c.end_in.result.now _ c.end_in.ensures.end c.in-Advertised.is
     ∙ ap (λ (t : Told). Advertised c.in-Advertised.end.label t) (sym c.told-content.ensures.told))
-    (said told agrees ∙ ap (λ (p : EndPlace). says told p.peer (mac_withdrawal p.pw_id c.args.addresses.now c.told-content.result.now) (at_work g.L.Link.calls c.args.self.now c.args.work.now)) c.place_at-place.ensures.place))
+    (said told agrees ∙ ap (λ (p : EndPlace). says told p.peer (mac_withdrawal p.pw_id c.args.addresses.now c.told-content.result.now)
+    (at_work g.L.Link.calls c.args.self.now c.args.work.now)) c.place_at-place.ensures.place))
     c.say.ensures.step
 
 pub returns-in-Idle-clause-step : goal.returns-in-Idle-clause-step

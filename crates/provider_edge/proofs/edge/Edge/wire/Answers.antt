@@ -15,7 +15,8 @@ use Rattle.provider_edge.proofs.edge.Edge.wire.Goals as goal
 
 pub returns-then-not-passes-clause-step : goal.returns-then-not-passes-clause-step
 returns-then-not-passes-clause-step g c = λ told agrees.
-    subst (λ (e : Effects). worked c.args.self.now (g.L.Link.calls c.args.work.now.link.now) (record e { idle = true }) ≡ wire_input c.args.self.now.plan told c.args.wire c.args.on (beginning (seen c.args.self.now) (g.L.Link.calls c.args.work.now.link.now))) (sym c.requires.fresh)
+    subst (λ (e : Effects). worked c.args.self.now (g.L.Link.calls c.args.work.now.link.now) (record e { idle = true })
+    ≡ wire_input c.args.self.now.plan told c.args.wire c.args.on (beginning (seen c.args.self.now) (g.L.Link.calls c.args.work.now.link.now))) (sym c.requires.fresh)
     (elim c.then-not-passes.branch [
       | then-not-passes-via-then-not-passes w ↦ wire_apart c.args.self.now told c.args.wire c.args.on (g.L.Link.calls c.args.work.now.link.now) (sym c.passes.ensures.passes ∙ w.if-not-passes.true)
       | then-not-passes-via-else-not-passes+then-is_wire_on-on w ↦ wire_already c.args.self.now told c.args.wire c.args.on (g.L.Link.calls c.args.work.now.link.now)
@@ -27,9 +28,12 @@ returns-clause-step g c = map_on _ _ c.mend.result
     (λ step told agrees.
     wire_turned c.args.self.now told c.args.wire c.args.on (g.L.Link.calls c.args.work.now.link.now) _ (sym c.passes.ensures.passes ∙ c.if-not-passes.false)
     (ap (λ (b : Bool). beq b c.args.on) (sym c.is_wire_on.ensures) ∙ c.if-is_wire_on-on.false)
-    (mended c.args.self.now c.turn_wire.new.self c.mend.new.self told (g.L.Link.calls c.args.work.now.link.now) (g.L.Link.calls c.mend.new.work.link.now) c.args.work.now.effects.now.list c.mend.new.work.effects.now
-    (changes (turned_wire c.args.wire c.args.on) (beginning (seen c.args.self.now) (g.L.Link.calls c.args.work.now.link.now))) (c.mend.ensures.goes.on.idle ∙ ap (λ (e : Effects). e.idle) c.requires.fresh) c.turn_wire.ensures.keeps
-    (subst (λ (e : Effects). at_edge (seen c.turn_wire.new.self) (g.L.Link.calls c.args.work.now.link.now) e.list ≡ changes (turned_wire c.args.wire c.args.on) (beginning (seen c.args.self.now) (g.L.Link.calls c.args.work.now.link.now))) (sym c.requires.fresh)
+    (mended c.args.self.now c.turn_wire.new.self c.mend.new.self told (g.L.Link.calls c.args.work.now.link.now)
+    (g.L.Link.calls c.mend.new.work.link.now) c.args.work.now.effects.now.list c.mend.new.work.effects.now
+    (changes (turned_wire c.args.wire c.args.on) (beginning (seen c.args.self.now) (g.L.Link.calls c.args.work.now.link.now)))
+    (c.mend.ensures.goes.on.idle ∙ ap (λ (e : Effects). e.idle) c.requires.fresh) c.turn_wire.ensures.keeps
+    (subst (λ (e : Effects). at_edge (seen c.turn_wire.new.self) (g.L.Link.calls c.args.work.now.link.now) e.list
+    ≡ changes (turned_wire c.args.wire c.args.on) (beginning (seen c.args.self.now) (g.L.Link.calls c.args.work.now.link.now))) (sym c.requires.fresh)
     (turned_at c.args.self.now c.turn_wire.new.self c.args.wire c.args.on (g.L.Link.calls c.args.work.now.link.now) c.turn_wire.ensures.step))
     (step told agrees)))
     c.mend.ensures.step

@@ -7,7 +7,8 @@ use Rattle.provider_edge.specs.Lists.{EdgeLists}
 use Rattle.provider_edge.proofs.edge.Edge.wire_port.Goals as goal
 
 pub port_of-requires : goal.port_of-requires
-port_of-requires c = subst (λ (p : Plan). c.args.service.0 < length p.services) (sym c.self.invariant.plan) (subst (λ (n : EdgeLists). c.args.service.0 < length n.plan.services) (sym c.self.view_is) c.requires)
+port_of-requires c = subst (λ (p : Plan). c.args.service.0 < length p.services) (sym c.self.invariant.plan)
+    (subst (λ (n : EdgeLists). c.args.service.0 < length n.plan.services) (sym c.self.view_is) c.requires)
 
 pub returns : goal.returns
 returns c =

@@ -14,7 +14,8 @@ returns-clause-step c =
     let network : NetworkState = seen c.args.self.now in
     let can : can_connect plan network c.args.from.0 c.args.to.0 ≡ true = search rules in
     let apart : nat_eq c.args.to.0 c.args.from.0 ≡ false = search rules in
-    subst (λ (b : Bool). OnOk c.absorb-2.result (HasStepped c.args.self.now c.absorb-2.new.self (cond b (connecting c.args.from (connected_work plan network c.args.from c.args.to) c.args.to (connected_work plan network c.args.to c.args.from) network) (idle network)))) (sym can)
+    subst (λ (b : Bool). OnOk c.absorb-2.result (HasStepped c.args.self.now c.absorb-2.new.self
+    (cond b (connecting c.args.from (connected_work plan network c.args.from c.args.to) c.args.to (connected_work plan network c.args.to c.args.from) network) (idle network)))) (sym can)
     (on_ok_weaker c.absorb-2.result
     (λ stepped. connect_stepped c.args.self.now c.drive.new.self c.drive-2.new.self c.absorb.new.self c.absorb-2.new.self c.args.from c.args.to
     c.in_ok-first.first c.in_ok-second.second c.into_items.result.items c.into_items-2.result.items apart c.in_ok-first.ensures.keeps.plan

@@ -7,4 +7,5 @@ use Rattle.psn_net.proofs.parts.Parts.is_quiet_beside.Goals as goal
 pub returns-then-not-is_quiet_between : goal.returns-then-not-is_quiet_between
 returns-then-not-is_quiet_between c =
     let within : c.loop-b.b < length c.args.self.now.plan.edges = omega (arith, c.loop-b-test.true, c.count-count.ensures.count) in
-    sym (below_fails (is_quiet_between c.args.self.now.plan (seen c.args.self.now) c.args.service c.args.a) (length c.args.self.now.plan.edges) c.loop-b.b within (sym c.if-not-is_quiet_between.ensures))
+    sym (below_fails (is_quiet_between c.args.self.now.plan (seen c.args.self.now) c.args.service c.args.a) (length c.args.self.now.plan.edges) c.loop-b.b within
+    (sym c.if-not-is_quiet_between.ensures))

@@ -28,16 +28,21 @@ pub returns-in-Again-clause-step : goal.returns-in-Again-clause-step
 returns-in-Again-clause-step c = brought _ _ _ _ _ _ _ c.in_ok-copy.ensures c.in-Again.is c.tell.ensures.keeps.plan c.tell.ensures.state c.in_ok-tell.ensures.ok c.again.ensures.step
 
 pub returns-in-Wire-clause-step : goal.returns-in-Wire-clause-step
-returns-in-Wire-clause-step c = brought _ _ _ _ _ _ _ c.in_ok-copy.ensures c.in-Wire.is c.tell.ensures.keeps.plan c.tell.ensures.state c.in_ok-tell.ensures.ok (on_ok_weaker c.answer_input-in-Wire.result (wire_stepped _ _ _ _ _) c.answer_input-in-Wire.ensures.step)
+returns-in-Wire-clause-step c = brought _ _ _ _ _ _ _ c.in_ok-copy.ensures c.in-Wire.is c.tell.ensures.keeps.plan c.tell.ensures.state c.in_ok-tell.ensures.ok
+    (on_ok_weaker c.answer_input-in-Wire.result (wire_stepped _ _ _ _ _) c.answer_input-in-Wire.ensures.step)
 
 pub returns-in-Circuit-clause-step : goal.returns-in-Circuit-clause-step
-returns-in-Circuit-clause-step c = brought _ _ _ _ _ _ _ c.in_ok-copy.ensures c.in-Circuit.is c.tell.ensures.keeps.plan c.tell.ensures.state c.in_ok-tell.ensures.ok (on_ok_weaker c.answer_input.result (circuit_stepped _ _ _ _ _ c.edge_of-me.ensures.edge) c.answer_input.ensures.step)
+returns-in-Circuit-clause-step c = brought _ _ _ _ _ _ _ c.in_ok-copy.ensures c.in-Circuit.is c.tell.ensures.keeps.plan c.tell.ensures.state c.in_ok-tell.ensures.ok
+    (on_ok_weaker c.answer_input.result (circuit_stepped _ _ _ _ _ c.edge_of-me.ensures.edge) c.answer_input.ensures.step)
 
 pub returns-in-Status-clause-step : goal.returns-in-Status-clause-step
-returns-in-Status-clause-step c = brought _ _ _ _ _ _ _ c.in_ok-copy.ensures c.in-Status.is c.tell.ensures.keeps.plan c.tell.ensures.state c.in_ok-tell.ensures.ok (on_ok_weaker c.answer_input-in-Status.result (status_stepped _ _ _ _ _) c.answer_input-in-Status.ensures.step)
+returns-in-Status-clause-step c = brought _ _ _ _ _ _ _ c.in_ok-copy.ensures c.in-Status.is c.tell.ensures.keeps.plan c.tell.ensures.state c.in_ok-tell.ensures.ok
+    (on_ok_weaker c.answer_input-in-Status.result (status_stepped _ _ _ _ _) c.answer_input-in-Status.ensures.step)
 
 pub returns-in-Priority-clause-step : goal.returns-in-Priority-clause-step
-returns-in-Priority-clause-step c = brought _ _ _ _ _ _ _ c.in_ok-copy.ensures c.in-Priority.is c.tell.ensures.keeps.plan c.tell.ensures.state c.in_ok-tell.ensures.ok (on_ok_weaker c.answer_input-in-Priority.result (priority_stepped _ _ _ _ _) c.answer_input-in-Priority.ensures.step)
+returns-in-Priority-clause-step c = brought _ _ _ _ _ _ _ c.in_ok-copy.ensures c.in-Priority.is c.tell.ensures.keeps.plan c.tell.ensures.state c.in_ok-tell.ensures.ok
+    (on_ok_weaker c.answer_input-in-Priority.result (priority_stepped _ _ _ _ _) c.answer_input-in-Priority.ensures.step)
 
 pub returns-in-Ping-clause-step : goal.returns-in-Ping-clause-step
-returns-in-Ping-clause-step c = brought _ _ _ _ _ _ _ c.in_ok-copy.ensures c.in-Ping.is c.tell.ensures.keeps.plan c.tell.ensures.state c.in_ok-tell.ensures.ok (on_ok_weaker c.answer_input-in-Ping.result (ping_stepped _ _ _ _) c.answer_input-in-Ping.ensures.step)
+returns-in-Ping-clause-step c = brought _ _ _ _ _ _ _ c.in_ok-copy.ensures c.in-Ping.is c.tell.ensures.keeps.plan c.tell.ensures.state c.in_ok-tell.ensures.ok
+    (on_ok_weaker c.answer_input-in-Ping.result (ping_stepped _ _ _ _) c.answer_input-in-Ping.ensures.step)

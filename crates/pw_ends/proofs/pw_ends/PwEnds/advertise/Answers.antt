@@ -21,11 +21,14 @@ invariant_of-self-2 c =
     (subst (λ (l : EndLists). IsIdle (end_in l c.args.slot).local) (sym c.self.view_is) c.requires.idle) in
     record {
       kept =
-          kept_advertised _ _ _ c.args.told.now c.self.inside.places (map end_of c.self.inside.ends.items) (map end_of c.advertise_at.new.ends.items) c.self.inside.labels c.issue.new.self c.self.inside.owned c.add.new.self c.args.slot c.in-Ok.label
+          kept_advertised _ _ _ c.args.told.now c.self.inside.places (map end_of c.self.inside.ends.items)
+          (map end_of c.advertise_at.new.ends.items) c.self.inside.labels c.issue.new.self c.self.inside.owned c.add.new.self c.args.slot c.in-Ok.label
           c.self.invariant.kept within idle c.requires.kind c.in-Ok.ensures.label c.advertise_at.ensures c.issue.ensures.space c.add.ensures
           (ap segment_of c.place-place.ensures) (ap (λ (place : EndPlace). place.side) c.place-place.ensures) (ap (λ (place : EndPlace). place.peer) c.place-place.ensures);
-      untold = untold_changed (has_mark c.self.inside.marks) (has_mark c.with-self-inside.result) c.self.inside.places (map end_of c.self.inside.ends.items) (map end_of c.advertise_at.new.ends.items) c.args.slot c.place-place.result.peer.0
-          (advertised c.in-Ok.label c.args.told.now (get_or (map end_of c.self.inside.ends.items) c.args.slot fresh)) c.self.invariant.untold c.advertise_at.ensures (ap (λ (place : EndPlace). place.peer.0) c.place-place.ensures) c.with-self-inside.ensures;
+      untold = untold_changed (has_mark c.self.inside.marks) (has_mark c.with-self-inside.result) c.self.inside.places (map end_of c.self.inside.ends.items)
+          (map end_of c.advertise_at.new.ends.items) c.args.slot c.place-place.result.peer.0
+          (advertised c.in-Ok.label c.args.told.now (get_or (map end_of c.self.inside.ends.items) c.args.slot fresh)) c.self.invariant.untold c.advertise_at.ensures
+          (ap (λ (place : EndPlace). place.peer.0) c.place-place.ensures) c.with-self-inside.ensures;
     }
 
 pub returns-clause-seen : goal.returns-clause-seen

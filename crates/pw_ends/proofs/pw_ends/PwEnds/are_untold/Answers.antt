@@ -14,8 +14,10 @@ pub returns : goal.returns
 returns c = record {
   untold = λ is peer within.
       subst (λ (l : EndLists). changed_beside peer lost (seen_ends l) ≡ seen_ends l) c.self.view_is
-      (seen_untold (has_mark c.self.inside.marks) peer (the_view c.self.inside) c.self.invariant.untold c.self.invariant.kept.count (none_marked (has_mark c.self.inside.marks) peer.0 (c.is_empty.ensures is) within));
+      (seen_untold (has_mark c.self.inside.marks) peer (the_view c.self.inside) c.self.invariant.untold c.self.invariant.kept.count
+      (none_marked (has_mark c.self.inside.marks) peer.0 (c.is_empty.ensures is) within));
   kept = λ is peer within.
       subst (λ (l : EndLists). (kept : List Kept) → keeps_lost peer (seen_ends l) l.places kept ≡ kept) c.self.view_is
-      (seen_stays (has_mark c.self.inside.marks) peer (the_view c.self.inside) c.self.invariant.kept.apart c.self.invariant.untold c.self.invariant.kept.count (none_marked (has_mark c.self.inside.marks) peer.0 (c.is_empty.ensures is) within));
+      (seen_stays (has_mark c.self.inside.marks) peer (the_view c.self.inside) c.self.invariant.kept.apart c.self.invariant.untold c.self.invariant.kept.count
+      (none_marked (has_mark c.self.inside.marks) peer.0 (c.is_empty.ensures is) within));
 }

@@ -22,10 +22,14 @@ invariant_of-self c =
     let own : List PwEnd → _ = λ (ends : List PwEnd). own_of (get_or (map end_of ends) c.args.slot fresh) in
     record {
       kept =
-          kept_moved c.args.change.now c.self.inside.places (map end_of c.self.inside.ends.items) (map end_of c.change_at.new.ends.items) c.self.inside.labels c.free_left.new.labels c.self.inside.owned c.free_left.new.owned c.args.slot c.own_label_at-before.result c.own_label_at-after.result
-          c.self.invariant.kept within c.change_at.ensures (c.own_label_at-before.ensures ∙ ap own c.deref.ensures.value) (c.own_label_at-after.ensures ∙ ap own c.deref-2.ensures.value) c.free_left.ensures.labels c.free_left.ensures.owned;
-      untold = untold_changed (has_mark c.self.inside.marks) (has_mark c.with-self-inside.result) c.self.inside.places (map end_of c.self.inside.ends.items) (map end_of c.change_at.new.ends.items) c.args.slot c.place.result.peer.0
-          (changed c.args.change.now (get_or (map end_of c.self.inside.ends.items) c.args.slot fresh)) c.self.invariant.untold c.change_at.ensures (ap (λ (place : EndPlace). place.peer.0) c.place.ensures) c.with-self-inside.ensures;
+          kept_moved c.args.change.now c.self.inside.places (map end_of c.self.inside.ends.items)
+          (map end_of c.change_at.new.ends.items) c.self.inside.labels c.free_left.new.labels c.self.inside.owned c.free_left.new.owned c.args.slot c.own_label_at-before.result c.own_label_at-after.result
+          c.self.invariant.kept within c.change_at.ensures (c.own_label_at-before.ensures ∙ ap own c.deref.ensures.value)
+          (c.own_label_at-after.ensures ∙ ap own c.deref-2.ensures.value) c.free_left.ensures.labels c.free_left.ensures.owned;
+      untold = untold_changed (has_mark c.self.inside.marks) (has_mark c.with-self-inside.result) c.self.inside.places (map end_of c.self.inside.ends.items)
+          (map end_of c.change_at.new.ends.items) c.args.slot c.place.result.peer.0
+          (changed c.args.change.now (get_or (map end_of c.self.inside.ends.items) c.args.slot fresh)) c.self.invariant.untold c.change_at.ensures
+          (ap (λ (place : EndPlace). place.peer.0) c.place.ensures) c.with-self-inside.ensures;
     }
 
 pub returns-clause-seen : goal.returns-clause-seen
@@ -39,5 +43,6 @@ returns-clause-kept c =
     let within : c.args.slot < length c.self.inside.places = subst (λ (l : EndLists). c.args.slot < length l.places) (sym c.self.view_is) c.requires.slot in
     let own : List PwEnd → _ = λ (ends : List PwEnd). own_of (get_or (map end_of ends) c.args.slot fresh) in
     ap (λ (l : LabelNumbers). l.kept) c.free_left.ensures.labels
-    ∙ kept_changed_at c.args.change.now (the_view c.self.inside) c.args.self.now c.self.inside.owned (map end_of c.change_at.new.ends.items) c.args.slot c.own_label_at-before.result c.own_label_at-after.result c.self.invariant.kept within c.self.view_is c.change_at.ensures
+    ∙ kept_changed_at c.args.change.now (the_view c.self.inside) c.args.self.now c.self.inside.owned
+    (map end_of c.change_at.new.ends.items) c.args.slot c.own_label_at-before.result c.own_label_at-after.result c.self.invariant.kept within c.self.view_is c.change_at.ensures
     (c.own_label_at-before.ensures ∙ ap own c.deref.ensures.value) (c.own_label_at-after.ensures ∙ ap own c.deref-2.ensures.value)

@@ -11,6 +11,8 @@ invariant-loop-slot l = record {
   next : l.self.labels.next ≡ l.fn.self.labels.next;
   count : length l.self.ends ≡ length l.self.places;
   begun : length l.fn.self.ends ≡ length l.fn.self.places;
-  kept : keeps_meant l.which (changed l.change) (drop l.slot l.self.places) (drop l.slot l.self.ends) l.self.labels.kept ≡ keeps_meant l.which (changed l.change) l.fn.self.places l.fn.self.ends l.fn.self.labels.kept;
-  rest : take l.slot l.self.ends ++ changed_each l.which (changed l.change) (drop l.slot l.self.places) (drop l.slot l.self.ends) ≡ changed_each l.which (changed l.change) l.fn.self.places l.fn.self.ends;
+  kept : keeps_meant l.which (changed l.change) (drop l.slot l.self.places) (drop l.slot l.self.ends) l.self.labels.kept
+      ≡ keeps_meant l.which (changed l.change) l.fn.self.places l.fn.self.ends l.fn.self.labels.kept;
+  rest : take l.slot l.self.ends ++ changed_each l.which (changed l.change) (drop l.slot l.self.places) (drop l.slot l.self.ends)
+      ≡ changed_each l.which (changed l.change) l.fn.self.places l.fn.self.ends;
 }

@@ -18,5 +18,6 @@ returns c = record {
       (seen_untold (has_mark c.self.inside.marks) c.args.peer (the_view c.self.inside) c.self.invariant.untold c.self.invariant.kept.count (sym c.has.ensures ∙ not-true c.has.result is));
   kept = λ is.
       subst (λ (l : EndLists). (kept : List Kept) → keeps_lost c.args.peer (seen_ends l) l.places kept ≡ kept) c.self.view_is
-      (seen_stays (has_mark c.self.inside.marks) c.args.peer (the_view c.self.inside) c.self.invariant.kept.apart c.self.invariant.untold c.self.invariant.kept.count (sym c.has.ensures ∙ not-true c.has.result is));
+      (seen_stays (has_mark c.self.inside.marks) c.args.peer (the_view c.self.inside) c.self.invariant.kept.apart c.self.invariant.untold c.self.invariant.kept.count
+      (sym c.has.ensures ∙ not-true c.has.result is));
 }

@@ -11,5 +11,6 @@ use Rattle.pw_ends.proofs.pw_ends.PwEnds.labels.Goals as goal
 pub returns-clause-owners : goal.returns-clause-owners
 returns-clause-owners c =
     let labels = c.self.inside.labels in
-    λ label. subst (λ (l : EndLists). owner_of label labels.owners ≡ option_map (λ place. (segment_of place, place.side)) (find (λ place. owns_label label (end_there l place)) l.places)) c.self.view_is
+    λ label. subst (λ (l : EndLists). owner_of label labels.owners
+    ≡ option_map (λ place. (segment_of place, place.side)) (find (λ place. owns_label label (end_there l place)) l.places)) c.self.view_is
     (labels_owned (the_view c.self.inside) c.self.inside.owned c.self.invariant.kept label)

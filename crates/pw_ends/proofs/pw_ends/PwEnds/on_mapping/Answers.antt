@@ -19,8 +19,10 @@ invariant_of-self c =
       kept =
           kept_bound c.args.binding.now c.self.inside.places (map end_of c.self.inside.ends.items) (map end_of c.bind_at.new.ends.items) c.self.inside.labels c.self.inside.owned c.args.slot
           c.self.invariant.kept within c.bind_at.ensures (subst (λ (l : EndLists). CanHold (place_of l c.args.slot) c.args.binding.now.told) (sym c.self.view_is) c.requires.holds);
-      untold = untold_changed (has_mark c.self.inside.marks) (has_mark c.with-self-inside.result) c.self.inside.places (map end_of c.self.inside.ends.items) (map end_of c.bind_at.new.ends.items) c.args.slot c.place.result.peer.0
-          (bound c.args.binding.now (get_or (map end_of c.self.inside.ends.items) c.args.slot fresh)) c.self.invariant.untold c.bind_at.ensures (ap (λ (place : EndPlace). place.peer.0) c.place.ensures) c.with-self-inside.ensures;
+      untold = untold_changed (has_mark c.self.inside.marks) (has_mark c.with-self-inside.result) c.self.inside.places (map end_of c.self.inside.ends.items)
+          (map end_of c.bind_at.new.ends.items) c.args.slot c.place.result.peer.0
+          (bound c.args.binding.now (get_or (map end_of c.self.inside.ends.items) c.args.slot fresh)) c.self.invariant.untold c.bind_at.ensures
+          (ap (λ (place : EndPlace). place.peer.0) c.place.ensures) c.with-self-inside.ensures;
     }
 
 pub returns-clause-seen : goal.returns-clause-seen

@@ -8,7 +8,8 @@ use Rattle.pw_ends.proofs.pw_ends.PwEnds.owner_of.Goals as goal
 pub returns-clause-slot : goal.returns-clause-slot
 returns-clause-slot c =
     c.slot.ensures
-    ∙ (owner_found c.args.number (map end_of c.self.inside.ends.items) c.self.inside.labels c.self.inside.owned c.self.invariant.kept.slots ∙ ap (λ (l : EndLists). position (owns_label c.args.number) l.ends) c.self.view_is)
+    ∙ (owner_found c.args.number (map end_of c.self.inside.ends.items) c.self.inside.labels c.self.inside.owned c.self.invariant.kept.slots
+    ∙ ap (λ (l : EndLists). position (owns_label c.args.number) l.ends) c.self.view_is)
 
 pub returns-clause-within : goal.returns-clause-within
 returns-clause-within c =

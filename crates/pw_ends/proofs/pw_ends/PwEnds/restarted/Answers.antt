@@ -5,4 +5,5 @@ use Rattle.pw_ends.proofs.RestartLemmas.{marked_idle}
 use Rattle.pw_ends.proofs.pw_ends.PwEnds.restarted.Goals as goal
 
 pub invariant_of-self : goal.invariant_of-self
-invariant_of-self c = marked_idle (has_mark c.self.inside.marks) _ c.self.inside.places c.self.inside.ends.items _ c.self.inside.labels _ c.self.inside.owned _ c.self.invariant (search rules) (search rules) (search rules)
+invariant_of-self c = marked_idle (has_mark c.self.inside.marks) _ c.self.inside.places c.self.inside.ends.items _ c.self.inside.labels _ c.self.inside.owned _ c.self.invariant
+    (search rules) (search rules) (search rules)

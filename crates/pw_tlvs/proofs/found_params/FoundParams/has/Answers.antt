@@ -17,7 +17,9 @@ returns-in-3 c = λ subs says. stood_by InterfaceParameter 0x03 c.args.kind subs
 
 pub returns-in-6 : goal.returns-in-6
 returns-in-6 c = λ subs says.
-    stood_by InterfaceParameter 0x06 c.args.kind subs c.is_some-in-6.result c.in-6.is (c.is_some-in-6.ensures ∙ (ap is_some says.vlan ∙ is_some_map (λ (value : List ℕ). big_number 2 value) (said 0x06 subs)))
+    stood_by InterfaceParameter 0x06 c.args.kind subs c.is_some-in-6.result c.in-6.is
+    (c.is_some-in-6.ensures ∙ (ap is_some says.vlan ∙ is_some_map (λ (value : List ℕ). big_number 2 value) (said 0x06 subs)))
 
 pub returns-in-12 : goal.returns-in-12
-returns-in-12 c = λ subs says. stood_by InterfaceParameter 0x0C c.args.kind subs c.is_some-in-12.result c.in-12.is (c.is_some-in-12.ensures ∙ (ap is_some says.vccv ∙ is_some_map vccv_of (said 0x0C subs)))
+returns-in-12 c = λ subs says. stood_by InterfaceParameter 0x0C c.args.kind subs c.is_some-in-12.result c.in-12.is
+    (c.is_some-in-12.ensures ∙ (ap is_some says.vccv ∙ is_some_map vccv_of (said 0x0C subs)))

@@ -9,12 +9,17 @@ use Rattle.seen_state.proofs.copies.Copies.go.Goals as goal
 
 pub returns-in_default-clause-told : goal.returns-in_default-clause-told
 returns-in_default-clause-told c = λ copies told.
-    subst (λ (es : List (ℕ × ℕ)). Tells (record { origins = es; counts = c.self.inside.counts.entries; comings = c.self.inside.comings }) (without_copy c.args.number copies)) (sym c.in_default.ensures.unchanged)
+    subst (λ (es : List (ℕ × ℕ)). Tells (record { origins = es; counts = c.self.inside.counts.entries; comings = c.self.inside.comings }) (without_copy c.args.number copies))
+    (sym c.in_default.ensures.unchanged)
     (went_none (record { origins = c.self.inside.origins.entries; counts = c.self.inside.counts.entries; comings = c.self.inside.comings }) c.args.number copies (sym c.in_default.ensures.value)
     (subst (λ (m : CopyMaps). Tells m copies) (sym c.self.view_is) told))
 
 pub returns-clause-told : goal.returns-clause-told
 returns-clause-told c = λ copies told.
-    went_one (record { origins = c.self.inside.origins.entries; counts = c.self.inside.counts.entries; comings = c.self.inside.comings }) c.count_down.new.self c.args.number c.in-Some.origin (sym c.in-Some.ensures.value)
+    went_one (record {
+      origins = c.self.inside.origins.entries;
+      counts = c.self.inside.counts.entries;
+      comings = c.self.inside.comings;
+    }) c.count_down.new.self c.args.number c.in-Some.origin (sym c.in-Some.ensures.value)
     (λ q. ap (λ (es : List (ℕ × ℕ)). lookup (is_at (nat_cmp q)) es) c.in_ok-count_down.ensures.origins ∙ c.in-Some.ensures.updates.0 q)
     c.in_ok-count_down.ensures.counts copies (subst (λ (m : CopyMaps). Tells m copies) (sym c.self.view_is) told)

@@ -6,4 +6,5 @@ use Rattle.seen_state.proofs.sight.Sight.has_one_spoke.Given as goal
 
 abbrev pub invariant-loop-place : goal.invariant-loop-place
 invariant-loop-place l =
-    (l.live ≤ l.place) × (l.live + count_wires (is_seen_spoke (shown l.self []) l.service l.edge.0) l.place (drop l.place l.wires) ≡ count_wires (is_seen_spoke (shown l.self []) l.service l.edge.0) 0 l.wires)
+    (l.live ≤ l.place) × (l.live + count_wires (is_seen_spoke (shown l.self []) l.service l.edge.0) l.place (drop l.place l.wires)
+    ≡ count_wires (is_seen_spoke (shown l.self []) l.service l.edge.0) 0 l.wires)

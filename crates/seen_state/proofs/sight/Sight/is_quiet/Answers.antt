@@ -8,4 +8,5 @@ use Rattle.seen_state.proofs.sight.Sight.is_quiet.Goals as goal
 pub returns-then-not-is_quiet_beside : goal.returns-then-not-is_quiet_beside
 returns-then-not-is_quiet_beside c =
     let within : c.loop-a.a < length c.args.plan.now.edges = omega (arith, c.loop-a-test.true, c.len-count.ensures) in
-    sym (below_fails (λ a. all_below (length c.args.plan.now.edges) (is_quiet_between c.args.plan.now (shown c.args.self.now []) c.args.service a)) (length c.args.plan.now.edges) c.loop-a.a within (sym c.if-not-is_quiet_beside.ensures))
+    sym (below_fails (λ a. all_below (length c.args.plan.now.edges) (is_quiet_between c.args.plan.now (shown c.args.self.now []) c.args.service a))
+    (length c.args.plan.now.edges) c.loop-a.a within (sym c.if-not-is_quiet_beside.ensures))

@@ -9,7 +9,8 @@ use Rattle.switchover_net.proofs.edge_row.EdgeRow.calls_so.Goals as goal
 pub calls_so-requires : goal.calls_so-requires
 calls_so-requires c =
     let below : c.args.me.0 < length (the_view c.self.inside).edges = omega (arith, c.requires.me, ap (λ (n : RowLists). length n.plan.edges) c.self.view_is, c.self.invariant.count) in
-    let planned : c.index.result.now.plan ≡ c.args.self.now.plan = found_plan (the_view c.self.inside) c.args.me.0 c.index.result.now c.self.invariant below c.index.ensures ∙ ap (λ (n : RowLists). n.plan) c.self.view_is in
+    let planned : c.index.result.now.plan ≡ c.args.self.now.plan =
+    found_plan (the_view c.self.inside) c.args.me.0 c.index.result.now c.self.invariant below c.index.ensures ∙ ap (λ (n : RowLists). n.plan) c.self.view_is in
     record { wire = subst (λ (p : Plan). c.args.wire.0 < length p.wires) (sym planned) c.requires.wire }
 
 pub returns : goal.returns

@@ -12,18 +12,23 @@ use Rattle.switchover_net.proofs.edge_row.EdgeRow.connect.Goals as goal
 pub connected-done-requires : goal.connected-done-requires
 connected-done-requires c =
     let below : c.args.me.0 < length (the_view c.self.inside).edges = omega (arith, c.requires.me, ap (λ (n : RowLists). length n.plan.edges) c.self.view_is, c.self.invariant.count) in
-    let planned : c.index_mut.result.now.plan ≡ c.args.self.now.plan = found_plan (the_view c.self.inside) c.args.me.0 c.index_mut.result.now c.self.invariant below c.index_mut.ensures.value ∙ ap (λ (n : RowLists). n.plan) c.self.view_is in
+    let planned : c.index_mut.result.now.plan ≡ c.args.self.now.plan =
+    found_plan (the_view c.self.inside) c.args.me.0 c.index_mut.result.now c.self.invariant below c.index_mut.ensures.value ∙ ap (λ (n : RowLists). n.plan) c.self.view_is in
     record { within = subst (λ (p : Plan). c.args.peer.0 < length p.edges) (sym planned) c.requires.peer }
 
 pub returns-clause-step : goal.returns-clause-step
 returns-clause-step c =
     let below : c.args.me.0 < length (the_view c.self.inside).edges = omega (arith, c.requires.me, ap (λ (n : RowLists). length n.plan.edges) c.self.view_is, c.self.invariant.count) in
-    subst (λ (n : RowLists). HasDone c.args.me.0 n (record (the_view c.self.inside) { edges = slice_set (the_view c.self.inside).edges c.args.me.0 c.connected-done.new.self }) c.into_calls-calls.result (connects n.plan taken_all c.args.me.0 c.args.peer (seen_row n c.args.me.0) [])) c.self.view_is
-    (row_does (the_view c.self.inside) c.args.me.0 (λ p m e s. connects p taken_all m c.args.peer e s) c.index_mut.result.now c.connected-done.new.self c.new-link.result c.connected-done.new.link c.into_calls-calls.result c.self.invariant below c.index_mut.ensures.value c.new-link.ensures
+    subst (λ (n : RowLists). HasDone c.args.me.0 n
+    (record (the_view c.self.inside) { edges = slice_set (the_view c.self.inside).edges c.args.me.0 c.connected-done.new.self }) c.into_calls-calls.result
+    (connects n.plan taken_all c.args.me.0 c.args.peer (seen_row n c.args.me.0) [])) c.self.view_is
+    (row_does (the_view c.self.inside) c.args.me.0
+    (λ p m e s. connects p taken_all m c.args.peer e s) c.index_mut.result.now c.connected-done.new.self c.new-link.result c.connected-done.new.link c.into_calls-calls.result c.self.invariant below c.index_mut.ensures.value c.new-link.ensures
     (c.in-Ok.ensures.step taken_all c.into_calls-calls.ensures.taken) c.into_calls-calls.ensures.calls)
 
 pub returns-in-Err-clause-link : goal.returns-in-Err-clause-link
 returns-in-Err-clause-link c =
-    never_link (Unit {0}) (Unit {0}) c.in-Err.stop (seen c.connected-done.new.self) c.connected-done.new.link (connects c.index_mut.result.now.plan taken_all c.index_mut.result.now.me.0 c.args.peer (seen c.index_mut.result.now) c.new-link.result) (length c.new-link.result)
+    never_link (Unit {0}) (Unit {0}) c.in-Err.stop (seen c.connected-done.new.self) c.connected-done.new.link
+    (connects c.index_mut.result.now.plan taken_all c.index_mut.result.now.me.0 c.args.peer (seen c.index_mut.result.now) c.new-link.result) (length c.new-link.result)
     (calls_end.connected c.index_mut.result.now.plan taken_all c.index_mut.result.now.me.0 c.args.peer (seen c.index_mut.result.now) c.new-link.result)
     (c.in-Err.ensures.step taken_all c.into_calls-calls.ensures.taken)

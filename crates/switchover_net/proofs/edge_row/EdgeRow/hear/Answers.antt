@@ -14,19 +14,24 @@ use Rattle.switchover_net.proofs.edge_row.EdgeRow.hear.Goals as goal
 pub hear-done-requires : goal.hear-done-requires
 hear-done-requires c =
     let below : c.args.me.0 < length (the_view c.self.inside).edges = omega (arith, c.requires.me, ap (λ (n : RowLists). length n.plan.edges) c.self.view_is, c.self.invariant.count) in
-    let planned : c.index_mut.result.now.plan ≡ c.args.self.now.plan = found_plan (the_view c.self.inside) c.args.me.0 c.index_mut.result.now c.self.invariant below c.index_mut.ensures.value ∙ ap (λ (n : RowLists). n.plan) c.self.view_is in
+    let planned : c.index_mut.result.now.plan ≡ c.args.self.now.plan =
+    found_plan (the_view c.self.inside) c.args.me.0 c.index_mut.result.now c.self.invariant below c.index_mut.ensures.value ∙ ap (λ (n : RowLists). n.plan) c.self.view_is in
     record { within = subst (λ (p : Plan). c.args.peer.0 < length p.edges) (sym planned) c.requires.peer }
 
 pub returns-clause-step : goal.returns-clause-step
 returns-clause-step c =
     let below : c.args.me.0 < length (the_view c.self.inside).edges = omega (arith, c.requires.me, ap (λ (n : RowLists). length n.plan.edges) c.self.view_is, c.self.invariant.count) in
-    subst (λ (n : RowLists). HasDone c.args.me.0 n (record (the_view c.self.inside) { edges = slice_set (the_view c.self.inside).edges c.args.me.0 c.hear-done.new.self }) c.into_calls-calls.result (hears n.plan taken_all c.args.me.0 c.args.peer c.args.bytes.now (seen_row n c.args.me.0) [])) c.self.view_is
-    (row_does (the_view c.self.inside) c.args.me.0 (λ p m e s. hears p taken_all m c.args.peer c.args.bytes.now e s) c.index_mut.result.now c.hear-done.new.self c.new-link.result c.hear-done.new.link c.into_calls-calls.result c.self.invariant below c.index_mut.ensures.value c.new-link.ensures
+    subst (λ (n : RowLists). HasDone c.args.me.0 n
+    (record (the_view c.self.inside) { edges = slice_set (the_view c.self.inside).edges c.args.me.0 c.hear-done.new.self }) c.into_calls-calls.result
+    (hears n.plan taken_all c.args.me.0 c.args.peer c.args.bytes.now (seen_row n c.args.me.0) [])) c.self.view_is
+    (row_does (the_view c.self.inside) c.args.me.0
+    (λ p m e s. hears p taken_all m c.args.peer c.args.bytes.now e s) c.index_mut.result.now c.hear-done.new.self c.new-link.result c.hear-done.new.link c.into_calls-calls.result c.self.invariant below c.index_mut.ensures.value c.new-link.ensures
     (c.in-Ok.ensures.step taken_all c.into_calls-calls.ensures.taken) c.into_calls-calls.ensures.calls)
 
 pub returns-in-Err-clause-link : goal.returns-in-Err-clause-link
 returns-in-Err-clause-link c =
-    never_link (Unit {0}) (Unit {0}) c.in-Err.stop (seen c.hear-done.new.self) c.hear-done.new.link (hears c.index_mut.result.now.plan taken_all c.index_mut.result.now.me.0 c.args.peer c.args.bytes.now (seen c.index_mut.result.now) c.new-link.result) (length c.new-link.result)
+    never_link (Unit {0}) (Unit {0}) c.in-Err.stop (seen c.hear-done.new.self) c.hear-done.new.link
+    (hears c.index_mut.result.now.plan taken_all c.index_mut.result.now.me.0 c.args.peer c.args.bytes.now (seen c.index_mut.result.now) c.new-link.result) (length c.new-link.result)
     (calls_end.heard c.index_mut.result.now.plan taken_all c.index_mut.result.now.me.0 c.args.peer c.args.bytes.now (seen c.index_mut.result.now) c.new-link.result)
     (c.in-Err.ensures.step taken_all c.into_calls-calls.ensures.taken)
 
@@ -34,7 +39,8 @@ pub returns-in-Err-clause-refused : goal.returns-in-Err-clause-refused
 returns-in-Err-clause-refused c =
     let below : c.args.me.0 < length (the_view c.self.inside).edges = omega (arith, c.requires.me, ap (λ (n : RowLists). length n.plan.edges) c.self.view_is, c.self.invariant.count) in
     subst (λ (n : RowLists). IsGoing (hears n.plan taken_all c.args.me.0 c.args.peer c.args.bytes.now (seen_row n c.args.me.0) []) → NeverRefused {T = Unit {0}} (Err c.in-Err.stop)) c.self.view_is
-    (never_refused (Unit {0}) (Unit {0}) c.in-Err.stop (seen c.hear-done.new.self) c.hear-done.new.link (hears c.index_mut.result.now.plan taken_all c.index_mut.result.now.me.0 c.args.peer c.args.bytes.now (seen c.index_mut.result.now) c.new-link.result)
+    (never_refused (Unit {0}) (Unit {0}) c.in-Err.stop (seen c.hear-done.new.self) c.hear-done.new.link
+    (hears c.index_mut.result.now.plan taken_all c.index_mut.result.now.me.0 c.args.peer c.args.bytes.now (seen c.index_mut.result.now) c.new-link.result)
     (hears (the_view c.self.inside).plan taken_all c.args.me.0 c.args.peer c.args.bytes.now (seen_row (the_view c.self.inside) c.args.me.0) [])
     (c.in-Err.ensures.step taken_all c.into_calls-calls.ensures.taken)
     (ap (λ (calls : List LinkCall). hears c.index_mut.result.now.plan taken_all c.index_mut.result.now.me.0 c.args.peer c.args.bytes.now (seen c.index_mut.result.now) calls) c.new-link.ensures

@@ -10,8 +10,10 @@ loop-place-preserved c =
     let within : c.loop-place.place < length c.args.calls.now = omega (arith, c.loop-place-test.true) in
     record {
       size = c.put.ensures.size ∙ c.loop-place.invariant.size;
-      put = put_more c.args.from.0 c.args.to.0 c.args.calls.now c.loop-place.place c.index-calls-place.result (pipes_of c.args.self.now) (pipes_of c.loop-place.self) (pipes_of c.put.new.self) within c.index-calls-place.is
-          (c.in_ok-put.ensures.ok ∙ ap (λ (b : List ℕ). at_two c.args.from.0 c.args.to.0 (pipes_of c.loop-place.self c.args.from.0 c.args.to.0 ++ b) (pipes_of c.loop-place.self)) (c.as_slice.ensures ∙ ap (λ (call : LinkCall). call.bytes) (sym c.index-calls-place.is))) c.loop-place.invariant.put;
+      put = put_more c.args.from.0 c.args.to.0 c.args.calls.now c.loop-place.place c.index-calls-place.result (pipes_of c.args.self.now) (pipes_of c.loop-place.self)
+          (pipes_of c.put.new.self) within c.index-calls-place.is
+          (c.in_ok-put.ensures.ok ∙ ap (λ (b : List ℕ). at_two c.args.from.0 c.args.to.0 (pipes_of c.loop-place.self c.args.from.0 c.args.to.0 ++ b) (pipes_of c.loop-place.self))
+          (c.as_slice.ensures ∙ ap (λ (call : LinkCall). call.bytes) (sym c.index-calls-place.is))) c.loop-place.invariant.put;
     }
 
 pub returns-clause-ok : goal.returns-clause-ok

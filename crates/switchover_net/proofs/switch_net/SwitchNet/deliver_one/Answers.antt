@@ -27,4 +27,5 @@ returns-then-held-clause-step c =
 pub tell-requires-clause-before : goal.tell-requires-clause-before
 tell-requires-clause-before c =
     ap (λ (l : List Bool). length l) (c.as_slice.ensures.value ∙ c.requires.used)
-    ∙ (used_long c.args.self.now.row.plan c.args.to.0 0 (length c.args.self.now.row.plan.wires) (seen_row c.args.self.now.row c.args.to.0) ∙ ap (λ (p : Plan). length p.wires) (sym c.hear_one.ensures.plan))
+    ∙ (used_long c.args.self.now.row.plan c.args.to.0 0 (length c.args.self.now.row.plan.wires) (seen_row c.args.self.now.row c.args.to.0)
+    ∙ ap (λ (p : Plan). length p.wires) (sym c.hear_one.ensures.plan))

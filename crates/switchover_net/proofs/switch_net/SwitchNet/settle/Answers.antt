@@ -8,15 +8,19 @@ use Rattle.switchover_net.proofs.switch_net.SwitchNet.settle.Goals as goal
 pub returns-in-None-clause-step : goal.returns-in-None-clause-step
 returns-in-None-clause-step c =
     let below : c.loop-time._time < c.args.count = omega (arith, c.loop-time-test.true) in
-    settled_none c.args.self.now.row.plan c.args.count c.loop-time._time c.args.self.now c.loop-time.self c.args.out.now c.loop-time.out below (subst (λ (n : NetLists). n.pipes.size ≡ length n.row.plan.edges) c.self.view_is c.self.invariant.size)
-    (subst (λ (n : NetLists). None ≡ first_pair (λ from to. is_waiting (pipes_of n.pipes from to)) n.pipes.size 0 n.pipes.size) c.self.view_is (sym c.in-None.is ∙ c.first_pair.ensures.first)) c.loop-time.invariant
+    settled_none c.args.self.now.row.plan c.args.count c.loop-time._time c.args.self.now c.loop-time.self c.args.out.now c.loop-time.out below
+    (subst (λ (n : NetLists). n.pipes.size ≡ length n.row.plan.edges) c.self.view_is c.self.invariant.size)
+    (subst (λ (n : NetLists). None ≡ first_pair (λ from to. is_waiting (pipes_of n.pipes from to)) n.pipes.size 0 n.pipes.size) c.self.view_is
+    (sym c.in-None.is ∙ c.first_pair.ensures.first)) c.loop-time.invariant
 
 pub loop-time-preserved : goal.loop-time-preserved
 loop-time-preserved c =
     let below : c.loop-time._time < c.args.count = omega (arith, c.loop-time-test.true) in
-    settled_more c.args.self.now.row.plan c.args.count c.loop-time._time (record { 0 = c.in-Some.pair.0 }) (record { 0 = c.in-Some.pair.1 }) c.args.self.now c.loop-time.self c.deliver.new.self c.args.out.now c.loop-time.out c.deliver.new.out below
+    settled_more c.args.self.now.row.plan c.args.count c.loop-time._time (record { 0 = c.in-Some.pair.0 })
+    (record { 0 = c.in-Some.pair.1 }) c.args.self.now c.loop-time.self c.deliver.new.self c.args.out.now c.loop-time.out c.deliver.new.out below
     (subst (λ (n : NetLists). n.pipes.size ≡ length n.row.plan.edges) c.self.view_is c.self.invariant.size)
-    (subst (λ (n : NetLists). Some (c.in-Some.pair.0, c.in-Some.pair.1) ≡ first_pair (λ from to. is_waiting (pipes_of n.pipes from to)) n.pipes.size 0 n.pipes.size) c.self.view_is (sym c.in-Some.is ∙ c.first_pair.ensures.first))
+    (subst (λ (n : NetLists). Some (c.in-Some.pair.0, c.in-Some.pair.1) ≡ first_pair (λ from to. is_waiting (pipes_of n.pipes from to)) n.pipes.size 0 n.pipes.size) c.self.view_is
+    (sym c.in-Some.is ∙ c.first_pair.ensures.first))
     c.in_ok-deliver-in-Some.ensures.plan c.in_ok-deliver-in-Some.ensures.reached c.in_ok-deliver-in-Some.ensures.step c.loop-time.invariant
 
 pub returns-clause-step : goal.returns-clause-step

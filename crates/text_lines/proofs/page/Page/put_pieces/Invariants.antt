@@ -7,7 +7,8 @@ use Rattle.text_lines.proofs.page.Page.put_pieces.Given as goal
 abbrev pub invariant-putting : goal.invariant-putting
 invariant-putting g l = record {
   within : l.at ≤ length l.octets;
-  putting : Putting (written (g.K.Sink.taken l.fn.sink) (g.K.Sink.faults l.fn.sink) l.fn.self) (written (g.K.Sink.taken l.sink) (g.K.Sink.faults l.sink) l.self) (hex (drop l.at l.octets)) (hex l.octets);
+  putting : Putting (written (g.K.Sink.taken l.fn.sink) (g.K.Sink.faults l.fn.sink) l.fn.self) (written (g.K.Sink.taken l.sink) (g.K.Sink.faults l.sink) l.self)
+      (hex (drop l.at l.octets)) (hex l.octets);
 }
 
 abbrev pub decreases-putting : goal.decreases-putting

@@ -12,7 +12,8 @@ pub returns-in_err-put_octet : goal.returns-in_err-put_octet
 returns-in_err-put_octet g c =
     let p = err_from_is_err_and c.from_residual.result c.from_residual.ensures.1 in
     let word = get_or c.args.words.now c.loop-word.word-index (Number 0) in
-    rw p.1 (putting_cut _ _ _ _ (32 ∷ word_octets word) _ _ (at_drop_more (λ (l : List Word). spaced (map word_octets l)) c.args.words.now c.loop-word.word-index (Number 0) c.loop-word-test.true) c.loop-word.invariant
+    rw p.1 (putting_cut _ _ _ _ (32 ∷ word_octets word) _ _
+    (at_drop_more (λ (l : List Word). spaced (map word_octets l)) c.args.words.now c.loop-word.word-index (Number 0) c.loop-word-test.true) c.loop-word.invariant
     (cut_first _ _ (32 ∷ []) (word_octets word) c.in_err-put_octet.ensures))
 
 pub returns-in_err-put_word : goal.returns-in_err-put_word

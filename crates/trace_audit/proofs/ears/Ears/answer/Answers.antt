@@ -16,7 +16,8 @@ pub overflow_add-result : goal.overflow_add-result
 overflow_add-result c = omega (
   arith,
   place_counts c.args.plan.now c.requires.told.trace c.args.self c.in-Ok-Some.place c.requires.ready c.requires.told.heard
-      (verdict_is c.args.plan.now c.requires.told.trace c.args.self.windows c.verdict.result (Some c.in-Ok-Some.place) c.verdict.ensures (c.in-Ok-Some.is ∙ ap Ok c.in-Ok-Some.field-0-is) c.requires.told.heard.windows),
+      (verdict_is c.args.plan.now c.requires.told.trace c.args.self.windows c.verdict.result (Some c.in-Ok-Some.place) c.verdict.ensures
+      (c.in-Ok-Some.is ∙ ap Ok c.in-Ok-Some.field-0-is) c.requires.told.heard.windows),
 )
 
 pub returns-in-Ok-Some : goal.returns-in-Ok-Some
