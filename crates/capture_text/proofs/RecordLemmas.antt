@@ -8,7 +8,7 @@ use Rattle.net_base.specs.declared.plan.places.CircuitId.{CircuitId}
 use Rattle.net_base.specs.declared.trace.entry.Entry.{Entry}
 use Rattle.pcap_file.specs.Written.{written_frame, written_header, written_record}
 use Rattle.capture_text.specs.Capture.{frame_of, frames_left, ticks_after, timed}
-use Rattle.text_lines.specs.Written.{Written, GoesOn, IsCut, Puts}
+use Rattle.text_lines.specs.Written.{Written, WritingGoesOn, IsCut, Puts}
 use Rattle.text_lines.proofs.WrittenLemmas.{cut_first, goes_none, puts_two}
 
 -- four octets are the list of them
@@ -36,8 +36,8 @@ pub header_whole : (new old : List ℕ) → new ≡ written_header ++ drop 24 ol
 header_whole new old writes short = writes ∙ (ap (λ (l : List ℕ). written_header ++ l) (drop_all 24 old short) ∙ append-nil written_header)
 
 -- one text behind another one, which was made elsewhere
-pub puts_behind : {T E : Type 0} (result : Result T E) (a b c : Written) (made first second : List ℕ) → made ≡ first → GoesOn a b made → Puts result b c second → Puts result a c (first ++ second)
-puts_behind result a b c made first second is goes puts = puts_two result a b c first second (subst (λ (l : List ℕ). GoesOn a b l) is goes) puts
+pub puts_behind : {T E : Type 0} (result : Result T E) (a b c : Written) (made first second : List ℕ) → made ≡ first → WritingGoesOn a b made → Puts result b c second → Puts result a c (first ++ second)
+puts_behind result a b c made first second is goes puts = puts_two result a b c first second (subst (λ (l : List ℕ). WritingGoesOn a b l) is goes) puts
 
 pub cut_made : (a b : Written) (made first second : List ℕ) → made ≡ first → IsCut a b made → IsCut a b (first ++ second)
 cut_made a b made first second is cut = cut_first a b first second (subst (λ (l : List ℕ). IsCut a b l) is cut)
@@ -60,10 +60,10 @@ puts_left result a b ticks f found octets left told is puts =
 
 -- no frame is put by nothing
 pub puts_none : {B : Type 0} (w : Written) (ticks : ℕ) (f : B → List ℕ) (found : Option B) (left : Option (List ℕ)) → option_map f found ≡ left → found ≡ None
-    → GoesOn w w (flat_map written_frame (timed ticks left))
+    → WritingGoesOn w w (flat_map written_frame (timed ticks left))
 puts_none w ticks f found left told is =
     let all : flat_map written_frame (timed ticks left) ≡ [] = ap (λ (o : Option (List ℕ)). flat_map written_frame (timed ticks o)) (left_none f found left told is) in
-    subst (λ (l : List ℕ). GoesOn w w l) (sym all) (goes_none w)
+    subst (λ (l : List ℕ). WritingGoesOn w w l) (sym all) (goes_none w)
 
 -- the record of the next entry's frame, and those behind it
 pub frames_from : (circuit : CircuitId) (ticks after : ℕ) (trace : List Entry) (index : ℕ) (entry : Entry) → index < length trace → entry ≡ get_or trace index entry → after ≡ ticks_after entry ticks

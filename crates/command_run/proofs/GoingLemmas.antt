@@ -5,7 +5,7 @@ use Rattle.psn_net.specs.declared.net_stop.NetStop.{NetStop}
 use Rattle.psn_net.specs.declared.net_stop.NetStop.TheVariants.{Crowded, TooMuch, NoMemory}
 use Rattle.psn_net.specs.Applying.{Stops}
 use Rattle.psn_net.specs.Lists.{NetLists}
-use Rattle.command_run.specs.Going.{GoesOnAt, IsGoing}
+use Rattle.command_run.specs.Going.{GoesOnAt, IsRunGoing}
 
 -- a limit changes nothing
 pub stopped_going : (old now : NetLists) (event : Event) (stop : NetStop) → old.failed ≡ false → Stops old now event stop → GoesOnAt stop now
@@ -15,7 +15,7 @@ stopped_going old now event NoMemory going stops = tt
 
 -- what one event leaves
 pub applied_going : {A : Type 0} (old now : NetLists) (event : Event) (result : Result A NetStop) → old.failed ≡ false → OnOk result ((old.failed ≡ false) × (now.failed ≡ false))
-    → IfErr result (Stops old now event) → IsGoing result now
+    → IfErr result (Stops old now event) → IsRunGoing result now
 applied_going old now event (Ok done) going goes stops = goes.1
 applied_going old now event (Err stop) going goes stops = stopped_going old now event stop going stops
 

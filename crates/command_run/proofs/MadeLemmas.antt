@@ -16,14 +16,14 @@ use Rattle.network_model.specs.Step.{step}
 use Rattle.psn_net.specs.declared.net_stop.NetStop.{NetStop}
 use Rattle.psn_net.specs.declared.net_stop.NetStop.TheVariants as net_stop
 use Rattle.psn_net.specs.Applying.{Stops}
-use Rattle.psn_net.specs.Lists.{NetLists, seen}
+use Rattle.psn_net.specs.Lists.{NetLists, network_seen as seen}
 use Rattle.psn_net.specs.Runs.{Ended, RunHalts, ended, ran}
 use Rattle.psn_net.specs.Weight.{stop_at}
 use Rattle.psn_net.proofs.RunLemmas.{halts_first, halts_on, ran_first, ran_on, ran_state}
 use Rattle.command_text.specs.Planned.{IsPlanned}
 use Rattle.command_text.specs.declared.command.Command.{Command}
 use Rattle.command_text.specs.declared.command.Command.TheVariants.{One, Settle, Flow, Ticks, Play}
-use Rattle.command_run.specs.Made.{arrivals, captures_after, deliveries, entering, event_and, made, made_by, next_frames, ticks, turns}
+use Rattle.command_run.specs.Made.{arrivals, captures_after, deliveries, frames_entering, event_and, made, made_by, next_frames, ticks, turns}
 
 made_on : (plan : Plan) (n : NetLists) (s : NetworkState) (t : List Entry) (captures later : List (List (List ℕ))) (c : Command) (cs : List Command)
     → ended n None ≡ ran plan s t (made_by plan s captures c) → later ≡ captures_after c captures → ran plan (seen n) n.trace (made plan (seen n) later cs)
@@ -82,16 +82,16 @@ next_short (frames ∷ captures) short = All-head (All IsFrame) frames captures 
 -- ---- frames of a capture
 
 pub entering_next : (plan : Plan) (old now : NetLists) (last : Ended) (circuit : CircuitId) (frame : List ℕ) (all rest : List (List ℕ)) → all ≡ frame ∷ rest → old.plan ≡ plan
-    → ran plan (seen old) old.trace (entering circuit all) ≡ last → ended now None ≡ ran old.plan (seen old) old.trace (Frame circuit frame ∷ [])
-    → ran plan (seen now) now.trace (entering circuit rest) ≡ last
+    → ran plan (seen old) old.trace (frames_entering circuit all) ≡ last → ended now None ≡ ran old.plan (seen old) old.trace (Frame circuit frame ∷ [])
+    → ran plan (seen now) now.trace (frames_entering circuit rest) ≡ last
 entering_next plan old now last circuit frame all rest is kept before h =
-    subst (λ (p : Plan). ran p (seen now) now.trace (entering circuit rest) ≡ ran p (seen old) old.trace (entering circuit (frame ∷ rest))) kept
-    (ran_on old.plan (seen old) old.trace (Frame circuit frame ∷ []) (entering circuit rest) now h)
-    ∙ (ap (λ (frames : List (List ℕ)). ran plan (seen old) old.trace (entering circuit frames)) (sym is) ∙ before)
+    subst (λ (p : Plan). ran p (seen now) now.trace (frames_entering circuit rest) ≡ ran p (seen old) old.trace (frames_entering circuit (frame ∷ rest))) kept
+    (ran_on old.plan (seen old) old.trace (Frame circuit frame ∷ []) (frames_entering circuit rest) now h)
+    ∙ (ap (λ (frames : List (List ℕ)). ran plan (seen old) old.trace (frames_entering circuit frames)) (sym is) ∙ before)
 
 pub entering_err : (plan : Plan) (n : NetLists) (stop : NetStop) (s : NetworkState) (t : List Entry) (circuit : CircuitId) (frame : List ℕ) (frames : List (List ℕ))
-    → RunHalts stop n (ran plan s t (Frame circuit frame ∷ [])) → RunHalts stop n (ran plan s t (entering circuit (frame ∷ frames)))
-entering_err plan n stop s t circuit frame frames h = halts_on plan s t (Frame circuit frame ∷ []) (entering circuit frames) n stop h
+    → RunHalts stop n (ran plan s t (Frame circuit frame ∷ [])) → RunHalts stop n (ran plan s t (frames_entering circuit (frame ∷ frames)))
+entering_err plan n stop s t circuit frame frames h = halts_on plan s t (Frame circuit frame ∷ []) (frames_entering circuit frames) n stop h
 
 pub short_first : (frame : List ℕ) (frames : List (List ℕ)) → All IsFrame (frame ∷ frames) → IsFrame frame
 short_first frame frames short = All-head IsFrame frame frames short

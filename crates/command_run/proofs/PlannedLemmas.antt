@@ -18,7 +18,7 @@ use Rattle.network_model.specs.Step.{step}
 use Rattle.command_text.specs.declared.command.Command.{Command}
 use Rattle.command_text.specs.declared.command.Command.TheVariants.{One, Settle, Flow, Ticks, Play}
 use Rattle.command_text.specs.Planned.{IsPlanned}
-use Rattle.command_run.specs.Made.{arrivals, captures_after, deliveries, entering, event_and, made, made_by, next_frames, ticks, turns}
+use Rattle.command_run.specs.Made.{arrivals, captures_after, deliveries, frames_entering, event_and, made, made_by, next_frames, ticks, turns}
 use Rattle.command_run.proofs.MadeLemmas.{left_short, next_short}
 
 -- ---- the next delivery is between two edges of the plan
@@ -92,10 +92,10 @@ arrival_planned plan (Some packet) event found =
 arrivals_planned : (plan : Plan) (count : ℕ) (network : NetworkState) → All (IsEventOf plan) (arrivals plan count network)
 arrivals_planned plan count network = turns_planned plan next_arrival count network (λ n event found. arrival_planned plan (slice_get n.under_way 0) event found)
 
-entering_planned : (plan : Plan) (circuit : CircuitId) (frames : List (List ℕ)) → circuit.0 < length plan.circuits → All IsFrame frames → All (IsEventOf plan) (entering circuit frames)
+entering_planned : (plan : Plan) (circuit : CircuitId) (frames : List (List ℕ)) → circuit.0 < length plan.circuits → All IsFrame frames → All (IsEventOf plan) (frames_entering circuit frames)
 entering_planned plan circuit [] within short = All-nil (IsEventOf plan)
 entering_planned plan circuit (frame ∷ frames) within short =
-    All-cons (IsEventOf plan) (Frame circuit frame) (entering circuit frames) (within, All-head IsFrame frame frames short)
+    All-cons (IsEventOf plan) (Frame circuit frame) (frames_entering circuit frames) (within, All-head IsFrame frame frames short)
     (entering_planned plan circuit frames within (All-tail IsFrame frame frames short))
 
 made_by_planned : (plan : Plan) (network : NetworkState) (captures : List (List (List ℕ))) (command : Command) → All (All IsFrame) captures → IsPlanned plan command

@@ -10,6 +10,6 @@ GoesOnAt (Crowded count event) network = network.failed ≡ false
 GoesOnAt (TooMuch weight event) network = network.failed ≡ false
 GoesOnAt NoMemory network = Unit {0}
 
-abbrev pub IsGoing : {A : Type 0} → Result A NetStop → NetLists → Type 0
-IsGoing (Ok done) network = network.failed ≡ false
-IsGoing (Err stop) network = GoesOnAt stop network
+abbrev pub IsRunGoing : {A : Type 0} → Result A NetStop → NetLists → Type 0
+IsRunGoing (Ok done) network = network.failed ≡ false
+IsRunGoing (Err stop) network = GoesOnAt stop network

@@ -34,9 +34,9 @@ abbrev pub arrivals : Plan → ℕ → NetworkState → List Event
 arrivals plan count network = turns plan next_arrival count network
 
 -- each frame enters at the circuit
-abbrev pub entering : CircuitId → List (List ℕ) → List Event
-entering circuit [] = []
-entering circuit (frame ∷ frames) = Frame circuit frame ∷ entering circuit frames
+abbrev pub frames_entering : CircuitId → List (List ℕ) → List Event
+frames_entering circuit [] = []
+frames_entering circuit (frame ∷ frames) = Frame circuit frame ∷ frames_entering circuit frames
 
 -- the frames of the next capture that is played; none where there is no further one
 abbrev pub next_frames : List (List (List ℕ)) → List (List ℕ)
@@ -62,7 +62,7 @@ made_by plan network captures (One event) = event ∷ []
 made_by plan network captures (Settle count) = deliveries plan count network
 made_by plan network captures (Flow count) = arrivals plan count network
 made_by plan network captures (Ticks count) = ticks count
-made_by plan network captures (Play circuit file) = entering circuit (next_frames captures)
+made_by plan network captures (Play circuit file) = frames_entering circuit (next_frames captures)
 
 abbrev pub made : Plan → NetworkState → List (List (List ℕ)) → List Command → List Event
 made plan network captures [] = []

@@ -1,11 +1,11 @@
 //! Commands, done by a network: each makes its events, and the network does them in turn.
 ghost use Rattle.std.specs.Prelude.{◌≡◌, ◌<◌, All, false, length};
 ghost use Rattle.net_base.specs.plan.Planned.{IsFrame};
-ghost use Rattle.psn_net.specs.Lists.{seen};
+ghost use Rattle.psn_net.specs.Lists.{network_seen};
 ghost use Rattle.psn_net.specs.Runs.{GivesNetwork, ran};
 ghost use Rattle.command_text.specs.Planned.{IsPlanned};
-ghost use Rattle.command_run.specs.Going.{IsGoing};
-ghost use Rattle.command_run.specs.Made.{arrivals, captures_after, deliveries, entering, made_by, ticks};
+ghost use Rattle.command_run.specs.Going.{IsRunGoing};
+ghost use Rattle.command_run.specs.Made.{arrivals, captures_after, deliveries, frames_entering, made_by, ticks};
 
 use crate::left_captures::LeftCaptures;
 use command_text::Command;
@@ -27,8 +27,8 @@ pub fn run_command(
     requires frames { All (All IsFrame) captures.old }
     ensures plan { network.new.plan ≡ network.old.plan }
     ensures left { captures.new ≡ captures_after command captures.old }
-    ensures going { IsGoing result network.new }
-    ensures ran { GivesNetwork result network.new (ran network.old.plan (seen network.old) network.old.trace (made_by network.old.plan (seen network.old) captures.old command)) }
+    ensures going { IsRunGoing result network.new }
+    ensures ran { GivesNetwork result network.new (ran network.old.plan (network_seen network.old) network.old.trace (made_by network.old.plan (network_seen network.old) captures.old command)) }
 {
     match command {
         Command::One(Event::Frame { circuit, bytes }) => network.enter(alloc, circuit, bytes),
@@ -55,8 +55,8 @@ fn run_frames(
     requires circuit { circuit.0 < length network.old.plan.circuits }
     requires frames { All IsFrame frames }
     ensures plan { network.new.plan ≡ network.old.plan }
-    ensures going { IsGoing result network.new }
-    ensures ran { GivesNetwork result network.new (ran network.old.plan (seen network.old) network.old.trace (entering circuit frames)) }
+    ensures going { IsRunGoing result network.new }
+    ensures ran { GivesNetwork result network.new (ran network.old.plan (network_seen network.old) network.old.trace (frames_entering circuit frames)) }
 {
     for frame in frames.into_items() {
         match network.enter(alloc, circuit, frame) {
@@ -72,8 +72,8 @@ fn run_frames(
 fn run_deliveries(alloc: Global, network: &mut Network, count: u32) -> Result<(), NetStop>
     requires going { network.old.failed ≡ false }
     ensures plan { network.new.plan ≡ network.old.plan }
-    ensures going { IsGoing result network.new }
-    ensures ran { GivesNetwork result network.new (ran network.old.plan (seen network.old) network.old.trace (deliveries network.old.plan count (seen network.old))) }
+    ensures going { IsRunGoing result network.new }
+    ensures ran { GivesNetwork result network.new (ran network.old.plan (network_seen network.old) network.old.trace (deliveries network.old.plan count (network_seen network.old))) }
 {
     for _turn in 0..count {
         match network.next_delivery() {
@@ -89,8 +89,8 @@ fn run_deliveries(alloc: Global, network: &mut Network, count: u32) -> Result<()
 fn run_arrivals(alloc: Global, network: &mut Network, count: u32) -> Result<(), NetStop>
     requires going { network.old.failed ≡ false }
     ensures plan { network.new.plan ≡ network.old.plan }
-    ensures going { IsGoing result network.new }
-    ensures ran { GivesNetwork result network.new (ran network.old.plan (seen network.old) network.old.trace (arrivals network.old.plan count (seen network.old))) }
+    ensures going { IsRunGoing result network.new }
+    ensures ran { GivesNetwork result network.new (ran network.old.plan (network_seen network.old) network.old.trace (arrivals network.old.plan count (network_seen network.old))) }
 {
     for _arrival in 0..count {
         match network.next_arrival() {
@@ -106,8 +106,8 @@ fn run_arrivals(alloc: Global, network: &mut Network, count: u32) -> Result<(), 
 fn run_ticks(alloc: Global, network: &mut Network, count: u32) -> Result<(), NetStop>
     requires going { network.old.failed ≡ false }
     ensures plan { network.new.plan ≡ network.old.plan }
-    ensures going { IsGoing result network.new }
-    ensures ran { GivesNetwork result network.new (ran network.old.plan (seen network.old) network.old.trace (ticks count)) }
+    ensures going { IsRunGoing result network.new }
+    ensures ran { GivesNetwork result network.new (ran network.old.plan (network_seen network.old) network.old.trace (ticks count)) }
 {
     for _done in 0..count {
         network.apply(alloc, &Event::Tick)?;

@@ -9,14 +9,14 @@ use Rattle.network_model.specs.Step.{step}
 use Rattle.psn_net.specs.declared.net_stop.NetStop.{NetStop}
 use Rattle.psn_net.specs.declared.net_stop.NetStop.TheVariants.{Crowded, TooMuch, NoMemory}
 use Rattle.psn_net.specs.Applying.{Stops}
-use Rattle.psn_net.specs.Lists.{seen}
+use Rattle.psn_net.specs.Lists.{network_seen as seen}
 use Rattle.psn_net.specs.Runs.{Ended, GivesNetwork, RunHalts, ended, ran}
 use Rattle.psn_net.specs.Runs as runs
 use Rattle.psn_net.specs.Weight.{stop_at}
 use Rattle.psn_net.proofs.RunLemmas.{ran_state}
 use Rattle.discovery_script.specs.declared.note.Note.{Note}
 use Rattle.discovery_script.specs.declared.placed_note.PlacedNote.{PlacedNote}
-use Rattle.discovery_net.specs.Acts.{Act, Does, Tells, Course, all_done, course, course_of, events_in, noted, unless}
+use Rattle.discovery_net.specs.Acts.{Act, Does, Tells, Course, all_done, course, course_of, events_in, noted, unless_stopped}
 use Rattle.discovery_net.specs.Lists.{Acts, DiscoveryLists, HaltsAt, HaltsIn, HasDone, course_on, ended_at}
 
 -- a course without its notes
@@ -32,7 +32,7 @@ course_ran plan s t notes (Does event ∷ acts) =
     (ran plan (step plan s event).state (t ++ (step plan s event).entries) (events_in acts))
     (course_ran plan (step plan s event).state (t ++ (step plan s event).entries) notes acts)
   where
-    by : (o : Option NetStop) (c : Course) (e : Ended) → network_of c ≡ e → network_of (unless o (course_of s t notes None) c) ≡ runs.unless o s t e
+    by : (o : Option NetStop) (c : Course) (e : Ended) → network_of c ≡ e → network_of (unless_stopped o (course_of s t notes None) c) ≡ runs.unless o s t e
     by None c e same = same
     by (Some stop) c e same = refl
 
@@ -56,7 +56,7 @@ does_one old now event kept none state trace same rest =
     let behind : Course = course old.network.plan (step old.network.plan (seen old.network) event).state
     (old.network.trace ++ (step old.network.plan (seen old.network) event).entries) old.notes rest in
     (λ i. course (kept i) (state i) (trace i) (same i) rest)
-    ∙ sym (ap (λ (o : Option NetStop). unless o (course_of (seen old.network) old.network.trace old.notes None) behind) none)
+    ∙ sym (ap (λ (o : Option NetStop). unless_stopped o (course_of (seen old.network) old.network.trace old.notes None) behind) none)
 
 refused_one : (old now : DiscoveryLists) (event : Event) (stop : NetStop) → stop_at old.network.trace (length (seen old.network).under_way) event ≡ Some stop → now.network
     ≡ old.network → now.notes ≡ old.notes
@@ -65,7 +65,7 @@ refused_one old now event stop met kept same rest =
     let behind : Course = course old.network.plan (step old.network.plan (seen old.network) event).state
     (old.network.trace ++ (step old.network.plan (seen old.network) event).entries) old.notes rest in
     (λ i. course_of (seen (kept i)) (kept i).trace (same i) (Some stop))
-    ∙ sym (ap (λ (o : Option NetStop). unless o (course_of (seen old.network) old.network.trace old.notes None) behind) met)
+    ∙ sym (ap (λ (o : Option NetStop). unless_stopped o (course_of (seen old.network) old.network.trace old.notes None) behind) met)
 
 pub does_none : (old now : DiscoveryLists) (event : Event) (stop : NetStop) → Stops old.network now.network event stop → now.notes ≡ old.notes → HaltsIn stop old now (Does event ∷ [])
 does_none old now event (Crowded count number) stops same rest = refused_one old now event (Crowded count number) stops.0 stops.1 same rest
@@ -84,7 +84,7 @@ done_alone (e ∷ es) = ap (λ (l : List Event). e ∷ l) (done_alone es)
 
 -- further acts behind a run
 abbrev goes_on : Plan → List PlacedNote → List Act → Ended → Course
-goes_on plan notes rest e = unless e.stop (course_of e.state e.trace notes None) (course plan e.state e.trace notes rest)
+goes_on plan notes rest e = unless_stopped e.stop (course_of e.state e.trace notes None) (course plan e.state e.trace notes rest)
 
 course_events : (plan : Plan) (s : NetworkState) (t : List Entry) (notes : List PlacedNote) (es : List Event) (rest : List Act) → course plan s t notes (all_done es ++ rest)
     ≡ goes_on plan notes rest (ran plan s t es)
@@ -94,7 +94,7 @@ course_events plan s t notes (e ∷ es) rest =
     (ran plan (step plan s e).state (t ++ (step plan s e).entries) es)
     (course_events plan (step plan s e).state (t ++ (step plan s e).entries) notes es rest)
   where
-    by : (o : Option NetStop) (c : Course) (r : Ended) → c ≡ goes_on plan notes rest r → unless o (course_of s t notes None) c ≡ goes_on plan notes rest (runs.unless o s t r)
+    by : (o : Option NetStop) (c : Course) (r : Ended) → c ≡ goes_on plan notes rest r → unless_stopped o (course_of s t notes None) c ≡ goes_on plan notes rest (runs.unless o s t r)
     by None c r same = same
     by (Some stop) c r same = refl
 

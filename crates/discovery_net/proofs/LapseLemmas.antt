@@ -14,7 +14,7 @@ use Rattle.network_model.specs.State.{NetworkState}
 use Rattle.network_model.specs.State as network
 use Rattle.network_model.specs.Step.{step}
 use Rattle.psn_net.specs.declared.net_stop.NetStop.{NetStop}
-use Rattle.psn_net.specs.Lists.{seen}
+use Rattle.psn_net.specs.Lists.{network_seen}
 use Rattle.discovery_script.specs.declared.note.Note.TheVariants as note
 use Rattle.discovery_script.specs.declared.script_line.ScriptLine.TheVariants as line
 use Rattle.discovery_net.specs.Acts.{Act, Does, Tells, Course, course, events_in}
@@ -62,52 +62,52 @@ one_behind edge peer behind = record { edge = edge; peer = peer } ∷ behind
 pub halted_told : (old now : DiscoveryLists) (edge peer : EdgeId) (stop : NetStop) → HaltsIn stop old now (Tells (note.Down edge peer) ∷ []) → (behind : List Lapse) (rest : List Act)
     → HaltsAt stop now (downs_on old (one_behind edge peer behind) rest)
 halted_told old now edge peer stop halts behind rest =
-    halts ((if network.stands (seen old.network) edge.0 peer.0
-    then Does (event.Lose edge peer) ∷ downs old.network.plan (step old.network.plan (seen old.network) (event.Lose edge peer)).state behind
-    else downs old.network.plan (seen old.network) behind) ++ rest)
+    halts ((if network.stands (network_seen old.network) edge.0 peer.0
+    then Does (event.Lose edge peer) ∷ downs old.network.plan (step old.network.plan (network_seen old.network) (event.Lose edge peer)).state behind
+    else downs old.network.plan (network_seen old.network) behind) ++ rest)
 
 -- where the end does not stand
 pub told_down : (old mid : DiscoveryLists) (edge peer : EdgeId) → mid.network ≡ old.network → HasDone old mid (Tells (note.Down edge peer) ∷ [])
-    → network.stands (seen old.network) edge.0 peer.0 ≡ false
+    → network.stands (network_seen old.network) edge.0 peer.0 ≡ false
     → (behind : List Lapse) (rest : List Act) → downs_on mid behind rest ≡ downs_on old (one_behind edge peer behind) rest
 told_down old mid edge peer kept done none behind rest =
-    ap (λ n. course_on mid (downs n.plan (seen n) behind ++ rest)) kept
-    ∙ (done (downs old.network.plan (seen old.network) behind ++ rest) ∙ sym (ap (λ (b : Bool). course_on old (Tells (note.Down edge peer) ∷ (taken b ++ rest))) none))
+    ap (λ n. course_on mid (downs n.plan (network_seen n) behind ++ rest)) kept
+    ∙ (done (downs old.network.plan (network_seen old.network) behind ++ rest) ∙ sym (ap (λ (b : Bool). course_on old (Tells (note.Down edge peer) ∷ (taken b ++ rest))) none))
   where
     taken : Bool → List Act
-    taken b = if b then Does (event.Lose edge peer) ∷ downs old.network.plan (step old.network.plan (seen old.network) (event.Lose edge peer)).state behind else downs old.network.plan
-        (seen old.network) behind
+    taken b = if b then Does (event.Lose edge peer) ∷ downs old.network.plan (step old.network.plan (network_seen old.network) (event.Lose edge peer)).state behind else downs old.network.plan
+        (network_seen old.network) behind
 
 -- where it stands, and was lost
 pub taken_down : (old mid now : DiscoveryLists) (edge peer : EdgeId) → mid.network ≡ old.network → HasDone old mid (Tells (note.Down edge peer) ∷ [])
-    → network.stands (seen old.network) edge.0 peer.0 ≡ true
-    → now.network.plan ≡ mid.network.plan → seen now.network ≡ (step mid.network.plan (seen mid.network) (event.Lose edge peer)).state → HasDone mid now (Does (event.Lose edge peer) ∷ [])
+    → network.stands (network_seen old.network) edge.0 peer.0 ≡ true
+    → now.network.plan ≡ mid.network.plan → network_seen now.network ≡ (step mid.network.plan (network_seen mid.network) (event.Lose edge peer)).state → HasDone mid now (Does (event.Lose edge peer) ∷ [])
     → (behind : List Lapse) (rest : List Act) → downs_on now behind rest ≡ downs_on old (one_behind edge peer behind) rest
 taken_down old mid now edge peer kept done is plan state lost behind rest =
     (λ i. course_on now (downs (plan i) (state i) behind ++ rest))
-    ∙ (lost (downs mid.network.plan (step mid.network.plan (seen mid.network) (event.Lose edge peer)).state behind ++ rest)
-    ∙ (ap (λ n. course_on mid (Does (event.Lose edge peer) ∷ (downs n.plan (step n.plan (seen n) (event.Lose edge peer)).state behind ++ rest))) kept
-    ∙ (done (Does (event.Lose edge peer) ∷ (downs old.network.plan (step old.network.plan (seen old.network) (event.Lose edge peer)).state behind ++ rest))
+    ∙ (lost (downs mid.network.plan (step mid.network.plan (network_seen mid.network) (event.Lose edge peer)).state behind ++ rest)
+    ∙ (ap (λ n. course_on mid (Does (event.Lose edge peer) ∷ (downs n.plan (step n.plan (network_seen n) (event.Lose edge peer)).state behind ++ rest))) kept
+    ∙ (done (Does (event.Lose edge peer) ∷ (downs old.network.plan (step old.network.plan (network_seen old.network) (event.Lose edge peer)).state behind ++ rest))
     ∙ sym (ap (λ (b : Bool). course_on old (Tells (note.Down edge peer) ∷ (taken b ++ rest))) is))))
   where
     taken : Bool → List Act
-    taken b = if b then Does (event.Lose edge peer) ∷ downs old.network.plan (step old.network.plan (seen old.network) (event.Lose edge peer)).state behind else downs old.network.plan
-        (seen old.network) behind
+    taken b = if b then Does (event.Lose edge peer) ∷ downs old.network.plan (step old.network.plan (network_seen old.network) (event.Lose edge peer)).state behind else downs old.network.plan
+        (network_seen old.network) behind
 
 -- where a limit stopped that
 pub halted_down : (old mid now : DiscoveryLists) (edge peer : EdgeId) (stop : NetStop) → mid.network ≡ old.network → HasDone old mid (Tells (note.Down edge peer) ∷ [])
-    → network.stands (seen old.network) edge.0 peer.0 ≡ true
+    → network.stands (network_seen old.network) edge.0 peer.0 ≡ true
     → HaltsIn stop mid now (Does (event.Lose edge peer) ∷ []) → (behind : List Lapse) (rest : List Act) → HaltsAt stop now (downs_on old (one_behind edge peer behind) rest)
 halted_down old mid now edge peer stop kept done is halts behind rest =
     subst (λ (c : Course). HaltsAt stop now c)
-    (ap (λ n. course_on mid (Does (event.Lose edge peer) ∷ (downs n.plan (step n.plan (seen n) (event.Lose edge peer)).state behind ++ rest))) kept
-    ∙ (done (Does (event.Lose edge peer) ∷ (downs old.network.plan (step old.network.plan (seen old.network) (event.Lose edge peer)).state behind ++ rest))
+    (ap (λ n. course_on mid (Does (event.Lose edge peer) ∷ (downs n.plan (step n.plan (network_seen n) (event.Lose edge peer)).state behind ++ rest))) kept
+    ∙ (done (Does (event.Lose edge peer) ∷ (downs old.network.plan (step old.network.plan (network_seen old.network) (event.Lose edge peer)).state behind ++ rest))
     ∙ sym (ap (λ (b : Bool). course_on old (Tells (note.Down edge peer) ∷ (taken b ++ rest))) is)))
-    (halts (downs mid.network.plan (step mid.network.plan (seen mid.network) (event.Lose edge peer)).state behind ++ rest))
+    (halts (downs mid.network.plan (step mid.network.plan (network_seen mid.network) (event.Lose edge peer)).state behind ++ rest))
   where
     taken : Bool → List Act
-    taken b = if b then Does (event.Lose edge peer) ∷ downs old.network.plan (step old.network.plan (seen old.network) (event.Lose edge peer)).state behind else downs old.network.plan
-        (seen old.network) behind
+    taken b = if b then Does (event.Lose edge peer) ∷ downs old.network.plan (step old.network.plan (network_seen old.network) (event.Lose edge peer)).state behind else downs old.network.plan
+        (network_seen old.network) behind
 
 -- ---- the peers of an edge, one after another
 
@@ -137,7 +137,7 @@ AreTaken f edge n place old now = (behind : List Lapse) (rest : List Act) → do
 pub taken_first : (f : ℕ → Bool) (edge : EdgeId) (n : ℕ) (old now : DiscoveryLists) → now.network ≡ old.network → now.notes ≡ old.notes → AreTaken f edge n 0 old now
 taken_first f edge n old now net notes behind rest =
     ap (λ (m : ℕ). downs_on now (lapses_with f edge 0 m behind) rest) (omega arith)
-    ∙ (λ i. course (net i).plan (seen (net i)) (net i).trace (notes i) (downs (net i).plan (seen (net i)) (lapses_with f edge 0 n behind) ++ rest))
+    ∙ (λ i. course (net i).plan (network_seen (net i)) (net i).trace (notes i) (downs (net i).plan (network_seen (net i)) (lapses_with f edge 0 n behind) ++ rest))
 
 pub taken_next : (f : ℕ → Bool) (edge peer : EdgeId) (n place : ℕ) (old mid now : DiscoveryLists) → place < n → peer.0 ≡ place → f place ≡ true → AreTaken f edge n place old mid
     → ((behind : List Lapse) (rest : List Act) → downs_on now behind rest ≡ downs_on mid (one_behind edge peer behind) rest) → AreTaken f edge n (place + 1) old now

@@ -21,7 +21,7 @@ use Rattle.network_model.specs.State.{NetworkState, empty_network}
 use Rattle.network_model.specs.Step.{step}
 use Rattle.psn_net.specs.declared.net_stop.NetStop.{NetStop}
 use Rattle.psn_net.specs.declared.net_stop.NetStop.TheVariants.{NoMemory}
-use Rattle.psn_net.specs.Lists.{NetLists, seen}
+use Rattle.psn_net.specs.Lists.{NetLists, network_seen as seen}
 use Rattle.psn_net.specs.Runs.{Ended, GivesNetwork, ended, ran}
 use Rattle.psn_net.proofs.RunLemmas.{ran_state}
 use Rattle.command_text.specs.declared.command.Command.{Command}
@@ -32,14 +32,14 @@ use Rattle.discovery_script.specs.declared.placed_note.PlacedNote.{PlacedNote}
 use Rattle.discovery_script.specs.declared.script_line.ScriptLine.TheVariants as line
 use Rattle.discovery_net.specs.declared.said_hello.SaidHello.{SaidHello}
 use Rattle.discovery_net.specs.Acts.{Act, Course, Does, Tells, all_done, course, events_in}
-use Rattle.discovery_net.specs.Deeds.{Discovery, Hello, adjacency_lives, hello_of, octets_by, octets_of, opened}
+use Rattle.discovery_net.specs.Deeds.{Discovery, Hello, adjacency_lives, hello_numbered, octets_by, octets_of_hello as octets_of, discovery_opened}
 use Rattle.discovery_net.specs.Lines.{acts_of, after_line, bring_acts, heard_at, may_open, next_hello}
-use Rattle.discovery_net.specs.Lists.{Acts, DiscoveryLists, HaltsAt, HaltsIn, HasDone, IsAt, IsDiscovery, IsHello, IsOfPlan, said_hello}
+use Rattle.discovery_net.specs.Lists.{Acts, DiscoveryLists, HaltsAt, HaltsIn, HasDone, IsAt, IsDiscovery, IsHelloFit as IsHello, IsOfPlan, said_hello}
 use Rattle.discovery_net.proofs.CourseLemmas.{done_alone, events_come}
 
 -- ---- before the first line
 
-pub at_first : (plan : Plan) (n : DiscoveryLists) → seen n.network ≡ empty_network plan → AreAfter (λ k. []) n.adjacencies → n.hellos ≡ [] → IsAt (opened plan) n
+pub at_first : (plan : Plan) (n : DiscoveryLists) → seen n.network ≡ empty_network plan → AreAfter (λ k. []) n.adjacencies → n.hellos ≡ [] → IsAt (discovery_opened plan) n
 at_first plan n state histories none = record { network = state; histories = histories; hellos = none; fit = All-nil IsHello }
 
 -- ---- what always holds
@@ -214,11 +214,11 @@ hello_said_after result old mid now plan d from to hold octets joined fit has ne
 
 -- ---- bring
 
-pub hello_none : (n : DiscoveryLists) (d : Discovery) (number : ℕ) → number ≡ 0 → None ≡ option_map (said_hello n.network.plan) (hello_of d number)
-hello_none n d number first = subst (λ (k : ℕ). None ≡ option_map (said_hello n.network.plan) (hello_of d k)) (sym first) refl
+pub hello_none : (n : DiscoveryLists) (d : Discovery) (number : ℕ) → number ≡ 0 → None ≡ option_map (said_hello n.network.plan) (hello_numbered d number)
+hello_none n d number first = subst (λ (k : ℕ). None ≡ option_map (said_hello n.network.plan) (hello_numbered d k)) (sym first) refl
 
 pub hello_found : (n : DiscoveryLists) (d : Discovery) (number : ℕ) (result : Option SaidHello) → number ≢ 0 → result ≡ slice_get n.hellos (number - 1) → IsAt d n → result
-    ≡ option_map (said_hello n.network.plan) (hello_of d number)
+    ≡ option_map (said_hello n.network.plan) (hello_numbered d number)
 hello_found n d number result some is at =
     let other : (number == 0) ≡ false = grind (arith, nat_tests, some) in
     is
@@ -230,9 +230,9 @@ none_there f None e = refl
 none_there f (Some x) e = absurd (cc (e))
 
 pub bring_none_acts : {A : Type 0} (result : Result A NetStop) (old now : DiscoveryLists) (plan : Plan) (d : Discovery) (number : ℕ) → None
-    ≡ option_map (said_hello plan) (hello_of d number) → Acts result old now (Tells note.Idle ∷ [])
+    ≡ option_map (said_hello plan) (hello_numbered d number) → Acts result old now (Tells note.Idle ∷ [])
     → Acts result old now (acts_of plan d (line.Bring number))
-bring_none_acts result old now plan d number none acts = subst (λ (o : Option Hello). Acts result old now (bring_acts d o)) (sym (none_there (said_hello plan) (hello_of d number) none)) acts
+bring_none_acts result old now plan d number none acts = subst (λ (o : Option Hello). Acts result old now (bring_acts d o)) (sym (none_there (said_hello plan) (hello_numbered d number) none)) acts
 
 -- nothing is said of acts that want of memory stopped
 pub halted_anyhow : (old now : DiscoveryLists) (acts : List Act) → HaltsIn NoMemory old now acts
@@ -243,10 +243,10 @@ abbrev brought : Plan → Discovery → Option Hello → Discovery
 brought plan d hello = record { network = state_after plan d.network (events_in (bring_acts d hello)); histories = heard_at hello d.histories; hellos = d.hellos }
 
 pub bring_none_after : {A : Type 0} (result : Result A NetStop) (old now : DiscoveryLists) (plan : Plan) (d : Discovery) (number : ℕ) → None
-    ≡ option_map (said_hello plan) (hello_of d number) → now.network ≡ old.network → now.adjacencies ≡ old.adjacencies
+    ≡ option_map (said_hello plan) (hello_numbered d number) → now.network ≡ old.network → now.adjacencies ≡ old.adjacencies
     → now.hellos ≡ old.hellos → IsAt d old → OnOk result (IsAt (after_line plan d (line.Bring number)) now)
 bring_none_after result old now plan d number none net table hellos at =
-    on_ok result (subst (λ (o : Option Hello). IsAt (brought plan d o) now) (sym (none_there (said_hello plan) (hello_of d number) none)) (at_same d old now at net table hellos))
+    on_ok result (subst (λ (o : Option Hello). IsAt (brought plan d o) now) (sym (none_there (said_hello plan) (hello_numbered d number) none)) (at_same d old now at net table hellos))
 
 -- it does no event of the network
 no_event : (plan : Plan) (d : Discovery) (hello : Hello) → state_after plan d.network (events_in (bring_acts d (Some hello))) ≡ d.network
@@ -257,7 +257,7 @@ no_event plan d hello = by (adjacency_lives d hello.to.0 hello.from.0)
     by false = refl
 
 -- the Hello of a number is one that was said
-fit_of : (d : Discovery) (number : ℕ) (hello : Hello) → All IsHello d.hellos → hello_of d number ≡ Some hello → IsHello hello
+fit_of : (d : Discovery) (number : ℕ) (hello : Hello) → All IsHello d.hellos → hello_numbered d number ≡ Some hello → IsHello hello
 fit_of d number hello fit found = elim (cases_Bool (number == 0)) [
   | inl first ↦ (let none : None ≡ Some hello = rw first at found in absurd (cc (none)))
   | inr other ↦
@@ -268,19 +268,19 @@ fit_of d number hello fit found = elim (cases_Bool (number == 0)) [
 -- the Hello that was found, with what it stands for
 pub record IsFound (d : Discovery) (n : DiscoveryLists) (number : ℕ) (hello : SaidHello) : Type 0 where
   pub said_is : Hello
-  pub there : hello_of d number ≡ Some said_is
+  pub there : hello_numbered d number ≡ Some said_is
   pub fit : IsHello said_is
   pub same : hello ≡ said_hello n.network.plan said_is
 
-found_as : (d : Discovery) (n : DiscoveryLists) (number : ℕ) (hello : SaidHello) → IsAt d n → Some hello ≡ option_map (said_hello n.network.plan) (hello_of d number) → IsFound d n number hello
-found_as d n number hello at found = by (hello_of d number) refl found
+found_as : (d : Discovery) (n : DiscoveryLists) (number : ℕ) (hello : SaidHello) → IsAt d n → Some hello ≡ option_map (said_hello n.network.plan) (hello_numbered d number) → IsFound d n number hello
+found_as d n number hello at found = by (hello_numbered d number) refl found
   where
-    by : (o : Option Hello) → hello_of d number ≡ o → Some hello ≡ option_map (said_hello n.network.plan) o → IsFound d n number hello
+    by : (o : Option Hello) → hello_numbered d number ≡ o → Some hello ≡ option_map (said_hello n.network.plan) o → IsFound d n number hello
     by None is none = absurd (cc (none))
     by (Some said_so) is some = record { said_is = said_so; there = is; fit = fit_of d number said_so at.fit is; same = cc (some) }
 
 pub bring_acts_of : {A : Type 0} (result : Result A NetStop) (old now : DiscoveryLists) (d : Discovery) (number : ℕ) (hello : SaidHello) → Some hello
-    ≡ option_map (said_hello old.network.plan) (hello_of d number)
+    ≡ option_map (said_hello old.network.plan) (hello_numbered d number)
     → ((d : Discovery) (said_so : Hello) → IsAt d old → IsHello said_so → hello ≡ said_hello old.network.plan said_so → Acts result old now (bring_acts d (Some said_so)))
     → IsAt d old → Acts result old now (acts_of old.network.plan d (line.Bring number))
 bring_acts_of result old now d number hello found heard_so at =
@@ -288,7 +288,7 @@ bring_acts_of result old now d number hello found heard_so at =
     subst (λ (o : Option Hello). Acts result old now (bring_acts d o)) (sym found_so.there) (heard_so d found_so.said_is at found_so.fit found_so.same)
 
 pub bring_after_of : {A : Type 0} (result : Result A NetStop) (old now : DiscoveryLists) (d : Discovery) (number : ℕ) (hello : SaidHello) → Some hello
-    ≡ option_map (said_hello old.network.plan) (hello_of d number)
+    ≡ option_map (said_hello old.network.plan) (hello_numbered d number)
     → ((d : Discovery) (said_so : Hello) → IsAt d old → IsHello said_so → hello ≡ said_hello old.network.plan said_so
     → OnOk result (IsAt (record d { histories = heard_at (Some said_so) d.histories }) now))
     → IsAt d old → OnOk result (IsAt (after_line old.network.plan d (line.Bring number)) now)

@@ -10,7 +10,7 @@ use Rattle.psn_net.specs.Runs.{ended, ran}
 use Rattle.discovery_script.specs.declared.script_line.ScriptLine.{ScriptLine}
 use Rattle.discovery_script.specs.Planned.{IsLineOf}
 use Rattle.discovery_net.specs.Acts.{course}
-use Rattle.discovery_net.specs.Deeds.{Discovery, opened}
+use Rattle.discovery_net.specs.Deeds.{Discovery, discovery_opened}
 use Rattle.discovery_net.specs.Lines.{acts_of, after_line}
 use Rattle.discovery_net.specs.Lists.{DiscoveryLists, HaltsIn, HasDone, IsAt, course_on, ended_at}
 use Rattle.discovery_net.specs.Script.{events_made, script_acts, script_course}
@@ -22,11 +22,11 @@ pub record IsUnderWay (plan : Plan) (all left : List ScriptLine) (now : Discover
   pub at : IsAt discovery now
   pub comes : course_on now (script_acts plan discovery left) ≡ script_course plan all
 
-pub way_first : (plan : Plan) (all : List ScriptLine) (now : DiscoveryLists) → now.network.plan ≡ plan → now.network.trace ≡ [] → now.notes ≡ [] → IsAt (opened plan) now → IsUnderWay plan all all now
+pub way_first : (plan : Plan) (all : List ScriptLine) (now : DiscoveryLists) → now.network.plan ≡ plan → now.network.trace ≡ [] → now.notes ≡ [] → IsAt (discovery_opened plan) now → IsUnderWay plan all all now
 way_first plan all now same trace notes at = record {
-  discovery = opened plan;
+  discovery = discovery_opened plan;
   at = at;
-  comes = λ i. course (same i) (at.network i) (trace i) (notes i) (script_acts plan (opened plan) all);
+  comes = λ i. course (same i) (at.network i) (trace i) (notes i) (script_acts plan (discovery_opened plan) all);
 }
 
 pub way_next : (plan : Plan) (all items left : List ScriptLine) (line : ScriptLine) (old now : DiscoveryLists) → items ≡ line ∷ left → old.network.plan ≡ plan
@@ -57,7 +57,7 @@ way_ended plan all items now none begun =
 -- the events are those of a run
 pub events_ran : (plan : Plan) (lines : List ScriptLine) (n : DiscoveryLists) (stop : Option NetStop) → ended_at n stop ≡ script_course plan lines → ended n.network stop
     ≡ ran plan (empty_network plan) [] (events_made plan lines)
-events_ran plan lines n stop is = ap network_of is ∙ course_ran plan (empty_network plan) [] [] (script_acts plan (opened plan) lines)
+events_ran plan lines n stop is = ap network_of is ∙ course_ran plan (empty_network plan) [] [] (script_acts plan (discovery_opened plan) lines)
 
 -- the next line names places of the plan
 pub line_first : (plan other : Plan) (items left : List ScriptLine) (line : ScriptLine) → items ≡ line ∷ left → other ≡ plan → All (IsLineOf plan) items → IsLineOf other line

@@ -29,7 +29,7 @@ use Rattle.discovery_script.specs.declared.note.Note.TheVariants as note
 use Rattle.discovery_script.specs.Planned.{AreOfPlan, IsLineOf, IsScripted}
 use Rattle.discovery_net.specs.Acts.{Does, Tells, events_in}
 use Rattle.adjacency_table.specs.Histories.{ends_by_tick, with_deed}
-use Rattle.discovery_net.specs.Deeds.{Discovery, Hello, adjacency_lives, hello_of, octets_of, opened}
+use Rattle.discovery_net.specs.Deeds.{Discovery, Hello, adjacency_lives, hello_numbered, octets_of_hello, discovery_opened}
 use Rattle.discovery_net.specs.Lines.{Lapse, after_line, bring_acts, downs, heard_at, lapses_from, lapses_with, may_open, next_hello}
 use Rattle.discovery_net.specs.Script.{HoldsBehindEach, after_lines}
 use Rattle.discovery_net.proofs.CourseLemmas.{done_alone}
@@ -110,7 +110,7 @@ command_none plan s (Play circuit file) is = absurd is
 abbrev Held : Plan → NetworkState → (ℕ → List Deed) → Type 0
 Held plan network histories = (a b : ℕ) → stands network a b ≡ true → (a < length plan.edges) × ((b < length plan.edges) × (live b (histories a) ≡ true))
 
-held_first : (plan : Plan) → Held plan (opened plan).network (opened plan).histories
+held_first : (plan : Plan) → Held plan (discovery_opened plan).network (discovery_opened plan).histories
 held_first plan a b is = absurd (cc (is))
 
 -- another proposal is no matter of what lives
@@ -164,13 +164,13 @@ module _ (plan : Plan) where
     where
       by : (joined : Bool)
           → Held plan (state_after plan d.network (events_in
-          (if joined then Tells (note.Hello (length d.hellos + 1) from to (octets_of plan (next_hello d from to hold))) ∷ [] else Tells note.Idle ∷ [])))
+          (if joined then Tells (note.Hello (length d.hellos + 1) from to (octets_of_hello plan (next_hello d from to hold))) ∷ [] else Tells note.Idle ∷ [])))
           (if joined then with_deed from (said to.0 hold) d.histories else d.histories)
       by true = held_still d.network d.network d.histories (with_deed from (said to.0 hold) d.histories) (λ a b is. is) (λ a b is. said_lives from to.0 hold d.histories a b ∙ is) held
       by false = held
 
   held_bring : (d : Discovery) (number : ℕ) → Held plan d.network d.histories → Held plan (after_line plan d (line.Bring number)).network (after_line plan d (line.Bring number)).histories
-  held_bring d number held = by (hello_of d number)
+  held_bring d number held = by (hello_numbered d number)
     where
       told : (hello : Hello) (lived : Bool) → Held plan d.network (heard_at (Some hello) d.histories)
           → Held plan (state_after plan d.network (events_in (if lived then [] else Tells (note.Up hello.to hello.from) ∷ []))) (heard_at (Some hello) d.histories)
@@ -326,7 +326,7 @@ module _ (plan : Plan) where
 pub holds_behind_each : (plan : Plan) (lines : List ScriptLine) → All (IsLineOf plan) lines → HoldsBehindEach plan lines
 holds_behind_each plan lines are front behind split edge peer is =
     let each : AllByRecursion (IsLineOf plan) (front ++ behind) = all_by_recursion (front ++ behind) (subst (All (IsLineOf plan)) split are) in
-    (held_lines plan (opened plan) front (front_of plan front behind each) (held_first plan) edge peer is).1.1
+    (held_lines plan (discovery_opened plan) front (front_of plan front behind each) (held_first plan) edge peer is).1.1
   where
     all_by_recursion : (ls : List ScriptLine) → All (IsLineOf plan) ls → AllByRecursion (IsLineOf plan) ls
     all_by_recursion [] all = tt

@@ -40,14 +40,14 @@ course_of state trace notes stop = record { state = state; trace = trace; notes 
 abbrev pub noted : List Entry → List PlacedNote → Note → List PlacedNote
 noted trace notes note = notes ++ record { entries = length trace; note = note } ∷ []
 
-abbrev pub unless : Option NetStop → Course → Course → Course
-unless None stopped rest = rest
-unless (Some stop) stopped rest = record stopped { stop = Some stop }
+abbrev pub unless_stopped : Option NetStop → Course → Course → Course
+unless_stopped None stopped rest = rest
+unless_stopped (Some stop) stopped rest = record stopped { stop = Some stop }
 
 -- the acts from a state, a trace and its notes on; the limits are looked at before each event
 abbrev pub course : Plan → NetworkState → List Entry → List PlacedNote → List Act → Course
 course plan state trace notes [] = course_of state trace notes None
 course plan state trace notes (Tells note ∷ acts) = course plan state trace (noted trace notes note) acts
 course plan state trace notes (Does event ∷ acts) =
-    unless (stop_at trace (length state.under_way) event) (course_of state trace notes None)
+    unless_stopped (stop_at trace (length state.under_way) event) (course_of state trace notes None)
     (course plan (step plan state event).state (trace ++ (step plan state event).entries) notes acts)

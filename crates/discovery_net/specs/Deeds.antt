@@ -22,8 +22,8 @@ pub record Discovery : Type 0 where
   pub hellos : List Hello
 
 -- before the first line
-abbrev pub opened : Plan → Discovery
-opened plan = record { network = empty_network plan; histories = λ k. []; hellos = [] }
+abbrev pub discovery_opened : Plan → Discovery
+discovery_opened plan = record { network = empty_network plan; histories = λ k. []; hellos = [] }
 
 -- an edge's adjacency with another one lives
 abbrev pub adjacency_lives : Discovery → ℕ → ℕ → Bool
@@ -34,9 +34,9 @@ abbrev pub octets_by : Option Addr → Hello → List ℕ
 octets_by None hello = []
 octets_by (Some address) hello = hello_octets address hello.id hello.hold
 
-abbrev pub octets_of : Plan → Hello → List ℕ
-octets_of plan hello = octets_by (edge_address plan hello.from) hello
+abbrev pub octets_of_hello : Plan → Hello → List ℕ
+octets_of_hello plan hello = octets_by (edge_address plan hello.from) hello
 
 -- the Hello of this number, counted from 1
-abbrev pub hello_of : Discovery → ℕ → Option Hello
-hello_of d number = if number == 0 then None else slice_get d.hellos (number - 1)
+abbrev pub hello_numbered : Discovery → ℕ → Option Hello
+hello_numbered d number = if number == 0 then None else slice_get d.hellos (number - 1)

@@ -15,7 +15,7 @@ use Rattle.discovery_script.specs.declared.script_line.ScriptLine.{ScriptLine}
 use Rattle.discovery_script.specs.declared.script_line.ScriptLine.TheVariants as line
 use Rattle.discovery_script.specs.declared.note.Note.TheVariants as note
 use Rattle.discovery_net.specs.Acts.{Act, Does, Tells, all_done, events_in}
-use Rattle.discovery_net.specs.Deeds.{Discovery, Hello, adjacency_lives, hello_of, octets_of}
+use Rattle.discovery_net.specs.Deeds.{Discovery, Hello, adjacency_lives, hello_numbered, octets_of_hello}
 
 -- ---- an edge says a Hello to a peer that a segment joins it to
 
@@ -25,7 +25,7 @@ next_hello d from to hold = record { from = from; to = to; id = id_behind (d.his
 
 abbrev pub hello_acts : Plan → Discovery → EdgeId → EdgeId → ℕ → List Act
 hello_acts plan d from to hold =
-    if are_joined plan from.0 to.0 then Tells (note.Hello (length d.hellos + 1) from to (octets_of plan (next_hello d from to hold))) ∷ [] else Tells note.Idle ∷ []
+    if are_joined plan from.0 to.0 then Tells (note.Hello (length d.hellos + 1) from to (octets_of_hello plan (next_hello d from to hold))) ∷ [] else Tells note.Idle ∷ []
 
 -- ---- a Hello is heard, some time after it was said
 
@@ -80,7 +80,7 @@ tick_acts plan d = downs plan d.network (lapses_from d.histories (length plan.ed
 -- A row for each line
 abbrev pub acts_of : Plan → Discovery → ScriptLine → List Act
 acts_of plan d (line.Hello from to hold) = hello_acts plan d from to hold
-acts_of plan d (line.Bring number) = bring_acts d (hello_of d number)
+acts_of plan d (line.Bring number) = bring_acts d (hello_numbered d number)
 acts_of plan d (line.Open from to) = open_acts plan d from to
 acts_of plan d line.Tick = tick_acts plan d
 acts_of plan d (line.Do command) = all_done (made_by plan d.network [] command)
@@ -92,7 +92,7 @@ heard_at (Some hello) histories = with_deed hello.to (heard hello.from.0 hello.h
 -- what each edge has said, heard and counted then
 abbrev pub histories_after : Plan → Discovery → ScriptLine → ℕ → List Deed
 histories_after plan d (line.Hello from to hold) = if are_joined plan from.0 to.0 then with_deed from (said to.0 hold) d.histories else d.histories
-histories_after plan d (line.Bring number) = heard_at (hello_of d number) d.histories
+histories_after plan d (line.Bring number) = heard_at (hello_numbered d number) d.histories
 histories_after plan d (line.Open from to) = d.histories
 histories_after plan d line.Tick = λ k. ticked ∷ d.histories k
 histories_after plan d (line.Do command) = d.histories

@@ -6,11 +6,11 @@ use Rattle.ldp_discovery.specs.Adjacencies.{AdjacencyLists}
 use Rattle.adjacency_table.specs.Histories.{AreAfter, AreEdgesOf}
 use Rattle.psn_net.specs.declared.net_stop.NetStop.{NetStop}
 use Rattle.psn_net.specs.declared.net_stop.NetStop.TheVariants.{Crowded, TooMuch, NoMemory}
-use Rattle.psn_net.specs.Lists.{NetLists, seen}
+use Rattle.psn_net.specs.Lists.{NetLists, network_seen}
 use Rattle.discovery_script.specs.declared.placed_note.PlacedNote.{PlacedNote}
 use Rattle.discovery_net.specs.declared.said_hello.SaidHello.{SaidHello}
 use Rattle.discovery_net.specs.Acts.{Act, Course, course, course_of}
-use Rattle.discovery_net.specs.Deeds.{Discovery, Hello, octets_of}
+use Rattle.discovery_net.specs.Deeds.{Discovery, Hello, octets_of_hello}
 use Rattle.discovery_net.specs.Lines.{Lapse, downs}
 
 pub record DiscoveryLists : Type 0 where
@@ -30,24 +30,24 @@ pub record IsDiscovery (n : DiscoveryLists) : Type 0 where
   pub hellos : All (IsOfPlan n.network.plan) n.hellos
 
 -- its Message ID and its hold time fit their fields (RFC 5036 sections 3.5 and 3.5.2)
-pub record IsHello (hello : Hello) : Type 0 where
+pub record IsHelloFit (hello : Hello) : Type 0 where
   pub id : hello.id < 2 ^ 32
   pub hold : hello.hold ≤ 65535
 
 -- a Hello as it is kept
 abbrev pub said_hello : Plan → Hello → SaidHello
-said_hello plan hello = record { from = hello.from; to = hello.to; bytes = octets_of plan hello }
+said_hello plan hello = record { from = hello.from; to = hello.to; bytes = octets_of_hello plan hello }
 
 -- it is this network with these histories
 pub record IsAt (d : Discovery) (n : DiscoveryLists) : Type 0 where
-  pub network : seen n.network ≡ d.network
+  pub network : network_seen n.network ≡ d.network
   pub histories : AreAfter d.histories n.adjacencies
   pub hellos : n.hellos ≡ map (said_hello n.network.plan) d.hellos
-  pub fit : All IsHello d.hellos
+  pub fit : All IsHelloFit d.hellos
 
 -- what further acts come to from here on
 abbrev pub course_on : DiscoveryLists → List Act → Course
-course_on n acts = course n.network.plan (seen n.network) n.network.trace n.notes acts
+course_on n acts = course n.network.plan (network_seen n.network) n.network.trace n.notes acts
 
 -- it has done these acts
 abbrev pub HasDone : DiscoveryLists → DiscoveryLists → List Act → Type 0
@@ -55,7 +55,7 @@ HasDone old now acts = (rest : List Act) → course_on now rest ≡ course_on ol
 
 -- as the end of a course
 abbrev pub ended_at : DiscoveryLists → Option NetStop → Course
-ended_at n stop = course_of (seen n.network) n.network.trace n.notes stop
+ended_at n stop = course_of (network_seen n.network) n.network.trace n.notes stop
 
 -- a limit stopped one of its events; where memory was refused nothing is said of it
 abbrev pub HaltsAt : NetStop → DiscoveryLists → Course → Type 0
@@ -76,7 +76,7 @@ Acts (Err stop) old now acts = HaltsIn stop old now acts
 
 -- those that are still to end, and what comes behind the tick
 abbrev pub downs_on : DiscoveryLists → List Lapse → List Act → Course
-downs_on n lapses rest = course_on n (downs n.network.plan (seen n.network) lapses ++ rest)
+downs_on n lapses rest = course_on n (downs n.network.plan (network_seen n.network) lapses ++ rest)
 
 -- these were taken down, whatever comes behind them
 abbrev pub Downs : {A : Type 0} → Result A NetStop → DiscoveryLists → DiscoveryLists → (List Lapse → List Lapse) → Type 0

@@ -5,7 +5,7 @@ use Rattle.net_base.specs.declared.trace.event.Event.{Event}
 use Rattle.network_model.specs.State.{empty_network, stands}
 use Rattle.discovery_script.specs.declared.script_line.ScriptLine.{ScriptLine}
 use Rattle.discovery_net.specs.Acts.{Act, Course, course, events_in}
-use Rattle.discovery_net.specs.Deeds.{Discovery, adjacency_lives, opened}
+use Rattle.discovery_net.specs.Deeds.{Discovery, adjacency_lives, discovery_opened}
 use Rattle.discovery_net.specs.Lines.{acts_of, after_line}
 
 -- the acts of lines in turn
@@ -20,11 +20,11 @@ after_lines plan d (line ∷ lines) = after_lines plan (after_line plan d line) 
 
 -- what a script comes to
 abbrev pub script_course : Plan → List ScriptLine → Course
-script_course plan lines = course plan (empty_network plan) [] [] (script_acts plan (opened plan) lines)
+script_course plan lines = course plan (empty_network plan) [] [] (script_acts plan (discovery_opened plan) lines)
 
 -- the events that its lines make
 abbrev pub events_made : Plan → List ScriptLine → List Event
-events_made plan lines = events_in (script_acts plan (opened plan) lines)
+events_made plan lines = events_in (script_acts plan (discovery_opened plan) lines)
 
 -- an end of a connection stands only where its edge's adjacency with the peer lives
 abbrev pub StandsByAdjacency : Discovery → Type 0
@@ -32,4 +32,4 @@ StandsByAdjacency d = (edge peer : ℕ) → stands d.network edge peer ≡ true 
 
 -- so it is behind each line of a script
 abbrev pub HoldsBehindEach : Plan → List ScriptLine → Type 0
-HoldsBehindEach plan lines = (front behind : List ScriptLine) → lines ≡ front ++ behind → StandsByAdjacency (after_lines plan (opened plan) front)
+HoldsBehindEach plan lines = (front behind : List ScriptLine) → lines ≡ front ++ behind → StandsByAdjacency (after_lines plan (discovery_opened plan) front)

@@ -1,11 +1,11 @@
 //! The network with its adjacencies.
 ghost use Rattle.std.specs.Prelude.{◌≡◌, ◌∷◌, [], false, IfOk, OnOk};
 ghost use Rattle.net_base.specs.plan.Accepted.{IsChecked};
-ghost use Rattle.command_run.specs.Going.{IsGoing};
+ghost use Rattle.command_run.specs.Going.{IsRunGoing};
 ghost use Rattle.command_text.specs.Planned.{IsPlanned};
 ghost use Rattle.discovery_script.specs.Planned.{IsLineOf};
 ghost use Rattle.discovery_net.specs.Acts.{Tells};
-ghost use Rattle.discovery_net.specs.Deeds.{Discovery, opened};
+ghost use Rattle.discovery_net.specs.Deeds.{Discovery, discovery_opened};
 ghost use Rattle.discovery_net.specs.Lines.{acts_of, after_line};
 ghost use Rattle.discovery_net.specs.Lists.{Acts, IsAt};
 
@@ -52,7 +52,7 @@ impl DiscoveryNet {
         ensures going { IfOk result (λ net. net.network.failed ≡ false) }
         ensures trace { IfOk result (λ net. net.network.trace ≡ []) }
         ensures notes { IfOk result (λ net. net.notes ≡ []) }
-        ensures first { IfOk result (λ net. IsAt (opened plan.now) net) }
+        ensures first { IfOk result (λ net. IsAt (discovery_opened plan.now) net) }
     {
         let adjacencies = AdjacencyTable::open(alloc, plan)?;
         match Network::open(alloc, plan) {
@@ -74,7 +74,7 @@ impl DiscoveryNet {
         requires planned { IsLineOf self.old.network.plan line }
         requires going { self.old.network.failed ≡ false }
         ensures plan { self.new.network.plan ≡ self.old.network.plan }
-        ensures going { IsGoing result self.new.network }
+        ensures going { IsRunGoing result self.new.network }
         ensures acts { (d : Discovery) → IsAt d self.old → Acts result self.old self.new (acts_of self.old.network.plan d line) }
         ensures after { (d : Discovery) → IsAt d self.old → OnOk result (IsAt (after_line self.old.network.plan d line) self.new) }
     {
@@ -93,7 +93,7 @@ impl DiscoveryNet {
         requires planned { IsPlanned self.old.network.plan command }
         requires going { self.old.network.failed ≡ false }
         ensures plan { self.new.network.plan ≡ self.old.network.plan }
-        ensures going { IsGoing result self.new.network }
+        ensures going { IsRunGoing result self.new.network }
         ensures acts { (d : Discovery) → IsAt d self.old → Acts result self.old self.new (acts_of self.old.network.plan d (ScriptLine.Do command)) }
         ensures after { (d : Discovery) → IsAt d self.old → OnOk result (IsAt (after_line self.old.network.plan d (ScriptLine.Do command)) self.new) }
     {
@@ -106,7 +106,7 @@ impl DiscoveryNet {
     fn tell(&mut self, note: Note) -> Result<(), NetStop>
         requires going { self.old.network.failed ≡ false }
         ensures plan { self.new.network.plan ≡ self.old.network.plan }
-        ensures going { IsGoing result self.new.network }
+        ensures going { IsRunGoing result self.new.network }
         ensures network { self.new.network ≡ self.old.network }
         ensures adjacencies { self.new.adjacencies ≡ self.old.adjacencies }
         ensures hellos { self.new.hellos ≡ self.old.hellos }

@@ -41,8 +41,8 @@ open_in names number words = do
   Ok (line.Open (record { 0 = from }) (record { 0 = to }))
 
 -- tick
-unfoldable pub tick_in : ℕ → List (List ℕ) → Result ScriptLine ScriptFault
-tick_in number words = do
+unfoldable pub tick_line : ℕ → List (List ℕ) → Result ScriptLine ScriptFault
+tick_line number words = do
   end ← ends_behind number 1 words
   Ok line.Tick
 
@@ -66,17 +66,17 @@ do_in names number words = said_behind names number (spaced (drop 1 words))
 
 -- ---- any line, by its first word
 
-abbrev pub line_by : PlanNames → ℕ → List ℕ → List (List ℕ) → Result ScriptLine ScriptFault
-line_by names number word words =
+abbrev pub discovery_line_by : PlanNames → ℕ → List ℕ → List (List ℕ) → Result ScriptLine ScriptFault
+discovery_line_by names number word words =
     if bytes_eq word (codes "hello") then hello_in names number words
     else if bytes_eq word (codes "bring") then bring_in number words
     else if bytes_eq word (codes "open") then open_in names number words
-    else if bytes_eq word (codes "tick") then tick_in number words
+    else if bytes_eq word (codes "tick") then tick_line number words
     else if bytes_eq word (codes "do") then do_in names number words
     else Err (Bad number 1)
 
 unfoldable pub line_of : PlanNames → ℕ → List (List ℕ) → Result ScriptLine ScriptFault
-line_of names number words = line_by names number (first_of words) words
+line_of names number words = discovery_line_by names number (first_of words) words
 
 -- the lines, the first of which has this number
 abbrev pub lines_of : PlanNames → ℕ → List (List (List ℕ)) → Result (List ScriptLine) ScriptFault
@@ -84,5 +84,5 @@ lines_of names number [] = Ok []
 lines_of names number (words ∷ rest) = line_of names number words >>= (λ line. lines_of names (number + 1) rest >>= (λ lines. Ok (line ∷ lines)))
 
 -- the lines that octets are, or the first place that is wrong: what is no word comes before a word that fits no line
-unfoldable pub lines_in : PlanNames → List ℕ → Result (List ScriptLine) ScriptFault
-lines_in names octets = script octets >>= lines_of names 1
+unfoldable pub discovery_lines_in : PlanNames → List ℕ → Result (List ScriptLine) ScriptFault
+discovery_lines_in names octets = script octets >>= lines_of names 1

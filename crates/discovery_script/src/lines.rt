@@ -4,7 +4,7 @@ ghost use Rattle.command_text.specs.Words.{first_word};
 ghost use Rattle.net_base.specs.declared.plan.Plan.{Plan};
 ghost use Rattle.command_text.specs.Planned.{names_of};
 ghost use Rattle.discovery_script.specs.Planned.{IsLineOf};
-ghost use Rattle.discovery_script.specs.Lines.{bring_in, do_in, hello_in, is_barred, line_of, open_in, said_behind, tick_in};
+ghost use Rattle.discovery_script.specs.Lines.{bring_in, do_in, hello_in, is_barred, line_of, open_in, said_behind, tick_line};
 ghost use Rattle.script_text.specs.Reading.{Gives};
 
 use crate::script_line::ScriptLine;
@@ -59,9 +59,9 @@ fn open(names: &PlanNames<'_>, number: u32, line: &Line) -> Result<ScriptLine, S
 }
 
 // `tick`.
-#[tactic(auto, unfolding(crate::specs::Lines::tick_in))]
+#[tactic(auto, unfolding(crate::specs::Lines::tick_line))]
 fn tick(number: u32, line: &Line) -> Result<ScriptLine, ScriptFault>
-    ensures exact { result ≡ tick_in number line.now }
+    ensures exact { result ≡ tick_line number line.now }
     ensures planned { (plan : Plan) → IfOk result (IsLineOf plan) }
 {
     ends_at(number, 1, line)?;

@@ -4,7 +4,7 @@ ghost use Rattle.net_base.specs.declared.plan.Plan.{Plan};
 ghost use Rattle.net_base.specs.plan.Accepted.{IsChecked};
 ghost use Rattle.command_text.specs.Planned.{names_of};
 ghost use Rattle.discovery_script.specs.Planned.{IsLineOf};
-ghost use Rattle.discovery_script.specs.Lines.{lines_in, lines_of};
+ghost use Rattle.discovery_script.specs.Lines.{discovery_lines_in, lines_of};
 ghost use Rattle.script_text.specs.Reading.{Gives};
 
 use crate::lines::read_line;
@@ -34,14 +34,14 @@ fn lines(
 }
 
 // The lines of a script, by the names of its plan.
-#[tactic(auto, unfolding(crate::specs::Lines::lines_in))]
+#[tactic(auto, unfolding(crate::specs::Lines::discovery_lines_in))]
 fn read_with(
     alloc: Global,
     names: &PlanNames<'_>,
     octets: &[u8],
 ) -> Result<List<ScriptLine>, ScriptFault>
     requires { length octets.now < 2 ^ 32 - 2 }
-    ensures exact { Gives result (lines_in names.now octets.now) }
+    ensures exact { Gives result (discovery_lines_in names.now octets.now) }
     ensures planned { (plan : Plan) → names.now ≡ names_of plan → IfOk result (All (IsLineOf plan)) }
 {
     match read_lines(alloc, octets) {
@@ -60,7 +60,7 @@ pub fn read_script(
 ) -> Result<List<ScriptLine>, ScriptFault>
     requires checked { IsChecked plan.now }
     requires few { length octets.now < 2 ^ 32 - 2 }
-    ensures exact { Gives result (lines_in (names_of plan.now) octets.now) }
+    ensures exact { Gives result (discovery_lines_in (names_of plan.now) octets.now) }
     ensures planned { IfOk result (All (IsLineOf plan.now)) }
 {
     let Ok(lists) = NameLists::of(alloc, plan) else {

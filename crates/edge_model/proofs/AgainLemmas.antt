@@ -24,7 +24,7 @@ use Rattle.pw_messages.specs.LinkAnswers.{Answers}
 use Rattle.edge_model.specs.declared.effect.Effect.TheVariants.{Wire}
 use Rattle.edge_model.specs.declared.end_place.EndPlace.{EndPlace}
 use Rattle.edge_model.specs.EndPlaces.{end_places}
-use Rattle.edge_model.specs.Mend.{advertises_under, advertises_wish, advertising, and_says, each_end, forgets_downs, is_new_choice, mends, mends_choice, mends_end, mends_few, mends_local, mends_once, mends_status, mends_status_of, tells_down, tells_downs, tells_over, telling_status, then_changes, wish, withdrawing, withdraws_unless, stands, withdraws}
+use Rattle.edge_model.specs.Mend.{advertises_under, advertises_wish, advertising, and_says, each_end, forgets_downs, is_new_choice, mends, mends_choice, mends_end, mends_few, mends_local, mends_once, mends_status, mends_status_of, tells_down, tells_downs, tells_over, telling_status, then_changes, wish, withdrawing, withdraws_unless, offer_stands, withdraws}
 use Rattle.edge_model.specs.Mended.{HasFitPaths, MendsAtOnce}
 use Rattle.edge_model.specs.Put.{Spoken, having_spoken, message_octets_of, put_octets, stays, with_spoken}
 use Rattle.edge_model.specs.Role.{down_at, status_to_tell}
@@ -192,7 +192,7 @@ module _ (plan : Plan) (told : Answers) (n : ℕ) where
     idle (Some content) = left content (label_to_give work.edge)
 
     told_it : (label : ℕ) (content : Told) (wished : Option Told) → Loses n work (withdraws_unless told place label content wished work)
-    told_it label content wished = by (stands place content wished) where
+    told_it label content wished = by (offer_stands place content wished) where
       by : (b : Bool) → Loses n work (cond b (stays work) (withdraws told place label content work))
       by true = stays_loses n work
       by false =

@@ -29,11 +29,11 @@ use Rattle.mac_table.proofs.AgeLemmas.{stays_young}
 use Rattle.pw_tlvs.specs.declared.pw_status.PwStatus.{PwStatus}
 use Rattle.pw_signalling.specs.declared.told.Told.{Told}
 use Rattle.pw_signalling.specs.End.{LocalPart, Idle, Advertised, Withdrawing}
-use Rattle.edge_model.specs.Aging.{AddressesLastTheirAge, entry_at, ticking}
+use Rattle.edge_model.specs.Aging.{AddressesLastTheirAge, entry_at, ticks_passing}
 use Rattle.edge_model.specs.declared.end_place.EndPlace.{EndPlace}
 use Rattle.edge_model.specs.EndPlaces.{end_places, is_end_of_wire}
 use Rattle.edge_model.specs.Ends.{wire_end}
-use Rattle.edge_model.specs.Mend.{advertises_under, advertises_wish, advertising, and_says, each_end, forgets_down, forgets_downs, forgetting_wire, is_new_choice, mends, mends_choice, mends_end, mends_local, mends_status, mends_status_of, tells_downs, tells_over, telling_status, then_changes, wish, withdrawing, withdraws_unless, stands, withdraws}
+use Rattle.edge_model.specs.Mend.{advertises_under, advertises_wish, advertising, and_says, each_end, forgets_down, forgets_downs, forgetting_wire, is_new_choice, mends, mends_choice, mends_end, mends_local, mends_status, mends_status_of, tells_downs, tells_over, telling_status, then_changes, wish, withdrawing, withdraws_unless, offer_stands as stands, withdraws}
 use Rattle.edge_model.specs.Mended.{HasFitPaths}
 use Rattle.edge_model.specs.Put.{Spoken, stays}
 use Rattle.edge_model.specs.Role.{down_at, status_to_tell}
@@ -291,8 +291,8 @@ module _ (plan : Plan) (fit : HasFitPaths plan) (service : ServiceId) (address :
     ticking_stands_by : (told : Answers) → ((k : ℕ) → told k ≡ true) → (row : ServicePlan) → slice_get plan.services service.0 ≡ Some row → (n : ℕ) (work : Work) → work.edge.me ≡ me
         → AreDistinctAddresses (addresses_of work.edge service)
         → entry_at work.edge service address ≡ Some entry → entry.tick ≤ work.edge.ticks → work.edge.ticks + n < entry.tick + row.age → work.edge.ticks + n ≤ 2 ^ 64 - 1
-        → ((k : ℕ) → 1 ≤ k → k ≤ n → down_at plan (ticking plan told k work).edge place ≡ None)
-        → entry_at (ticking plan told n work).edge service address ≡ Some entry
+        → ((k : ℕ) → 1 ≤ k → k ≤ n → down_at plan (ticks_passing plan told k work).edge place ≡ None)
+        → entry_at (ticks_passing plan told n work).edge service address ≡ Some entry
     ticking_stands_by told takes row is zero work same distinct found past within counts up = found
     ticking_stands_by told takes row is (suc n) work same distinct found past within counts up =
         let begun : Work = beginning work.edge work.calls in

@@ -23,7 +23,7 @@ use Rattle.mac_table.specs.declared.mac_entry.MacEntry.{MacEntry}
 use Rattle.mac_table.specs.Addresses.{AreDistinctAddresses, is_young, mac_entry_of}
 use Rattle.mac_table.proofs.AddressLemmas.{distinct-filter, entry_of-filter}
 use Rattle.mac_table.proofs.AgeLemmas.{goes_old, none_comes, old, stays_young, young}
-use Rattle.edge_model.specs.Aging.{IsAtCircuit, entry_at, ticking}
+use Rattle.edge_model.specs.Aging.{IsAtCircuit, entry_at, ticks_passing}
 use Rattle.edge_model.specs.Mend.{advertising, forgetting_wire, mends, port_of_wire, telling_status, withdrawing}
 use Rattle.edge_model.specs.Role.{down_at, status_to_tell}
 use Rattle.edge_model.specs.Session.{says}
@@ -273,7 +273,7 @@ module _ (plan : Plan) (service : ServiceId) (address : Mac) where
 
   ticking_none : (told : Answers) (row : ServicePlan) → slice_get plan.services service.0 ≡ Some row → (n : ℕ) (work : Work) → AreDistinctAddresses (addresses_of work.edge service)
       → entry_at work.edge service address ≡ None
-      → entry_at (ticking plan told n work).edge service address ≡ None
+      → entry_at (ticks_passing plan told n work).edge service address ≡ None
   ticking_none told row is zero work distinct none = none
   ticking_none told row is (suc n) work distinct none =
       let begun : Work = beginning work.edge work.calls in
@@ -284,7 +284,7 @@ module _ (plan : Plan) (service : ServiceId) (address : Mac) where
       → AreDistinctAddresses (addresses_of work.edge service)
       → entry_at work.edge service address ≡ Some entry → IsAtCircuit plan work.edge service entry → entry.tick ≤ work.edge.ticks → work.edge.ticks + n < entry.tick + row.age
       → work.edge.ticks + n ≤ 2 ^ 64 - 1
-      → entry_at (ticking plan told n work).edge service address ≡ Some entry
+      → entry_at (ticks_passing plan told n work).edge service address ≡ Some entry
   ticking_stands told row is zero work entry distinct found here past within counts = found
   ticking_stands told row is (suc n) work entry distinct found here past within counts =
       let begun : Work = beginning work.edge work.calls in
@@ -303,7 +303,7 @@ module _ (plan : Plan) (service : ServiceId) (address : Mac) where
       → AreDistinctAddresses (addresses_of work.edge service)
       → entry_at work.edge service address ≡ Some entry → entry.tick ≤ work.edge.ticks → work.edge.ticks < entry.tick + row.age → entry.tick + row.age ≤ work.edge.ticks + n
       → work.edge.ticks + n ≤ 2 ^ 64 - 1
-      → entry_at (ticking plan told n work).edge service address ≡ None
+      → entry_at (ticks_passing plan told n work).edge service address ≡ None
   ticking_goes told row is zero work entry distinct found past young_yet due counts = absurd (clash work.edge.ticks (entry.tick + row.age) young_yet due) where
     clash : (t limit : ℕ) → t < limit → limit ≤ t + zero → ⊥
     clash t limit less more = omega (arith, less, more)

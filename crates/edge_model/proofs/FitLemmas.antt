@@ -27,7 +27,7 @@ use Rattle.session_core.specs.Phase as phase
 use Rattle.session_core.specs.Session.{phase_name}
 use Rattle.session_core.specs.State.{SessionState, is_active}
 use Rattle.session_core.specs.StatusCodes.{about_none, bad_ldp_identifier, keep_alive_timer_expired}
-use Rattle.session_core.specs.Table.{SessionEvent, Outcome, Stay, Goes, Ends, Start, Heard, Received, Refused, Spoke, Ticked, Closed, is_expired, is_keep_alive_due, judged, a_tick_later, notified, outcome_of, reason_in, table, ticked}
+use Rattle.session_core.specs.Table.{SessionEvent, Outcome, Stay, Goes, Ends, Start, Heard, Received, Refused, Spoke, Ticked, Closed, is_expired, is_keep_alive_due, judged, a_tick_later, notified, outcome_of, reason_in, table, ticked_session}
 use Rattle.pw_messages.specs.Content.{mac_withdrawal, mapping, release, status_notification, withdrawal}
 use Rattle.pw_messages.specs.LinkAnswers.{Answers}
 use Rattle.edge_model.specs.Circuit.{turned}
@@ -79,7 +79,7 @@ either_fits : (goes : Bool) (why : Reason) (s : SessionState) (replies last : Li
 either_fits true why s replies last fits = fits
 either_fits false why s replies last fits = tt
 
-ticked_fits : (s : SessionState) → s.max_pdu ≤ 4096 → FitsAfter (ticked s)
+ticked_fits : (s : SessionState) → s.max_pdu ≤ 4096 → FitsAfter (ticked_session s)
 ticked_fits s fits = by (is_expired s) where
   by : (expired : Bool) → FitsAfter (cond expired (Ends reason.Expired (about_none keep_alive_timer_expired ∷ [])) (Goes s (cond (is_keep_alive_due s) (reply.KeepAlive ∷ []) [])))
   by true = tt

@@ -31,7 +31,7 @@ use Rattle.spoke_redundancy.specs.Telling.{is_not_chosen}
 use Rattle.edge_model.specs.declared.effect.Effect.TheVariants.{Wire}
 use Rattle.edge_model.specs.declared.end_place.EndPlace.{EndPlace}
 use Rattle.edge_model.specs.EndPlaces.{end_places, is_terminal}
-use Rattle.edge_model.specs.Mend.{passed_wish, advertises_under, advertises_wish, advertising, and_says, cause_number, each_end, forgets_down, forgets_downs, forgetting_wire, is_new_choice, is_up_with, mends, mends_again, mends_choice, mends_end, mends_few, mends_local, mends_once, mends_status, mends_status_of, port_of_wire, status_held, status_offered, telling_status, tells_down, tells_downs, tells_over, tells_status, then_changes, wish, wish_of, withdrawing, stands, withdraws, passed_from, terminal_wish}
+use Rattle.edge_model.specs.Mend.{passed_wish, advertises_under, advertises_wish, advertising, and_says, cause_number, each_end, forgets_down, forgets_downs, forgetting_wire, is_new_choice, is_up_with, mends, mends_again, mends_choice, mends_end, mends_few, mends_local, mends_once, mends_status, mends_status_of, port_of_wire, status_held, status_offered, telling_status, tells_down, tells_downs, tells_over, tells_status, then_changes, wish, wish_of, withdrawing, offer_stands as stands, withdraws, passed_from, terminal_wish}
 use Rattle.edge_model.specs.Put.{Spoken, having_spoken, message_octets_of, put_octets, with_spoken, stays}
 use Rattle.edge_model.specs.Role.{down_at, is_chosen, role_in, status_to_tell, own_status}
 use Rattle.edge_model.specs.Session.{had_said, says, says_to}

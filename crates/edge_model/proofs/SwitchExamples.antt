@@ -20,7 +20,7 @@ use Rattle.edge_model.specs.Connection.{opened_with, peers_of}
 use Rattle.edge_model.specs.declared.effect.Effect.TheVariants.{Said, Sent, Dropped}
 use Rattle.edge_model.specs.declared.end_place.EndPlace.{EndPlace}
 use Rattle.edge_model.specs.Ends.{is_stitched}
-use Rattle.edge_model.specs.Mend.{stands, wish}
+use Rattle.edge_model.specs.Mend.{offer_stands, wish}
 use Rattle.edge_model.specs.Packet.{packet_input}
 use Rattle.edge_model.specs.Put.{with_spoken}
 use Rattle.edge_model.specs.Role.{status_to_tell}
@@ -149,7 +149,7 @@ unfolding with_end with_peering with_kept
 passes_nothing = refl
 
 -- another status leaves what it has told, and is told alone; another MTU does not
-keeps_label : stands before (told_with_points (a_point 2 ∷ []) 1500 (Some 0)) (wish plan (holding (told_with_points [] 1500 (Some 32))) before) ≡ true
+keeps_label : offer_stands before (told_with_points (a_point 2 ∷ []) 1500 (Some 0)) (wish plan (holding (told_with_points [] 1500 (Some 32))) before) ≡ true
 unfolding with_end with_peering with_kept
 keeps_label = refl
 
@@ -161,7 +161,7 @@ passes_no_status : status_to_tell plan (holding (told_with_points [] 1500 None))
 unfolding with_end with_peering with_kept
 passes_no_status = refl
 
-takes_label_back : stands before (told_with_points (a_point 2 ∷ []) 1500 (Some 0)) (wish plan (holding (told_with_points [] 1400 (Some 0))) before) ≡ false
+takes_label_back : offer_stands before (told_with_points (a_point 2 ∷ []) 1500 (Some 0)) (wish plan (holding (told_with_points [] 1400 (Some 0))) before) ≡ false
 unfolding with_end with_peering with_kept
 takes_label_back = refl
 

@@ -75,7 +75,7 @@ use Rattle.edge_model.specs.Echo.{channel_octets, channel_under, echoes, is_pick
 use Rattle.edge_model.specs.Ends.{is_up, wire_end}
 use Rattle.edge_model.specs.Frame.{copies, copy_by, frame_input, hearing, is_own, port_at, received, targets_of}
 use Rattle.edge_model.specs.Hear.{acts, acts_on, advice_of, advises, hears, hears_few, hears_front, hears_message, hears_messages, hears_on, hears_one, hears_pdu, hears_within, holds, octets_input, was_up}
-use Rattle.edge_model.specs.Mend.{advertises, advertises_under, advertises_wish, advertising, and_says, cause_number, each_end, forgets_down, forgets_downs, forgetting_wire, is_new_choice, mends, mends_choice, mends_end, mends_few, mends_local, mends_once, mends_status, mends_status_of, port_of_wire, tells_down, tells_downs, tells_new_status, tells_over, telling_status, then_changes, wish, stands, withdrawing, withdraws, withdraws_unless}
+use Rattle.edge_model.specs.Mend.{advertises, advertises_under, advertises_wish, advertising, and_says, cause_number, each_end, forgets_down, forgets_downs, forgetting_wire, is_new_choice, mends, mends_choice, mends_end, mends_few, mends_local, mends_once, mends_status, mends_status_of, port_of_wire, tells_down, tells_downs, tells_new_status, tells_over, telling_status, then_changes, wish, offer_stands as stands, withdrawing, withdraws, withdraws_unless}
 use Rattle.edge_model.specs.Packet.{switched_by, switched_to, switched_under, towards, advertiser, alerted, alerts_by, alerts_end, behind_entry, bridges_frame, by_offer, enters, is_alert, is_channel, labelled, least_label, opened_by, owned, packet_input, switched, terminated, unpacked_at}
 use Rattle.edge_model.specs.Put.{Spoken, put_reply, stays}
 use Rattle.edge_model.specs.Ping.{asks, far_address, ping_between, ping_input, pinging, pings_at, pings_by, pings_in, pings_under}

@@ -21,9 +21,9 @@ use Rattle.edge_model.specs.Step.{edge_step}
 use Rattle.edge_model.specs.Work.{Work, beginning}
 
 -- so many ticks pass at an edge, each of them an input, and nothing else comes
-abbrev pub ticking : Plan → Answers → ℕ → Work → Work
-ticking plan told zero work = work
-ticking plan told (suc n) work = ticking plan told n (edge_step plan told Tick (beginning work.edge work.calls))
+abbrev pub ticks_passing : Plan → Answers → ℕ → Work → Work
+ticks_passing plan told zero work = work
+ticks_passing plan told (suc n) work = ticks_passing plan told n (edge_step plan told Tick (beginning work.edge work.calls))
 
 -- the entry under which the bridge of a service finds an address
 abbrev pub entry_at : EdgeState → ServiceId → Mac → Option MacEntry
@@ -53,13 +53,13 @@ pub record AddressesLastTheirAge : Type 0 where
   -- an address that was heard at a circuit stands while fewer ticks have passed than its service's age limit says
   pub stands : (plan : Plan) (told : Answers) (n : ℕ) (work : Work) (service : ServiceId) (row : ServicePlan) (address : Mac) (entry : MacEntry)
       → IsHeardNow plan work.edge service row address entry → IsAtCircuit plan work.edge service entry → work.edge.ticks + n ≤ 2 ^ 64 - 1 → n < row.age
-      → entry_at (ticking plan told n work).edge service address ≡ Some entry
+      → entry_at (ticks_passing plan told n work).edge service address ≡ Some entry
   -- so does one that was heard on a wire whose end forwards after each of the ticks, where the link takes each message
   pub stands_by_wire : (plan : Plan) (told : Answers) (n : ℕ) (work : Work) (service : ServiceId) (row : ServicePlan) (address : Mac) (entry : MacEntry) (place : EndPlace)
       → HasFitPaths plan → ((k : ℕ) → told k ≡ true) → IsHeardNow plan work.edge service row address entry → IsAtWire plan work.edge service entry place
-      → ((k : ℕ) → 1 ≤ k → k ≤ n → down_at plan (ticking plan told k work).edge place ≡ None) → work.edge.ticks + n ≤ 2 ^ 64 - 1 → n < row.age
-      → entry_at (ticking plan told n work).edge service address ≡ Some entry
+      → ((k : ℕ) → 1 ≤ k → k ≤ n → down_at plan (ticks_passing plan told k work).edge place ≡ None) → work.edge.ticks + n ≤ 2 ^ 64 - 1 → n < row.age
+      → entry_at (ticks_passing plan told n work).edge service address ≡ Some entry
   -- and each address is gone once as many have
   pub goes : (plan : Plan) (told : Answers) (n : ℕ) (work : Work) (service : ServiceId) (row : ServicePlan) (address : Mac) (entry : MacEntry)
       → IsHeardNow plan work.edge service row address entry → work.edge.ticks + n ≤ 2 ^ 64 - 1 → 1 ≤ row.age → row.age ≤ n
-      → entry_at (ticking plan told n work).edge service address ≡ None
+      → entry_at (ticks_passing plan told n work).edge service address ≡ None

@@ -128,12 +128,12 @@ withdraws told place label content work = says told place.peer (withdrawal place
 
 -- what an end has told still stands: a terminal end's offer while it tells anything, and what a switching point passes on while no more
 -- than its status has changed (RFC 6073 section 10)
-abbrev pub stands : EndPlace → Told → Option Told → Bool
-stands place content None = false
-stands place content (Some wished) = place.terminal || is_same_but_status content wished
+abbrev pub offer_stands : EndPlace → Told → Option Told → Bool
+offer_stands place content None = false
+offer_stands place content (Some wished) = place.terminal || is_same_but_status content wished
 
 abbrev pub withdraws_unless : Answers → EndPlace → ℕ → Told → Option Told → Work → Spoken
-withdraws_unless told place label content wished work = if stands place content wished then stays work else withdraws told place label content work
+withdraws_unless told place label content wished work = if offer_stands place content wished then stays work else withdraws told place label content work
 
 abbrev pub mends_local : Plan → Answers → EndPlace → LocalPart → Work → Spoken
 mends_local plan told place (Idle declined) work = if declined then stays work else advertises_wish told place (wish plan work.edge place) work

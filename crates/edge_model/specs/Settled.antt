@@ -9,7 +9,7 @@ use Rattle.pw_signalling.specs.declared.told.Told.{Told}
 use Rattle.pw_signalling.specs.End.{LocalPart, Idle, Advertised, Withdrawing}
 use Rattle.edge_model.specs.declared.end_place.EndPlace.{EndPlace}
 use Rattle.edge_model.specs.Labels.{label_to_give}
-use Rattle.edge_model.specs.Mend.{cause_number, port_of_wire, stands, wish}
+use Rattle.edge_model.specs.Mend.{cause_number, port_of_wire, offer_stands, wish}
 use Rattle.edge_model.specs.Role.{down_at, status_to_tell}
 use Rattle.edge_model.specs.State.{EdgeState, addresses_of, end_at, without_port}
 
@@ -17,7 +17,7 @@ use Rattle.edge_model.specs.State.{EdgeState, addresses_of, end_at, without_port
 -- nothing does not
 abbrev pub tells_wish : EndPlace → Option Told → (none_left : Bool) → LocalPart → Bool
 tells_wish place wished none_left (Idle declined) = declined || (not (is_some wished) || none_left)
-tells_wish place wished none_left (Advertised label content) = stands place content wished
+tells_wish place wished none_left (Advertised label content) = offer_stands place content wished
 tells_wish place wished none_left (Withdrawing label) = true
 
 abbrev pub is_mended : Plan → EdgeState → EndPlace → Bool

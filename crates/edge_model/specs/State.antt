@@ -59,13 +59,13 @@ pub record EdgeState : Type 0 where
   -- the sequence number of its next ping of each wire (RFC 792)
   pub next_ping : ℕ → ℕ
 
-abbrev pub label_of : Option EdgePlan → ℕ
-label_of None = 16
-label_of (Some row) = row.first_label
+abbrev pub first_label_of : Option EdgePlan → ℕ
+first_label_of None = 16
+first_label_of (Some row) = row.first_label
 
 -- the first label of an edge of the plan
 abbrev pub first_label : Plan → EdgeId → ℕ
-first_label plan me = label_of (slice_get plan.edges me.0)
+first_label plan me = first_label_of (slice_get plan.edges me.0)
 
 -- the priority number of a spoke by the plan
 abbrev pub priority_in : Option WirePlan → ℕ

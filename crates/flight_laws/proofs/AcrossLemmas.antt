@@ -27,12 +27,12 @@ use Rattle.edge_model.specs.Across.{held_beyond, held_from, held_of, mate_of}
 use Rattle.edge_model.specs.declared.end_place.EndPlace.{EndPlace}
 use Rattle.edge_model.specs.EndPlaces.{end_places, is_named, is_terminal}
 use Rattle.edge_model.specs.Labels.{label_to_give}
-use Rattle.edge_model.specs.Mend.{is_up_with, passed_from, passed_wish, stands, terminal_wish, wish, wish_by, wish_of}
+use Rattle.edge_model.specs.Mend.{is_up_with, passed_from, passed_wish, offer_stands, terminal_wish, wish, wish_by, wish_of}
 use Rattle.edge_model.specs.Role.{own_status, status_to_tell}
 use Rattle.edge_model.specs.State.{EdgeState, end_at}
 use Rattle.edge_model.specs.Settled.{is_mended, is_told}
 use Rattle.network_model.proofs.GoalLemmas.{mate_inside}
-use Rattle.flight_laws.specs.Across.{IsTaken, PassesOn, RunsTakeMappings, RunsTellAcross, TellsAcross}
+use Rattle.flight_laws.specs.Across.{IsMappingTaken, PassesOn, RunsTakeMappings, RunsTellAcross, TellsAcross}
 use Rattle.flight_laws.specs.Laws.{TellsContents, network_after}
 use Rattle.flight_laws.specs.Rules.{FarTells, NearTells, TellsExpected, TellsPlan}
 use Rattle.flight_laws.proofs.AcceptLemmas.{takes_told, wanted_tells}
@@ -129,7 +129,7 @@ module _ (plan : Plan) (checked : IsChecked plan) (me from to : EdgeId) (wire : 
     local_is : (end_at edge near.place).local ≡ Advertised label content
     local_is = ap (λ (e : EndState). e.local) end_same ∙ told
 
-    still : stands near.place content (wish plan edge near.place) ≡ true
+    still : offer_stands near.place content (wish plan edge near.place) ≡ true
     still = rw local_is at ends
 
     now : (last : PwStatus) → content.status ≡ Some last → nat_eq last.0 (status_to_tell plan edge near.place).0 ≡ true
@@ -143,7 +143,7 @@ module _ (plan : Plan) (checked : IsChecked plan) (me from to : EdgeId) (wire : 
         ((tells wire.0 from.0).far row is (sym (joins_turned row.path me.0 from.0) ∙ mate_joined row.path me.0 to.0 from back))
 
     by_held : (held : Option Binding) → (edge.ends wire.0 from.0).remote ≡ held → (on up : Bool) → edge.wire_on wire.0 ≡ on → is_up_with (edge.peering to.0) ≡ up
-        → stands near.place content (cond (on && up) (wanted (own_point row.pw_id (edge_address plan me) (edge_address plan from)) held) None) ≡ true → PassesOn plan me from to wire row edge content
+        → offer_stands near.place content (cond (on && up) (wanted (own_point row.pw_id (edge_address plan me) (edge_address plan from)) held) None) ≡ true → PassesOn plan me from to wire row edge content
     by_held held there false up on_is up_is e = clash e
     by_held held there true false on_is up_is e = clash e
     by_held None there true true on_is up_is e = clash e
@@ -161,7 +161,7 @@ module _ (plan : Plan) (checked : IsChecked plan) (me from to : EdgeId) (wire : 
         }
 
     pub passes_on : PassesOn plan me from to wire row edge content
-    passes_on = by_held (edge.ends wire.0 from.0).remote refl (edge.wire_on wire.0) (is_up_with (edge.peering to.0)) refl refl (ap (stands near.place content) (sym wish_is) ∙ still)
+    passes_on = by_held (edge.ends wire.0 from.0).remote refl (edge.wire_on wire.0) (is_up_with (edge.peering to.0)) refl refl (ap (offer_stands near.place content) (sym wish_is) ∙ still)
 
   none_left : (binding : Binding) → (edge.ends wire.0 from.0).remote ≡ Some binding → edge.wire_on wire.0 ≡ true → is_up_with (edge.peering to.0) ≡ true → (edge.ends wire.0 to.0).local
       ≡ Idle false → label_to_give edge ≡ None
@@ -185,7 +185,7 @@ pub runs_tell_across : RunsTellAcross
 runs_tell_across plan events run me from to wire row is mated =
     tells_across plan run.checked me from to wire row is mated ((network_after plan events).edges me.0) (run_mended_at plan events run me.0) ((run_ruled plan events run).edges me.0).tells
 
-taken : (plan : Plan) (from to : ℕ) → IsChecked plan → (m : Message) → TellsPlan plan from to m → IsTaken plan to from m
+taken : (plan : Plan) (from to : ℕ) → IsChecked plan → (m : Message) → TellsPlan plan from to m → IsMappingTaken plan to from m
 taken plan from to checked (LabelMapping id fec label status points) tells =
     λ place named. takes_told plan (record { 0 = to }) (record { 0 = from }) fec place (told_with fec status points) checked tells named
 taken plan from to checked m tells = tt
@@ -196,5 +196,5 @@ runs_take_mappings plan events run from to apart =
     record {
       messages = contents.messages;
       on_way = contents.on_way;
-      taken = all_kept (TellsPlan plan from to) (IsTaken plan to from) contents.messages (taken plan from to run.checked) contents.planned.told;
+      taken = all_kept (TellsPlan plan from to) (IsMappingTaken plan to from) contents.messages (taken plan from to run.checked) contents.planned.told;
     }

@@ -30,7 +30,7 @@ use Rattle.network_model.specs.Connection.{connect_event, connected_work, connec
 use Rattle.network_model.specs.State.{NetworkState, stands, with_edge}
 use Rattle.flight_laws.specs.Ends.{HasTypes, IsOrdered, IsPaired, KeepsOrder, ends_at}
 use Rattle.flight_laws.specs.Facts.{flight}
-use Rattle.flight_laws.specs.Meeting.{IsFine, Shows, Spares, TellWell}
+use Rattle.flight_laws.specs.Meeting.{IsFine, ShowsPlace, Spares, TellWell}
 use Rattle.flight_laws.specs.Messages.{AreSaid, octets_of_all}
 use Rattle.flight_laws.specs.Sound.{TellsSoundly, point_limit}
 use Rattle.flight_laws.specs.Pair.{AreEnds, ArePaired, IsStanding, is_in_step}
@@ -56,7 +56,7 @@ use Rattle.flight_laws.proofs.WorksLemmas.{LeftBut, apart_from, but_says, but_sp
 pub record HasOpened (own other : Peers) (me peer : EdgeId) (work : Work) : Type 0 where
   pub kept : Peering
   pub messages : List Message
-  pub shows : Shows peer.0 work (Some kept) (octets_of_all own.me messages) false
+  pub shows : ShowsPlace peer.0 work (Some kept) (octets_of_all own.me messages) false
   pub fine : IsFine me work
   pub nothing : kept.held ≡ []
   pub stands : IsStanding own other kept
@@ -72,7 +72,7 @@ rests own passive = rw passive refl
 
 -- before the session starts
 open_end : (me peer : EdgeId) (kept : Peering) (work : Work) → work.effects ≡ [] → IsFine me work
-    → Shows peer.0 (gives (Session peer name.Initialized) (changes (with_peering peer (Some kept)) work)) (Some kept) [] false
+    → ShowsPlace peer.0 (gives (Session peer name.Initialized) (changes (with_peering peer (Some kept)) work)) (Some kept) [] false
     × IsFine me (gives (Session peer name.Initialized) (changes (with_peering peer (Some kept)) work))
 unfolding gives changes with_peering
 open_end me peer kept work none fine = (
@@ -127,7 +127,7 @@ starts_opens me peer one other work ends none fine = elim (cases_Bool (is_active
     begun : Work
     begun = gives (Session peer name.Initialized) (changes (with_peering peer (Some kept)) work)
 
-    opening : Shows peer.0 begun (Some kept) [] false × IsFine me begun
+    opening : ShowsPlace peer.0 begun (Some kept) [] false × IsFine me begun
     opening = open_end me peer kept work none fine
 
     no : phase.OpenSent ≡ phase.Initialized → ⊥

@@ -21,7 +21,7 @@ use Rattle.edge_model.proofs.MendLemmas.{clears_not}
 use Rattle.network_model.specs.Absorb.{taken_all}
 use Rattle.flight_laws.specs.Bound.{AreBound, HasSaid, given_of, LeavesBound, is_silent}
 use Rattle.flight_laws.specs.Ends.{ends_at}
-use Rattle.flight_laws.specs.Meeting.{IsFine, Shows, closes, said_to}
+use Rattle.flight_laws.specs.Meeting.{IsFine, ShowsPlace, closes, said_to}
 use Rattle.flight_laws.specs.Messages.{AreSaid, octets_of_all}
 use Rattle.flight_laws.specs.Pair.{StayInStep, having_put_all, messages_put, octets_put}
 use Rattle.flight_laws.proofs.ActBindingLemmas.{SparesWires}
@@ -123,7 +123,7 @@ leaves_event plan me peer far out before after answers event kept work has fine 
   went next replies far_end there is =
       let now : Peering = with_session next kept in
       let goes : StayInStep own other kept (Some far_end) has.messages answers (Goes next replies) = rw (there, is) at step in
-      let shows : Shows peer.0 new (Some (having_put_all replies now)) (said_to peer.0 work.effects ++ octets_put replies now) false =
+      let shows : ShowsPlace peer.0 new (Some (having_put_all replies now)) (said_to peer.0 work.effects ++ octets_put replies now) false =
       rw (happens_is peer event kept (Goes next replies) work at is)
       (goes_shows me peer kept next replies (said_to peer.0 work.effects) work (record { keeps = at; says = refl; ended = unclosed }) fine).0 in
       let keeps : KeepsEnds work.edge new.edge = happens_keeps taken_all peer event work in

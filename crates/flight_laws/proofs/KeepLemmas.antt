@@ -15,7 +15,7 @@ use Rattle.session_core.specs.Phase.{Phase}
 use Rattle.session_core.specs.Phase as phase
 use Rattle.session_core.specs.Session.{phase_name}
 use Rattle.session_core.specs.State.{SessionState}
-use Rattle.session_core.specs.Table.{SessionEvent, Outcome, Stay, Goes, Ends, Start, Heard, Received, Refused, Spoke, Ticked, Closed, heard_sender, is_expired, is_keep_alive_due, a_tick_later, notified, outcome_of, reason_in, ticked}
+use Rattle.session_core.specs.Table.{SessionEvent, Outcome, Stay, Goes, Ends, Start, Heard, Received, Refused, Spoke, Ticked, Closed, heard_sender, is_expired, is_keep_alive_due, a_tick_later, notified, outcome_of, reason_in, ticked_session}
 use Rattle.pw_messages.specs.LinkAnswers.{Answers}
 use Rattle.edge_model.specs.declared.effect.Effect.TheVariants as effect
 use Rattle.edge_model.specs.Put.{Spoken, having_spoken, octets_of, put_octets, put_replies, put_reply, put_reply_to, puts_on, with_spoken}
@@ -186,7 +186,7 @@ heard_up s sender up = by_sender (is_platform s.peers.peer sender) where
   by_sender true = up
   by_sender false = refl
 
-ticked_up : (s : SessionState) → s.phase ≡ phase.Operational → phase_after phase.Operational (ticked s) ≡ phase.Operational
+ticked_up : (s : SessionState) → s.phase ≡ phase.Operational → phase_after phase.Operational (ticked_session s) ≡ phase.Operational
 ticked_up s up = by_time (is_expired s) where
   by_time : (b : Bool) → phase_after phase.Operational
       (cond b (Ends reason.Expired (about_none keep_alive_timer_expired ∷ [])) (Goes s (cond (is_keep_alive_due s) (reply.KeepAlive ∷ []) []))) ≡ phase.Operational

@@ -18,7 +18,7 @@ use Rattle.edge_model.specs.State.{Peering, is_there, with_peering}
 use Rattle.edge_model.specs.Work.{Work, changes, gives}
 use Rattle.network_model.specs.Absorb.{taken_all}
 use Rattle.flight_laws.specs.Coming.{and_more}
-use Rattle.flight_laws.specs.Meeting.{IsFine, Meets, Shows, said_to}
+use Rattle.flight_laws.specs.Meeting.{IsFine, Meets, ShowsPlace, said_to}
 use Rattle.flight_laws.specs.Messages.{octets_of_all}
 use Rattle.flight_laws.specs.Pair.{AreTalking, StayInStep, having_put_all, messages_put, octets_put}
 use Rattle.flight_laws.proofs.ReactLemmas.{put_octets_are}
@@ -27,7 +27,7 @@ use Rattle.flight_laws.proofs.WorkLemmas.{HasPut, all_put, ends_shows, session_s
 
 -- what the work shows is in step
 pub meets_shown : (own other : Peers) (me peer : EdgeId) (far near : Option Peering) (out said : List ℕ) (messages answers : List Message) (work : Work)
-    → Shows peer.0 work near said (not (is_there near)) → IsFine me work → and_more far out said ≡ octets_of_all own.me messages
+    → ShowsPlace peer.0 work near said (not (is_there near)) → IsFine me work → and_more far out said ≡ octets_of_all own.me messages
     → AreTalking own other near far messages (cond (is_there near) answers [])
     → Meets own other me peer far out answers work
 meets_shown own other me peer far near out said messages answers work shows fine is talk = record {
@@ -51,8 +51,8 @@ put_peers [] kept = refl
 put_peers (r ∷ rs) kept = put_peers rs (having_spoken kept)
 
 -- a changed state is told
-told_shows : (me peer : EdgeId) (same : Bool) (new : Phase) (near : Option Peering) (said : List ℕ) (closed : Bool) (work : Work) → Shows peer.0 work near said closed → IsFine me work
-    → Shows peer.0 (cond same work (gives (effect.Session peer (phase_name new)) work)) near said closed × IsFine me (cond same work (gives (effect.Session peer (phase_name new)) work))
+told_shows : (me peer : EdgeId) (same : Bool) (new : Phase) (near : Option Peering) (said : List ℕ) (closed : Bool) (work : Work) → ShowsPlace peer.0 work near said closed → IsFine me work
+    → ShowsPlace peer.0 (cond same work (gives (effect.Session peer (phase_name new)) work)) near said closed × IsFine me (cond same work (gives (effect.Session peer (phase_name new)) work))
 unfolding gives
 told_shows me peer true new near said closed work shows fine = (shows, fine)
 told_shows me peer false new near said closed work shows fine =
@@ -67,8 +67,8 @@ told_shows me peer false new near said closed work shows fine =
     by_phase phase.OpenRec = tt
     by_phase phase.Operational = tt
 
-pub moved_shows : (me peer : EdgeId) (kept now : Peering) (said : List ℕ) (closed : Bool) (work : Work) → Shows peer.0 work (Some kept) said closed → IsFine me work
-    → Shows peer.0 (changes (with_peering peer (Some now)) work) (Some now) said closed × IsFine me (changes (with_peering peer (Some now)) work)
+pub moved_shows : (me peer : EdgeId) (kept now : Peering) (said : List ℕ) (closed : Bool) (work : Work) → ShowsPlace peer.0 work (Some kept) said closed → IsFine me work
+    → ShowsPlace peer.0 (changes (with_peering peer (Some now)) work) (Some now) said closed × IsFine me (changes (with_peering peer (Some now)) work)
 unfolding changes with_peering
 moved_shows me peer kept now said closed work shows fine = (
   record { keeps = rw (same_number peer.0) refl; says = shows.says; ended = shows.ended },
@@ -77,7 +77,7 @@ moved_shows me peer kept now said closed work shows fine = (
 
 -- what comes of an event
 pub comes_meets : (own other : Peers) (me peer : EdgeId) (kept : Peering) (far : Option Peering) (out said : List ℕ) (messages answers : List Message) (work : Work) (o : Outcome)
-    → kept.session.peers ≡ own → Shows peer.0 work (Some kept) said false → IsFine me work → and_more far out said ≡ octets_of_all own.me messages → StayInStep own other kept far messages answers o
+    → kept.session.peers ≡ own → ShowsPlace peer.0 work (Some kept) said false → IsFine me work → and_more far out said ≡ octets_of_all own.me messages → StayInStep own other kept far messages answers o
     → Meets own other me peer far out answers (comes_of taken_all peer kept o work)
 comes_meets own other me peer kept far out said messages answers work Stay peers shows fine is step = meets_shown own other me peer far (Some kept) out said messages answers work shows fine is step
 comes_meets own other me peer kept far out said messages answers work (Goes next replies) peers shows fine is step =
@@ -123,8 +123,8 @@ happens_meets own other me peer far out before answers event work step meets = b
       here kept is = rw is at meets.talk
 
 -- what comes of an event after which the session goes on
-pub goes_shows : (me peer : EdgeId) (kept : Peering) (next : SessionState) (replies : List Reply) (said : List ℕ) (work : Work) → Shows peer.0 work (Some kept) said false → IsFine me work
-    → Shows peer.0 (comes_of taken_all peer kept (Goes next replies) work) (Some (having_put_all replies (with_session next kept))) (said ++ octets_put replies (with_session next kept)) false
+pub goes_shows : (me peer : EdgeId) (kept : Peering) (next : SessionState) (replies : List Reply) (said : List ℕ) (work : Work) → ShowsPlace peer.0 work (Some kept) said false → IsFine me work
+    → ShowsPlace peer.0 (comes_of taken_all peer kept (Goes next replies) work) (Some (having_put_all replies (with_session next kept))) (said ++ octets_put replies (with_session next kept)) false
     × IsFine me (comes_of taken_all peer kept (Goes next replies) work)
 goes_shows me peer kept next replies said work shows fine =
     let now : Peering = with_session next kept in

@@ -14,7 +14,7 @@ use Rattle.pw_messages.specs.Content.{mac_withdrawal, mapping}
 use Rattle.edge_model.specs.declared.effect.Effect.TheVariants.{Wire}
 use Rattle.edge_model.specs.declared.end_place.EndPlace.{EndPlace}
 use Rattle.edge_model.specs.EndPlaces.{end_places}
-use Rattle.edge_model.specs.Mend.{advertises_under, advertises_wish, advertising, cause_number, each_end, forgets_down, forgets_downs, forgetting_wire, is_new_choice, mends, mends_again, mends_choice, mends_end, mends_few, mends_local, mends_once, mends_status, mends_status_of, stands, tells_down, tells_downs, tells_new_status, tells_over, wish, withdraws}
+use Rattle.edge_model.specs.Mend.{advertises_under, advertises_wish, advertising, cause_number, each_end, forgets_down, forgets_downs, forgetting_wire, is_new_choice, mends, mends_again, mends_choice, mends_end, mends_few, mends_local, mends_once, mends_status, mends_status_of, offer_stands, tells_down, tells_downs, tells_new_status, tells_over, wish, withdraws}
 use Rattle.edge_model.specs.Put.{Spoken, stays}
 use Rattle.edge_model.specs.Role.{down_at, status_to_tell}
 use Rattle.edge_model.specs.Session.{says}
@@ -38,7 +38,7 @@ pub record KeptByRows (plan : Plan) (me : EdgeId) (I : Work → Type 0) : Type 0
       → label_to_give work.edge ≡ Some label → I work → I (says taken_all place.peer (mapping place.pw_id label content) (changes (advertising place label content) work)).work
   -- an end withdraws its label where what it has told does not stand
   pub withdraws : (place : EndPlace) (label : ℕ) (content : Told) (work : Work) → IsEndOf plan me place → (end_at work.edge place).local ≡ Advertised label content
-      → stands place content (wish plan work.edge place) ≡ false
+      → offer_stands place content (wish plan work.edge place) ≡ false
       → I work → I (withdraws taken_all place label content work).work
   -- an end that has told a status tells another one
   pub tells : (place : EndPlace) (label : ℕ) (content : Told) (last : PwStatus) (work : Work) → IsEndOf plan me place → (end_at work.edge place).local ≡ Advertised label content
@@ -70,7 +70,7 @@ module _ (plan : Plan) (me : EdgeId) (I : Work → Type 0) (kept : KeptByRows pl
     by_wish at None wished = i
     by_wish at (Some content) wished = by_label content at wished (label_to_give work.edge) refl
 
-    unless : (label : ℕ) (content : Told) → (end_at work.edge place).local ≡ Advertised label content → (still : Bool) → stands place content (wish plan work.edge place) ≡ still
+    unless : (label : ℕ) (content : Told) → (end_at work.edge place).local ≡ Advertised label content → (still : Bool) → offer_stands place content (wish plan work.edge place) ≡ still
         → I (cond still (stays work) (withdraws taken_all place label content work)).work
     unless label content at true still = i
     unless label content at false changed = kept.withdraws place label content work is at changed i
@@ -78,7 +78,7 @@ module _ (plan : Plan) (me : EdgeId) (I : Work → Type 0) (kept : KeptByRows pl
     by_local : (local : LocalPart) → (end_at work.edge place).local ≡ local → I (mends_local plan taken_all place local work).work
     by_local (Idle true) at = i
     by_local (Idle false) at = by_wish at (wish plan work.edge place) refl
-    by_local (Advertised label content) at = unless label content at (stands place content (wish plan work.edge place)) refl
+    by_local (Advertised label content) at = unless label content at (offer_stands place content (wish plan work.edge place)) refl
     by_local (Withdrawing label) at = i
 
   pub status_keeps : (place : EndPlace) → IsEndOf plan me place → (work : Work) → I work → I (mends_status plan taken_all place work).work

@@ -21,7 +21,7 @@ use Rattle.session_core.specs.Phase as phase
 use Rattle.session_core.specs.Parameters.{is_platform}
 use Rattle.session_core.specs.State.{SessionState, is_active}
 use Rattle.session_core.specs.StatusCodes.{about, about_none, data_of, shutdown}
-use Rattle.session_core.specs.Table.{SessionEvent, Start, Heard, Received, Refused, Spoke, Ticked, Closed, Outcome, Stay, Goes, Ends, data_refusing, farewell, is_expired, is_keep_alive_due, judged, a_tick_later, notified, outcome_of, reason_in, table, ticked}
+use Rattle.session_core.specs.Table.{SessionEvent, Start, Heard, Received, Refused, Spoke, Ticked, Closed, Outcome, Stay, Goes, Ends, data_refusing, farewell, is_expired, is_keep_alive_due, judged, a_tick_later, notified, outcome_of, reason_in, table, ticked_session}
 use Rattle.flight_laws.specs.Pair.{AreFit}
 
 -- ---- what fits
@@ -142,7 +142,7 @@ heard_fits : (own : Peers) (s : SessionState) (right : Bool) → IsFitSession ow
 heard_fits own s true session = (record { peers = session.peers; least = session.least; most = session.most }, tt)
 heard_fits own s false session = (none_fits Rattle.session_core.specs.StatusCodes.bad_ldp_identifier (omega arith), tt)
 
-ticked_fits : (own : Peers) (s : SessionState) → IsFitSession own s → FitOutcome own (ticked s)
+ticked_fits : (own : Peers) (s : SessionState) → IsFitSession own s → FitOutcome own (ticked_session s)
 ticked_fits own s session = by_wait (is_expired s) (is_keep_alive_due s)
   where
     by_wait : (over quiet : Bool) → FitOutcome own

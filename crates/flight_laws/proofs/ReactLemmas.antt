@@ -17,7 +17,7 @@ use Rattle.session_core.specs.Phase.{Phase, is_agreed}
 use Rattle.session_core.specs.Phase as phase
 use Rattle.session_core.specs.Reasons.{is_fatal}
 use Rattle.session_core.specs.State.{SessionState, is_active}
-use Rattle.session_core.specs.Table.{Heard, Received, Ticked, Closed, Goes, Ends, enters_phase, a_tick_later, outcome_of, is_expired, is_keep_alive_due, ticked}
+use Rattle.session_core.specs.Table.{Heard, Received, Ticked, Closed, Goes, Ends, enters_phase, a_tick_later, outcome_of, is_expired, is_keep_alive_due, ticked_session}
 use Rattle.session_core.specs.StatusCodes.{about_none, keep_alive_timer_expired}
 use Rattle.session_core.proofs.LawLemmas.{ends_agree}
 use Rattle.pw_messages.specs.Sender.{following, platform_of}
@@ -221,7 +221,7 @@ closed_in_step own other kept far out back t = subst (StayInStep own other kept 
 
 -- ---- a tick
 
-tick_is : (s : SessionState) → outcome_of s Ticked ≡ ticked (a_tick_later s)
+tick_is : (s : SessionState) → outcome_of s Ticked ≡ ticked_session (a_tick_later s)
 tick_is s = refl
 
 later_stands : (own other : Peers) (kept : Peering) → IsStanding own other kept → IsStanding own other (with_session (a_tick_later kept.session) kept)

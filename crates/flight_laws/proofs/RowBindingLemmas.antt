@@ -17,7 +17,7 @@ use Rattle.pw_signalling.specs.Rows.{advertise_part, advertised, tell_part, tell
 use Rattle.pw_messages.specs.Content.{mac_withdrawal, mapping, status_notification, withdrawal}
 use Rattle.edge_model.specs.declared.effect.Effect.TheVariants.{Wire}
 use Rattle.edge_model.specs.declared.end_place.EndPlace.{EndPlace}
-use Rattle.edge_model.specs.Mend.{advertising, is_up_with, stands, telling_status, wish, withdrawing}
+use Rattle.edge_model.specs.Mend.{advertising, is_up_with, offer_stands, telling_status, wish, withdrawing}
 use Rattle.edge_model.specs.Role.{status_to_tell}
 use Rattle.edge_model.specs.Session.{says}
 use Rattle.edge_model.specs.State.{EdgeState, Peering, end_at, is_there, with_end, with_next_label, with_told_down, with_kept}
@@ -224,7 +224,7 @@ module _ (plan : Plan) (me : EdgeId) (checked : IsChecked plan) (fars : ℕ → 
         )
 
     all_withdraw : (place : EndPlace) (label : ℕ) (content : Told) (work : Work) → IsEndOf plan me place → (end_at work.edge place).local ≡ Advertised label content
-        → stands place content (wish plan work.edge place) ≡ false
+        → offer_stands place content (wish plan work.edge place) ≡ false
         → KeepsAll work → KeepsAll (says taken_all place.peer (withdrawal place.pw_id label content) (changes (withdrawing place) work)).work
     all_withdraw place label content work is at wished all =
         let can = advertised_up (point_limit plan me.0 place.wire.0) (is_up_with (work.edge.peering place.peer.0)) (end_at work.edge place) label content

@@ -17,7 +17,7 @@ use Rattle.net_base.specs.plan.Places.{circuit_row}
 use Rattle.ldp_grammar.specs.declared.message.Message.{Message}
 use Rattle.session_core.specs.State.{is_active}
 use Rattle.session_core.proofs.LawLemmas.{ends_agree}
-use Rattle.edge_model.specs.State.{Peering, is_there, label_of}
+use Rattle.edge_model.specs.State.{Peering, is_there, first_label_of}
 use Rattle.network_model.specs.Packet.{packet_at}
 use Rattle.network_model.specs.Run.{entries_along, state_after}
 use Rattle.network_model.specs.State.{NetworkState, empty_network, stands}
@@ -74,7 +74,7 @@ along_good plan (e ∷ es) network checked types planned ordered =
     (along_good plan es (step plan network e).state checked types (All-tail (IsEventOf plan) e es planned) kept.ordered)
 
 -- the first label of an edge is one
-pub first_fits : (plan : Plan) (row : Option EdgePlan) (place : ℕ) → slice_get plan.edges place ≡ row → IsChecked plan → (16 ≤ label_of row) × (label_of row ≤ numbers_end)
+pub first_fits : (plan : Plan) (row : Option EdgePlan) (place : ℕ) → slice_get plan.edges place ≡ row → IsChecked plan → (16 ≤ first_label_of row) × (first_label_of row ≤ numbers_end)
 first_fits plan None place at checked = (omega arith, omega arith)
 first_fits plan (Some row) place at checked =
     let edge : IsEdgePlan row = row_holds IsEdgePlan plan.edges place row at checked.edges in

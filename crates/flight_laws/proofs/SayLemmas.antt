@@ -13,8 +13,8 @@ use Rattle.edge_model.specs.Work.{Work, changes}
 use Rattle.edge_model.proofs.MendLemmas.{clears_not}
 use Rattle.network_model.specs.Absorb.{taken_all}
 use Rattle.flight_laws.specs.Coming.{and_more}
-use Rattle.flight_laws.specs.Ends.{IsLeft}
-use Rattle.flight_laws.specs.Meeting.{IsFine, Meets, Shows, Spares, closes, said_to}
+use Rattle.flight_laws.specs.Ends.{IsLeftBehind}
+use Rattle.flight_laws.specs.Meeting.{IsFine, Meets, ShowsPlace, Spares, closes, said_to}
 use Rattle.flight_laws.specs.Messages.{octets_of_all}
 use Rattle.flight_laws.specs.Pair.{ArePaired, AreTalking}
 use Rattle.flight_laws.proofs.MeetLemmas.{meets_shown, more_octets}
@@ -66,10 +66,10 @@ says_fine me peer message work fine = by_end (work.edge.peering peer.0) refl whe
   by_end None at = subst (IsFine me) (sym (says_none peer message work at)) fine
   by_end (Some kept) at = subst (IsFine me) (sym (says_is peer message kept work at)) (wrote_fine me peer (message_octets_of kept message) work fine)
 
-pub says_shows : (peer : EdgeId) (message : ℕ → Message) (kept : Peering) (work : Work) (said : List ℕ) (closed : Bool) → Shows peer.0 work (Some kept) said closed
-    → Shows peer.0 (says taken_all peer message work).work (Some (having_spoken kept)) (said ++ message_octets_of kept message) closed
+pub says_shows : (peer : EdgeId) (message : ℕ → Message) (kept : Peering) (work : Work) (said : List ℕ) (closed : Bool) → ShowsPlace peer.0 work (Some kept) said closed
+    → ShowsPlace peer.0 (says taken_all peer message work).work (Some (having_spoken kept)) (said ++ message_octets_of kept message) closed
 says_shows peer message kept work said closed shows =
-    subst (λ (w : Work). Shows peer.0 w (Some (having_spoken kept)) (said ++ message_octets_of kept message) closed) (sym (says_is peer message kept work shows.keeps))
+    subst (λ (w : Work). ShowsPlace peer.0 w (Some (having_spoken kept)) (said ++ message_octets_of kept message) closed) (sym (says_is peer message kept work shows.keeps))
     (wrote_shows peer kept (message_octets_of kept message) work said closed shows)
 
 -- ---- the peer
@@ -79,7 +79,7 @@ one_octets own message kept peers = ap (λ (p : Peers). written (message kept.ne
 
 pub left_says : (own other : Peers) (peer : EdgeId) (kept : Peering) (far : Option Peering) (out more : List ℕ) (message : ℕ → Message) (work : Work) → work.edge.peering peer.0
     ≡ Some kept → kept.session.phase ≡ phase.Operational
-    → IsOfWires message → IsLeft own other peer.0 far out more work → IsLeft own other peer.0 far out more (says taken_all peer message work).work
+    → IsOfWires message → IsLeftBehind own other peer.0 far out more work → IsLeftBehind own other peer.0 far out more (says taken_all peer message work).work
 left_says own other peer kept far out more message work at up is left =
     let said : List ℕ = said_to peer.0 work.effects in
     let unclosed : closes peer.0 work.effects ≡ false = left.unclosed kept at in

@@ -26,7 +26,7 @@ use Rattle.flight_laws.specs.Bound.{AreAnswers, AreBound, AreBoundBy, given_of, 
 use Rattle.flight_laws.specs.Coming.{and_more}
 use Rattle.flight_laws.specs.Ends.{HasTypes, WorksOn, ends_at}
 use Rattle.flight_laws.specs.Facts.{LeavesFor, flight}
-use Rattle.flight_laws.specs.Meeting.{IsFine, Shows, closes, said_to}
+use Rattle.flight_laws.specs.Meeting.{IsFine, ShowsPlace, closes, said_to}
 use Rattle.flight_laws.specs.Messages.{AreSaid, octets_of_all}
 use Rattle.flight_laws.specs.Pair.{AreTalking, IsStanding, StayInStep}
 use Rattle.flight_laws.proofs.BindingLemmas.{binding_renews}
@@ -80,7 +80,7 @@ held_steady plan me I besides held steady = record {
   says = λ peer message work up is i. (steady.says peer message work up is i.0, λ place here. says_holds place (held place) peer message work (i.1 place here));
 }
 
-comes_holds : (me peer : EdgeId) (kept : Peering) (said : List ℕ) (work : Work) (o : Outcome) → Shows peer.0 work (Some kept) said false → IsFine me work
+comes_holds : (me peer : EdgeId) (kept : Peering) (said : List ℕ) (work : Work) (o : Outcome) → ShowsPlace peer.0 work (Some kept) said false → IsFine me work
     → HoldsOctets kept.held ((comes_of taken_all peer kept o work).edge.peering peer.0)
 comes_holds me peer kept said work Stay shows fine = subst (HoldsOctets kept.held) (sym shows.keeps) refl
 comes_holds me peer kept said work (Goes next replies) shows fine =

@@ -20,7 +20,7 @@ use Rattle.edge_model.specs.State.{Peering, with_peering}
 use Rattle.edge_model.specs.Work.{Work, changes, gives, next_answer, puts}
 use Rattle.network_model.specs.Absorb.{taken_all}
 use Rattle.flight_laws.specs.Endings.{is_no_refusal}
-use Rattle.flight_laws.specs.Meeting.{IsFine, Shows, Spares, TellWell, TellsWell, closes, said_to}
+use Rattle.flight_laws.specs.Meeting.{IsFine, ShowsPlace, Spares, TellWell, TellsWell, closes, said_to}
 use Rattle.flight_laws.specs.Pair.{having_put_all, octets_put}
 
 cond_append : (b : Bool) (x y z : List ℕ) → cond b (x ++ (y ++ z)) (y ++ z) ≡ cond b (x ++ y) y ++ z
@@ -174,8 +174,8 @@ one_put : (peer : EdgeId) (kept : Peering) (r : Reply) (work : Work) → work.ed
 unfolding wrote
 one_put peer kept r work is = rw is refl
 
-pub wrote_shows : (peer : EdgeId) (kept : Peering) (bytes : List ℕ) (work : Work) (said : List ℕ) (closed : Bool) → Shows peer.0 work (Some kept) said closed
-    → Shows peer.0 (wrote peer bytes work) (Some (having_spoken kept)) (said ++ bytes) closed
+pub wrote_shows : (peer : EdgeId) (kept : Peering) (bytes : List ℕ) (work : Work) (said : List ℕ) (closed : Bool) → ShowsPlace peer.0 work (Some kept) said closed
+    → ShowsPlace peer.0 (wrote peer bytes work) (Some (having_spoken kept)) (said ++ bytes) closed
 unfolding wrote gives changes with_spoken with_peering puts
 wrote_shows peer kept bytes work said closed shows = record {
   keeps = rw (same_number peer.0, shows.keeps) refl;
@@ -194,10 +194,10 @@ wrote_spares place peer bytes work apart = put_octets_spares place peer bytes tr
 -- what was put, all of it
 pub record HasPut (me peer : EdgeId) (kept : Option Peering) (said : List ℕ) (closed : Bool) (put : Spoken) : Type 0 where
   pub taken : put.failed ≡ false
-  pub shows : Shows peer.0 put.work kept said closed
+  pub shows : ShowsPlace peer.0 put.work kept said closed
   pub fine : IsFine me put.work
 
-pub all_put : (me peer : EdgeId) (rs : List Reply) (kept : Peering) (work : Work) (said : List ℕ) (closed : Bool) → Shows peer.0 work (Some kept) said closed → IsFine me work
+pub all_put : (me peer : EdgeId) (rs : List Reply) (kept : Peering) (work : Work) (said : List ℕ) (closed : Bool) → ShowsPlace peer.0 work (Some kept) said closed → IsFine me work
     → HasPut me peer (Some (having_put_all rs kept)) (said ++ octets_put rs kept) closed (put_replies taken_all peer rs work)
 all_put me peer [] kept work said closed shows fine = record { taken = refl; shows = record { keeps = shows.keeps; says = shows.says ∙ sym (same_end said); ended = shows.ended }; fine = fine }
 all_put me peer (r ∷ rs) kept work said closed shows fine =
@@ -206,9 +206,9 @@ all_put me peer (r ∷ rs) kept work said closed shows fine =
     (wrote_fine me peer (octets_of kept r) work fine))
 
 -- a session ends
-pub ends_shows : (me peer : EdgeId) (why : Reason) (kept : Option Peering) (work : Work) (said : List ℕ) (closed : Bool) → is_no_refusal why ≡ true → Shows peer.0 work kept said closed
+pub ends_shows : (me peer : EdgeId) (why : Reason) (kept : Option Peering) (work : Work) (said : List ℕ) (closed : Bool) → is_no_refusal why ≡ true → ShowsPlace peer.0 work kept said closed
     → IsFine me work
-    → Shows peer.0 (ends peer why work) None said true × IsFine me (ends peer why work)
+    → ShowsPlace peer.0 (ends peer why work) None said true × IsFine me (ends peer why work)
 unfolding gives changes with_peering
 ends_shows me peer why kept work said closed well shows fine = (
   record {

@@ -28,10 +28,10 @@ use Rattle.edge_model.specs.Work.{Work, changes, gives, puts}
 use Rattle.network_model.specs.Absorb.{absorb, absorb_all, begin_at, taken_all}
 use Rattle.network_model.specs.State.{NetworkState, with_edge}
 use Rattle.flight_laws.specs.Coming.{and_more}
-use Rattle.flight_laws.specs.Ends.{HasTypes, IsLeft, IsOrdered, IsPaired, KeepsOrder, LeftFor, WorksOn, ends_at}
+use Rattle.flight_laws.specs.Ends.{HasTypes, IsLeftBehind, IsOrdered, IsPaired, KeepsOrder, LeftFor, WorksOn, ends_at}
 use Rattle.flight_laws.specs.Sound.{TellsSoundly, point_limit}
 use Rattle.flight_laws.specs.Facts.{HoldsBut, Turns, flight}
-use Rattle.flight_laws.specs.Meeting.{IsFine, Leaves, Meets, Shows, Spares, closes, said_to}
+use Rattle.flight_laws.specs.Meeting.{IsFine, Leaves, Meets, ShowsPlace, Spares, closes, said_to}
 use Rattle.flight_laws.specs.Messages.{octets_of_all}
 use Rattle.flight_laws.specs.Pair.{ArePaired, AreTalking, StandsIf, StayInStep, having_put_all, is_in_step}
 use Rattle.flight_laws.proofs.BridgeLemmas.{bridged_fine, bridged_spares}
@@ -138,8 +138,8 @@ works_begin plan network me ordered = record {
 
 -- ---- nothing else for a place
 
-pub left_spared : (own other : Peers) (place : ℕ) (far : Option Peering) (out more : List ℕ) (old new : Work) → Spares place old new → IsLeft own other place far out more old
-    → IsLeft own other place far out more new
+pub left_spared : (own other : Peers) (place : ℕ) (far : Option Peering) (out more : List ℕ) (old new : Work) → Spares place old new → IsLeftBehind own other place far out more old
+    → IsLeftBehind own other place far out more new
 left_spared own other place far out more old new spared left = record {
   leaves = rw (spared.kept, spared.said, spared.closed) left.leaves;
   unclosed = λ kept is. spared.closed ∙ left.unclosed kept (sym spared.kept ∙ is);
@@ -174,7 +174,7 @@ unfolding gives
 told_edge peer true new work = refl
 told_edge peer false new work = refl
 
-comes_keeps : (me peer : EdgeId) (kept : Peering) (said : List ℕ) (work : Work) (o : Outcome) → Shows peer.0 work (Some kept) said false → IsFine me work
+comes_keeps : (me peer : EdgeId) (kept : Peering) (said : List ℕ) (work : Work) (o : Outcome) → ShowsPlace peer.0 work (Some kept) said false → IsFine me work
     → KeepsHeld kept.held ((comes_of taken_all peer kept o work).edge.peering peer.0)
 comes_keeps me peer kept said work Stay shows fine = rw shows.keeps refl
 comes_keeps me peer kept said work (Goes next replies) shows fine =
@@ -191,9 +191,9 @@ no_end kept e = cc
 
 -- what an edge in step leaves, where it still holds what it held
 meets_left : (own other : Peers) (me peer : EdgeId) (far : Option Peering) (out octets more : List ℕ) (answers : List Message) (work : Work) → octets ++ more ≡ octets_of_all other.me answers
-    → KeepsHeld octets (work.edge.peering peer.0) → Meets own other me peer far out answers work → IsLeft own other peer.0 far out more work
+    → KeepsHeld octets (work.edge.peering peer.0) → Meets own other me peer far out answers work → IsLeftBehind own other peer.0 far out more work
 meets_left own other me peer far out octets more answers work is same meets = by_end (work.edge.peering peer.0) refl where
-  by_end : (near : Option Peering) → work.edge.peering peer.0 ≡ near → IsLeft own other peer.0 far out more work
+  by_end : (near : Option Peering) → work.edge.peering peer.0 ≡ near → IsLeftBehind own other peer.0 far out more work
   by_end None at = record { leaves = (gone_leaves own other me peer far out more answers work at meets).1; unclosed = λ kept e. absurd (no_end kept (sym at ∙ e)) }
   by_end (Some kept) at =
       let unclosed : closes peer.0 work.effects ≡ false = meets.ended ∙ ap (λ (o : Option Peering). not (is_there o)) at in
@@ -209,16 +209,16 @@ TakesNothing event = (own other : Peers) (kept : Peering) (far : Option Peering)
     → StayInStep own other kept far messages answers (outcome_of kept.session event)
 
 pub happens_left : (own other : Peers) (me peer : EdgeId) (far : Option Peering) (out more : List ℕ) (event : SessionEvent) (work : Work) → TakesNothing event → IsFine me work
-    → IsLeft own other peer.0 far out more work → IsFine me (happens_with_ends taken_all peer event work) × IsLeft own other peer.0 far out more (happens_with_ends taken_all peer event work)
+    → IsLeftBehind own other peer.0 far out more work → IsFine me (happens_with_ends taken_all peer event work) × IsLeftBehind own other peer.0 far out more (happens_with_ends taken_all peer event work)
 happens_left own other me peer far out more event work takes fine left = cleared (by_end (work.edge.peering peer.0) refl) where
-  cleared : IsFine me (happens taken_all peer event work) × IsLeft own other peer.0 far out more (happens taken_all peer event work)
-      → IsFine me (happens_with_ends taken_all peer event work) × IsLeft own other peer.0 far out more (happens_with_ends taken_all peer event work)
+  cleared : IsFine me (happens taken_all peer event work) × IsLeftBehind own other peer.0 far out more (happens taken_all peer event work)
+      → IsFine me (happens_with_ends taken_all peer event work) × IsLeftBehind own other peer.0 far out more (happens_with_ends taken_all peer event work)
   cleared both = (
     clears_fine me peer (happens taken_all peer event work) both.0,
     left_spared own other peer.0 far out more (happens taken_all peer event work) (happens_with_ends taken_all peer event work) (clears_spares peer.0 peer (happens taken_all peer event work)) both.1,
   )
 
-  by_end : (near : Option Peering) → work.edge.peering peer.0 ≡ near → IsFine me (happens taken_all peer event work) × IsLeft own other peer.0 far out more (happens taken_all peer event work)
+  by_end : (near : Option Peering) → work.edge.peering peer.0 ≡ near → IsFine me (happens taken_all peer event work) × IsLeftBehind own other peer.0 far out more (happens taken_all peer event work)
   by_end None at = rw at (fine, left)
   by_end (Some kept) at =
       let unclosed : closes peer.0 work.effects ≡ false = left.unclosed kept at in

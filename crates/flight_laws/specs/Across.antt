@@ -50,16 +50,16 @@ RunsTellAcross = (plan : Plan) (events : List Event) → IsRun plan events → (
 -- ---- what is taken
 
 -- the end that a Label Mapping names takes what the mapping tells
-abbrev pub IsTaken : Plan → (me peer : ℕ) → Message → Type 0
-IsTaken plan me peer (LabelMapping id fec label status points) =
+abbrev pub IsMappingTaken : Plan → (me peer : ℕ) → Message → Type 0
+IsMappingTaken plan me peer (LabelMapping id fec label status points) =
     (place : EndPlace) → option_and_then (end_named plan (record { 0 = me }) (record { 0 = peer })) fec.pw_id ≡ Some place → takes_content plan (record { 0 = me }) place (told_with fec status points) ≡ true
-IsTaken plan me peer message = Unit {0}
+IsMappingTaken plan me peer message = Unit {0}
 
 -- whatever is on its way from an edge to another one
 pub record TakesAll (plan : Plan) (network : NetworkState) (from to : ℕ) : Type 0 where
   pub messages : List Message
   pub on_way : AreOnWay plan network from to messages
-  pub taken : AllMessages (IsTaken plan to from) messages
+  pub taken : AllMessages (IsMappingTaken plan to from) messages
 
 -- no switching point refuses a Label Mapping for its points (RFC 6073 section 7.6)
 abbrev pub RunsTakeMappings : Type 0

@@ -59,14 +59,14 @@ pub record IsOrdered (plan : Plan) (network : NetworkState) : Type 0 where
 -- ---- an edge at work in such a network
 
 -- what it leaves for a place, whose end was not closed where it stands
-pub record IsLeft (own other : Peers) (place : ℕ) (far : Option Peering) (out more : List ℕ) (work : Work) : Type 0 where
+pub record IsLeftBehind (own other : Peers) (place : ℕ) (far : Option Peering) (out more : List ℕ) (work : Work) : Type 0 where
   pub leaves : Leaves own other place far out more work
   pub unclosed : (kept : Peering) → work.edge.peering place ≡ Some kept → closes place work.effects ≡ false
 
 -- the same of a place of the network
 abbrev pub LeftFor : Plan → NetworkState → EdgeId → Work → ℕ → Type 0
 LeftFor plan network me work place =
-    IsLeft (ends_at plan me.0 place) (ends_at plan place me.0) place ((network.edges place).peering me.0) (flight network me.0 place) (network.pipes place me.0) work
+    IsLeftBehind (ends_at plan me.0 place) (ends_at plan place me.0) place ((network.edges place).peering me.0) (flight network me.0 place) (network.pipes place me.0) work
 
 pub record WorksOn (plan : Plan) (network : NetworkState) (me : EdgeId) (work : Work) : Type 0 where
   pub fine : IsFine me work

@@ -35,7 +35,7 @@ TellWell [] = Unit {0}
 TellWell (e ∷ es) = TellsWell e × TellWell es
 
 -- what the work is for a place
-pub record Shows (place : ℕ) (work : Work) (kept : Option Peering) (said : List ℕ) (closed : Bool) : Type 0 where
+pub record ShowsPlace (place : ℕ) (work : Work) (kept : Option Peering) (said : List ℕ) (closed : Bool) : Type 0 where
   pub keeps : work.edge.peering place ≡ kept
   pub says : said_to place work.effects ≡ said
   pub ended : closes place work.effects ≡ closed

@@ -19,12 +19,12 @@ use Rattle.hvpls_spokes.specs.declared.port.Port.{Port}
 use Rattle.hvpls_spokes.specs.declared.port.Port.TheVariants as port
 use Rattle.hvpls_spokes.specs.declared.port_name.PortName.{PortName}
 use Rattle.hvpls_spokes.specs.declared.port_name.PortName.TheVariants as name
-use Rattle.hvpls_spokes.specs.Port.{ArePortsInOrder, circuit_ports, is_named_port, name_of, ports_of, precedes, wire_port, wire_ports}
+use Rattle.hvpls_spokes.specs.Port.{ArePortsInOrder, circuit_ports, is_named_port, port_name_of, ports_of, precedes, wire_port, wire_ports}
 use Rattle.hvpls_spokes.proofs.RowPortLemmas.{circuit_made, circuits_made, made_ports, wires_made}
 
 -- the first port comes before the second one
 abbrev Precedes : Port → Port → Type 0
-Precedes first second = precedes (name_of second) first ≡ true
+Precedes first second = precedes (port_name_of second) first ≡ true
 
 -- ---- ports that are made of rows in order
 

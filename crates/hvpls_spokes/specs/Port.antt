@@ -78,10 +78,10 @@ ports_of plan service edge = circuit_ports 0 plan.circuits service edge ++ wire_
 -- ---- ports by their names
 
 -- what names the port
-abbrev pub name_of : Port → PortName
-name_of (port.Circuit circuit) = name.Circuit circuit
-name_of (port.Mesh wire) = name.Wire wire
-name_of (port.Spoke wire) = name.Wire wire
+abbrev pub port_name_of : Port → PortName
+port_name_of (port.Circuit circuit) = name.Circuit circuit
+port_name_of (port.Mesh wire) = name.Wire wire
+port_name_of (port.Spoke wire) = name.Wire wire
 
 -- the port has this name
 abbrev pub is_named_port : PortName → Port → Bool
@@ -99,4 +99,4 @@ precedes (name.Wire wire) (port.Spoke at) = nat_lt at.0 wire.0
 
 -- circuits in the order of the plan, and then wires in the order of the plan
 abbrev pub ArePortsInOrder : List Port → Type 0
-ArePortsInOrder ports = AllPairs (λ first second. precedes (name_of second) first ≡ true) ports
+ArePortsInOrder ports = AllPairs (λ first second. precedes (port_name_of second) first ≡ true) ports

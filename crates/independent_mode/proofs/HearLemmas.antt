@@ -22,9 +22,9 @@ use Rattle.ldp_stream.proofs.FrontOfLemmas.{front_is_read}
 use Rattle.pw_messages.specs.LinkAnswers.{Answers}
 use Rattle.independent_model.specs.declared.indep_stop.IndepStop.{IndepStop}
 use Rattle.independent_model.specs.declared.indep_stop.IndepStop.TheVariants as stop
-use Rattle.independent_mode.specs.Receiver.{HasReceiver, HasNoReceiver, IsGot, IsHearing, IsNext, IsRefused, IsTakenOut, IsWaiting, receiver_of, heard_by, kept_after}
+use Rattle.independent_mode.specs.Receiver.{HasReceiver, HasNoReceiver, IsGot, IsHearing, IsNext, IsReceiverRefused, IsTakenOut, IsWaiting, receiver_of, heard_by, kept_after}
 use Rattle.independent_model.specs.Hear.{hears_all, hears_at, hears_by, hears_few, hears_front, hears_message, hears_messages}
-use Rattle.independent_model.specs.Calls.{hears, hears_on}
+use Rattle.independent_model.specs.Calls.{independent_hears, hears_on}
 use Rattle.independent_mode.specs.Heard.{HearsTo}
 use Rattle.independent_model.specs.State.{ConnectionState, Stopped, Receiver, IndepState, Receiving, Broken, receiver_set, with_connection, with_receiver, with_remote, without_remotes}
 use Rattle.independent_model.specs.Wires.{is_between, is_row_between}
@@ -133,7 +133,7 @@ module _ (plan : Plan) (told : Answers) (me : ℕ) (peer : EdgeId) where
       is = going_is s waits.going
 
   -- there is a fault in front
-  pub at_refused : (old new : StreamState) (answer : StreamFault) (more : List ℕ) (edge : IndepState) (calls : List LinkCall) → IsRefused old new answer → AreOctets more
+  pub at_refused : (old new : StreamState) (answer : StreamFault) (more : List ℕ) (edge : IndepState) (calls : List LinkCall) → IsReceiverRefused old new answer → AreOctets more
       → hears_at plan told me peer (receiver_of old) more edge calls ≡ Stops (stop.Refused answer) (with_receiver peer.0 (receiver_of new) edge) calls
   at_refused old new answer more edge calls refused octets = by refused.cause ∙ rw (refused.is, refused.receiver) refl
     where
@@ -213,7 +213,7 @@ on_ok plan told me peer r done s more edge calls whole is to = subst (λ x. Hear
 
 -- it hears nothing
 pub hears_none : (plan : Plan) (told : Answers) (me : ℕ) (peer : EdgeId) (octets : List ℕ) (edge : IndepState) (calls : List LinkCall) → HasNoReceiver (edge.connection peer.0)
-    → hears plan told me peer octets edge calls ≡ Goes edge calls
+    → independent_hears plan told me peer octets edge calls ≡ Goes edge calls
 hears_none plan told me peer octets edge calls none = by (edge.connection peer.0) none
   where
     by : (o : Option ConnectionState) → HasNoReceiver o → hears_on plan told me peer octets o edge calls ≡ Goes edge calls
@@ -245,7 +245,7 @@ back peer kept receiver edge is same = λ i. record edge { connection = λ k. by
 -- a stream that is heard on
 pub hears_stream : (plan : Plan) (told : Answers) (me : ℕ) (peer : EdgeId) (octets : List ℕ) (s : StreamState) (edge : IndepState) (calls : List LinkCall)
     → HasReceiver (receiver_of s) (edge.connection peer.0)
-    → hears plan told me peer octets edge calls ≡ hears_at plan told me peer (receiver_of s) octets (with_receiver peer.0 Stopped edge) calls
+    → independent_hears plan told me peer octets edge calls ≡ hears_at plan told me peer (receiver_of s) octets (with_receiver peer.0 Stopped edge) calls
 hears_stream plan told me peer octets s edge calls has = by (edge.connection peer.0) refl has
   where
     same : (receiver : Receiver) (kept : ConnectionState) → edge.connection peer.0 ≡ Some kept → kept.receiver ≡ receiver → IsHearing receiver
@@ -266,7 +266,7 @@ hears_stream plan told me peer octets s edge calls has = by (edge.connection pee
 -- all of a call
 pub heard_comes : {T : Type 0} (plan : Plan) (told : Answers) (me : ℕ) (peer : EdgeId) (octets : List ℕ) (s now : StreamState) (r : Result T IndepStop) (edge first next last : IndepState) (calls after : List LinkCall)
     → IsTakenOut peer.0 edge first (Some s) → Comes r (kept_after peer.0 now r next) after (hears_at plan told me peer (receiver_of s) octets first calls) → last ≡ kept_after peer.0 now r next
-    → Comes r last after (hears plan told me peer octets edge calls)
+    → Comes r last after (independent_hears plan told me peer octets edge calls)
 heard_comes {T = T} plan told me peer octets s now r edge first next last calls after out comes is =
     subst (λ (o : Outcome). Comes r last after o) (sym (hears_stream plan told me peer octets s edge calls out.1))
     (subst (λ (e : IndepState). Comes r e after (hears_at plan told me peer (receiver_of s) octets (with_receiver peer.0 Stopped edge) calls)) (sym is)

@@ -11,7 +11,7 @@ use Rattle.ldp_stream.specs.FrontOf.{More, Got, Bad, front_of}
 use Rattle.ldp_stream.specs.State.{IsFaultOf, IsStreamRefused, Passes, StreamState, Waits, empty, place_behind}
 use Rattle.ldp_stream.specs.declared.stream_fault.StreamFault.TheVariants as fault
 use Rattle.ldp_stream.proofs.FrontOfLemmas.{front_is_read}
-use Rattle.independent_mode.specs.Receiver.{IsReceiver, IsGot, IsRefused, IsWaiting, receiver_of}
+use Rattle.independent_mode.specs.Receiver.{IsReceiver, IsGot, IsReceiverRefused, IsWaiting, receiver_of}
 
 pub empty_receiver : (s : StreamState) → s ≡ empty → IsReceiver s
 empty_receiver s is = subst IsReceiver (sym is) (record { octets = λ at. grind (arith); max = refl })
@@ -58,7 +58,7 @@ waited_receiver old new receiver waits = subst IsReceiver (sym waits.unchanged) 
 
 -- ---- a fault
 
-pub next_refused : (old new : StreamState) (base : ℕ) (refusal : DecodeFault) → IsReceiver old → IsStreamRefused old new base refusal → IsRefused old new (fault.Refused base refusal)
+pub next_refused : (old new : StreamState) (base : ℕ) (refusal : DecodeFault) → IsReceiver old → IsStreamRefused old new base refusal → IsReceiverRefused old new (fault.Refused base refusal)
 next_refused old new base refusal receiver refused = record {
   wrong = refused.fault;
   cause = cause refused.stands;

@@ -11,20 +11,20 @@ use Rattle.pw_messages.specs.LinkAnswers.{Agrees, Answers}
 use Rattle.independent_model.specs.declared.indep_stop.IndepStop.TheVariants as stop
 use Rattle.independent_model.specs.State.{ConnectionState, Stopped, Receiver, IndepState, receiver_set, id_next, spoken, with_connection, with_receiver}
 use Rattle.ldp_stream.specs.State.{StreamState}
-use Rattle.independent_mode.specs.Lists.{IndepLists, Keeps}
+use Rattle.independent_mode.specs.Lists.{IndepLists, KeepsIndependent}
 use Rattle.independent_mode.specs.Receiver.{HasReceiver, HasNoReceiver, IsTakenOut, receiver_in, receiver_of}
 use Rattle.independent_model.specs.Tell.{octets_on, puts, tells, tells_by, tells_from, tells_in, tells_place}
-use Rattle.independent_model.specs.Work.{Goes, GoesOn, Outcome, Stops, and_then}
+use Rattle.independent_model.specs.Work.{Goes, CallsGoOn, Outcome, Stops, and_then}
 
 -- ---- calls that go on
 
-pub same_calls : (calls : List LinkCall) → GoesOn calls calls
+pub same_calls : (calls : List LinkCall) → CallsGoOn calls calls
 same_calls calls = record { longer = omega arith; same = λ k d within. refl }
 
-pub goes_both : (a b c : List LinkCall) → GoesOn a b → GoesOn b c → GoesOn a c
+pub goes_both : (a b c : List LinkCall) → CallsGoOn a b → CallsGoOn b c → CallsGoOn a c
 goes_both a b c one two = record { longer = omega (arith, one.longer, two.longer); same = λ k d within. two.same k d (omega (arith, within, one.longer)) ∙ one.same k d within }
 
-pub agrees_before : (told : Answers) (old new : List LinkCall) → GoesOn old new → Agrees told new → Agrees told old
+pub agrees_before : (told : Answers) (old new : List LinkCall) → CallsGoOn old new → Agrees told new → Agrees told old
 agrees_before told old new goes agrees = record { each = λ k d within. ap (λ (c : LinkCall). c.taken) (sym (goes.same k d within)) ∙ agrees.each k d (omega (arith, within, goes.longer)) }
 
 -- what was told of the call that came last
@@ -38,7 +38,7 @@ told_last told calls new call is agrees = sym (here.each (length calls) call (wi
     within [] = omega arith
     within (x ∷ xs) = omega (arith, within xs)
 
-pub keeps_both : (a b c : IndepLists) → Keeps a b → Keeps b c → Keeps a c
+pub keeps_both : (a b c : IndepLists) → KeepsIndependent a b → KeepsIndependent b c → KeepsIndependent a c
 keeps_both a b c one two = record { plan = two.plan ∙ one.plan; me = two.me ∙ one.me }
 
 -- ---- what is kept for one peer

@@ -50,7 +50,7 @@ pub record IsWaiting (s : StreamState) : Type 0 where
   pub room : length s.held < 4100
 
 -- there is a fault in front, or it was answered before
-pub record IsRefused (old new : StreamState) (answer : StreamFault) : Type 0 where
+pub record IsReceiverRefused (old new : StreamState) (answer : StreamFault) : Type 0 where
   pub wrong : Fault
   pub cause : (old.refused ≡ Some wrong) ⊎ ((old.refused ≡ None) × (front_of 4096 old.held ≡ Bad wrong))
   pub is : answer ≡ fault.Refused old.base (refusal_of wrong)
@@ -61,7 +61,7 @@ abbrev pub IsNext : StreamState → StreamState → Result (Option Pdu) IndepSto
 IsNext old new (Ok (Some pdu)) = IsGot old new pdu
 IsNext old new (Ok None) = IsWaiting new × (new ≡ old)
 IsNext old new (Err stop.Link) = ⊥
-IsNext old new (Err (stop.Refused answer)) = IsRefused old new answer
+IsNext old new (Err (stop.Refused answer)) = IsReceiverRefused old new answer
 IsNext old new (Err stop.NoMemory) = Unit {0}
 
 -- ---- it is taken out of a connection, and put back

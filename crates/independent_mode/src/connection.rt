@@ -2,7 +2,7 @@
 ghost use Rattle.std.specs.Prelude.{◌≡◌, ◌≤◌, ◌<◌, ◌+◌, ◌++◌, ℕ, List, None, Some, IfOk, length, take, drop};
 ghost use Rattle.ldp_stream.specs.State.{empty};
 ghost use Rattle.independent_mode.specs.Receiver.{Holds, IsNext, receiver_in, receiver_of};
-ghost use Rattle.independent_model.specs.State.{Stopped, receiver_set, fresh, spoken};
+ghost use Rattle.independent_model.specs.State.{Stopped, receiver_set, fresh_connection, spoken};
 
 use crate::IndepStop;
 use ldp_grammar::Pdu;
@@ -95,7 +95,7 @@ impl Model for Connection {
 impl Connection {
     /// A connection of which nothing came yet; messages are numbered from 1.
     pub fn new(alloc: Global) -> Result<Connection, NoMemory>
-        ensures { IfOk result (λ connection. connection ≡ fresh) }
+        ensures { IfOk result (λ connection. connection ≡ fresh_connection) }
     {
         Ok(Connection {
             stream: Some(PeerStream::new(alloc)?),

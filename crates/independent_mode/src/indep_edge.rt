@@ -3,13 +3,13 @@ ghost use Rattle.std.specs.Prelude.{◌≡◌, ◌<◌, ◌↔◌, ℕ, Some, No
 ghost use Rattle.net_base.specs.plan.Accepted.{IsChecked};
 ghost use Rattle.pw_messages.specs.LinkAnswers.{Agrees, Answers};
 ghost use Rattle.status_exchange.specs.Wish.{is_same_wish};
-ghost use Rattle.independent_model.specs.Calls.{connects, hears, is_connected, loses, sets, uses};
-ghost use Rattle.independent_mode.specs.Lists.{Keeps, seen};
+ghost use Rattle.independent_model.specs.Calls.{independent_connects, independent_hears, is_connected, loses, sets, uses};
+ghost use Rattle.independent_mode.specs.Lists.{KeepsIndependent, independent_seen};
 ghost use Rattle.independent_mode.specs.Receiver.{HoldsBy};
 ghost use Rattle.independent_model.specs.State.{first_state};
 ghost use Rattle.independent_model.specs.Stops.{EndsBy};
 ghost use Rattle.independent_model.specs.Wires.{other_end};
-ghost use Rattle.independent_model.specs.Work.{Comes, GoesOn, NeverRefused};
+ghost use Rattle.independent_model.specs.Work.{Comes, CallsGoOn, NeverRefused};
 
 mod hearing;
 mod opening;
@@ -56,11 +56,11 @@ impl IndepEdge {
         link: &mut L,
     ) -> Result<(), IndepStop>
         requires within { peer.0 < length self.old.plan.edges }
-        ensures keeps { Keeps self.old self.new }
-        ensures goes { GoesOn (L.calls link.old) (L.calls link.new) }
+        ensures keeps { KeepsIndependent self.old self.new }
+        ensures goes { CallsGoOn (L.calls link.old) (L.calls link.new) }
         ensures never { NeverRefused result }
         ensures ends { EndsBy (L.calls link.old) (L.calls link.new) result }
-        ensures step { (told : Answers) → Agrees told (L.calls link.new) → Comes result (seen self.new) (L.calls link.new) (connects self.old.plan told self.old.me.0 peer (seen self.old) (L.calls link.old)) }
+        ensures step { (told : Answers) → Agrees told (L.calls link.new) → Comes result (independent_seen self.new) (L.calls link.new) (independent_connects self.old.plan told self.old.me.0 peer (independent_seen self.old) (L.calls link.old)) }
     {
         let connection = Connection::new(alloc)?;
         self.put_connection(peer, Some(connection));
@@ -79,10 +79,10 @@ impl IndepEdge {
         link: &mut L,
     ) -> Result<(), IndepStop>
         requires within { peer.0 < length self.old.plan.edges }
-        ensures keeps { Keeps self.old self.new }
-        ensures goes { GoesOn (L.calls link.old) (L.calls link.new) }
+        ensures keeps { KeepsIndependent self.old self.new }
+        ensures goes { CallsGoOn (L.calls link.old) (L.calls link.new) }
         ensures ends { EndsBy (L.calls link.old) (L.calls link.new) result }
-        ensures step { (told : Answers) → Agrees told (L.calls link.new) → Comes result (seen self.new) (L.calls link.new) (hears self.old.plan told self.old.me.0 peer bytes.now (seen self.old) (L.calls link.old)) }
+        ensures step { (told : Answers) → Agrees told (L.calls link.new) → Comes result (independent_seen self.new) (L.calls link.new) (independent_hears self.old.plan told self.old.me.0 peer bytes.now (independent_seen self.old) (L.calls link.old)) }
     {
         let Some(mut receiver) = self.take_receiver(peer) else {
             return Ok(());
@@ -95,8 +95,8 @@ impl IndepEdge {
     /// A connection with a peer is lost, and what is known by it.
     pub fn lost(&mut self, peer: EdgeId)
         requires within { peer.0 < length self.old.plan.edges }
-        ensures keeps { Keeps self.old self.new }
-        ensures step { seen self.new ≡ loses self.old.plan self.old.me.0 peer (seen self.old) }
+        ensures keeps { KeepsIndependent self.old self.new }
+        ensures step { independent_seen self.new ≡ loses self.old.plan self.old.me.0 peer (independent_seen self.old) }
     {
         self.put_connection(peer, None);
         self.forget(peer);
@@ -114,12 +114,12 @@ impl IndepEdge {
         link: &mut L,
     ) -> Result<bool, IndepStop>
         requires ends { is_some (other_end self.old.plan self.old.me.0 wire.0) ≡ true }
-        ensures keeps { Keeps self.old self.new }
-        ensures goes { GoesOn (L.calls link.old) (L.calls link.new) }
+        ensures keeps { KeepsIndependent self.old self.new }
+        ensures goes { CallsGoOn (L.calls link.old) (L.calls link.new) }
         ensures never { NeverRefused result }
         ensures ends { EndsBy (L.calls link.old) (L.calls link.new) result }
-        ensures same { (result ≡ Ok false) ↔ (is_same_wish ((seen self.old).local wire.0) to ≡ true) }
-        ensures step { (told : Answers) → Agrees told (L.calls link.new) → Comes result (seen self.new) (L.calls link.new) (sets self.old.plan told self.old.me.0 wire.0 to (seen self.old) (L.calls link.old)) }
+        ensures same { (result ≡ Ok false) ↔ (is_same_wish ((independent_seen self.old).local wire.0) to ≡ true) }
+        ensures step { (told : Answers) → Agrees told (L.calls link.new) → Comes result (independent_seen self.new) (L.calls link.new) (sets self.old.plan told self.old.me.0 wire.0 to (independent_seen self.old) (L.calls link.old)) }
     {
         let wire = wire.0 as usize;
         if self.wish(wire) == to {
@@ -136,7 +136,7 @@ impl IndepEdge {
     /// the wire active, and the last status that it has heard on this connection is without standby.
     pub fn uses(&self, wire: WireId) -> bool
         requires wire { wire.0 < length self.now.plan.wires }
-        ensures { result ≡ uses self.now.plan self.now.me.0 (seen self.now) wire.0 }
+        ensures { result ≡ uses self.now.plan self.now.me.0 (independent_seen self.now) wire.0 }
     {
         let wire = wire.0 as usize;
         match self.other_end(wire) {
@@ -148,23 +148,23 @@ impl IndepEdge {
     /// Whether the edge calls a wire of the plan so already; `set` then answers false.
     pub fn calls_so(&self, wire: WireId, wish: Wish) -> bool
         requires wire { wire.0 < length self.now.plan.wires }
-        ensures { result ≡ is_same_wish ((seen self.now).local wire.0) wish }
+        ensures { result ≡ is_same_wish ((independent_seen self.now).local wire.0) wish }
     {
         self.wish(wire.0 as usize) == wish
     }
 
     /// Whether the edge is connected with a peer.
     pub fn is_connected(&self, peer: EdgeId) -> bool
-        ensures { result ≡ is_connected (seen self.now) peer.0 }
+        ensures { result ≡ is_connected (independent_seen self.now) peer.0 }
     {
         self.next_id(peer).is_some()
     }
 
     /// How many octets of a peer are held that are no whole PDU yet: 0 where the edge is not connected with it. Of octets that were refused
     /// nothing is said.
-    #[tactic(auto, unfolding(crate::specs::Lists::seen))]
+    #[tactic(auto, unfolding(crate::specs::Lists::independent_seen))]
     pub fn held(&self, peer: EdgeId) -> usize
-        ensures { HoldsBy result ((seen self.now).connection peer.0) }
+        ensures { HoldsBy result ((independent_seen self.now).connection peer.0) }
     {
         match self.connections.get(peer.0 as usize) {
             Some(Some(connection)) => connection.held(),

@@ -19,7 +19,7 @@ use Rattle.ldp_stream.proofs.ParsedLemmas.{one_parsing}
 use Rattle.ldp_stream.proofs.StreamLemmas.{within_places}
 use Rattle.pw_messages.specs.Content.{pw_status_code}
 use Rattle.pw_messages.specs.LinkAnswers.{Answers}
-use Rattle.status_exchange.specs.Wish.{is_told}
+use Rattle.status_exchange.specs.Wish.{is_status_told}
 use Rattle.independent_model.specs.declared.indep_stop.IndepStop.TheVariants as stop
 use Rattle.independent_model.specs.Hear.{hears_few, hears_front, hears_message, hears_messages, hears_notice, hears_of, hears_status, learns}
 use Rattle.independent_model.specs.State.{ConnectionState, Stopped, IndepState, with_receiver}
@@ -57,7 +57,7 @@ module _ (plan : Plan) (told : Answers) (me : ℕ) (peer : EdgeId) where
       by_row (Some row) = by_peer row (e.connection peer.0)
 
   status_none : (k : ℕ) (s : PwStatus) (e : IndepState) (c : List LinkCall) → NoneRefused (hears_status plan told me peer k s e c)
-  status_none k s e c = by (is_told s (e.local k))
+  status_none k s e c = by (is_status_told s (e.local k))
     where
       by : (b : Bool) → NoneRefused (if b then tells plan told me peer k (learns k s e) c else Goes (learns k s e) c)
       by true = tells_none k (learns k s e) c

@@ -15,12 +15,12 @@ use Rattle.ldp_stream.specs.State.{place_behind}
 use Rattle.pw_messages.specs.Content.{pw_status_code}
 use Rattle.pw_messages.specs.LinkAnswers.{Agrees, Answers}
 use Rattle.status_exchange.specs.declared.wish.Wish.{Wish}
-use Rattle.status_exchange.specs.Wish.{is_same_wish, is_told}
+use Rattle.status_exchange.specs.Wish.{is_same_wish, is_status_told}
 use Rattle.independent_model.specs.declared.indep_stop.IndepStop.{IndepStop}
 use Rattle.independent_model.specs.declared.indep_stop.IndepStop.TheVariants as stop
-use Rattle.independent_model.specs.Calls.{hears, hears_on, sets, tells_other}
+use Rattle.independent_model.specs.Calls.{independent_hears, hears_on, sets, tells_other}
 use Rattle.independent_model.specs.Hear.{hears_at, hears_by, hears_few, hears_front, hears_message, hears_messages, hears_notice, hears_of, hears_status, learns}
-use Rattle.independent_model.specs.State.{ConnectionState, Stopped, Receiver, IndepState, Receiving, Broken, fresh, with_connection, with_receiver, with_local}
+use Rattle.independent_model.specs.State.{ConnectionState, Stopped, Receiver, IndepState, Receiving, Broken, fresh_connection, with_connection, with_receiver, with_local}
 use Rattle.independent_model.specs.Tell.{octets_on, puts, tells, tells_by, tells_from, tells_in, tells_place}
 use Rattle.independent_model.specs.Wires.{is_between, other_end, wire_named}
 use Rattle.independent_model.specs.Work.{Comes, Goes, NeverRefused, Outcome, Stops, and_then}
@@ -87,7 +87,7 @@ module _ (told : Answers) where
     from_ends k (suc n) e c = then_ends (length c) (tells_place plan told me peer k e c) (λ e c. tells_from plan told me peer (k + 1) n e c) (place_ends k e c) (λ e c. from_ends (k + 1) n e c)
 
     status_ends : (k : ℕ) (s : PwStatus) (e : IndepState) (c : List LinkCall) → EndsAs told (length c) (hears_status plan told me peer k s e c)
-    status_ends k s e c = by (is_told s (e.local k))
+    status_ends k s e c = by (is_status_told s (e.local k))
       where
         by : (b : Bool) → EndsAs told (length c) (if b then tells plan told me peer k (learns k s e) c else Goes (learns k s e) c)
         by true = tells_end k (learns k s e) c
@@ -126,7 +126,7 @@ module _ (told : Answers) where
             (messages_end pdu.messages e c) (λ e c. again (place_behind base (length held - length rest)) rest e c)
         by (Bad wrong) again = (omega arith, none_taken (length c))
 
-    heard_ends : (octets : List ℕ) (e : IndepState) (c : List LinkCall) → EndsAs told (length c) (hears plan told me peer octets e c)
+    heard_ends : (octets : List ℕ) (e : IndepState) (c : List LinkCall) → EndsAs told (length c) (independent_hears plan told me peer octets e c)
     heard_ends octets e c = by (e.connection peer.0)
       where
         by_receiver : (receiver : Receiver) → EndsAs told (length c) (hears_by plan told me peer octets receiver e c)
@@ -151,7 +151,7 @@ module _ (told : Answers) where
 
 pub calls_end : CallsEnd
 calls_end = record {
-  connected = λ plan told me peer e c. from_ends told plan me peer 0 (length plan.wires) (with_connection peer.0 (Some fresh) e) c;
+  connected = λ plan told me peer e c. from_ends told plan me peer 0 (length plan.wires) (with_connection peer.0 (Some fresh_connection) e) c;
   heard = λ plan told me peer octets e c. heard_ends told plan me peer octets e c;
   set = λ plan told me wire wish e c. set_ends told plan me wire wish e c;
 }

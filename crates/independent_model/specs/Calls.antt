@@ -8,7 +8,7 @@ use Rattle.status_exchange.specs.declared.wish.Wish.{Wish}
 use Rattle.status_exchange.specs.Laws.{is_known_active}
 use Rattle.status_exchange.specs.Wish.{is_active, is_same_wish}
 use Rattle.independent_model.specs.Hear.{hears_by}
-use Rattle.independent_model.specs.State.{ConnectionState, IndepState, fresh, with_connection, with_local, without_remotes}
+use Rattle.independent_model.specs.State.{ConnectionState, IndepState, fresh_connection, with_connection, with_local, without_remotes}
 use Rattle.independent_model.specs.Tell.{tells, tells_from}
 use Rattle.independent_model.specs.Wires.{is_between, other_end}
 use Rattle.independent_model.specs.Work.{Goes, Outcome}
@@ -18,16 +18,16 @@ abbrev pub is_connected : IndepState → ℕ → Bool
 is_connected edge peer = is_some (edge.connection peer)
 
 -- a connection stands: each wire with the peer is told, in the order of the plan
-abbrev pub connects : Plan → Answers → ℕ → EdgeId → IndepState → List LinkCall → Outcome
-connects plan told me peer edge calls = tells_from plan told me peer 0 (length plan.wires) (with_connection peer.0 (Some fresh) edge) calls
+abbrev pub independent_connects : Plan → Answers → ℕ → EdgeId → IndepState → List LinkCall → Outcome
+independent_connects plan told me peer edge calls = tells_from plan told me peer 0 (length plan.wires) (with_connection peer.0 (Some fresh_connection) edge) calls
 
 abbrev pub hears_on : Plan → Answers → ℕ → EdgeId → List ℕ → Option ConnectionState → IndepState → List LinkCall → Outcome
 hears_on plan told me peer octets None edge calls = Goes edge calls
 hears_on plan told me peer octets (Some kept) edge calls = hears_by plan told me peer octets kept.receiver edge calls
 
 -- octets of a peer come
-abbrev pub hears : Plan → Answers → ℕ → EdgeId → List ℕ → IndepState → List LinkCall → Outcome
-hears plan told me peer octets edge calls = hears_on plan told me peer octets (edge.connection peer.0) edge calls
+abbrev pub independent_hears : Plan → Answers → ℕ → EdgeId → List ℕ → IndepState → List LinkCall → Outcome
+independent_hears plan told me peer octets edge calls = hears_on plan told me peer octets (edge.connection peer.0) edge calls
 
 -- a connection is lost, and what is known by it
 abbrev pub loses : Plan → ℕ → EdgeId → IndepState → IndepState

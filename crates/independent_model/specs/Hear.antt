@@ -14,7 +14,7 @@ use Rattle.ldp_stream.specs.State.{place_behind}
 use Rattle.ldp_stream.specs.declared.stream_fault.StreamFault.TheVariants as fault
 use Rattle.pw_messages.specs.Content.{pw_status_code}
 use Rattle.pw_messages.specs.LinkAnswers.{Answers}
-use Rattle.status_exchange.specs.Wish.{becomes, is_told}
+use Rattle.status_exchange.specs.Wish.{becomes, is_status_told}
 use Rattle.independent_model.specs.declared.indep_stop.IndepStop.TheVariants as stop
 use Rattle.independent_model.specs.State.{Stopped, Receiver, IndepState, Receiving, Broken, with_receiver, with_local, with_remote}
 use Rattle.independent_model.specs.Tell.{tells}
@@ -34,7 +34,7 @@ learns wire status edge = with_local wire (becomes status (edge.local wire)) (wi
 -- 4. where the end was asked, or was changed by 2 or 3, what it calls the wire is told once (`is_told`).
 abbrev pub hears_status : Plan → Answers → ℕ → EdgeId → ℕ → PwStatus → IndepState → List LinkCall → Outcome
 hears_status plan told me peer wire status edge calls =
-    if is_told status (edge.local wire) then tells plan told me peer wire (learns wire status edge) calls else Goes (learns wire status edge) calls
+    if is_status_told status (edge.local wire) then tells plan told me peer wire (learns wire status edge) calls else Goes (learns wire status edge) calls
 
 abbrev pub hears_of : Plan → Answers → ℕ → EdgeId → PwStatus → Option ℕ → IndepState → List LinkCall → Outcome
 hears_of plan told me peer status None edge calls = Goes edge calls

@@ -26,8 +26,8 @@ pub record IndepState : Type 0 where
   pub connection : ℕ → Option ConnectionState
 
 -- a connection of which nothing came yet; messages are numbered from 1
-abbrev pub fresh : ConnectionState
-fresh = record { receiver = Receiving 0 []; next_id = 1 }
+abbrev pub fresh_connection : ConnectionState
+fresh_connection = record { receiver = Receiving 0 []; next_id = 1 }
 
 -- each end stands by, and no connection stands
 abbrev pub first_state : IndepState

@@ -13,7 +13,7 @@ use Rattle.pw_messages.specs.LinkAnswers.{Answers}
 use Rattle.status_exchange.specs.declared.wish.Wish.{Wish}
 use Rattle.independent_model.specs.declared.indep_stop.IndepStop.{IndepStop}
 use Rattle.independent_model.specs.declared.indep_stop.IndepStop.TheVariants as stop
-use Rattle.independent_model.specs.Calls.{connects, hears, sets}
+use Rattle.independent_model.specs.Calls.{independent_connects, independent_hears, sets}
 use Rattle.independent_model.specs.Hear.{hears_by}
 use Rattle.independent_model.specs.State.{IndepState, Receiving}
 use Rattle.independent_model.specs.Work.{Goes, Outcome, Stops}
@@ -52,15 +52,15 @@ EndsBy old new (Err stop.NoMemory) = Unit {0}
 
 -- of every call that puts
 pub record CallsEnd : Type 0 where
-  pub connected : (plan : Plan) (told : Answers) (me : ℕ) (peer : EdgeId) (edge : IndepState) (calls : List LinkCall) → EndsAs told (length calls) (connects plan told me peer edge calls)
-  pub heard : (plan : Plan) (told : Answers) (me : ℕ) (peer : EdgeId) (octets : List ℕ) (edge : IndepState) (calls : List LinkCall) → EndsAs told (length calls) (hears plan told me peer octets edge calls)
+  pub connected : (plan : Plan) (told : Answers) (me : ℕ) (peer : EdgeId) (edge : IndepState) (calls : List LinkCall) → EndsAs told (length calls) (independent_connects plan told me peer edge calls)
+  pub heard : (plan : Plan) (told : Answers) (me : ℕ) (peer : EdgeId) (octets : List ℕ) (edge : IndepState) (calls : List LinkCall) → EndsAs told (length calls) (independent_hears plan told me peer octets edge calls)
   pub set : (plan : Plan) (told : Answers) (me wire : ℕ) (wish : Wish) (edge : IndepState) (calls : List LinkCall) → EndsAs told (length calls) (sets plan told me wire wish edge calls)
 
 -- ---- octets that are refused
 
 -- the octets from a place of the connection on are PDUs with an ending; it is a fault exactly where the call refuses them, by this fault at
 -- its place, and a proper prefix of a PDU where it goes on
-pub record IsPending (base : ℕ) (octets : List ℕ) : Type 0 where
+pub record IsPendingFrom (base : ℕ) (octets : List ℕ) : Type 0 where
   pub pdus : List PlacedPdu
   pub at : ℕ
   pub rest : List ℕ
@@ -74,7 +74,7 @@ pub record IsFaulty (base : ℕ) (octets : List ℕ) (answer : StreamFault) : Ty
   pub is : answer ≡ fault.Refused at (refusal_of wrong)
 
 abbrev pub ParsesAs : ℕ → List ℕ → Outcome → Type 0
-ParsesAs base octets (Goes edge calls) = IsPending base octets
+ParsesAs base octets (Goes edge calls) = IsPendingFrom base octets
 ParsesAs base octets (Stops stop.Link edge calls) = Unit {0}
 ParsesAs base octets (Stops (stop.Refused answer) edge calls) = IsFaulty base octets answer
 ParsesAs base octets (Stops stop.NoMemory edge calls) = ⊥

@@ -21,7 +21,7 @@ and_then (Stops why edge calls) more = Stops why edge calls
 -- ---- what contracts say
 
 -- the calls of a link go on: those before stay
-pub record GoesOn (old new : List LinkCall) : Type 0 where
+pub record CallsGoOn (old new : List LinkCall) : Type 0 where
   pub longer : length old ≤ length new
   pub same : (k : ℕ) (d : LinkCall) → k < length old → slice_index_or new k d ≡ slice_index_or old k d
 
@@ -33,11 +33,11 @@ Comes (Err (stop.Refused fault)) edge calls outcome = outcome ≡ Stops (stop.Re
 Comes (Err stop.NoMemory) edge calls outcome = Unit {0}
 
 -- the link was called with these octets for a peer, and took them or not; where memory was refused it was not called
-abbrev pub IsPut : {T : Type 0} → EdgeId → List ℕ → List LinkCall → List LinkCall → Result T IndepStop → Type 0
-IsPut peer octets old new (Ok done) = new ≡ old ++ call_of peer false octets true ∷ []
-IsPut peer octets old new (Err stop.Link) = new ≡ old ++ call_of peer false octets false ∷ []
-IsPut peer octets old new (Err (stop.Refused fault)) = ⊥
-IsPut peer octets old new (Err stop.NoMemory) = Unit {0}
+abbrev pub IsPutOnLink : {T : Type 0} → EdgeId → List ℕ → List LinkCall → List LinkCall → Result T IndepStop → Type 0
+IsPutOnLink peer octets old new (Ok done) = new ≡ old ++ call_of peer false octets true ∷ []
+IsPutOnLink peer octets old new (Err stop.Link) = new ≡ old ++ call_of peer false octets false ∷ []
+IsPutOnLink peer octets old new (Err (stop.Refused fault)) = ⊥
+IsPutOnLink peer octets old new (Err stop.NoMemory) = Unit {0}
 
 -- nothing is refused: only octets that come can be
 abbrev pub NeverRefused : {T : Type 0} → Result T IndepStop → Type 0

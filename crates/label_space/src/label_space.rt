@@ -2,7 +2,7 @@
 ghost use Rattle.std.specs.Prelude.{◌≡◌, ◌≤◌, ◌<◌, ◌≢◌, ◌↔◌, ◌⊎◌, ℕ, [], Some, None, is_some, length, IfOk, IfSome, OnErr, IsErr};
 ghost use Rattle.std.specs.List.{find};
 ghost use Rattle.label_space.specs.Kept.{kept_at, put_by};
-ghost use Rattle.label_space.specs.Labels.{AreBelow, AreDistinctLabels, AreUnkept, emptied, freed, freed_of, issued, keeps_each, meeting, number_to_give, numbers_end, opened_space, owned_label, owner_of, owns, ticking, with_number_taken, with_owner};
+ghost use Rattle.label_space.specs.Labels.{AreBelow, AreDistinctLabels, AreUnkept, emptied, freed, freed_of, issued, keeps_each, meeting_neighbour, number_to_give, numbers_end, opened_space, owned_label, owner_of, owns, ticking, with_number_taken, with_owner};
 ghost use Rattle.label_space.specs.Slots.{AreSlotsOf};
 
 use crate::kept_labels::KeptLabels;
@@ -178,7 +178,7 @@ impl LabelSpace {
 
     /// A connection with a neighbour begins: each number that waits for it begins to rest, with 0 ticks.
     pub fn met(&mut self, peer: EdgeId)
-        ensures space { self.new ≡ meeting peer self.old }
+        ensures space { self.new ≡ meeting_neighbour peer self.old }
     {
         self.kept.met(peer);
     }

@@ -9,21 +9,21 @@ use Rattle.ldp_grammar.specs.Rows.{Row}
 use Rattle.ldp_grammar.specs.Tlvs.{Tlv, IsJoined, MayComeAgain, count_of, spell_tlv, type_in}
 use Rattle.ldp_grammar.proofs.TlvLemmas.{count-append, joined_more, joined_none, joined_once}
 use Rattle.ldp_grammar.proofs.WrittenLemmas.{least_most}
-use Rattle.ldp_codec.specs.FieldSet.{HoldsListed, IsPutIn, has, place_of}
+use Rattle.ldp_codec.specs.FieldSet.{HoldsListed, IsPutIn, has, place_of_field}
 use Rattle.ldp_codec.specs.Walk.{IsTaken, IsWalked}
 use Rattle.ldp_codec.proofs.PlaceLemmas.{placed}
 
-pub has_put : (places : List Bool) (f : Field) → place_of f < length places → has (set places (place_of f) true) f ≡ true
-has_put places f within = get_or-set_same places (place_of f) true false within
+pub has_put : (places : List Bool) (f : Field) → place_of_field f < length places → has (set places (place_of_field f) true) f ≡ true
+has_put places f within = get_or-set_same places (place_of_field f) true false within
 
-pub has_kept : (places : List Bool) (f other : Field) → place_of f < length places → has (set places (place_of f) true) other ≡ false → has places other ≡ false
-has_kept places f other within absent = elim (cases_eq (place_of other) (place_of f)) [
-  | inl same ↦ absurd (cc (sym absent ∙ (ap (λ (n : ℕ). has_at n) same ∙ get_or-set_same places (place_of f) true false within)))
-  | inr apart ↦ sym (get_or-set_other places (place_of f) (place_of other) true false apart) ∙ absent
+pub has_kept : (places : List Bool) (f other : Field) → place_of_field f < length places → has (set places (place_of_field f) true) other ≡ false → has places other ≡ false
+has_kept places f other within absent = elim (cases_eq (place_of_field other) (place_of_field f)) [
+  | inl same ↦ absurd (cc (sym absent ∙ (ap (λ (n : ℕ). has_at n) same ∙ get_or-set_same places (place_of_field f) true false within)))
+  | inr apart ↦ sym (get_or-set_other places (place_of_field f) (place_of_field other) true false apart) ∙ absent
 ]
   where
     has_at : ℕ → Bool
-    has_at n = get_or (set places (place_of f) true) n false
+    has_at n = get_or (set places (place_of_field f) true) n false
 
 pub may_come : (row : Row) (tlv : ℕ) (f : Field) (places : List Bool) (ts : List Tlv) → listed row tlv ≡ Some f → has places f ≡ false → HoldsListed row places ts
     → MayComeAgain (listed row tlv) (count_of tlv ts)

@@ -7,23 +7,23 @@ use Rattle.ldp_grammar.specs.Rows.{Row}
 use Rattle.ldp_grammar.specs.Tlvs.{Tlv, count_of}
 
 -- the place of a TLV's field; what is no TLV has the last one
-abbrev pub place_of : Field → ℕ
-place_of field.Fec = 0
-place_of field.AddressList = 1
-place_of field.Label = 2
-place_of field.Status = 3
-place_of field.Hello = 4
-place_of field.Transport = 5
-place_of field.MacList = 6
-place_of field.Session = 7
-place_of field.RequestId = 8
-place_of field.PwStatus = 9
-place_of field.Point = 10
-place_of other = 11
+abbrev pub place_of_field : Field → ℕ
+place_of_field field.Fec = 0
+place_of_field field.AddressList = 1
+place_of_field field.Label = 2
+place_of_field field.Status = 3
+place_of_field field.Hello = 4
+place_of_field field.Transport = 5
+place_of_field field.MacList = 6
+place_of_field field.Session = 7
+place_of_field field.RequestId = 8
+place_of_field field.PwStatus = 9
+place_of_field field.Point = 10
+place_of_field other = 11
 
 -- the field is in the set
 abbrev pub has : List Bool → Field → Bool
-has places f = get_or places (place_of f) false
+has places f = get_or places (place_of_field f) false
 
 -- the set holds the fields of all the TLVs that the row lists
 abbrev pub HoldsListed : Row → List Bool → List Tlv → Type 0

@@ -1,7 +1,7 @@
 //! Sets of TLVs by their fields.
 ghost use Rattle.std.specs.Prelude.{◌≡◌, ◌<◌, true, false};
 ghost use Rattle.net_values.specs.declared.field.Field.{Field as FieldOf};
-ghost use Rattle.ldp_codec.specs.FieldSet.{has, place_of};
+ghost use Rattle.ldp_codec.specs.FieldSet.{has, place_of_field};
 
 use net_values::Field;
 use std::marker::Model;
@@ -24,7 +24,7 @@ impl Model for FieldSet {
 
 // The place of a field.
 fn place_of(field: Field) -> usize
-    ensures place { result ≡ place_of field }
+    ensures place { result ≡ place_of_field field }
     ensures within { result < 12 }
 {
     match field {
@@ -57,7 +57,7 @@ impl FieldSet {
     pub fn contains(&self, field: Field) -> bool
         ensures { result ≡ has self.now field }
     {
-        self.places[place_of(field)]
+        self.places[place_of_field(field)]
     }
 
     /// Puts a field into the set.
@@ -66,7 +66,7 @@ impl FieldSet {
         ensures it { has self.new field ≡ true }
         ensures kept { (other : FieldOf) → has self.new other ≡ false → has self.old other ≡ false }
     {
-        let place = place_of(field);
+        let place = place_of_field(field);
         self.places[place] = true;
     }
 }

@@ -31,7 +31,7 @@ use Rattle.ldp_grammar.specs.Rows.{row_of, fec, label, mac_list, request_id, pw_
 use Rattle.ldp_grammar.specs.Layouts.{listed}
 use Rattle.ldp_grammar.specs.Tlvs.{Tlv, spell_tlv, count_of, value_of, reason_of, OfBoth, KeepsTo, IsFitting, IsReason}
 use Rattle.ldp_grammar.specs.Spells.{IsSpelling, IsRead, Means, StandsFor, Spells}
-use Rattle.ldp_grammar.specs.Written.{message_octets, written_spelling, written, writable, Fits, IsId, AreParams, IsAddress4, are_whole, tlv, status_octets, hello_octets, session_octets, addresses_octets, id_octets, transport_tlvs, written_tlvs, ignorable, point_tlvs, writable_fecs, is_withdrawal, IsState, AreSixOctets, HasFamily, WrittenIsRead}
+use Rattle.ldp_grammar.specs.Written.{message_octets, written_spelling, written, writable, Fits, IsId, AreParams, IsAddress4, are_whole, tlv, status_octets, hello_parameters_octets, session_octets, addresses_octets, id_octets, transport_tlvs, written_tlvs, ignorable, point_tlvs, writable_fecs, is_withdrawal, IsState, AreSixOctets, HasFamily, WrittenIsRead}
 use Rattle.ldp_grammar.proofs.WrittenLemmas.{status_back, hello_back, session_back, addresses_fit, keeps_none, keeps_alone, keeps_two, keeps_distinct, keeps_points, AreDistinct, HaveWords, all_fit, fec_told, has_pw_id, label_back, number_back, macs_fit, points_words, points_fitting, points_back, points_known, none_missing}
 use Rattle.ldp_grammar.proofs.OctetLemmas.{read_two}
 use Rattle.ldp_grammar.proofs.PduLemmas.{length_of, count_of as size_of_pdu}
@@ -101,21 +101,21 @@ read_notification id s (Some p) (Some pw) code message_id type held can within f
     (record { told = Some (Pw pw); is_told = pw_told pw can within; is = refl }) (refl, status_back s code message_id type, status_again p held, pw_told pw can within)
 
 read_hello : (id hold : ℕ) (t r : Bool) (transport : Option Addr) → hold < 65536 → IsAddress4 transport
-    → IsRead kind.Hello id (flat_map spell_tlv (tlv hello_parameters (hello_octets hold t r) ∷ transport_tlvs transport)) (message.Hello id hold t r transport)
+    → IsRead kind.Hello id (flat_map spell_tlv (tlv hello_parameters (hello_parameters_octets hold t r) ∷ transport_tlvs transport)) (message.Hello id hold t r transport)
 read_hello id hold t r None fits four_of = record {
-  tlvs = tlv hello_parameters (hello_octets hold t r) ∷ [];
+  tlvs = tlv hello_parameters (hello_parameters_octets hold t r) ∷ [];
   joined = record { spelled = refl; fit = ((omega arith, omega arith), tt) };
-  faultless = record { values = ((refl, tt), tt); counts = λ k. keeps_alone (listed (row_of kind.Hello) k) k (tlv hello_parameters (hello_octets hold t r)) };
+  faultless = record { values = ((refl, tt), tt); counts = λ k. keeps_alone (listed (row_of kind.Hello) k) k (tlv hello_parameters (hello_parameters_octets hold t r)) };
   why = None;
   reason = record { told = None; is_told = tt; is = refl };
   tells = (refl, hello_back hold t r fits, tt);
 }
 read_hello id hold t r (Some a) fits four_of = record {
-  tlvs = tlv hello_parameters (hello_octets hold t r) ∷ tlv transport_address a.0 ∷ [];
+  tlvs = tlv hello_parameters (hello_parameters_octets hold t r) ∷ tlv transport_address a.0 ∷ [];
   joined = record { spelled = refl; fit = ((omega arith, omega arith), ((omega arith, omega (arith, four_of)), tt)) };
   faultless = record {
     values = ((refl, tt), ((rw four_of refl, tt), tt));
-    counts = λ k. keeps_two (listed (row_of kind.Hello) k) k (tlv hello_parameters (hello_octets hold t r)) (tlv transport_address a.0) (λ e. omega (arith, e));
+    counts = λ k. keeps_two (listed (row_of kind.Hello) k) k (tlv hello_parameters (hello_parameters_octets hold t r)) (tlv transport_address a.0) (λ e. omega (arith, e));
   };
   why = None;
   reason = record { told = None; is_told = tt; is = refl };

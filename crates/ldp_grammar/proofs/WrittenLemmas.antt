@@ -23,7 +23,7 @@ use Rattle.ldp_grammar.specs.Layouts.{Layout, CountedOctets, FamilyAddresses, Ma
 use Rattle.ldp_grammar.specs.Rows.{row_of, fec, label, switching_point}
 use Rattle.ldp_grammar.specs.Tlvs.{Tlv, IsTlv, spell_tlv, type_in, count_of, values_of, first_unknown, missing, needs_pw_id, IsFitting, IsFec, KeepsTo}
 use Rattle.ldp_grammar.specs.Values.{IsStatus, IsHello, IsSession, ArePoints}
-use Rattle.ldp_grammar.specs.Written.{bit_as, status_octets, hello_octets, session_octets, id_octets, addresses_octets, are_whole, AreParams, point_tlvs, tlv, ignorable}
+use Rattle.ldp_grammar.specs.Written.{bit_as, status_octets, hello_parameters_octets as hello_octets, session_octets, id_octets, addresses_octets, are_whole, AreParams, point_tlvs, tlv, ignorable}
 use Rattle.ldp_grammar.proofs.OctetLemmas.{read_two, read_four}
 use Rattle.ldp_grammar.proofs.TlvLemmas.{size_of, count-append}
 

@@ -35,8 +35,8 @@ abbrev pub status_octets : StatusCode → List ℕ
 status_octets s = four (bit_as 31 s.fatal + bit_as 30 s.forward + s.code) ++ four s.message ++ two s.kind
 
 -- the value of a Common Hello Parameters TLV: the hold time, and the bits T and R (RFC 5036 section 3.5.2)
-abbrev pub hello_octets : ℕ → Bool → Bool → List ℕ
-hello_octets hold targeted request = two hold ++ two (bit_as 15 targeted + bit_as 14 request)
+abbrev pub hello_parameters_octets : ℕ → Bool → Bool → List ℕ
+hello_parameters_octets hold targeted request = two hold ++ two (bit_as 15 targeted + bit_as 14 request)
 
 -- an LDP Identifier: the LSR ID and the label space (RFC 5036 section 2.2.2)
 abbrev pub id_octets : LdpId → List ℕ
@@ -95,7 +95,7 @@ point_tlvs (point ∷ points) = ignorable switching_point (written_point point) 
 -- the TLVs of a message in the order of its row (RFC 5036 section 3.5)
 abbrev pub written_tlvs : Message → List Tlv
 written_tlvs (Notification id code state pw) = tlv status (status_octets code) ∷ (status_tlvs state ++ fec_tlvs pw)
-written_tlvs (Hello id hold targeted request transport) = tlv hello_parameters (hello_octets hold targeted request) ∷ transport_tlvs transport
+written_tlvs (Hello id hold targeted request transport) = tlv hello_parameters (hello_parameters_octets hold targeted request) ∷ transport_tlvs transport
 written_tlvs (Initialization id params) = tlv session_parameters (session_octets params) ∷ []
 written_tlvs (KeepAlive id) = []
 written_tlvs (Address id family octets) = tlv address_list (addresses_octets family octets) ∷ []

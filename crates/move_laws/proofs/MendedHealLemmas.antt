@@ -1,7 +1,7 @@
 -- In every state of a run an end that advertises is of a wire that is on.
 use Rattle.edge_model.specs.Settled.{is_mended}
 use Rattle.edge_model.specs.EndPlaces.{end_places, is_named}
-use Rattle.edge_model.specs.Mend.{is_up_with, stands, wish, wish_by, wish_of}
+use Rattle.edge_model.specs.Mend.{is_up_with, offer_stands, wish, wish_by, wish_of}
 use Rattle.edge_model.specs.State.{EdgeState, end_at}
 use Rattle.edge_model.specs.declared.end_place.EndPlace.{EndPlace}
 use Rattle.flight_laws.proofs.MendedRunLemmas.{IsMendedAt, run_mended_at}
@@ -33,7 +33,7 @@ mended_wish : (plan : Plan) (edge : EdgeState) (place : EndPlace) (local : Local
 mended_wish plan edge place (Idle declined) at told mended = clash told
 mended_wish plan edge place (Advertised label content) at told mended = stood (wish plan edge place) (rw at at mended)
   where
-    stood : (wished : Option Told) → stands place content wished ≡ true → is_some wished ≡ true
+    stood : (wished : Option Told) → offer_stands place content wished ≡ true → is_some wished ≡ true
     stood None still = clash still
     stood (Some wished) still = refl
 mended_wish plan edge place (Withdrawing label) at told mended = clash told

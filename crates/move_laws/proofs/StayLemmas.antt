@@ -1,7 +1,7 @@
 -- An edge that mends, or hears a MAC withdraw, goes on to speak mildly, and what it has learned it only forgets.
 use Rattle.pw_messages.specs.Content.{content_of, mac_withdrawal, mapping, status_notification, withdrawal}
 use Rattle.edge_model.specs.EndPlaces.{is_terminal}
-use Rattle.edge_model.specs.Mend.{advertising, is_up_with, mends, passed_wish, stands, status_held, status_offered, telling_status, tells_new_status, tells_status, terminal_wish, wish, wish_by, wish_of, withdrawing, withdraws}
+use Rattle.edge_model.specs.Mend.{advertising, is_up_with, mends, passed_wish, offer_stands, status_held, status_offered, telling_status, tells_new_status, tells_status, terminal_wish, wish, wish_by, wish_of, withdrawing, withdraws}
 use Rattle.edge_model.specs.Put.{stays}
 use Rattle.edge_model.specs.Role.{status_to_tell}
 use Rattle.edge_model.specs.Session.{says}
@@ -65,7 +65,7 @@ local_sound limit true e local is part sound = (part, sound.1)
 local_sound limit false e local is part sound = clash is
 
 -- what a terminal end tells stands while it tells anything
-stands_terminal : (place : EndPlace) (content : Told) (wished : Option Told) → place.terminal ≡ true → is_some wished ≡ true → stands place content wished ≡ true
+stands_terminal : (place : EndPlace) (content : Told) (wished : Option Told) → place.terminal ≡ true → is_some wished ≡ true → offer_stands place content wished ≡ true
 stands_terminal place content None terminal some = clash some
 stands_terminal place content (Some wished) terminal some = ap (λ (b : Bool). b || is_same_but_status content wished) terminal
 
@@ -80,7 +80,7 @@ module _ (plan : Plan) (service : ServiceId) (me : EdgeId) (checked : IsChecked 
   -- what an end of a mesh wire of the service tells goes on to stand
   pub mesh_stands : (edge : EdgeState) (place : EndPlace) (label : ℕ) (content : Told) (row : WirePlan) → edge.me ≡ me → TellsSoundly (point_limit plan me.0) edge
       → KeepsMesh plan service me.0 edge → IsEndOf plan me place
-      → (end_at edge place).local ≡ Advertised label content → wire_row plan place.wire ≡ Some row → is_mesh_of service row ≡ true → stands place content (wish plan edge place) ≡ true
+      → (end_at edge place).local ≡ Advertised label content → wire_row plan place.wire ≡ Some row → is_mesh_of service row ≡ true → offer_stands place content (wish plan edge place) ≡ true
   mesh_stands edge place label content row placed sound mesh end at is of_mesh = stands_terminal place content (wish plan edge place) terminal wished
     where
       rows : end.row ≡ row
@@ -115,14 +115,14 @@ module _ (plan : Plan) (service : ServiceId) (me : EdgeId) (checked : IsChecked 
   -- an end whose content does not stand is none of such a wire
   not_mesh : {P : Type 0} (edge : EdgeState) (place : EndPlace) (label : ℕ) (content : Told) (wire : WireId) (row : WirePlan) → edge.me ≡ me → TellsSoundly (point_limit plan me.0) edge
       → KeepsMesh plan service me.0 edge → IsEndOf plan me place
-      → (end_at edge place).local ≡ Advertised label content → stands place content (wish plan edge place) ≡ false → wire_row plan wire ≡ Some row → is_mesh_of service row ≡ true
+      → (end_at edge place).local ≡ Advertised label content → offer_stands place content (wish plan edge place) ≡ false → wire_row plan wire ≡ Some row → is_mesh_of service row ≡ true
       → place.wire.0 ≡ wire.0 → P
   not_mesh edge place label content wire row placed sound mesh end at changed is of_mesh same =
       clash (sym changed ∙ mesh_stands edge place label content row placed sound mesh end at (ap (λ (n : ℕ). slice_get plan.wires n) same ∙ is) of_mesh)
 
   mild_withdrawal : (edge : EdgeState) (place : EndPlace) (label : ℕ) (content : Told) → edge.me ≡ me → TellsSoundly (point_limit plan me.0) edge → KeepsMesh plan service me.0 edge
       → IsEndOf plan me place
-      → (end_at edge place).local ≡ Advertised label content → stands place content (wish plan edge place) ≡ false → (id : ℕ)
+      → (end_at edge place).local ≡ Advertised label content → offer_stands place content (wish plan edge place) ≡ false → (id : ℕ)
       → IsMild plan service me.0 place.peer.0 (withdrawal place.pw_id label content id)
   mild_withdrawal edge place label content placed sound mesh end at changed id = record {
     plain = refl;
@@ -133,7 +133,7 @@ module _ (plan : Plan) (service : ServiceId) (me : EdgeId) (checked : IsChecked 
 
   withdrawing_mesh : (edge : EdgeState) (place : EndPlace) (label : ℕ) (content : Told) → edge.me ≡ me → TellsSoundly (point_limit plan me.0) edge → KeepsMesh plan service me.0 edge
       → IsEndOf plan me place
-      → (end_at edge place).local ≡ Advertised label content → stands place content (wish plan edge place) ≡ false → KeepsMesh plan service me.0 (withdrawing place edge)
+      → (end_at edge place).local ≡ Advertised label content → offer_stands place content (wish plan edge place) ≡ false → KeepsMesh plan service me.0 (withdrawing place edge)
   unfolding with_end
   withdrawing_mesh edge place label content placed sound mesh end at changed = record {
     told = λ wire row peer is of_mesh joined. end_fact (λ w k e. w ≡ wire.0 → k ≡ peer → is_advertising e.local ≡ true) place (withdrawn (end_at edge place)) edge wire.0 peer
@@ -195,7 +195,7 @@ module _ (plan : Plan) (service : ServiceId) (me : EdgeId) (checked : IsChecked 
         (advertises_it label content _ (advertised_end_is (end_at work.edge place) label content at)) i.mesh)) i)
 
     row_withdraws : (place : EndPlace) (label : ℕ) (content : Told) (work : Work) → IsEndOf plan me place → (end_at work.edge place).local ≡ Advertised label content
-        → stands place content (wish plan work.edge place) ≡ false
+        → offer_stands place content (wish plan work.edge place) ≡ false
         → At work → At (withdraws taken_all place label content work).work
     row_withdraws place label content work is at changed i =
         let can = advertised_up (point_limit plan me.0 place.wire.0) (is_up_with (work.edge.peering place.peer.0)) (end_at work.edge place) label content (i.sound.ends place.wire.0 place.peer.0) at in

@@ -32,7 +32,7 @@ use Rattle.flight_laws.proofs.RuledNetworkLemmas.{IsRuledNetwork}
 use Rattle.flight_laws.proofs.PlaceLemmas.{same_row}
 use Rattle.flight_laws.proofs.RuledMendLemmas.{wire_fits}
 use Rattle.packet_laws.specs.Channel.{IsBoundEnd}
-use Rattle.packet_laws.specs.Echoed.{Answers, CountsTtl, IsEchoMessage, IsEchoed, echo_stack, source_address, source_of}
+use Rattle.packet_laws.specs.Echoed.{Answers, CountsTtl, IsEchoMessage, IsEchoed, echo_stack, source_address, packet_source}
 use Rattle.packet_laws.proofs.ArriveLemmas.{IsAlive, IsOwner, owner_is}
 use Rattle.packet_laws.proofs.EchoSendLemmas.{far_of, sender_echoes}
 use Rattle.packet_laws.proofs.EchoSwitchLemmas.{alert_entry, alert_unowned, alive_by, front_entry}
@@ -185,16 +185,16 @@ module _ (plan : Plan) (network : NetworkState) (packet : Packet) (peer : EdgeId
 
     request : IsRequestOf echo.row echo.source echo.target echo.ip
     request = asks_only echo.row echo.source echo.target back.kind echo.ip back.from back.to back.sequence back.long
-        (far_of plan types (source_of echo.row.path packet.from.0 packet.to.0) echo.source echo.comes_from)
-        (far_of plan types (source_of echo.row.path packet.to.0 packet.from.0) echo.target echo.goes_to) echo.message asked
+        (far_of plan types (packet_source echo.row.path packet.from.0 packet.to.0) echo.source echo.comes_from)
+        (far_of plan types (packet_source echo.row.path packet.to.0 packet.from.0) echo.target echo.goes_to) echo.message asked
 
     answered : bytes ≡ channel_octets back.kind back.binding (answer_packet echo.ip)
     answered = back.answered
         ∙ (ap (λ (l : List ℕ). channel_octets back.kind back.binding (answer_packet (ip_packet_of (has_header back.kind) l))) payload_is
         ∙ ap (λ (l : List ℕ). channel_octets back.kind back.binding (answer_packet l))
         (cut_of echo.row echo.source echo.target back.kind echo.ip
-        (far_of plan types (source_of echo.row.path packet.from.0 packet.to.0) echo.source echo.comes_from)
-        (far_of plan types (source_of echo.row.path packet.to.0 packet.from.0) echo.target echo.goes_to) request))
+        (far_of plan types (packet_source echo.row.path packet.from.0 packet.to.0) echo.source echo.comes_from)
+        (far_of plan types (packet_source echo.row.path packet.to.0 packet.from.0) echo.target echo.goes_to) request))
 
     says_back : IsEchoMessage back.row echo.target echo.source (answer_packet echo.ip)
     says_back = subst (λ (r : WirePlan). IsEchoMessage r echo.target echo.source (answer_packet echo.ip)) (sym of_row) (Answers request.sequence request.fits (ap answer_packet request.is))

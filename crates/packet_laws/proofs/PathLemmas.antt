@@ -12,7 +12,7 @@ use Rattle.edge_model.specs.Ping.{far_terminal}
 use Rattle.network_model.proofs.ReversedLemmas.{follows_reversed, last_reversed, once_reversed}
 use Rattle.network_model.proofs.WayLemmas.{behind_first, earlier_stands, either_here, joins_is, later_stands, once_behind, split, turned_test, way_kept}
 use Rattle.network_model.proofs.GoalLemmas.{ends_last, last_stands}
-use Rattle.packet_laws.specs.Echoed.{source_of}
+use Rattle.packet_laws.specs.Echoed.{packet_source}
 
 -- two numbers apart
 turned : (a b : ℕ) → (b == a) ≡ false → (a == b) ≡ false
@@ -120,15 +120,15 @@ last_is (head ∷ next ∷ rest) me is = last_is (next ∷ rest) me is
 
 -- from a terminal edge itself, and to the other one
 pub record HasTerminals (path : List EdgeId) (me : EdgeId) (peer : ℕ) : Type 0 where
-  pub near : source_of path me.0 peer ≡ Some me
-  pub far : source_of path peer me.0 ≡ far_terminal me path
+  pub near : packet_source path me.0 peer ≡ Some me
+  pub far : packet_source path peer me.0 ≡ far_terminal me path
 
 pub terminals : (path : List EdgeId) (me : EdgeId) (peer : ℕ) → IsSideOf path me.0 peer → HasTerminals path me peer
 terminals path me peer (AtFirst first on back) = record { near = rw on (first_is path me first); far = rw (back, first) refl }
 terminals path me peer (AtLast other last back on) = record { near = rw on (last_is path me last); far = rw (back, other) refl }
 
 -- a switching point passes on what comes from the same terminal edge
-pub source_kept : (path : List EdgeId) (me from : ℕ) (to : EdgeId) → has_repeat path ≡ false → mate_on path me from ≡ Some to → source_of path me to.0 ≡ source_of path from me
+pub source_kept : (path : List EdgeId) (me from : ℕ) (to : EdgeId) → has_repeat path ≡ false → mate_on path me from ≡ Some to → packet_source path me to.0 ≡ packet_source path from me
 source_kept path me from to once is = ap (λ (b : Bool). cond b (first_edge path) (last_edge path)) (way_kept path me from to once is)
 
 -- ---- the other end

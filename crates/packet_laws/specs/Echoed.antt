@@ -40,11 +40,11 @@ planned_channel plan row from to =
 -- ---- the message
 
 -- the terminal edge from which a packet comes that goes from the first edge to the second one
-abbrev pub source_of : List EdgeId → ℕ → ℕ → Option EdgeId
-source_of path from to = if follows path from to then first_edge path else last_edge path
+abbrev pub packet_source : List EdgeId → ℕ → ℕ → Option EdgeId
+packet_source path from to = if follows path from to then first_edge path else last_edge path
 
 abbrev pub source_address : Plan → WirePlan → ℕ → ℕ → Option Addr
-source_address plan row from to = option_and_then (edge_address plan) (source_of row.path from to)
+source_address plan row from to = option_and_then (edge_address plan) (packet_source row.path from to)
 
 -- an echo request of the wire from one address to the other, or the answer to one that came from there (RFC 792)
 pub data IsEchoMessage (row : WirePlan) (from to : Addr) (ip : List ℕ) : Type 0 where

@@ -9,8 +9,8 @@ use Rattle.pw_messages.specs.Content.{content_of}
 use Rattle.edge_model.specs.Mend.{status_held, tells_status}
 
 -- the same as `terminal_wish` of an edge
-abbrev pub wish_by : Offer → Option Binding → ℕ → PwStatus → Option Told
-wish_by offer remote bits status =
+abbrev pub wish_of_offer : Offer → Option Binding → ℕ → PwStatus → Option Told
+wish_of_offer offer remote bits status =
     if tells_status (method_by offer.status (status_held remote)) || bits == 0
     then Some (content_of offer (if offer.status then Some status else None))
     else None

@@ -4,7 +4,7 @@ ghost use Rattle.net_base.specs.plan.Accepted.{IsOffer};
 ghost use Rattle.pw_tlvs.specs.Written.{has_vlan};
 ghost use Rattle.pw_status.specs.Status.{method_by};
 ghost use Rattle.edge_model.specs.Mend.{status_held, tells_status};
-ghost use Rattle.peer_dialogue.specs.Wish.{wish_by};
+ghost use Rattle.peer_dialogue.specs.Wish.{wish_of_offer};
 
 use net_base::Offer;
 use pw_messages::content_of;
@@ -21,7 +21,7 @@ pub fn terminal_wish(
     bits: u8,
     status: PwStatus,
 ) -> Option<Told>
-    ensures wish { result ≡ wish_by offer.now (option_copied remote.entry) bits status }
+    ensures wish { result ≡ wish_of_offer offer.now (option_copied remote.entry) bits status }
     ensures kind { IfSome result (λ told. told.kind ≤ 0x7FFF) }
     ensures vlan { IsOffer offer.now → IfSome result (λ told. has_vlan told.vlan ≡ true) }
 {

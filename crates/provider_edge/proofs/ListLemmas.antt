@@ -13,7 +13,7 @@ use Rattle.pw_signalling.specs.End.{EndState, fresh}
 use Rattle.label_space.specs.declared.kept.Kept.{Kept}
 use Rattle.label_space.specs.Kept.{without}
 use Rattle.label_space.specs.Labels.{next_after, number_to_give, ticking}
-use Rattle.label_space.specs.Labels.{meeting as met_labels}
+use Rattle.label_space.specs.Labels.{meeting_neighbour as met_labels}
 use Rattle.pw_signalling.specs.declared.told.Told.{Told}
 use Rattle.pw_signalling.specs.Laws.{own_label}
 use Rattle.pw_signalling.specs.Rows.{advertised, lost}

@@ -5,7 +5,7 @@ use Rattle.net_base.specs.declared.plan.places.EdgeId.{EdgeId}
 use Rattle.net_base.specs.declared.plan.places.WireId.{WireId}
 use Rattle.label_space.specs.declared.kept.Kept.{Kept}
 use Rattle.label_space.specs.Kept.{met, ticked}
-use Rattle.label_space.specs.Labels.{meeting as met_labels}
+use Rattle.label_space.specs.Labels.{meeting_neighbour as met_labels}
 use Rattle.label_space.specs.Labels.{number_to_give, ticking}
 use Rattle.pw_signalling.specs.declared.told.Told.{Told}
 use Rattle.pw_signalling.specs.End.{EndState, fresh}

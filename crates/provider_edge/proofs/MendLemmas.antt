@@ -25,7 +25,7 @@ use Rattle.pw_messages.specs.LinkAnswers.{Answers}
 use Rattle.pw_stitch.specs.Stitch.{has_told}
 use Rattle.pw_tlvs.specs.declared.pw_status.PwStatus.{PwStatus}
 use Rattle.pw_ends.specs.Ends.{end_in, no_place, place_of}
-use Rattle.peer_dialogue.specs.Wish.{wish_by}
+use Rattle.peer_dialogue.specs.Wish.{wish_of_offer}
 use Rattle.edge_model.specs.declared.effect.Effect.{Effect}
 use Rattle.edge_model.specs.declared.effect.Effect.TheVariants.{Wire}
 use Rattle.edge_model.specs.declared.end_place.EndPlace.{EndPlace}
@@ -450,14 +450,14 @@ offer_holds plan wire row me checked is = of (is_first me row.path) where
 
 pub wish_read : (c : EdgeLists) (slot : ℕ) (row : WirePlan) (place : EndPlace) (offer : Offer) (end : EndState) (remote : Option Binding) (bits : ℕ) (status : PwStatus) (wished : Option Told) → place ≡ place_of c.ends slot
     → offer ≡ offer_of row c.me.0 → end ≡ end_in c.ends slot → remote ≡ end.remote → bits ≡ (seen c).bits place.wire.0 → status ≡ status_to_tell c.plan (seen c) (place_of c.ends slot)
-    → wished ≡ wish_by offer remote bits status → wished ≡ terminal_wish c.plan (seen c) (place_of c.ends slot) (offer_of row (seen c).me.0)
+    → wished ≡ wish_of_offer offer remote bits status → wished ≡ terminal_wish c.plan (seen c) (place_of c.ends slot) (offer_of row (seen c).me.0)
 unfolding seen
 wish_read c slot row place offer end remote bits status wished at offers read held bit tells is =
     is
-    ∙ (ap (λ (o : Offer). wish_by o remote bits status) offers
-    ∙ (ap (λ (r : Option Binding). wish_by (offer_of row c.me.0) r bits status) (held ∙ ap (λ (e : EndState). e.remote) read)
-    ∙ (ap (λ (b : ℕ). wish_by (offer_of row c.me.0) (end_in c.ends slot).remote b status) (bit ∙ ap (λ (p : EndPlace). (seen c).bits p.wire.0) at)
-    ∙ ap (λ (s : PwStatus). wish_by (offer_of row c.me.0) (end_in c.ends slot).remote ((seen c).bits (place_of c.ends slot).wire.0) s) tells)))
+    ∙ (ap (λ (o : Offer). wish_of_offer o remote bits status) offers
+    ∙ (ap (λ (r : Option Binding). wish_of_offer (offer_of row c.me.0) r bits status) (held ∙ ap (λ (e : EndState). e.remote) read)
+    ∙ (ap (λ (b : ℕ). wish_of_offer (offer_of row c.me.0) (end_in c.ends slot).remote b status) (bit ∙ ap (λ (p : EndPlace). (seen c).bits p.wire.0) at)
+    ∙ ap (λ (s : PwStatus). wish_of_offer (offer_of row c.me.0) (end_in c.ends slot).remote ((seen c).bits (place_of c.ends slot).wire.0) s) tells)))
 
 -- why an end does not forward
 pub down_read : (c : EdgeLists) (slot : ℕ) (place : EndPlace) (end : EndState) (role : EndRole) (bits : ℕ) (why : Option Down) → place ≡ place_of c.ends slot

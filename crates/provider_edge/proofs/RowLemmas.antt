@@ -23,7 +23,7 @@ use Rattle.edge_model.specs.declared.effect.Effect.TheVariants.{Wire}
 use Rattle.edge_model.specs.declared.end_place.EndPlace.{EndPlace}
 use Rattle.edge_model.specs.EndPlaces.{end_named}
 use Rattle.edge_model.specs.Labels.{label_to_give}
-use Rattle.edge_model.specs.Mend.{advertises, advertises_under, advertises_wish, advertising, cause_number, stands, telling_status, tells_down, tells_new_status, withdrawing, withdraws, withdraws_unless}
+use Rattle.edge_model.specs.Mend.{advertises, advertises_under, advertises_wish, advertising, cause_number, offer_stands, telling_status, tells_down, tells_new_status, withdrawing, withdraws, withdraws_unless}
 use Rattle.edge_model.specs.Put.{Spoken, stays}
 use Rattle.edge_model.specs.Session.{says}
 use Rattle.edge_model.specs.Signal.{end_of_fec, hears_mapping, hears_release, hears_status, hears_withdraw, maps_to, releases_label, takes_content, with_end_changed, with_named, with_released}
@@ -154,16 +154,16 @@ pub wishes_some : (told : Answers) (place : EndPlace) (wished read : Option Told
 wishes_some told place wished read content work put is some puts = puts ∙ sym (ap (λ (w : Option Told). advertises_wish told place w work) (sym is ∙ some))
 
 pub unless_stands : (told : Answers) (place at : EndPlace) (label : ℕ) (content : Told) (wished read : Option Told) (still : Bool) (work : Work) → at ≡ place → read ≡ wished → still
-    ≡ stands at content read → still ≡ true
+    ≡ offer_stands at content read → still ≡ true
     → stays work ≡ withdraws_unless told place label content wished work
 unless_stands told place at label content wished read still work here is same so =
-    sym (ap (λ (b : Bool). cond b (stays work) (withdraws told place label content work)) (sym (same ∙ (ap (λ (p : EndPlace). stands p content read) here ∙ ap (stands place content) is)) ∙ so))
+    sym (ap (λ (b : Bool). cond b (stays work) (withdraws told place label content work)) (sym (same ∙ (ap (λ (p : EndPlace). offer_stands p content read) here ∙ ap (offer_stands place content) is)) ∙ so))
 
 pub unless_stands_not : (told : Answers) (place at : EndPlace) (label : ℕ) (content : Told) (wished read : Option Told) (still : Bool) (work : Work) (put : Spoken) → at ≡ place → read
-    ≡ wished → still ≡ stands at content read → still ≡ false
+    ≡ wished → still ≡ offer_stands at content read → still ≡ false
     → put ≡ withdraws told place label content work → put ≡ withdraws_unless told place label content wished work
 unless_stands_not told place at label content wished read still work put here is same so puts =
-    puts ∙ sym (ap (λ (b : Bool). cond b (stays work) (withdraws told place label content work)) (sym (same ∙ (ap (λ (p : EndPlace). stands p content read) here ∙ ap (stands place content) is)) ∙ so))
+    puts ∙ sym (ap (λ (b : Bool). cond b (stays work) (withdraws told place label content work)) (sym (same ∙ (ap (λ (p : EndPlace). offer_stands p content read) here ∙ ap (offer_stands place content) is)) ∙ so))
 
 pub withdraws_at : (told : Answers) (place : EndPlace) (label : ℕ) (content : Told) (edge mid : EdgeState) (calls : List LinkCall) (out : List Effect) (put : Spoken)
     → mid ≡ withdrawing place edge → put ≡ says told place.peer (withdrawal place.pw_id label content) (at_edge mid calls out) → put ≡ withdraws told place label content (at_edge edge calls out)

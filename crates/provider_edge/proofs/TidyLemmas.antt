@@ -29,7 +29,7 @@ use Rattle.edge_model.specs.Clear.{withdrawing_at}
 use Rattle.edge_model.specs.EndPlaces.{end_places}
 use Rattle.edge_model.specs.Hear.{was_up}
 use Rattle.edge_model.specs.Labels.{label_to_give, meeting}
-use Rattle.edge_model.specs.Mend.{forgetting_wire, is_up_with, mends_once, port_of_wire, stands, wish, wish_by, wish_of}
+use Rattle.edge_model.specs.Mend.{forgetting_wire, is_up_with, mends_once, port_of_wire, offer_stands as stands, wish, wish_by, wish_of}
 use Rattle.edge_model.specs.Put.{Spoken}
 use Rattle.edge_model.specs.Session.{clears_ends, losing_ends}
 use Rattle.edge_model.specs.Settled.{IsSettled, is_mended}

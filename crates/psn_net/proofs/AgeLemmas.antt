@@ -7,7 +7,7 @@ use Rattle.net_base.specs.declared.trace.entry.Entry.TheVariants.{Aged}
 use Rattle.network_model.specs.declared.packet.Packet.{Packet}
 use Rattle.network_model.specs.Age.{aged_entries, ageing}
 use Rattle.network_model.specs.State.{NetworkState, all_older, lives_on, older, with_older, without_number, without_packet}
-use Rattle.psn_net.specs.Lists.{HasStepped, NetLists, seen}
+use Rattle.psn_net.specs.Lists.{HasStepped, NetLists, network_seen as seen}
 use Rattle.psn_net.specs.Packets.{ArePacketsOf, is_aged, number_of, without_aged}
 
 -- ---- lists of packets

@@ -10,34 +10,34 @@ use Rattle.edge_model.specs.declared.effect.Effect.{Effect}
 use Rattle.network_model.specs.Absorb.{Stepped, absorb_one, entries_told}
 use Rattle.network_model.specs.State.{NetworkState}
 use Rattle.network_model.specs.Step.{brings, step}
-use Rattle.psn_net.specs.Lists.{HasStepped, NetLists, seen}
+use Rattle.psn_net.specs.Lists.{HasStepped, NetLists, network_seen}
 
 -- an event that was told has brought about what its row says
-pub brought : (old mid now : NetLists) (result : Result (Unit {0}) NoMemory) (copy event case : Event) → copy ≡ event → event ≡ case → mid.plan ≡ old.plan → seen mid ≡ seen old
+pub brought : (old mid now : NetLists) (result : Result (Unit {0}) NoMemory) (copy event case : Event) → copy ≡ event → event ≡ case → mid.plan ≡ old.plan → network_seen mid ≡ network_seen old
     → mid.trace ≡ old.trace ++ Did copy ∷ []
-    → OnOk result (HasStepped mid now (brings mid.plan case (seen mid))) → OnOk result (HasStepped old now (step old.plan (seen old) event))
+    → OnOk result (HasStepped mid now (brings mid.plan case (network_seen mid))) → OnOk result (HasStepped old now (step old.plan (network_seen old) event))
 brought old mid now (Ok done) copy event case copied is plan state trace stepped = record {
   state = stepped.state ∙ ap (λ (s : Stepped). s.state) same;
   told = stepped.told ∙ (ap (λ (s : Stepped). mid.trace ++ s.entries) same
-      ∙ (ap (λ (t : List Entry). t ++ (brings old.plan event (seen old)).entries) trace
-      ∙ (append_assoc old.trace (Did copy ∷ []) (brings old.plan event (seen old)).entries
-      ∙ ap (λ (e : Event). old.trace ++ Did e ∷ (brings old.plan event (seen old)).entries) copied)));
+      ∙ (ap (λ (t : List Entry). t ++ (brings old.plan event (network_seen old)).entries) trace
+      ∙ (append_assoc old.trace (Did copy ∷ []) (brings old.plan event (network_seen old)).entries
+      ∙ ap (λ (e : Event). old.trace ++ Did e ∷ (brings old.plan event (network_seen old)).entries) copied)));
 } where
-  same : brings mid.plan case (seen mid) ≡ brings old.plan event (seen old)
-  same = ap (λ (p : Plan). brings p case (seen mid)) plan ∙ (ap (λ (s : NetworkState). brings old.plan case s) state ∙ ap (λ (e : Event). brings old.plan e (seen old)) (sym is))
+  same : brings mid.plan case (network_seen mid) ≡ brings old.plan event (network_seen old)
+  same = ap (λ (p : Plan). brings p case (network_seen mid)) plan ∙ (ap (λ (s : NetworkState). brings old.plan case s) state ∙ ap (λ (e : Event). brings old.plan e (network_seen old)) (sym is))
 brought old mid now (Err fault) copy event case copied is plan state trace stepped = tt
 
 pub absorbed : (me : EdgeId) (origin hops : ℕ) (old now : NetLists) (result : Result (Unit {0}) NoMemory) (effect case : Effect) → effect ≡ case
-    → OnOk result (HasStepped old now (record { state = absorb_one me origin hops case (seen old); entries = entries_told me origin hops case (seen old) }))
-    → OnOk result (HasStepped old now (record { state = absorb_one me origin hops effect (seen old); entries = entries_told me origin hops effect (seen old) }))
+    → OnOk result (HasStepped old now (record { state = absorb_one me origin hops case (network_seen old); entries = entries_told me origin hops case (network_seen old) }))
+    → OnOk result (HasStepped old now (record { state = absorb_one me origin hops effect (network_seen old); entries = entries_told me origin hops effect (network_seen old) }))
 absorbed me origin hops old now result effect case is done =
-    subst (λ (e : Effect). OnOk result (HasStepped old now (record { state = absorb_one me origin hops e (seen old); entries = entries_told me origin hops e (seen old) }))) (sym is) done
+    subst (λ (e : Effect). OnOk result (HasStepped old now (record { state = absorb_one me origin hops e (network_seen old); entries = entries_told me origin hops e (network_seen old) }))) (sym is) done
 
 -- an effect that is told, and changes nothing
 pub told : (me : EdgeId) (origin hops : ℕ) (old now : NetLists) (result : Result (Unit {0}) NoMemory) (effect case : Effect) (entry : Entry) → effect ≡ case
-    → absorb_one me origin hops case (seen old) ≡ seen old → entries_told me origin hops case (seen old) ≡ entry ∷ []
-    → seen now ≡ seen old → OnOk result (now.trace ≡ old.trace ++ entry ∷ [])
-    → OnOk result (HasStepped old now (record { state = absorb_one me origin hops effect (seen old); entries = entries_told me origin hops effect (seen old) }))
+    → absorb_one me origin hops case (network_seen old) ≡ network_seen old → entries_told me origin hops case (network_seen old) ≡ entry ∷ []
+    → network_seen now ≡ network_seen old → OnOk result (now.trace ≡ old.trace ++ entry ∷ [])
+    → OnOk result (HasStepped old now (record { state = absorb_one me origin hops effect (network_seen old); entries = entries_told me origin hops effect (network_seen old) }))
 told me origin hops old now (Ok done) effect case entry is stays tells state more = absorbed me origin hops old now (Ok done) effect case is (record {
   state = state ∙ sym stays;
   told = more ∙ ap (λ (es : List Entry). old.trace ++ es) (sym tells);

@@ -28,7 +28,7 @@ use Rattle.provider_edge.proofs.EffectLemmas.{below_edges}
 use Rattle.network_model.specs.Calm.{first_forwards, inner_stitched, last_forwards}
 use Rattle.network_model.specs.State.{NetworkState}
 use Rattle.psn_net.specs.Carrying.{forwards_if}
-use Rattle.psn_net.specs.Lists.{IsNetwork, NetLists, no_edge}
+use Rattle.psn_net.specs.Lists.{IsNetwork, NetLists, edge_outside}
 
 -- ---- the rows of a checked plan
 
@@ -77,7 +77,7 @@ same_default (x ∷ xs) (suc i) d e below = same_default xs i d e (omega arith)
 pub planned_at : (n : NetLists) (edge : ℕ) (found : EdgeLists) → IsNetwork n → edge < length n.plan.edges → found ≡ slice_index_or n.edges edge found → found.plan ≡ n.plan
 planned_at n edge found is within at =
     let below : edge < length n.edges = omega (arith, is.count) in
-    ap (λ (e : EdgeLists). e.plan) (at ∙ same_default n.edges edge found (no_edge n.plan edge) below) ∙ is.planned edge below
+    ap (λ (e : EdgeLists). e.plan) (at ∙ same_default n.edges edge found (edge_outside n.plan edge) below) ∙ is.planned edge below
 
 -- an edge that is lent is over the plan of the network, and has the place that was asked for
 pub lent_planned : (n : NetLists) (id : EdgeId) (lent : Option (Bor EdgeLists)) → IsNetwork n → is_some lent ≡ nat_lt id.0 (length n.edges)
@@ -92,7 +92,7 @@ pub lent_placed : (n : NetLists) (id : EdgeId) (lent : Option (Bor EdgeLists)) �
 lent_placed n id None is some at = tt
 lent_placed n id (Some edge) is some at =
     let below : id.0 < length n.edges = grind (arith, nat_tests, some) in
-    ap (λ (e : EdgeLists). e.me) (at ∙ same_default n.edges id.0 edge.now (no_edge n.plan id.0) below) ∙ is.placed id.0
+    ap (λ (e : EdgeLists). e.me) (at ∙ same_default n.edges id.0 edge.now (edge_outside n.plan id.0) below) ∙ is.placed id.0
 
 -- ---- the terminal edges of a path
 

@@ -18,7 +18,7 @@ use Rattle.edge_model.specs.Work.{Work}
 use Rattle.network_model.specs.Absorb.{absorb, absorb_all, all_entries_of, begin_at, taken_all}
 use Rattle.network_model.specs.Connection.{connected_work, connecting, delivering, hearing_work, restart_event}
 use Rattle.network_model.specs.State.{NetworkState, edge_at, with_edge, with_pipe, without_octets_to}
-use Rattle.psn_net.specs.Lists.{HasDriven, HasStepped, NetLists, seen}
+use Rattle.psn_net.specs.Lists.{HasDriven, HasStepped, NetLists, network_seen}
 use Rattle.psn_net.specs.Pipes.{pipes_of}
 
 -- ---- no segment joins an edge with itself
@@ -72,77 +72,77 @@ begins_apart n from to e h = rw h refl
 
 pub connect_stepped : (old one two three now : NetLists) (from to : EdgeId) (first second : Effects) (given given2 : List Effect)
     → nat_eq to.0 from.0 ≡ false → one.plan ≡ old.plan
-    → HasDriven from old one (connected_input old.plan taken_all to (begin_at (seen old) from)) first
-    → HasDriven to one two (connected_input one.plan taken_all from (begin_at (seen one) to)) second
-    → given ≡ first.list → HasStepped two three (record { state = absorb_all from 0 0 given (seen two); entries = all_entries_of from 0 0 given (seen two) })
-    → given2 ≡ second.list → HasStepped three now (record { state = absorb_all to 0 0 given2 (seen three); entries = all_entries_of to 0 0 given2 (seen three) })
-    → HasStepped old now (connecting from (connected_work old.plan (seen old) from to) to (connected_work old.plan (seen old) to from) (seen old))
+    → HasDriven from old one (connected_input old.plan taken_all to (begin_at (network_seen old) from)) first
+    → HasDriven to one two (connected_input one.plan taken_all from (begin_at (network_seen one) to)) second
+    → given ≡ first.list → HasStepped two three (record { state = absorb_all from 0 0 given (network_seen two); entries = all_entries_of from 0 0 given (network_seen two) })
+    → given2 ≡ second.list → HasStepped three now (record { state = absorb_all to 0 0 given2 (network_seen three); entries = all_entries_of to 0 0 given2 (network_seen three) })
+    → HasStepped old now (connecting from (connected_work old.plan (network_seen old) from to) to (connected_work old.plan (network_seen old) to from) (network_seen old))
 connect_stepped old one two three now from to first second given given2 apart planned drove drove2 listed absorbed listed2 absorbed2 = record {
   state = absorbed2.state
-      ∙ (ap (λ (es : List Effect). absorb_all to 0 0 es (seen three)) seconds
+      ∙ (ap (λ (es : List Effect). absorb_all to 0 0 es (network_seen three)) seconds
       ∙ ap (λ (n : NetworkState). absorb_all to 0 0 work2.effects n) middle);
   told = absorbed2.told
-      ∙ (ap (λ (t : List Entry). t ++ all_entries_of to 0 0 given2 (seen three)) (absorbed.told ∙ ap (λ (t : List Entry). t ++ all_entries_of from 0 0 given (seen two)) (drove2.told ∙ drove.told))
-      ∙ (append_assoc old.trace (all_entries_of from 0 0 given (seen two)) (all_entries_of to 0 0 given2 (seen three))
+      ∙ (ap (λ (t : List Entry). t ++ all_entries_of to 0 0 given2 (network_seen three)) (absorbed.told ∙ ap (λ (t : List Entry). t ++ all_entries_of from 0 0 given (network_seen two)) (drove2.told ∙ drove.told))
+      ∙ (append_assoc old.trace (all_entries_of from 0 0 given (network_seen two)) (all_entries_of to 0 0 given2 (network_seen three))
       ∙ ap (λ (es : List Entry). old.trace ++ es) both));
 } where
   work : Work
-  work = connected_work old.plan (seen old) from to
+  work = connected_work old.plan (network_seen old) from to
 
   work2 : Work
-  work2 = connected_work old.plan (seen old) to from
+  work2 = connected_work old.plan (network_seen old) to from
 
   firsts : given ≡ work.effects
   firsts = listed ∙ drove.effects_are
 
   -- the second edge is as it was
-  same : connected_input one.plan taken_all from (begin_at (seen one) to) ≡ work2
-  same = ap (λ (p : Plan). connected_input p taken_all from (begin_at (seen one) to)) planned
-      ∙ ap (λ (w : Work). connected_input old.plan taken_all from w) (ap (λ (n : NetworkState). begin_at n to) drove.state ∙ begins_apart (seen old) from to work.edge apart)
+  same : connected_input one.plan taken_all from (begin_at (network_seen one) to) ≡ work2
+  same = ap (λ (p : Plan). connected_input p taken_all from (begin_at (network_seen one) to)) planned
+      ∙ ap (λ (w : Work). connected_input old.plan taken_all from w) (ap (λ (n : NetworkState). begin_at n to) drove.state ∙ begins_apart (network_seen old) from to work.edge apart)
 
   seconds : given2 ≡ work2.effects
   seconds = listed2 ∙ (drove2.effects_are ∙ ap (λ (w : Work). w.effects) same)
 
-  ends : seen two ≡ with_edge to work2.edge (with_edge from work.edge (seen old))
-  ends = drove2.state ∙ (ap (λ (w : Work). with_edge to w.edge (seen one)) same ∙ ap (λ (n : NetworkState). with_edge to work2.edge n) drove.state)
+  ends : network_seen two ≡ with_edge to work2.edge (with_edge from work.edge (network_seen old))
+  ends = drove2.state ∙ (ap (λ (w : Work). with_edge to w.edge (network_seen one)) same ∙ ap (λ (n : NetworkState). with_edge to work2.edge n) drove.state)
 
-  middle : seen three ≡ absorb_all from 0 0 work.effects (with_edge to work2.edge (with_edge from work.edge (seen old)))
-  middle = absorbed.state ∙ (ap (λ (es : List Effect). absorb_all from 0 0 es (seen two)) firsts ∙ ap (λ (n : NetworkState). absorb_all from 0 0 work.effects n) ends)
+  middle : network_seen three ≡ absorb_all from 0 0 work.effects (with_edge to work2.edge (with_edge from work.edge (network_seen old)))
+  middle = absorbed.state ∙ (ap (λ (es : List Effect). absorb_all from 0 0 es (network_seen two)) firsts ∙ ap (λ (n : NetworkState). absorb_all from 0 0 work.effects n) ends)
 
-  both : all_entries_of from 0 0 given (seen two) ++ all_entries_of to 0 0 given2 (seen three)
-      ≡ (connecting from work to work2 (seen old)).entries
-  both = ap (λ (es : List Entry). es ++ all_entries_of to 0 0 given2 (seen three))
-      (ap (λ (es : List Effect). all_entries_of from 0 0 es (seen two)) firsts ∙ ap (λ (n : NetworkState). all_entries_of from 0 0 work.effects n) ends)
-      ∙ ap (λ (es : List Entry). all_entries_of from 0 0 work.effects (with_edge to work2.edge (with_edge from work.edge (seen old))) ++ es)
-      (ap (λ (es : List Effect). all_entries_of to 0 0 es (seen three)) seconds ∙ ap (λ (n : NetworkState). all_entries_of to 0 0 work2.effects n) middle)
+  both : all_entries_of from 0 0 given (network_seen two) ++ all_entries_of to 0 0 given2 (network_seen three)
+      ≡ (connecting from work to work2 (network_seen old)).entries
+  both = ap (λ (es : List Entry). es ++ all_entries_of to 0 0 given2 (network_seen three))
+      (ap (λ (es : List Effect). all_entries_of from 0 0 es (network_seen two)) firsts ∙ ap (λ (n : NetworkState). all_entries_of from 0 0 work.effects n) ends)
+      ∙ ap (λ (es : List Entry). all_entries_of from 0 0 work.effects (with_edge to work2.edge (with_edge from work.edge (network_seen old))) ++ es)
+      (ap (λ (es : List Effect). all_entries_of to 0 0 es (network_seen three)) seconds ∙ ap (λ (n : NetworkState). all_entries_of to 0 0 work2.effects n) middle)
 
 -- ---- an edge at work, while something else of the network changes
 
 -- the effects of an edge go into a network in which its work is done
 pub absorbed_stepped : (old mid now : NetLists) (me : EdgeId) (origin hops : ℕ) (work : Work) (effects : Effects) (before : NetworkState)
-    → mid.trace ≡ old.trace → effects.list ≡ work.effects → seen mid ≡ with_edge me work.edge before
-    → HasStepped mid now (record { state = absorb_all me origin hops effects.list (seen mid); entries = all_entries_of me origin hops effects.list (seen mid) })
+    → mid.trace ≡ old.trace → effects.list ≡ work.effects → network_seen mid ≡ with_edge me work.edge before
+    → HasStepped mid now (record { state = absorb_all me origin hops effects.list (network_seen mid); entries = all_entries_of me origin hops effects.list (network_seen mid) })
     → HasStepped old now (absorb me origin hops work before)
 absorbed_stepped old mid now me origin hops work effects before told is state absorbed = record {
-  state = absorbed.state ∙ (ap (λ (es : List Effect). absorb_all me origin hops es (seen mid)) is ∙ ap (λ (n : NetworkState). absorb_all me origin hops work.effects n) state);
-  told = absorbed.told ∙ (ap (λ (t : List Entry). t ++ all_entries_of me origin hops effects.list (seen mid)) told
-      ∙ ap (λ (es : List Entry). old.trace ++ es) (ap (λ (es : List Effect). all_entries_of me origin hops es (seen mid)) is
+  state = absorbed.state ∙ (ap (λ (es : List Effect). absorb_all me origin hops es (network_seen mid)) is ∙ ap (λ (n : NetworkState). absorb_all me origin hops work.effects n) state);
+  told = absorbed.told ∙ (ap (λ (t : List Entry). t ++ all_entries_of me origin hops effects.list (network_seen mid)) told
+      ∙ ap (λ (es : List Entry). old.trace ++ es) (ap (λ (es : List Effect). all_entries_of me origin hops es (network_seen mid)) is
       ∙ ap (λ (n : NetworkState). all_entries_of me origin hops work.effects n) state));
 }
 
 pub hearing : (n now : NetLists) (from to : EdgeId) (count : ℕ) (bytes : List ℕ) (effects : Effects) → bytes ≡ take count (pipes_of n.pipes from.0 to.0)
-    → HasDriven to n now (octets_input n.plan taken_all from bytes ((edge_at (seen n) to).peering from.0) (begin_at (seen n) to)) effects
-    → HasDriven to n now (hearing_work n.plan (seen n) from to (take count ((seen n).pipes from.0 to.0))) effects
-unfolding seen
+    → HasDriven to n now (octets_input n.plan taken_all from bytes ((edge_at (network_seen n) to).peering from.0) (begin_at (network_seen n) to)) effects
+    → HasDriven to n now (hearing_work n.plan (network_seen n) from to (take count ((network_seen n).pipes from.0 to.0))) effects
+unfolding network_seen
 hearing n now from to count bytes effects e drove =
-    subst (λ (octets : List ℕ). HasDriven to n now (octets_input n.plan taken_all from octets ((edge_at (seen n) to).peering from.0) (begin_at (seen n) to)) effects) e drove
+    subst (λ (octets : List ℕ). HasDriven to n now (octets_input n.plan taken_all from octets ((edge_at (network_seen n) to).peering from.0) (begin_at (network_seen n) to)) effects) e drove
 
 -- an edge took an input, and what it gave out was absorbed
 pub input_absorbed : (old mid now : NetLists) (me : EdgeId) (origin hops : ℕ) (work : Work) (effects : Effects) → HasDriven me old mid work effects
-    → HasStepped mid now (record { state = absorb_all me origin hops effects.list (seen mid); entries = all_entries_of me origin hops effects.list (seen mid) })
-    → HasStepped old now (absorb me origin hops work (seen old))
+    → HasStepped mid now (record { state = absorb_all me origin hops effects.list (network_seen mid); entries = all_entries_of me origin hops effects.list (network_seen mid) })
+    → HasStepped old now (absorb me origin hops work (network_seen old))
 input_absorbed old mid now me origin hops work effects drove absorbed =
-    absorbed_stepped old mid now me origin hops work effects (seen old) drove.told drove.effects_are drove.state absorbed
+    absorbed_stepped old mid now me origin hops work effects (network_seen old) drove.told drove.effects_are drove.state absorbed
 
 edge_with_pipe : (n : NetworkState) (from to me : EdgeId) (count : ℕ) (e : EdgeState)
     → with_pipe from to (drop count ((with_edge me e n).pipes from.0 to.0)) (with_edge me e n) ≡ with_edge me e (with_pipe from to (drop count (n.pipes from.0 to.0)) n)
@@ -154,25 +154,25 @@ unfolding with_edge without_octets_to
 edge_emptied n me e = refl
 
 pub deliver_stepped : (old one two now : NetLists) (from to : EdgeId) (count : ℕ) (effects : Effects)
-    → HasDriven to old one (hearing_work old.plan (seen old) from to (take count ((seen old).pipes from.0 to.0))) effects
-    → seen two ≡ with_pipe from to (drop count ((seen one).pipes from.0 to.0)) (seen one) → two.trace ≡ one.trace
-    → HasStepped two now (record { state = absorb_all to 0 0 effects.list (seen two); entries = all_entries_of to 0 0 effects.list (seen two) })
-    → HasStepped old now (delivering old.plan from to count (seen old))
+    → HasDriven to old one (hearing_work old.plan (network_seen old) from to (take count ((network_seen old).pipes from.0 to.0))) effects
+    → network_seen two ≡ with_pipe from to (drop count ((network_seen one).pipes from.0 to.0)) (network_seen one) → two.trace ≡ one.trace
+    → HasStepped two now (record { state = absorb_all to 0 0 effects.list (network_seen two); entries = all_entries_of to 0 0 effects.list (network_seen two) })
+    → HasStepped old now (delivering old.plan from to count (network_seen old))
 deliver_stepped old one two now from to count effects drove gave told absorbed =
-    absorbed_stepped old two now to 0 0 work effects (with_pipe from to (drop count ((seen old).pipes from.0 to.0)) (seen old)) (told ∙ drove.told) drove.effects_are
-    (gave ∙ (ap (λ (n : NetworkState). with_pipe from to (drop count (n.pipes from.0 to.0)) n) drove.state ∙ edge_with_pipe (seen old) from to to count work.edge)) absorbed
+    absorbed_stepped old two now to 0 0 work effects (with_pipe from to (drop count ((network_seen old).pipes from.0 to.0)) (network_seen old)) (told ∙ drove.told) drove.effects_are
+    (gave ∙ (ap (λ (n : NetworkState). with_pipe from to (drop count (n.pipes from.0 to.0)) n) drove.state ∙ edge_with_pipe (network_seen old) from to to count work.edge)) absorbed
   where
     work : Work
-    work = hearing_work old.plan (seen old) from to (take count ((seen old).pipes from.0 to.0))
+    work = hearing_work old.plan (network_seen old) from to (take count ((network_seen old).pipes from.0 to.0))
 
 pub restart_stepped : (old one two now : NetLists) (me : EdgeId) (effects : Effects)
-    → HasDriven me old one (restart_input (begin_at (seen old) me)) effects
-    → seen two ≡ without_octets_to me (seen one) → two.trace ≡ one.trace
-    → HasStepped two now (record { state = absorb_all me 0 0 effects.list (seen two); entries = all_entries_of me 0 0 effects.list (seen two) })
-    → HasStepped old now (restart_event me (seen old))
+    → HasDriven me old one (restart_input (begin_at (network_seen old) me)) effects
+    → network_seen two ≡ without_octets_to me (network_seen one) → two.trace ≡ one.trace
+    → HasStepped two now (record { state = absorb_all me 0 0 effects.list (network_seen two); entries = all_entries_of me 0 0 effects.list (network_seen two) })
+    → HasStepped old now (restart_event me (network_seen old))
 restart_stepped old one two now me effects drove emptied told absorbed =
-    absorbed_stepped old two now me 0 0 work effects (without_octets_to me (seen old)) (told ∙ drove.told) drove.effects_are
-    (emptied ∙ (ap (λ (n : NetworkState). without_octets_to me n) drove.state ∙ edge_emptied (seen old) me work.edge)) absorbed
+    absorbed_stepped old two now me 0 0 work effects (without_octets_to me (network_seen old)) (told ∙ drove.told) drove.effects_are
+    (emptied ∙ (ap (λ (n : NetworkState). without_octets_to me n) drove.state ∙ edge_emptied (network_seen old) me work.edge)) absorbed
   where
     work : Work
-    work = restart_input (begin_at (seen old) me)
+    work = restart_input (begin_at (network_seen old) me)

@@ -32,9 +32,9 @@ use Rattle.network_model.specs.State.{NetworkState, edge_at, stands, with_copy, 
 use Rattle.network_model.specs.Step.{brings, step}
 use Rattle.network_model.specs.Tick.{tick_at, tick_event, ticks_from}
 use Rattle.network_model.proofs.AbsorbLemmas.{all_keep}
-use Rattle.psn_net.specs.DeliveryIndex.{IsIndexed, IsIndexedBeside, is_pair, is_set, is_told, is_told_by, is_with, may_change}
+use Rattle.psn_net.specs.DeliveryIndex.{IsIndexed, IsIndexedBeside, is_pair, changes_between, is_told_between, is_told_by, is_with, may_change}
 use Rattle.psn_net.specs.PairIndex.{IndexLists}
-use Rattle.psn_net.specs.Lists.{NetLists, seen}
+use Rattle.psn_net.specs.Lists.{NetLists, network_seen}
 use Rattle.psn_net.proofs.TellingLemmas.{TellsAll, circuit_tells, connected_tells, frame_tells, is_silent, leaves_open, lost_tells, octets_tell, packet_tells, ping_tells, priority_tells, status_tells, tells_all, tick_tells, wire_tells}
 
 -- between two edges all is as it was: what stands, and what is on its way from the first one to the second
@@ -45,7 +45,7 @@ pub record IsKeptAt (i j : ℕ) (old now : NetworkState) : Type 0 where
 
 -- it is where no entry tells of them
 abbrev pub KeepsUntold : ℕ → ℕ → NetworkState → Stepped → Type 0
-KeepsUntold i j n stepped = is_told stepped.entries i j ≡ false → IsKeptAt i j n stepped.state
+KeepsUntold i j n stepped = is_told_between stepped.entries i j ≡ false → IsKeptAt i j n stepped.state
 
 stays_at : (i j : ℕ) (n : NetworkState) → IsKeptAt i j n n
 stays_at i j n = record { there = refl; back = refl; pipe = refl }
@@ -73,17 +73,17 @@ told_by_swap (entry.Said from to octets) i j = pair_swap from.0 to.0 i j
 told_by_swap (entry.Session edge peer state) i j = pair_swap edge.0 peer.0 i j
 told_by_swap e i j = refl
 
-told_swap : (es : List Entry) (i j : ℕ) → is_told es j i ≡ is_told es i j
+told_swap : (es : List Entry) (i j : ℕ) → is_told_between es j i ≡ is_told_between es i j
 told_swap [] i j = refl
-told_swap (e ∷ es) i j = ap (λ (b : Bool). b || is_told es j i) (told_by_swap e i j) ∙ ap (λ (b : Bool). is_told_by e i j || b) (told_swap es i j)
+told_swap (e ∷ es) i j = ap (λ (b : Bool). b || is_told_between es j i) (told_by_swap e i j) ∙ ap (λ (b : Bool). is_told_by e i j || b) (told_swap es i j)
 
 -- what joined entries do not tell, neither part does
-untold_both : (xs ys : List Entry) (i j : ℕ) → is_told (xs ++ ys) i j ≡ false → (is_told xs i j ≡ false) × (is_told ys i j ≡ false)
+untold_both : (xs ys : List Entry) (i j : ℕ) → is_told_between (xs ++ ys) i j ≡ false → (is_told_between xs i j ≡ false) × (is_told_between ys i j ≡ false)
 untold_both [] ys i j h = (refl, h)
 untold_both (x ∷ xs) ys i j h =
-    let first = or_parts (is_told_by x i j) (is_told (xs ++ ys) i j) h in
+    let first = or_parts (is_told_by x i j) (is_told_between (xs ++ ys) i j) h in
     let rest = untold_both xs ys i j first.1 in
-    (or_from (is_told_by x i j) (is_told xs i j) first.0 rest.0, rest.1)
+    (or_from (is_told_by x i j) (is_told_between xs i j) first.0 rest.0, rest.1)
 
 -- ---- an edge's work goes into the network
 
@@ -91,23 +91,23 @@ untold_both (x ∷ xs) ys i j h =
 not_told : (me peer k : ℕ) → is_pair me peer me k ≡ false → nat_eq k peer ≡ false
 not_told me peer k h = second_fails_of_both (nat_eq me me) (nat_eq k peer) (same_number me) (or_parts (nat_eq me me && nat_eq k peer) (nat_eq me peer && nat_eq k me) h).0
 
-silent_to : (me : EdgeId) (k origin hops : ℕ) (es : List Effect) (n : NetworkState) → is_told (all_entries_of me origin hops es n) me.0 k ≡ false → are_all (is_silent k) es ≡ true
+silent_to : (me : EdgeId) (k origin hops : ℕ) (es : List Effect) (n : NetworkState) → is_told_between (all_entries_of me origin hops es n) me.0 k ≡ false → are_all (is_silent k) es ≡ true
 silent_to me k origin hops [] n none = refl
 silent_to me k origin hops (effect.Said peer octets ∷ es) n none =
     let next : NetworkState = absorb_one me origin hops (effect.Said peer octets) n in
-    let both = or_parts (is_pair me.0 peer.0 me.0 k) (is_told (all_entries_of me origin hops es next) me.0 k) none in
+    let both = or_parts (is_pair me.0 peer.0 me.0 k) (is_told_between (all_entries_of me origin hops es next) me.0 k) none in
     let away : nat_eq k peer.0 ≡ false = not_told me.0 peer.0 k both.0 in
     rw away (silent_to me k origin hops es next both.1)
 silent_to me k origin hops (effect.Session peer state ∷ es) n none =
-    let both = or_parts (is_pair me.0 peer.0 me.0 k) (is_told (all_entries_of me origin hops es n) me.0 k) none in
+    let both = or_parts (is_pair me.0 peer.0 me.0 k) (is_told_between (all_entries_of me origin hops es n) me.0 k) none in
     let away : nat_eq k peer.0 ≡ false = not_told me.0 peer.0 k both.0 in
     rw away (silent_to me k origin hops es n both.1)
 silent_to me k origin hops (e ∷ es) n none = silent_to me k origin hops es (absorb_one me origin hops e n) none
 
-silent_at : (me : EdgeId) (origin hops : ℕ) (es : List Effect) (n : NetworkState) (i j : ℕ) → is_told (all_entries_of me origin hops es n) i j ≡ false → nat_eq i me.0 ≡ true
+silent_at : (me : EdgeId) (origin hops : ℕ) (es : List Effect) (n : NetworkState) (i j : ℕ) → is_told_between (all_entries_of me origin hops es n) i j ≡ false → nat_eq i me.0 ≡ true
     → are_all (is_silent j) es ≡ true
 silent_at me origin hops es n i j none here =
-    silent_to me j origin hops es n (ap (λ (k : ℕ). is_told (all_entries_of me origin hops es n) k j) (sym (eqb-true i me.0 here)) ∙ none)
+    silent_to me j origin hops es n (ap (λ (k : ℕ). is_told_between (all_entries_of me origin hops es n) k j) (sym (eqb-true i me.0 here)) ∙ none)
 
 -- ---- what is on its way
 
@@ -128,7 +128,7 @@ not_closing true true h = let wrong : false ≡ true = h refl in absurd (cc (wro
 not_closing true false h = refl
 not_closing false b h = refl
 
-one_pipe : (me : EdgeId) (origin hops : ℕ) (e : Effect) (n : NetworkState) (i j : ℕ) → is_told (entries_told me origin hops e n) i j ≡ false → (nat_eq j me.0 ≡ true → leaves_open i e ≡ true)
+one_pipe : (me : EdgeId) (origin hops : ℕ) (e : Effect) (n : NetworkState) (i j : ℕ) → is_told_between (entries_told me origin hops e n) i j ≡ false → (nat_eq j me.0 ≡ true → leaves_open i e ≡ true)
     → (absorb_one me origin hops e n).pipes i j ≡ n.pipes i j
 unfolding with_packet
 one_pipe me origin hops (effect.Said peer octets) n i j none leaves = by (stands n peer.0 me.0) where
@@ -142,7 +142,7 @@ one_pipe me origin hops (effect.Sent peer wire came octets) n i j none leaves = 
 one_pipe me origin hops (effect.Closed peer) n i j none leaves = pipe_apart peer me [] n i j (not_closing (nat_eq i peer.0) (nat_eq j me.0) leaves)
 one_pipe me origin hops e n i j none leaves = refl
 
-all_pipes : (me : EdgeId) (origin hops : ℕ) (es : List Effect) (n : NetworkState) (i j : ℕ) → is_told (all_entries_of me origin hops es n) i j ≡ false
+all_pipes : (me : EdgeId) (origin hops : ℕ) (es : List Effect) (n : NetworkState) (i j : ℕ) → is_told_between (all_entries_of me origin hops es n) i j ≡ false
     → (nat_eq j me.0 ≡ true → are_all (leaves_open i) es ≡ true) → (absorb_all me origin hops es n).pipes i j ≡ n.pipes i j
 all_pipes me origin hops [] n i j none leaves = refl
 all_pipes me origin hops (e ∷ es) n i j none leaves =
@@ -171,7 +171,7 @@ absorb_at me origin hops work n i j tells none = record {
   driven : NetworkState
   driven = with_edge me work.edge n
 
-  swapped : is_told (all_entries_of me origin hops work.effects driven) j i ≡ false
+  swapped : is_told_between (all_entries_of me origin hops work.effects driven) j i ≡ false
   swapped = told_swap (all_entries_of me origin hops work.effects driven) i j ∙ none
 
   edges : (a b : ℕ) → stands (absorb_all me origin hops work.effects driven) a b ≡ stands driven a b
@@ -200,13 +200,13 @@ connecting_at from to first second n i j one other none = record {
   given : NetworkState
   given = absorb_all from 0 0 first.effects both
 
-  parts : (is_told (all_entries_of from 0 0 first.effects both) i j ≡ false) × (is_told (all_entries_of to 0 0 second.effects given) i j ≡ false)
+  parts : (is_told_between (all_entries_of from 0 0 first.effects both) i j ≡ false) × (is_told_between (all_entries_of to 0 0 second.effects given) i j ≡ false)
   parts = untold_both (all_entries_of from 0 0 first.effects both) (all_entries_of to 0 0 second.effects given) i j none
 
-  first_swapped : is_told (all_entries_of from 0 0 first.effects both) j i ≡ false
+  first_swapped : is_told_between (all_entries_of from 0 0 first.effects both) j i ≡ false
   first_swapped = told_swap (all_entries_of from 0 0 first.effects both) i j ∙ parts.0
 
-  second_swapped : is_told (all_entries_of to 0 0 second.effects given) j i ≡ false
+  second_swapped : is_told_between (all_entries_of to 0 0 second.effects given) j i ≡ false
   second_swapped = told_swap (all_entries_of to 0 0 second.effects given) i j ∙ parts.1
 
   edges : (a b : ℕ) → stands (absorb_all to 0 0 second.effects given) a b ≡ stands both a b
@@ -342,7 +342,7 @@ again_at (Some packet) n i j none = record { there = refl; back = refl; pipe = r
 
 -- ---- every event
 
-brings_at : (plan : Plan) (e : Event) (n : NetworkState) (i j : ℕ) → is_set e i j ≡ false → KeepsUntold i j n (brings plan e n)
+brings_at : (plan : Plan) (e : Event) (n : NetworkState) (i j : ℕ) → changes_between e i j ≡ false → KeepsUntold i j n (brings plan e n)
 brings_at plan (event.Connect from to) n i j apart = connect_at plan from to n i j
 brings_at plan (event.Deliver from to count) n i j apart = deliver_at plan from to count n i j apart
 brings_at plan (event.Lose me peer) n i j apart = lose_at plan me peer n i j
@@ -377,24 +377,24 @@ dropped : (xs ys : List Entry) → drop (length xs) (xs ++ ys) ≡ ys
 dropped [] ys = refl
 dropped (x ∷ xs) ys = dropped xs ys
 
-pub indexed_beside : (old now : NetLists) (index : IndexLists) (e : Event) (told : ℕ) → IsIndexed old index → now.plan ≡ old.plan → seen now ≡ (step old.plan (seen old) e).state
-    → now.trace ≡ old.trace ++ (step old.plan (seen old) e).entries → told ≡ length old.trace → IsIndexedBeside now index (may_change e (drop told now.trace))
+pub indexed_beside : (old now : NetLists) (index : IndexLists) (e : Event) (told : ℕ) → IsIndexed old index → now.plan ≡ old.plan → network_seen now ≡ (step old.plan (network_seen old) e).state
+    → now.trace ≡ old.trace ++ (step old.plan (network_seen old) e).entries → told ≡ length old.trace → IsIndexedBeside now index (may_change e (drop told now.trace))
 indexed_beside old now index e told indexed planned stepped traced at = record {
   each = λ i j a b h.
-      let both = or_parts (is_set e i j) (is_told (drop told now.trace) i j) h in
+      let both = or_parts (changes_between e i j) (is_told_between (drop told now.trace) i j) h in
       indexed.each i j (within i a) (within j b)
       ∙ sym (ap (λ (s : NetworkState). is_deliverable s i j) stepped
-      ∙ deliverable_at (seen old) (brings old.plan e (seen old)).state i j (brings_at old.plan e (seen old) i j both.0 (sym (ap (λ (es : List Entry). is_told es i j) entries) ∙ both.1)));
+      ∙ deliverable_at (network_seen old) (brings old.plan e (network_seen old)).state i j (brings_at old.plan e (network_seen old) i j both.0 (sym (ap (λ (es : List Entry). is_told_between es i j) entries) ∙ both.1)));
 } where
   within : (k : ℕ) → k < length now.plan.edges → k < length old.plan.edges
   within k a = subst (λ (p : Plan). k < length p.edges) planned a
 
   -- behind the entry of the event itself
-  entries : drop told now.trace ≡ (step old.plan (seen old) e).entries
-  entries = ap (λ (k : ℕ). drop k now.trace) at ∙ (ap (λ (es : List Entry). drop (length old.trace) es) traced ∙ dropped old.trace (step old.plan (seen old) e).entries)
+  entries : drop told now.trace ≡ (step old.plan (network_seen old) e).entries
+  entries = ap (λ (k : ℕ). drop k now.trace) at ∙ (ap (λ (es : List Entry). drop (length old.trace) es) traced ∙ dropped old.trace (step old.plan (network_seen old) e).entries)
 
 -- a frame sets no pair
 pub indexed_beside_frame : (old now : NetLists) (index : IndexLists) (circuit : CircuitId) (octets : List ℕ) (told : ℕ) → IsIndexed old index → now.plan ≡ old.plan
-    → seen now ≡ (step old.plan (seen old) (event.Frame circuit octets)).state → now.trace ≡ old.trace ++ (step old.plan (seen old) (event.Frame circuit octets)).entries → told ≡ length old.trace
-    → IsIndexedBeside now index (is_told (drop told now.trace))
+    → network_seen now ≡ (step old.plan (network_seen old) (event.Frame circuit octets)).state → now.trace ≡ old.trace ++ (step old.plan (network_seen old) (event.Frame circuit octets)).entries → told ≡ length old.trace
+    → IsIndexedBeside now index (is_told_between (drop told now.trace))
 indexed_beside_frame old now index circuit octets told indexed planned stepped traced at = indexed_beside old now index (event.Frame circuit octets) told indexed planned stepped traced at

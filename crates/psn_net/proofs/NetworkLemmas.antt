@@ -28,7 +28,7 @@ use Rattle.edge_model.specs.declared.input.Input.{Input}
 use Rattle.edge_model.specs.Step.{edge_step}
 use Rattle.edge_model.specs.Work.{Work, beginning}
 use Rattle.network_model.specs.Absorb.{Stepped, absorb, absorb_all, all_entries_of, begin_at, taken_all}
-use Rattle.psn_net.specs.Lists.{AreOpen, HasDriven, HasEntered, HasStepped, IsNetwork, NetLists, edge_lists, edge_of, no_edge, seen}
+use Rattle.psn_net.specs.Lists.{AreOpen, HasDriven, HasEntered, HasStepped, IsNetwork, NetLists, edge_lists, edge_of, edge_outside as no_edge, network_seen as seen}
 use Rattle.psn_net.specs.Packets.{ArePacketsOf, UnderWay}
 use Rattle.psn_net.specs.Pipes.{PipeLists, no_octets}
 use Rattle.psn_net.specs.Pipes.{pipes_of}

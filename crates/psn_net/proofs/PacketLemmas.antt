@@ -13,7 +13,7 @@ use Rattle.network_model.specs.declared.packet.Packet.{Packet}
 use Rattle.network_model.specs.State.{all_older, older, without_number}
 use Rattle.psn_net.specs.declared.carried.Carried.{Carried}
 use Rattle.psn_net.specs.declared.sending.Sending.{Sending}
-use Rattle.psn_net.specs.Packets.{AreKept, IsIndex, UnderWay, is_aged, is_numbered, is_since, kept_under, number_of, packet_of, packets_of, sending_order, with_copy_of, without_aged}
+use Rattle.psn_net.specs.Packets.{ArePacketsKept as AreKept, IsIndex, UnderWay, is_aged, is_numbered, is_since, kept_under, number_of, kept_packet as packet_of, packets_of, sending_order, with_copy_of, without_aged}
 
 -- ---- by number
 

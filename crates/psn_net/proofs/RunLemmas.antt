@@ -9,8 +9,8 @@ use Rattle.network_model.specs.Step.{step}
 use Rattle.psn_net.specs.declared.net_stop.NetStop.{NetStop}
 use Rattle.psn_net.specs.declared.net_stop.NetStop.TheVariants.{Crowded, TooMuch, NoMemory}
 use Rattle.psn_net.specs.Applying.{Stops}
-use Rattle.psn_net.specs.Lists.{NetLists, seen}
-use Rattle.psn_net.specs.Runs.{Ended, HasRun, IsRunOf, RunHalts, ended, ran, unless}
+use Rattle.psn_net.specs.Lists.{NetLists, network_seen}
+use Rattle.psn_net.specs.Runs.{Ended, HasRunEvents, IsRunOf, RunHalts, ended, ran, unless}
 use Rattle.psn_net.specs.Weight.{stop_at}
 
 -- the events after some others
@@ -34,39 +34,39 @@ ran_state plan s t (x ∷ xs) h = by (stop_at t (length s.under_way) x) _ _ (ran
     by (Some x) a q f h = absurd (cc (h))
 
 -- an event that is done before others, and one that a limit stops
-pub ran_first : (plan : Plan) (old now : NetLists) (event : Event) (es : List Event) → stop_at old.trace (length (seen old).under_way) event ≡ None
-    → seen now ≡ (step plan (seen old) event).state → now.trace ≡ old.trace ++ (step plan (seen old) event).entries → ran plan (seen now) now.trace es ≡ ran plan (seen old) old.trace (event ∷ es)
+pub ran_first : (plan : Plan) (old now : NetLists) (event : Event) (es : List Event) → stop_at old.trace (length (network_seen old).under_way) event ≡ None
+    → network_seen now ≡ (step plan (network_seen old) event).state → now.trace ≡ old.trace ++ (step plan (network_seen old) event).entries → ran plan (network_seen now) now.trace es ≡ ran plan (network_seen old) old.trace (event ∷ es)
 ran_first plan old now event es none state trace =
-    let rest : Ended = ran plan (step plan (seen old) event).state (old.trace ++ (step plan (seen old) event).entries) es in
-    (λ i. ran plan (state i) (trace i) es) ∙ sym (ap (λ (o : Option NetStop). unless o (seen old) old.trace rest) none)
+    let rest : Ended = ran plan (step plan (network_seen old) event).state (old.trace ++ (step plan (network_seen old) event).entries) es in
+    (λ i. ran plan (state i) (trace i) es) ∙ sym (ap (λ (o : Option NetStop). unless o (network_seen old) old.trace rest) none)
 
-refused_first : (plan : Plan) (old now : NetLists) (event : Event) (es : List Event) (stop : NetStop) → stop_at old.trace (length (seen old).under_way) event ≡ Some stop → now ≡ old
-    → ended now (Some stop) ≡ ran plan (seen old) old.trace (event ∷ es)
+refused_first : (plan : Plan) (old now : NetLists) (event : Event) (es : List Event) (stop : NetStop) → stop_at old.trace (length (network_seen old).under_way) event ≡ Some stop → now ≡ old
+    → ended now (Some stop) ≡ ran plan (network_seen old) old.trace (event ∷ es)
 refused_first plan old now event es stop met same =
-    let rest : Ended = ran plan (step plan (seen old) event).state (old.trace ++ (step plan (seen old) event).entries) es in
-    ap (λ (n : NetLists). ended n (Some stop)) same ∙ sym (ap (λ (o : Option NetStop). unless o (seen old) old.trace rest) met)
+    let rest : Ended = ran plan (step plan (network_seen old) event).state (old.trace ++ (step plan (network_seen old) event).entries) es in
+    ap (λ (n : NetLists). ended n (Some stop)) same ∙ sym (ap (λ (o : Option NetStop). unless o (network_seen old) old.trace rest) met)
 
-pub halts_first : (plan : Plan) (old now : NetLists) (event : Event) (es : List Event) (stop : NetStop) → Stops old now event stop → RunHalts stop now (ran plan (seen old) old.trace (event ∷ es))
+pub halts_first : (plan : Plan) (old now : NetLists) (event : Event) (es : List Event) (stop : NetStop) → Stops old now event stop → RunHalts stop now (ran plan (network_seen old) old.trace (event ∷ es))
 halts_first plan old now event es (Crowded count number) stops = refused_first plan old now event es (Crowded count number) stops.0 stops.1
 halts_first plan old now event es (TooMuch weight number) stops = refused_first plan old now event es (TooMuch weight number) stops.0 stops.1
 halts_first plan old now event es NoMemory stops = tt
 
 -- the same of one event alone
-pub ran_one : (plan : Plan) (old now : NetLists) (event : Event) → stop_at old.trace (length (seen old).under_way) event ≡ None → seen now ≡ (step plan (seen old) event).state
-    → now.trace ≡ old.trace ++ (step plan (seen old) event).entries
-    → ended now None ≡ ran plan (seen old) old.trace (event ∷ [])
+pub ran_one : (plan : Plan) (old now : NetLists) (event : Event) → stop_at old.trace (length (network_seen old).under_way) event ≡ None → network_seen now ≡ (step plan (network_seen old) event).state
+    → now.trace ≡ old.trace ++ (step plan (network_seen old) event).entries
+    → ended now None ≡ ran plan (network_seen old) old.trace (event ∷ [])
 ran_one plan old now event none state trace = ran_first plan old now event [] none state trace
 
-pub ran_none : (plan : Plan) (old now : NetLists) (event : Event) (stop : NetStop) → Stops old now event stop → RunHalts stop now (ran plan (seen old) old.trace (event ∷ []))
+pub ran_none : (plan : Plan) (old now : NetLists) (event : Event) (stop : NetStop) → Stops old now event stop → RunHalts stop now (ran plan (network_seen old) old.trace (event ∷ []))
 ran_none plan old now event stop stops = halts_first plan old now event [] stop stops
 
 -- a run that no limit stops has done all of its events
-run_whole : (plan : Plan) (s : NetworkState) (t : List Entry) (es : List Event) (n : NetLists) → ended n None ≡ ran plan s t es → HasRun plan s t es n
+run_whole : (plan : Plan) (s : NetworkState) (t : List Entry) (es : List Event) (n : NetLists) → ended n None ≡ ran plan s t es → HasRunEvents plan s t es n
 run_whole plan s t [] n h = record { state_is = ap (λ (r : Ended). r.state) h; trace_is = ap (λ (r : Ended). r.trace) h ∙ sym (append-nil t) }
 run_whole plan s t (e ∷ es) n h = by (stop_at t (length s.under_way) e) h (run_whole plan (step plan s e).state (t ++ (step plan s e).entries) es n)
   where
     by : (o : Option NetStop) → ended n None ≡ unless o s t (ran plan (step plan s e).state (t ++ (step plan s e).entries) es)
-        → (ended n None ≡ ran plan (step plan s e).state (t ++ (step plan s e).entries) es → HasRun plan (step plan s e).state (t ++ (step plan s e).entries) es n) → HasRun plan s t (e ∷ es) n
+        → (ended n None ≡ ran plan (step plan s e).state (t ++ (step plan s e).entries) es → HasRunEvents plan (step plan s e).state (t ++ (step plan s e).entries) es n) → HasRunEvents plan s t (e ∷ es) n
     by None q rest = record { state_is = (rest q).state_is; trace_is = (rest q).trace_is ∙ append_assoc t (step plan s e).entries (entries_along plan (step plan s e).state es) }
     by (Some x) q rest =
         let wrong : None ≡ Some x = ap (λ (r : Ended). r.stop) q in
@@ -98,7 +98,7 @@ run_of plan s t es n None h = record { done = es; are_done = refl; ran = run_who
 run_of plan s t es n (Some x) h = run_cut plan s t es n x h
 
 -- events after those that a network has done, and after those in which one was stopped
-pub ran_on : (plan : Plan) (s : NetworkState) (t : List Entry) (xs ys : List Event) (n : NetLists) → ended n None ≡ ran plan s t xs → ran plan (seen n) n.trace ys ≡ ran plan s t (xs ++ ys)
+pub ran_on : (plan : Plan) (s : NetworkState) (t : List Entry) (xs ys : List Event) (n : NetLists) → ended n None ≡ ran plan s t xs → ran plan (network_seen n) n.trace ys ≡ ran plan s t (xs ++ ys)
 ran_on plan s t xs ys n h = ap (λ (r : Ended). unless r.stop r.state r.trace (ran plan r.state r.trace ys)) h ∙ sym (ran_append plan s t xs ys)
 
 stopped_on : (plan : Plan) (s : NetworkState) (t : List Entry) (xs ys : List Event) (n : NetLists) (x : NetStop) → ended n (Some x) ≡ ran plan s t xs → ended n (Some x) ≡ ran plan s t (xs ++ ys)

@@ -11,7 +11,7 @@ use Rattle.network_model.specs.Absorb.{Stepped, absorb}
 use Rattle.network_model.specs.Absorb.{idle as idle_event}
 use Rattle.network_model.specs.Packet.{again_event, arrive_event, arriving, discard_event, packet_at, packet_work}
 use Rattle.network_model.specs.State.{NetworkState, with_copy, without_number, without_packet}
-use Rattle.psn_net.specs.Lists.{HasRoom, HasStepped, IsNetwork, NetLists, copied, seen}
+use Rattle.psn_net.specs.Lists.{HasRoom, HasStepped, IsNetwork, NetLists, copied, network_seen as seen}
 use Rattle.psn_net.specs.Packets.{ArePacketsOf, IsPacketOf, UnderWay, is_numbered, with_copy_of}
 
 -- ---- the packets are those of the plan

@@ -31,14 +31,14 @@ pub record NetLists : Type 0 where
   pub failed : Bool
 
 -- an edge outside the plan
-abbrev pub no_edge : Plan → ℕ → EdgeLists
-no_edge plan k = edge.no_edge plan (record { 0 = k })
+abbrev pub edge_outside : Plan → ℕ → EdgeLists
+edge_outside plan k = edge.no_edge plan (record { 0 = k })
 
 abbrev pub edge_lists : NetLists → ℕ → EdgeLists
-edge_lists n k = slice_index_or n.edges k (no_edge n.plan k)
+edge_lists n k = slice_index_or n.edges k (edge_outside n.plan k)
 
-unfoldable pub seen : NetLists → NetworkState
-seen n = record {
+unfoldable pub network_seen : NetLists → NetworkState
+network_seen n = record {
   edges = λ k. edge.seen (edge_lists n k);
   pipes = pipes.pipes_of n.pipes;
   under_way = n.packets.list;
@@ -66,18 +66,18 @@ pub record HasRoom (n : NetLists) : Type 0 where
   pub frames : n.entered < length n.trace
 
 -- what no event changes
-pub record Keeps (old now : NetLists) : Type 0 where
+pub record KeepsNetwork (old now : NetLists) : Type 0 where
   pub plan : now.plan ≡ old.plan
   pub failed : now.failed ≡ old.failed
 
 -- the network made a step
 pub record HasStepped (old now : NetLists) (stepped : Stepped) : Type 0 where
-  pub state : seen now ≡ stepped.state
+  pub state : network_seen now ≡ stepped.state
   pub told : now.trace ≡ old.trace ++ stepped.entries
 
 -- an edge of the network did this work
 pub record HasDriven (me : EdgeId) (old now : NetLists) (work : Work) (effects : Effects) : Type 0 where
-  pub state : seen now ≡ with_edge me work.edge (seen old)
+  pub state : network_seen now ≡ with_edge me work.edge (network_seen old)
   pub effects_are : effects.list ≡ work.effects
   pub idle_is : effects.idle ≡ work.idle
   pub told : now.trace ≡ old.trace
@@ -92,13 +92,13 @@ pub record HasAnswered (me : EdgeId) (old now : NetLists) (work : Work) : Type 0
   pub mid : NetLists
   pub effects : Effects
   pub driven : HasDriven me old mid work effects
-  pub step : HasStepped mid now (answered me effects (seen mid))
+  pub step : HasStepped mid now (answered me effects (network_seen mid))
 
 -- the edges of a plan, so many from the first on, before their first input
 pub record AreOpen (plan : Plan) (count : ℕ) (edges : List EdgeLists) : Type 0 where
   pub len : length edges ≡ count
-  pub planned : (k : ℕ) → k < count → (slice_index_or edges k (no_edge plan k)).plan ≡ plan
-  pub empty : (k : ℕ) → edge.seen (slice_index_or edges k (no_edge plan k)) ≡ empty_edge plan (record { 0 = k })
+  pub planned : (k : ℕ) → k < count → (slice_index_or edges k (edge_outside plan k)).plan ≡ plan
+  pub empty : (k : ℕ) → edge.seen (slice_index_or edges k (edge_outside plan k)) ≡ empty_edge plan (record { 0 = k })
 
 -- a copy of a packet is under way, where there is one
 abbrev pub copied : Option Packet → NetworkState → NetworkState
@@ -107,8 +107,8 @@ copied (Some packet) network = with_copy packet network
 
 -- a frame entered with the next number, and was told
 pub record HasEntered (old now : NetLists) (circuit : CircuitId) (octets : List ℕ) (number : ℕ) : Type 0 where
-  pub number_is : number ≡ (seen old).entered + 1
-  pub state : seen now ≡ with_frame (seen old)
+  pub number_is : number ≡ (network_seen old).entered + 1
+  pub state : network_seen now ≡ with_frame (network_seen old)
   pub told : now.trace ≡ old.trace ++ In circuit number octets ∷ []
 
 -- the edge of a circuit's row

@@ -45,8 +45,8 @@ with_copy_of (Some packet) packets = with_next packet packets
 -- ---- how they are kept
 
 -- a packet that is kept under its number, after so many ticks
-abbrev pub packet_of : ℕ → ℕ × Carried → Packet
-packet_of ticks e = record {
+abbrev pub kept_packet : ℕ → ℕ × Carried → Packet
+kept_packet ticks e = record {
   number = e.0;
   wire = e.1.departure.wire;
   from = e.1.departure.from;
@@ -59,12 +59,12 @@ packet_of ticks e = record {
 
 abbrev pub packets_of : ℕ → List (ℕ × Carried) → List Packet
 packets_of ticks [] = []
-packets_of ticks (e ∷ es) = packet_of ticks e ∷ packets_of ticks es
+packets_of ticks (e ∷ es) = kept_packet ticks e ∷ packets_of ticks es
 
 -- none has a number past the last one; each was sent, and fewer than 64 ticks ago
-abbrev pub AreKept : ℕ → ℕ → List (ℕ × Carried) → Type 0
-AreKept ticks last [] = Unit {0}
-AreKept ticks last (e ∷ es) = (e.0 ≤ last) × (e.1.since ≤ ticks) × (ticks < e.1.since + 64) × AreKept ticks last es
+abbrev pub ArePacketsKept : ℕ → ℕ → List (ℕ × Carried) → Type 0
+ArePacketsKept ticks last [] = Unit {0}
+ArePacketsKept ticks last (e ∷ es) = (e.0 ≤ last) × (e.1.since ≤ ticks) × (ticks < e.1.since + 64) × ArePacketsKept ticks last es
 
 -- by when they were sent, and then by their numbers
 abbrev pub sending_order : Sending → Sending → Ordering

@@ -19,7 +19,7 @@ abbrev pub put_pair : ℕ → ℕ → Bool → (ℕ → ℕ → Bool) → ℕ �
 put_pair from to on pairs i j = if i == from && j == to then on else pairs i j
 
 -- what always holds of an index: no pair beyond the edges has a mark
-pub record IsWithin (words : List ℕ) : Type 0 where
+pub record IsPairIndex (words : List ℕ) : Type 0 where
   pub few : length words ≤ 64
   pub each : (from to : ℕ) → length words ≤ to → in_word (slice_index_or words from 0) to ≡ false
 

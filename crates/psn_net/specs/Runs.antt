@@ -8,7 +8,7 @@ use Rattle.network_model.specs.State.{NetworkState}
 use Rattle.network_model.specs.Step.{step}
 use Rattle.psn_net.specs.declared.net_stop.NetStop.{NetStop}
 use Rattle.psn_net.specs.declared.net_stop.NetStop.TheVariants.{Crowded, TooMuch, NoMemory}
-use Rattle.psn_net.specs.Lists.{NetLists, seen}
+use Rattle.psn_net.specs.Lists.{NetLists, network_seen}
 use Rattle.psn_net.specs.Weight.{stop_at}
 
 -- what a run comes to: the state, the whole trace, and the limit that stopped it, where one did
@@ -30,7 +30,7 @@ ran plan state trace (e ∷ es) = unless (stop_at trace (length state.under_way)
 
 -- a network as the end of a run
 abbrev pub ended : NetLists → Option NetStop → Ended
-ended network stop = record { state = seen network; trace = network.trace; stop = stop }
+ended network stop = record { state = network_seen network; trace = network.trace; stop = stop }
 
 -- a run stopped; where memory was refused nothing is said of the network
 abbrev pub RunHalts : NetStop → NetLists → Ended → Type 0
@@ -44,8 +44,8 @@ GivesNetwork (Ok done) network end = ended network None ≡ end
 GivesNetwork (Err stop) network end = RunHalts stop network end
 
 -- the network after these events
-pub record HasRun (plan : Plan) (state : NetworkState) (trace : List Entry) (events : List Event) (network : NetLists) : Type 0 where
-  pub state_is : seen network ≡ state_after plan state events
+pub record HasRunEvents (plan : Plan) (state : NetworkState) (trace : List Entry) (events : List Event) (network : NetLists) : Type 0 where
+  pub state_is : network_seen network ≡ state_after plan state events
   pub trace_is : network.trace ≡ trace ++ entries_along plan state events
 
 -- of these events those were done; the limit stopped the next one, where one did, and else all were
@@ -62,5 +62,5 @@ AreDone all done trace count (Some stop) = HasStopped all done trace count stop
 -- a run is that of some first events
 pub record IsRunOf (plan : Plan) (state : NetworkState) (trace : List Entry) (all : List Event) (network : NetLists) (stop : Option NetStop) : Type 0 where
   pub done : List Event
-  pub are_done : AreDone all done network.trace (length (seen network).under_way) stop
-  pub ran : HasRun plan state trace done network
+  pub are_done : AreDone all done network.trace (length (network_seen network).under_way) stop
+  pub ran : HasRunEvents plan state trace done network

@@ -37,18 +37,18 @@ is_event (Did event) = true
 is_event entry = false
 
 -- how many events a trace tells
-abbrev pub events_in : List Entry → ℕ
-events_in [] = 0
-events_in (e ∷ es) = (if is_event e then 1 else 0) + events_in es
+abbrev pub events_told : List Entry → ℕ
+events_told [] = 0
+events_told (e ∷ es) = (if is_event e then 1 else 0) + events_told es
 
 -- a trace with its counts
 pub record IsCounted (trace : List Entry) (weight events : ℕ) : Type 0 where
   pub weighs : weight ≡ weight_of trace
-  pub counts : events ≡ min (events_in trace) (2 ^ 64 - 1)
+  pub counts : events ≡ min (events_told trace) (2 ^ 64 - 1)
 
 -- the number of the event after those of a trace, counted up to 2^64 - 1
 abbrev pub next_event : List Entry → ℕ
-next_event trace = min (events_in trace + 1) (2 ^ 64 - 1)
+next_event trace = min (events_told trace + 1) (2 ^ 64 - 1)
 
 -- an event that may send a packet
 abbrev pub may_send : Event → Bool

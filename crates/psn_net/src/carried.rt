@@ -1,6 +1,6 @@
 //! A packet under way as it is kept.
 ghost use Rattle.std.specs.Prelude.{◌≡◌, ◌<◌, ◌≤◌, ◌+◌, IfOk};
-ghost use Rattle.psn_net.specs.Packets.{packet_of};
+ghost use Rattle.psn_net.specs.Packets.{kept_packet};
 
 use crate::departure::Departure;
 use net_base::NoMemory;
@@ -44,7 +44,7 @@ impl Carried {
     pub fn into_packet(self, number: u64, ticks: u64) -> Packet
         requires sent { self.since ≤ ticks }
         requires young { ticks < self.since + 64 }
-        ensures { result ≡ packet_of ticks (number, self) }
+        ensures { result ≡ kept_packet ticks (number, self) }
     {
         let Carried { departure, since } = self;
         Packet {

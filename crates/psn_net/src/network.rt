@@ -9,7 +9,7 @@ ghost use Rattle.network_model.specs.Packet.{next_arrival};
 ghost use Rattle.network_model.specs.State.{edge_at, empty_network};
 ghost use Rattle.network_model.specs.Step.{step};
 ghost use Rattle.psn_net.specs.Applying.{Stops};
-ghost use Rattle.psn_net.specs.Lists.{seen};
+ghost use Rattle.psn_net.specs.Lists.{network_seen};
 ghost use Rattle.psn_net.specs.Weight.{stop_at, weight_of};
 
 mod calm;
@@ -55,7 +55,7 @@ impl Network {
     pub fn open(alloc: Global, plan: &Plan) -> Result<Network, NoMemory>
         requires { IsChecked plan.now }
         ensures plan { IfOk result (λ network. network.plan ≡ plan.now) }
-        ensures state { IfOk result (λ network. seen network ≡ empty_network plan.now) }
+        ensures state { IfOk result (λ network. network_seen network ≡ empty_network plan.now) }
         ensures trace { IfOk result (λ network. network.trace ≡ []) }
         ensures going { IfOk result (λ network. network.failed ≡ false) }
     {
@@ -77,9 +77,9 @@ impl Network {
     pub fn apply(&mut self, alloc: Global, event: &Event) -> Result<(), NetStop>
         requires { IsEventOf self.old.plan event.now }
         ensures plan { self.new.plan ≡ self.old.plan }
-        ensures state { OnOk result (seen self.new ≡ (step self.old.plan (seen self.old) event.now).state) }
-        ensures told { OnOk result (self.new.trace ≡ self.old.trace ++ (step self.old.plan (seen self.old) event.now).entries) }
-        ensures within { OnOk result (stop_at self.old.trace (length (seen self.old).under_way) event.now ≡ None) }
+        ensures state { OnOk result (network_seen self.new ≡ (step self.old.plan (network_seen self.old) event.now).state) }
+        ensures told { OnOk result (self.new.trace ≡ self.old.trace ++ (step self.old.plan (network_seen self.old) event.now).entries) }
+        ensures within { OnOk result (stop_at self.old.trace (length (network_seen self.old).under_way) event.now ≡ None) }
         ensures going { OnOk result ((self.old.failed ≡ false) × (self.new.failed ≡ false)) }
         ensures stops { IfErr result (Stops self.old self.new event.now) }
         ensures given_up { self.old.failed ≡ true → IfErr result (λ stop. stop ≡ NetStop.NoMemory) }
@@ -113,9 +113,9 @@ impl Network {
     pub fn enter(&mut self, alloc: Global, circuit: CircuitId, bytes: Octets) -> Result<(), NetStop>
         requires { IsEventOf self.old.plan (Event.Frame circuit bytes) }
         ensures plan { self.new.plan ≡ self.old.plan }
-        ensures state { OnOk result (seen self.new ≡ (step self.old.plan (seen self.old) (Event.Frame circuit bytes)).state) }
-        ensures told { OnOk result (self.new.trace ≡ self.old.trace ++ (step self.old.plan (seen self.old) (Event.Frame circuit bytes)).entries) }
-        ensures within { OnOk result (stop_at self.old.trace (length (seen self.old).under_way) (Event.Frame circuit bytes) ≡ None) }
+        ensures state { OnOk result (network_seen self.new ≡ (step self.old.plan (network_seen self.old) (Event.Frame circuit bytes)).state) }
+        ensures told { OnOk result (self.new.trace ≡ self.old.trace ++ (step self.old.plan (network_seen self.old) (Event.Frame circuit bytes)).entries) }
+        ensures within { OnOk result (stop_at self.old.trace (length (network_seen self.old).under_way) (Event.Frame circuit bytes) ≡ None) }
         ensures going { OnOk result ((self.old.failed ≡ false) × (self.new.failed ≡ false)) }
         ensures stops { IfErr result (Stops self.old self.new (Event.Frame circuit bytes)) }
         ensures given_up { self.old.failed ≡ true → IfErr result (λ stop. stop ≡ NetStop.NoMemory) }
@@ -143,7 +143,7 @@ impl Network {
     /// order of the sender and then of the receiver. `None` exactly where no two edges have. It is found without
     /// looking at all pairs of edges.
     pub fn next_delivery(&self) -> Option<Event>
-        ensures next { result ≡ next_delivery self.now.plan (seen self.now) }
+        ensures next { result ≡ next_delivery self.now.plan (network_seen self.now) }
         ensures planned { IfSome result (IsEventOf self.now.plan) }
     {
         let (from, to) = self.next_pair()?;
@@ -157,7 +157,7 @@ impl Network {
     /// The next arrival: the packet under way with the lowest number. `None` exactly where none is under way. It is found
     /// in logarithmic time.
     pub fn next_arrival(&self) -> Option<Event>
-        ensures next { result ≡ next_arrival (seen self.now) }
+        ensures next { result ≡ next_arrival (network_seen self.now) }
         ensures planned { IfSome result (IsEventOf self.now.plan) }
     {
         self.parts.next_arrival()
@@ -166,7 +166,7 @@ impl Network {
     // The first two edges that have something to deliver. After memory was refused the index may lack something.
     #[tactic(auto, using(crate::proofs::IndexLemmas::found_first))]
     fn next_pair(&self) -> Option<(usize, usize)>
-        ensures first { result ≡ first_pair (is_deliverable (seen self.now)) (length self.now.plan.edges) 0 (length self.now.plan.edges) }
+        ensures first { result ≡ first_pair (is_deliverable (network_seen self.now)) (length self.now.plan.edges) 0 (length self.now.plan.edges) }
         ensures within { IfSome result (λ pair. (pair.0 < length self.now.plan.edges) × (pair.1 < length self.now.plan.edges)) }
         ensures few { IfSome result (λ pair. (pair.0 < 64) × (pair.1 < 64)) }
     {
@@ -212,7 +212,7 @@ impl Network {
     /// has no such edge.
     pub fn edge(&self, id: EdgeId) -> Option<&Edge>
         ensures some { IsSome result ↔ (id.0 < length self.now.plan.edges) }
-        ensures part { IfSome result (λ edge. seen_edge edge.now ≡ edge_at (seen self.now) id) }
+        ensures part { IfSome result (λ edge. seen_edge edge.now ≡ edge_at (network_seen self.now) id) }
         ensures plan { IfSome result (λ edge. edge.now.plan ≡ self.now.plan) }
         ensures place { IfSome result (λ edge. edge.now.me ≡ id) }
     {
@@ -221,7 +221,7 @@ impl Network {
 
     /// How many packets are under way, counted up to 2^32 - 1.
     pub fn under_way(&self) -> u32
-        ensures { result ≡ min (length (seen self.now).under_way) (2 ^ 32 - 1) }
+        ensures { result ≡ min (length (network_seen self.now).under_way) (2 ^ 32 - 1) }
     {
         self.parts.under_way()
     }

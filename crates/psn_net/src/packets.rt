@@ -2,7 +2,7 @@
 ghost use Rattle.std.specs.Prelude.{◌≡◌, ◌<◌, ◌≤◌, ◌+◌, ◌++◌, ◌∷◌, ◌^◌, [], Some, None, length, slice_get, option_map, IfOk, IfSome, OnErr, OnOk};
 ghost use Rattle.std.specs.List.{find};
 ghost use Rattle.network_model.specs.State.{all_older, without_number};
-ghost use Rattle.psn_net.specs.Packets.{is_aged, is_numbered, number_of, packet_of, with_copy_of, without_aged};
+ghost use Rattle.psn_net.specs.Packets.{is_aged, is_numbered, number_of, kept_packet, with_copy_of, without_aged};
 
 use crate::carried::Carried;
 use crate::departure::Departure;
@@ -28,13 +28,13 @@ pub struct Packets {
 }
 
 impl Model for Packets {
-    ghost use Rattle.psn_net.specs.Packets.{AreKept, IsIndex, UnderWay, packets_of};
+    ghost use Rattle.psn_net.specs.Packets.{ArePacketsKept, IsIndex, UnderWay, packets_of};
 
     ghost Value = { UnderWay };
 
     ghost view = { λ p. record { list = packets_of p.ticks p.by_number.entries; last = p.last; ticks = p.ticks } };
 
-    ghost invariant = { λ p. AreKept p.ticks p.last p.by_number.entries × IsIndex p.by_number.entries p.by_age.keys };
+    ghost invariant = { λ p. ArePacketsKept p.ticks p.last p.by_number.entries × IsIndex p.by_number.entries p.by_age.keys };
 }
 
 impl Packets {
@@ -163,7 +163,7 @@ impl Packets {
         requires young { self.old.ticks < carried.since + 64 }
         ensures err { OnErr result (self.new ≡ self.old) }
         ensures ok { OnOk result (self.new ≡ record self.old {
-          list = self.old.list ++ packet_of self.old.ticks (self.old.last + 1, carried) ∷ [];
+          list = self.old.list ++ kept_packet self.old.ticks (self.old.last + 1, carried) ∷ [];
           last = self.old.last + 1;
         }) }
     {

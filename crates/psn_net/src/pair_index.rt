@@ -15,13 +15,13 @@ pub struct PairIndex {
 }
 
 impl Model for PairIndex {
-    ghost use Rattle.psn_net.specs.PairIndex.{IndexLists, IsWithin};
+    ghost use Rattle.psn_net.specs.PairIndex.{IndexLists, IsPairIndex};
 
     ghost Value = { IndexLists };
 
     ghost view = { λ i. record { rows = i.rows.items } };
 
-    ghost invariant = { λ i. IsWithin i.rows.items };
+    ghost invariant = { λ i. IsPairIndex i.rows.items };
 }
 
 impl PairIndex {

@@ -9,7 +9,7 @@ ghost use Rattle.provider_edge.specs.Taking.{IsInRange};
 ghost use Rattle.network_model.specs.Absorb.{begin_at, taken_all};
 ghost use Rattle.network_model.specs.State.{edge_at, empty_network};
 ghost use Rattle.network_model.specs.Step.{step};
-ghost use Rattle.psn_net.specs.Lists.{HasDriven, HasRoom, HasStepped, Keeps, seen};
+ghost use Rattle.psn_net.specs.Lists.{HasDriven, HasRoom, HasStepped, KeepsNetwork, network_seen};
 ghost use Rattle.psn_net.specs.Weight.{may_send, stop_at, weight_of};
 
 mod absorb;
@@ -72,7 +72,7 @@ impl Parts {
     pub fn open(alloc: Global, plan: &Plan) -> Result<Parts, NoMemory>
         requires { IsChecked plan.now }
         ensures plan { IfOk result (λ parts. parts.plan ≡ plan.now) }
-        ensures state { IfOk result (λ parts. seen parts ≡ empty_network plan.now) }
+        ensures state { IfOk result (λ parts. network_seen parts ≡ empty_network plan.now) }
         ensures trace { IfOk result (λ parts. parts.trace ≡ []) }
         ensures going { IfOk result (λ parts. parts.failed ≡ false) }
     {
@@ -92,7 +92,7 @@ impl Parts {
 
     /// The limit that stops an event, where there is one. A frame, an arrival, a repetition and a ping may send a packet.
     pub fn refusal(&self, event: &Event) -> Option<NetStop>
-        ensures { result ≡ stop_at self.now.trace (length (seen self.now).under_way) event.now }
+        ensures { result ≡ stop_at self.now.trace (length (network_seen self.now).under_way) event.now }
     {
         match event {
             Event::Frame { .. } | Event::Arrive { .. } | Event::Again { .. } | Event::Ping { .. } =>
@@ -104,7 +104,7 @@ impl Parts {
     /// The limit that stops each event that may send a packet, or each that may not, where there is one.
     #[tactic(auto, unfolding(crate::specs::Weight::stop_at))]
     pub fn refusal_by(&self, sends: bool) -> Option<NetStop>
-        ensures { (event : Event) → may_send event ≡ sends → result ≡ stop_at self.now.trace (length (seen self.now).under_way) event }
+        ensures { (event : Event) → may_send event ≡ sends → result ≡ stop_at self.now.trace (length (network_seen self.now).under_way) event }
     {
         let weight = self.ledger.weight();
         if weight > MOST_WEIGHT {
@@ -126,8 +126,8 @@ impl Parts {
     /// Tells an event, and then does it.
     pub fn work(&mut self, alloc: Global, event: &Event) -> Result<(), NoMemory>
         requires { IsEventOf self.old.plan event.now }
-        ensures keeps { Keeps self.old self.new }
-        ensures step { OnOk result (HasStepped self.old self.new (step self.old.plan (seen self.old) event.now)) }
+        ensures keeps { KeepsNetwork self.old self.new }
+        ensures step { OnOk result (HasStepped self.old self.new (step self.old.plan (network_seen self.old) event.now)) }
     {
         self.tell(Entry::Did {
             event: event.copy(alloc)?,
@@ -169,8 +169,8 @@ impl Parts {
         bytes: Octets,
     ) -> Result<(), NoMemory>
         requires { IsEventOf self.old.plan (Event.Frame circuit bytes) }
-        ensures keeps { Keeps self.old self.new }
-        ensures step { OnOk result (HasStepped self.old self.new (step self.old.plan (seen self.old) (Event.Frame circuit bytes))) }
+        ensures keeps { KeepsNetwork self.old self.new }
+        ensures step { OnOk result (HasStepped self.old self.new (step self.old.plan (network_seen self.old) (Event.Frame circuit bytes))) }
     {
         self.tell(Entry::Did {
             event: Event::Frame {
@@ -182,10 +182,10 @@ impl Parts {
     }
 
     // Adds an entry to the trace.
-    #[tactic(auto, unfolding(crate::specs::Lists::seen))]
+    #[tactic(auto, unfolding(crate::specs::Lists::network_seen))]
     pub(crate) fn tell(&mut self, entry: Entry) -> Result<(), NoMemory>
-        ensures keeps { Keeps self.old self.new }
-        ensures state { seen self.new ≡ seen self.old }
+        ensures keeps { KeepsNetwork self.old self.new }
+        ensures state { network_seen self.new ≡ network_seen self.old }
         ensures room { HasRoom self.old → HasRoom self.new }
         ensures made { OnOk result (HasRoom self.new) }
         ensures more { OnOk result (length self.new.trace ≡ length self.old.trace + 1) }
@@ -221,10 +221,10 @@ impl Parts {
     ) -> Result<Effects, NoMemory>
         requires me { me.0 < length self.old.plan.edges }
         requires range { IsInRange input }
-        ensures keeps { Keeps self.old self.new }
+        ensures keeps { KeepsNetwork self.old self.new }
         ensures room { HasRoom self.old → HasRoom self.new }
         ensures last { self.new.packets.last ≡ self.old.packets.last }
-        ensures driven { IfOk result (HasDriven me self.old self.new (edge_step self.old.plan taken_all input.entry (begin_at (seen self.old) me))) }
+        ensures driven { IfOk result (HasDriven me self.old self.new (edge_step self.old.plan taken_all input.entry (begin_at (network_seen self.old) me))) }
         ensures fit { IfOk result (λ effects. AllFit self.old.plan effects.list) }
     {
         let mut link = PsnLink::new();
@@ -258,10 +258,10 @@ impl Parts {
     }
 
     /// The edge with this place, in its part of the network's state; `None` exactly where the plan has no such edge.
-    #[tactic(auto, unfolding(crate::specs::Lists::seen))]
+    #[tactic(auto, unfolding(crate::specs::Lists::network_seen))]
     pub fn edge(&self, id: EdgeId) -> Option<&Edge>
         ensures some { IsSome result ↔ (id.0 < length self.now.plan.edges) }
-        ensures part { IfSome result (λ edge. seen_edge edge.now ≡ edge_at (seen self.now) id) }
+        ensures part { IfSome result (λ edge. seen_edge edge.now ≡ edge_at (network_seen self.now) id) }
         ensures plan { IfSome result (λ edge. edge.now.plan ≡ self.now.plan) }
         ensures place { IfSome result (λ edge. edge.now.me ≡ id) }
     {
@@ -269,9 +269,9 @@ impl Parts {
     }
 
     /// How many packets are under way, counted up to 2^32 - 1.
-    #[tactic(auto, unfolding(crate::specs::Lists::seen))]
+    #[tactic(auto, unfolding(crate::specs::Lists::network_seen))]
     pub fn under_way(&self) -> u32
-        ensures { result ≡ min (length (seen self.now).under_way) (2 ^ 32 - 1) }
+        ensures { result ≡ min (length (network_seen self.now).under_way) (2 ^ 32 - 1) }
     {
         u32::try_from(self.packets.len()).unwrap_or(u32::MAX)
     }

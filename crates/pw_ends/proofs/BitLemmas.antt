@@ -6,16 +6,16 @@ use Rattle.std.proofs.lemmas.Nat.Bits.{bit_at_set_same, bit_at_set_other, bit_at
 use Rattle.std.specs.Int.{bit_at, bit_not}
 use Rattle.net_values.proofs.BoolLemmas.{or_false}
 use Rattle.pw_ends.specs.declared.peer_marks.PeerMarks.{PeerMarks}
-use Rattle.pw_ends.specs.Marks.{has_mark}
+use Rattle.pw_ends.specs.Marks.{is_marked}
 
 -- no bit is on
-pub unmarked : (marks : PeerMarks) (k : ℕ) → marks.word ≡ 0 → has_mark marks k ≡ not (nat_lt k 64)
-unfolding has_mark
+pub unmarked : (marks : PeerMarks) (k : ℕ) → marks.word ≡ 0 → is_marked marks k ≡ not (nat_lt k 64)
+unfolding is_marked
 unmarked marks k none = ap (λ (word : ℕ). not (nat_lt k 64) || nat_eq (bit_at word k) 1) none ∙ (ap (λ (n : ℕ). not (nat_lt k 64) || nat_eq n 1) (bit_at-zero k) ∙ or_false (not (nat_lt k 64)))
 
 -- one bit is set
-pub bit_set : (marks now : PeerMarks) (peer k : ℕ) → peer < 64 → now.word ≡ bit_or marks.word (1 * 2 ^ peer % 2 ^ 64) → has_mark now k ≡ (k == peer || has_mark marks k)
-unfolding has_mark
+pub bit_set : (marks now : PeerMarks) (peer k : ℕ) → peer < 64 → now.word ≡ bit_or marks.word (1 * 2 ^ peer % 2 ^ 64) → is_marked now k ≡ (k == peer || is_marked marks k)
+unfolding is_marked
 bit_set marks now peer k within is = elim (cases_Bool (k == peer)) [
   | inl same ↦ rw same (ap (λ (word : ℕ). not (nat_lt k 64) || nat_eq (bit_at word k) 1) is ∙ at_peer (equal same))
   | inr apart ↦ rw apart (ap (λ (word : ℕ). not (nat_lt k 64) || nat_eq (bit_at word k) 1) is
@@ -32,8 +32,8 @@ bit_set marks now peer k within is = elim (cases_Bool (k == peer)) [
     at_peer same = rw same (or_right (not (nat_lt peer 64)) _ (eq-eqb _ _ (bit_at_set_same w64 marks.word peer within)))
 
 -- one past the 64 is marked already
-pub bit_past : (marks : PeerMarks) (peer k : ℕ) → 64 ≤ peer → has_mark marks k ≡ (k == peer || has_mark marks k)
-unfolding has_mark
+pub bit_past : (marks : PeerMarks) (peer k : ℕ) → 64 ≤ peer → is_marked marks k ≡ (k == peer || is_marked marks k)
+unfolding is_marked
 bit_past marks peer k past = elim (cases_Bool (k == peer)) [
   | inl same ↦ rw same (first (nat_lt k 64) _ (beyond (equal same)))
   | inr apart ↦ rw apart refl
@@ -50,9 +50,9 @@ bit_past marks peer k past = elim (cases_Bool (k == peer)) [
     first false b is = refl
 
 -- one bit is cleared
-pub bit_cleared : (marks now : PeerMarks) (peer k : ℕ) → peer < 64 → now.word ≡ bit_and marks.word (bit_not w64 (1 * 2 ^ peer % 2 ^ 64)) → has_mark now k
-    ≡ cond (k == peer) (not (nat_lt k 64)) (has_mark marks k)
-unfolding has_mark
+pub bit_cleared : (marks now : PeerMarks) (peer k : ℕ) → peer < 64 → now.word ≡ bit_and marks.word (bit_not w64 (1 * 2 ^ peer % 2 ^ 64)) → is_marked now k
+    ≡ cond (k == peer) (not (nat_lt k 64)) (is_marked marks k)
+unfolding is_marked
 bit_cleared marks now peer k within is = elim (cases_Bool (k == peer)) [
   | inl same ↦ rw same (ap (λ (word : ℕ). not (nat_lt k 64) || nat_eq (bit_at word k) 1) is ∙ at_peer (equal same))
   | inr apart ↦ rw apart (ap (λ (word : ℕ). not (nat_lt k 64) || nat_eq (bit_at word k) 1) is ∙ other (nat_lt k 64) refl (unequal apart))
@@ -76,8 +76,8 @@ bit_cleared marks now peer k within is = elim (cases_Bool (k == peer)) [
     other false short apart = refl
 
 -- the mark of one past the 64 stays
-pub bit_kept : (marks : PeerMarks) (peer k : ℕ) → 64 ≤ peer → has_mark marks k ≡ cond (k == peer) (not (nat_lt k 64)) (has_mark marks k)
-unfolding has_mark
+pub bit_kept : (marks : PeerMarks) (peer k : ℕ) → 64 ≤ peer → is_marked marks k ≡ cond (k == peer) (not (nat_lt k 64)) (is_marked marks k)
+unfolding is_marked
 bit_kept marks peer k past = elim (cases_Bool (k == peer)) [
   | inl same ↦ rw same (first (nat_lt k 64) _ (beyond (equal same)))
   | inr apart ↦ rw apart refl

@@ -11,8 +11,8 @@ use Rattle.net_base.specs.declared.plan.places.SegKey.{SegKey}
 use Rattle.label_space.specs.declared.kept.Kept.{Kept}
 use Rattle.label_space.specs.declared.owner.Owner.{Owner}
 use Rattle.label_space.specs.Kept.{met, put_by, ticked, without}
-use Rattle.label_space.specs.Labels.{LabelNumbers, freed, freed_of, given_to, issued, meeting, next_after, number_to_give, numbers_end, opened_space, owned_label, owner_of, owns, ticking}
-use Rattle.label_space.specs.Laws.{Among, AreApart as AreNumbersApart, Free, Issue, Met, Tick, listed}
+use Rattle.label_space.specs.Labels.{LabelNumbers, freed, freed_of, given_to, issued, meeting_neighbour, next_after, number_to_give, numbers_end, opened_space, owned_label, owner_of, owns, ticking}
+use Rattle.label_space.specs.Laws.{AmongNumbers, AreLabelsApart as AreNumbersApart, Free, Issue, Met, Tick, listed}
 use Rattle.label_space.proofs.LabelLemmas.{owner_of-find, owner_of-kept, owner_of-put}
 use Rattle.label_space.proofs.LawLemmas.{labels_are_used_again}
 use Rattle.label_space.proofs.OrderLemmas.{long_filtered, long_put}
@@ -31,7 +31,7 @@ use Rattle.pw_ends.specs.declared.end_change.EndChange.TheVariants as change
 use Rattle.pw_ends.specs.Changes.{changed, changed_in}
 use Rattle.pw_ends.specs.Ends.{CanHold, EndLists, HasKind, Holds, IsIdle, end_in, no_place, place_of}
 use Rattle.pw_ends.specs.Kept.{AreApart, AreKept, Differ, IsOwned, IsOwner, OwnApart, OwnTheirs, count_owned, freed_one, one_owned, own_of, segment_of}
-use Rattle.pw_ends.specs.Owned.{OwnedList, slot_of, with_owner, without_one}
+use Rattle.pw_ends.specs.Owned.{OwnedList, slot_of, with_owned_label, without_owned_one}
 use Rattle.pw_ends.proofs.HoldLemmas.{holding_at, holding_none, holding_set, holds_stay}
 use Rattle.pw_ends.proofs.OwnerLemmas.{all_at, differ_sym, index_changed, index_count, index_issued, index_opened, set_same, unindexed, count_own}
 use Rattle.pw_ends.proofs.SegmentLemmas.{owner_in, owners_changed, owners_issued, owners_none}
@@ -164,7 +164,7 @@ apart_new owners label (o ∷ os) (suc slot) none owned apart =
 -- a label that is given is nobody's
 given_unowned : (labels : LabelNumbers) (label : ℕ) → AreNumbersApart labels → number_to_give labels.next labels.kept ≡ Some label → owner_of label labels.owners ≡ None
 given_unowned labels label apart given =
-    (labels_are_used_again.may labels (Issue no_key 0 no_peer) label apart (subst (λ (r : Option ℕ). Among label (listed r)) (sym given) (inl refl))).unowned
+    (labels_are_used_again.may labels (Issue no_key 0 no_peer) label apart (subst (λ (r : Option ℕ). AmongNumbers label (listed r)) (sym given) (inl refl))).unowned
   where
     no_key : SegKey
     no_key = record { wire = record { 0 = 0 }; segment = 0 }
@@ -344,7 +344,7 @@ freed_next (Some label) labels = by (find (owns label) labels.owners) where
 
 pub kept_changed : (c : EndChange) (places : List EndPlace) (ends : List EndState) (labels : LabelNumbers) (index : OwnedList) (slot : ℕ) → AreKept places ends labels index → slot < length places →
     AreKept places (changed_in (changed c) slot ends) (freed_one (left_label (own_of (get_or ends slot fresh)) (own_of (get_or (changed_in (changed c) slot ends) slot fresh))) labels)
-    (without_one (left_label (own_of (get_or ends slot fresh)) (own_of (get_or (changed_in (changed c) slot ends) slot fresh))) index)
+    (without_owned_one (left_label (own_of (get_or ends slot fresh)) (own_of (get_or (changed_in (changed c) slot ends) slot fresh))) index)
 kept_changed c places ends labels index slot kept within =
     let old : EndState = get_or ends slot fresh in
     let short : slot < length ends = subst (λ (n : ℕ). slot < n) (sym kept.count) within in
@@ -374,7 +374,7 @@ kept_changed c places ends labels index slot kept within =
 -- the same of what the code has: the label before and after
 pub kept_moved : (c : EndChange) (places : List EndPlace) (ends now : List EndState) (labels left : LabelNumbers) (index others : OwnedList) (slot : ℕ) (before after : Option ℕ)
     → AreKept places ends labels index → slot < length places → now ≡ changed_in (changed c) slot ends → before ≡ own_of (get_or ends slot fresh) → after ≡ own_of (get_or now slot fresh)
-    → left ≡ freed_one (left_label before after) labels → others ≡ without_one (left_label before after) index → AreKept places now left others
+    → left ≡ freed_one (left_label before after) labels → others ≡ without_owned_one (left_label before after) index → AreKept places now left others
 kept_moved c places ends now labels left index others slot before after kept within is first last freed_is without_is =
     rw (freed_is, without_is, first, last, is) (kept_changed c places ends labels index slot kept within)
 
@@ -437,7 +437,7 @@ advertised_kind label told (Withdrawing own) idle kind = absurd idle
 
 pub kept_issued : (key : SegKey) (side : ℕ) (peer : EdgeId) (label : ℕ) (told : Told) (places : List EndPlace) (ends : List EndState) (labels : LabelNumbers) (index : OwnedList) (slot : ℕ) → AreKept places ends labels index → slot < length places → IsIdle (get_or ends slot fresh).local → told.kind ≤ 0x7FFF → number_to_give labels.next labels.kept ≡ Some label
     → key ≡ segment_of (get_or places slot no_place) → side ≡ (get_or places slot no_place).side → peer ≡ (get_or places slot no_place).peer
-    → AreKept places (changed_in (advertised label told) slot ends) (given_to key side peer (Some label) labels) (with_owner label slot index)
+    → AreKept places (changed_in (advertised label told) slot ends) (given_to key side peer (Some label) labels) (with_owned_label label slot index)
 kept_issued key side peer label told places ends labels index slot kept within idle kind given of_segment of_side of_peer =
     let old : EndState = get_or ends slot fresh in
     let new : EndState = advertised label told old in
@@ -465,7 +465,7 @@ issued_is key side peer labels label given = ap (λ (r : Option ℕ). given_to k
 
 -- the same of what the code has
 pub kept_advertised : (key : SegKey) (side : ℕ) (peer : EdgeId) (told : Told) (places : List EndPlace) (ends now : List EndState) (labels left : LabelNumbers) (index more : OwnedList) (slot label : ℕ) → AreKept places ends labels index → slot < length places → IsIdle (get_or ends slot fresh).local → told.kind ≤ 0x7FFF → number_to_give labels.next labels.kept ≡ Some label
-    → now ≡ changed_in (advertised label told) slot ends → left ≡ issued key side peer labels → more ≡ with_owner label slot index → key ≡ segment_of (get_or places slot no_place)
+    → now ≡ changed_in (advertised label told) slot ends → left ≡ issued key side peer labels → more ≡ with_owned_label label slot index → key ≡ segment_of (get_or places slot no_place)
     → side ≡ (get_or places slot no_place).side → peer ≡ (get_or places slot no_place).peer
     → AreKept places now left more
 kept_advertised key side peer told places ends now labels left index more slot label kept within idle kind given is left_is with_is of_segment of_side of_peer =
@@ -499,7 +499,7 @@ kept_numbers places ends labels more index kept numbers = record {
 }
 
 pub kept_met : (peer : EdgeId) (places : List EndPlace) (ends : List EndState) (labels now : LabelNumbers) (index : OwnedList) → AreKept places ends labels index → now
-    ≡ meeting peer labels → AreKept places ends now index
+    ≡ meeting_neighbour peer labels → AreKept places ends now index
 kept_met peer places ends labels now index kept is = rw is (kept_numbers places ends labels (met peer labels.kept) index kept (labels_are_used_again.apart labels (Met peer ∷ []) kept.owns.numbers))
 
 pub kept_ticked : (places : List EndPlace) (ends : List EndState) (labels now : LabelNumbers) (index : OwnedList) → AreKept places ends labels index → now ≡ ticking labels

@@ -17,8 +17,8 @@ use Rattle.edge_model.specs.declared.end_place.EndPlace.{EndPlace}
 use Rattle.edge_model.specs.Labels.{left_label}
 use Rattle.pw_ends.specs.declared.owned_labels.OwnedLabel.{OwnedLabel}
 use Rattle.pw_ends.specs.Ends.{is_label, owns_label}
-use Rattle.pw_ends.specs.Kept.{Differ, IsIndex, IsOwned, OwnApart, freed_one, own_of}
-use Rattle.pw_ends.specs.Owned.{OwnedList, has_label, label_in, slot_of, with_owner, without, without_one}
+use Rattle.pw_ends.specs.Kept.{Differ, IsOwnerIndex as IsIndex, IsOwned, OwnApart, freed_one, own_of}
+use Rattle.pw_ends.specs.Owned.{OwnedList, has_label, label_in, slot_of, with_owned_label, without_owned, without_owned_one}
 use Rattle.pw_ends.proofs.FindLemmas.{find_left, find_left_other, find_put, numbers_left, numbers_put}
 
 -- ---- small facts
@@ -152,7 +152,7 @@ unindexed label (x ∷ xs) (o ∷ owners) same none =
 
 pub index_issued : (own_list : List (Option ℕ)) (labels : LabelNumbers) (index : OwnedList) (slot label : ℕ) (key : SegKey) (side : ℕ) (peer : EdgeId) → IsIndex own_list labels index
     → AllByRecursion (Differ (Some label)) own_list → slot_of label index.labels ≡ None → slot < length own_list → get_or own_list slot None ≡ None
-    → IsIndex (set own_list slot (Some label)) (given_to key side peer (Some label) labels) (with_owner label slot index)
+    → IsIndex (set own_list slot (Some label)) (given_to key side peer (Some label) labels) (with_owned_label label slot index)
 index_issued own_list labels index slot label key side peer is differ unowned within at = record {
   room = is.room;
   same =
@@ -170,7 +170,7 @@ index_issued own_list labels index slot label key side peer is differ unowned wi
 -- ---- a label is freed
 
 index_freed : (own_list : List (Option ℕ)) (labels : LabelNumbers) (index : OwnedList) (slot label : ℕ) → IsIndex own_list labels index → OwnApart own_list
-    → IsOwned labels.owners (Some label) → slot < length own_list → get_or own_list slot None ≡ Some label → IsIndex (set own_list slot None) (freed label labels) (without label index)
+    → IsOwned labels.owners (Some label) → slot < length own_list → get_or own_list slot None ≡ Some label → IsIndex (set own_list slot None) (freed label labels) (without_owned label index)
 index_freed own_list labels index slot label is apart owned within at = of_found (find (owns label) labels.owners) refl where
   same_left : map (λ o. o.label) (filter (λ o. not (has_label label o)) index.labels) ≡ map (λ o. o.label) (filter (λ o. not (owns label o)) labels.owners)
   same_left =
@@ -186,14 +186,14 @@ index_freed own_list labels index slot label is apart owned within at = of_found
       ap (option_map (λ (o : OwnedLabel). o.slot)) (find_left_other label_in label other index.labels differ)
       ∙ (is.slot other ∙ sym (position_set other own_list slot None within (sym (ap (is_label other) at ∙ differ))))
 
-  of_found : (r : Option Owner) → find (owns label) labels.owners ≡ r → IsIndex (set own_list slot None) (freed_of label r labels) (without label index)
+  of_found : (r : Option Owner) → find (owns label) labels.owners ≡ r → IsIndex (set own_list slot None) (freed_of label r labels) (without_owned label index)
   of_found None none = absurd (owned (owner_of-find label labels.owners ∙ ap (option_map (λ o. (o.key, o.side))) none))
   of_found (Some owner) found = record { room = is.room; same = same_left; slot = λ other. by other (cases_Bool (label == other)) }
 
 -- after a change each label that is left has its slot
 pub index_changed : (own_list : List (Option ℕ)) (labels : LabelNumbers) (index : OwnedList) (slot : ℕ) (before after : Option ℕ) → IsIndex own_list labels index → OwnApart own_list
     → IsOwned labels.owners before → slot < length own_list → get_or own_list slot None ≡ before → (after ≡ before) ⊎ (after ≡ None)
-    → IsIndex (set own_list slot after) (freed_one (left_label before after) labels) (without_one (left_label before after) index)
+    → IsIndex (set own_list slot after) (freed_one (left_label before after) labels) (without_owned_one (left_label before after) index)
 index_changed own_list labels index slot None None is apart owned within at either = rw (set_same own_list slot None None within (sym at)) is
 index_changed own_list labels index slot None (Some label) is apart owned within at (inl same) = absurd (something {X = ℕ} label same)
 index_changed own_list labels index slot None (Some label) is apart owned within at (inr none) = absurd (something {X = ℕ} label none)

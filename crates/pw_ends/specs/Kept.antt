@@ -4,7 +4,7 @@ use Rattle.std.specs.List.{AllByRecursion, find}
 use Rattle.net_base.specs.declared.plan.places.SegKey.{SegKey}
 use Rattle.label_space.specs.declared.owner.Owner.{Owner}
 use Rattle.label_space.specs.Labels.{LabelNumbers, freed, owner_of, owns}
-use Rattle.label_space.specs.Laws.{AreApart as AreNumbersApart}
+use Rattle.label_space.specs.Laws.{AreLabelsApart as AreNumbersApart}
 use Rattle.pw_signalling.specs.End.{EndState, fresh}
 use Rattle.pw_signalling.specs.Laws.{own_label}
 use Rattle.edge_model.specs.declared.end_place.EndPlace.{EndPlace}
@@ -75,7 +75,7 @@ pub record OwnTheirs (owns : List (Option ℕ)) (labels : LabelNumbers) : Type 0
   pub numbers : AreNumbersApart labels
 
 -- the labels of the label space, each with the slot of the end that owns it
-pub record IsIndex (owns : List (Option ℕ)) (labels : LabelNumbers) (index : OwnedList) : Type 0 where
+pub record IsOwnerIndex (owns : List (Option ℕ)) (labels : LabelNumbers) (index : OwnedList) : Type 0 where
   pub room : index.room ≡ labels.room
   pub same : map (λ o. o.label) index.labels ≡ map (λ o. o.label) labels.owners
   pub slot : (label : ℕ) → slot_of label index.labels ≡ position (is_label label) owns
@@ -89,7 +89,7 @@ pub record AreKept (places : List EndPlace) (ends : List EndState) (labels : Lab
   pub owns : OwnTheirs (map own_of ends) labels
   pub owners : AreOwners labels.owners places (map own_of ends)
   pub kinds : AllByRecursion (λ end. HasKind end.local) ends
-  pub slots : IsIndex (map own_of ends) labels index
+  pub slots : IsOwnerIndex (map own_of ends) labels index
   pub holds : AreHolding places ends
 
 -- nothing was told of an end beside a neighbour that has no mark

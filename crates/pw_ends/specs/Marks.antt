@@ -4,5 +4,5 @@ use Rattle.std.specs.Int.{bit_at}
 use Rattle.pw_ends.specs.declared.peer_marks.PeerMarks.{PeerMarks}
 
 -- the neighbour is marked; one past the 64 counts so
-unfoldable pub has_mark : PeerMarks → ℕ → Bool
-has_mark marks k = not (nat_lt k 64) || bit_at marks.word k == 1
+unfoldable pub is_marked : PeerMarks → ℕ → Bool
+is_marked marks k = not (nat_lt k 64) || bit_at marks.word k == 1

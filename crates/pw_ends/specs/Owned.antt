@@ -24,16 +24,16 @@ abbrev pub slot_of : ℕ → List OwnedLabel → Option ℕ
 slot_of label labels = option_map (λ owned. owned.slot) (find (has_label label) labels)
 
 -- a label is owned by the end of a slot; it stands at its place among the others
-abbrev pub with_owner : ℕ → ℕ → OwnedList → OwnedList
-with_owner label slot owned = record owned { labels = put_by label_in (record { label = label; slot = slot }) owned.labels }
+abbrev pub with_owned_label : ℕ → ℕ → OwnedList → OwnedList
+with_owned_label label slot owned = record owned { labels = put_by label_in (record { label = label; slot = slot }) owned.labels }
 
 -- a label is owned no longer
-abbrev pub without : ℕ → OwnedList → OwnedList
-without label owned = record owned { labels = filter (λ o. not (has_label label o)) owned.labels }
+abbrev pub without_owned : ℕ → OwnedList → OwnedList
+without_owned label owned = record owned { labels = filter (λ o. not (has_label label o)) owned.labels }
 
-abbrev pub without_one : Option ℕ → OwnedList → OwnedList
-without_one None owned = owned
-without_one (Some label) owned = without label owned
+abbrev pub without_owned_one : Option ℕ → OwnedList → OwnedList
+without_owned_one None owned = owned
+without_owned_one (Some label) owned = without_owned label owned
 
 abbrev pub AreRising : List OwnedLabel → Type 0
 AreRising labels = AreRisingBy label_in 0 labels

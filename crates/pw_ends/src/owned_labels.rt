@@ -4,7 +4,7 @@ ghost use Rattle.std.specs.List.{find, insert};
 ghost use Rattle.hvpls_spokes.specs.Search.{kept_if};
 ghost use Rattle.label_space.specs.Kept.{put_by};
 ghost use Rattle.pw_ends.specs.declared.owned_labels.OwnedLabel.{OwnedLabel};
-ghost use Rattle.pw_ends.specs.Owned.{AreRising, has_label, label_in, slot_of, with_owner, without};
+ghost use Rattle.pw_ends.specs.Owned.{AreRising, has_label, label_in, slot_of, with_owned_label, without_owned};
 
 use net_base::{Label, NoMemory};
 use std::alloc::Global;
@@ -51,7 +51,7 @@ impl OwnedLabels {
     pub(crate) fn add(&mut self, label: Label, slot: usize)
         requires room { length self.old.labels < self.old.room }
         requires unowned { slot_of label self.old.labels ≡ None }
-        ensures { self.new ≡ with_owner label slot self.old }
+        ensures { self.new ≡ with_owned_label label slot self.old }
     {
         let place = count_before(self.labels.as_slice(), label.number());
         // The memory for it was taken where this was opened.
@@ -62,7 +62,7 @@ impl OwnedLabels {
 
     /// No end owns the label any more.
     pub(crate) fn remove(&mut self, label: Label)
-        ensures { self.new ≡ without label self.old }
+        ensures { self.new ≡ without_owned label self.old }
     {
         forget(&mut self.labels, label);
     }

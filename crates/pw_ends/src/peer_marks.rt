@@ -1,6 +1,6 @@
 //! The neighbours of which something may have been told.
 ghost use Rattle.std.specs.Prelude.{◌≡◌, ◌==◌, ◌||◌, ℕ, true, false, not, nat_lt, if◌then◌else◌};
-ghost use Rattle.pw_ends.specs.Marks.{has_mark};
+ghost use Rattle.pw_ends.specs.Marks.{is_marked};
 
 use net_base::EdgeId;
 
@@ -15,15 +15,15 @@ impl PeerMarks {
     /// No edge is marked.
     #[tactic(auto, using(crate::proofs::BitLemmas::unmarked))]
     pub(crate) fn new() -> PeerMarks
-        ensures { (k : ℕ) → has_mark result k ≡ not (nat_lt k 64) }
+        ensures { (k : ℕ) → is_marked result k ≡ not (nat_lt k 64) }
     {
         PeerMarks { word: 0 }
     }
 
     /// Whether a neighbour is marked.
-    #[tactic(auto, unfolding(crate::specs::Marks::has_mark))]
+    #[tactic(auto, unfolding(crate::specs::Marks::is_marked))]
     pub(crate) fn has(self, peer: EdgeId) -> bool
-        ensures { result ≡ has_mark self peer.0 }
+        ensures { result ≡ is_marked self peer.0 }
     {
         if peer.0 >= 64 {
             return true;
@@ -34,7 +34,7 @@ impl PeerMarks {
     /// Whether none of the 64 is.
     #[tactic(auto, using(crate::proofs::BitLemmas::unmarked))]
     pub(crate) fn is_empty(self) -> bool
-        ensures { result ≡ true → (k : ℕ) → has_mark self k ≡ not (nat_lt k 64) }
+        ensures { result ≡ true → (k : ℕ) → is_marked self k ≡ not (nat_lt k 64) }
     {
         self.word == 0
     }
@@ -42,7 +42,7 @@ impl PeerMarks {
     /// A neighbour is marked.
     #[tactic(auto, using(crate::proofs::BitLemmas::bit_set, crate::proofs::BitLemmas::bit_past))]
     pub(crate) fn with(self, peer: EdgeId) -> PeerMarks
-        ensures { (k : ℕ) → has_mark result k ≡ (k == peer.0 || has_mark self k) }
+        ensures { (k : ℕ) → is_marked result k ≡ (k == peer.0 || is_marked self k) }
     {
         if peer.0 >= 64 {
             return self;
@@ -55,7 +55,7 @@ impl PeerMarks {
     /// The mark of a neighbour is taken away.
     #[tactic(auto, using(crate::proofs::BitLemmas::bit_cleared, crate::proofs::BitLemmas::bit_kept))]
     pub(crate) fn without(self, peer: EdgeId) -> PeerMarks
-        ensures { (k : ℕ) → has_mark result k ≡ (if k == peer.0 then not (nat_lt k 64) else has_mark self k) }
+        ensures { (k : ℕ) → is_marked result k ≡ (if k == peer.0 then not (nat_lt k 64) else is_marked self k) }
     {
         if peer.0 >= 64 {
             return self;

@@ -4,7 +4,7 @@ ghost use Rattle.std.specs.List.{find, list_any};
 ghost use Rattle.net_base.specs.plan.Accepted.{IsChecked};
 ghost use Rattle.label_space.specs.declared.kept.Kept.{Kept};
 ghost use Rattle.label_space.specs.Kept.{without};
-ghost use Rattle.label_space.specs.Labels.{meeting, next_after, number_to_give, numbers_end, opened_space, owner_of, ticking};
+ghost use Rattle.label_space.specs.Labels.{meeting_neighbour, next_after, number_to_give, numbers_end, opened_space, owner_of, ticking};
 ghost use Rattle.pw_signalling.specs.AnyEnd.{end_of};
 ghost use Rattle.pw_signalling.specs.End.{fresh};
 ghost use Rattle.pw_signalling.specs.Laws.{own_label};
@@ -15,7 +15,7 @@ ghost use Rattle.edge_model.specs.Packet.{advertises_label};
 ghost use Rattle.edge_model.specs.State.{first_label};
 ghost use Rattle.pw_ends.specs.Changes.{changed, changed_each, changed_in, keeps_changed, keeps_meant};
 ghost use Rattle.pw_ends.specs.Kept.{AreApart, IsOwner, freed_one, segment_of};
-ghost use Rattle.pw_ends.specs.Owned.{without_one};
+ghost use Rattle.pw_ends.specs.Owned.{without_owned_one};
 ghost use Rattle.pw_ends.specs.Ends.{CanHold, HasKind, Holds, IsIdle, changed_at, changed_beside, end_in, end_there, owns_label, place_of, renewed_of, seen_ends};
 
 use crate::end_change::EndChange;
@@ -48,13 +48,13 @@ impl Model for PwEnds {
     ghost use Rattle.pw_signalling.specs.AnyEnd.{end_of};
     ghost use Rattle.pw_ends.specs.Ends.{EndLists};
     ghost use Rattle.pw_ends.specs.Kept.{AreMarked};
-    ghost use Rattle.pw_ends.specs.Marks.{has_mark};
+    ghost use Rattle.pw_ends.specs.Marks.{is_marked};
 
     ghost Value = { EndLists };
 
     ghost view = { λ e. record { places = e.places; ends = map end_of e.ends.items; labels = e.labels } };
 
-    ghost invariant = { λ e. AreMarked e.places (map end_of e.ends.items) e.labels e.owned (has_mark e.marks) };
+    ghost invariant = { λ e. AreMarked e.places (map end_of e.ends.items) e.labels e.owned (is_marked e.marks) };
 }
 
 impl PwEnds {
@@ -397,7 +397,7 @@ impl PwEnds {
 
     /// A connection with a peer begins: each number that waits for it begins to rest.
     pub fn met(&mut self, peer: EdgeId)
-        ensures ends { self.new ≡ record self.old { labels = meeting peer self.old.labels } }
+        ensures ends { self.new ≡ record self.old { labels = meeting_neighbour peer self.old.labels } }
     {
         self.labels.met(peer);
     }
@@ -471,7 +471,7 @@ fn free_left(
     after: Option<Label>,
 )
     ensures labels { labels.new ≡ freed_one (left_label before after) labels.old }
-    ensures owned { owned.new ≡ without_one (left_label before after) owned.old }
+    ensures owned { owned.new ≡ without_owned_one (left_label before after) owned.old }
 {
     if let (Some(label), None) = (before, after) {
         labels.free(label);

@@ -54,12 +54,12 @@ lost e = fresh
 -- ---- what comes from the peer
 
 -- another remote part
-abbrev pub with_remote : Option Binding → EndState → EndState
-with_remote remote e = record { local = e.local; remote = remote }
+abbrev pub with_remote_part : Option Binding → EndState → EndState
+with_remote_part remote e = record { local = e.local; remote = remote }
 
 -- a Label Mapping: its binding replaces the one that was held (RFC 5036 section 3.5.7)
 abbrev pub bound : Binding → EndState → EndState
-bound binding e = with_remote (Some binding) e
+bound binding e = with_remote_part (Some binding) e
 
 -- a message with this label, or with none, is about the label
 abbrev pub names : Option ℕ → ℕ → Bool
@@ -73,7 +73,7 @@ unless_named label (Some binding) = if names label binding.label then None else 
 
 -- the end without the binding that the label names
 abbrev pub unbound : Option ℕ → EndState → EndState
-unbound label e = with_remote (unless_named label e.remote) e
+unbound label e = with_remote_part (unless_named label e.remote) e
 
 -- a Label Release of the own label, or without a label: what was withdrawn is released, and what is advertised is declined
 -- (RFC 5036 section 3.5.11); of another label it changes nothing
@@ -97,7 +97,7 @@ status_part status (Some binding) = Some (binding_with_status status binding)
 
 -- the end with this status of the peer
 abbrev pub stated : PwStatus → EndState → EndState
-stated status e = with_remote (status_part status e.remote) e
+stated status e = with_remote_part (status_part status e.remote) e
 
 -- there is a binding of the group
 abbrev pub is_in_group : ℕ → Option Binding → Bool

@@ -2,7 +2,7 @@
 ghost use Rattle.std.specs.Prelude.{◌≡◌, option_copied};
 ghost use Rattle.pw_signalling.specs.Down.{down};
 ghost use Rattle.pw_signalling.specs.AnyEnd.{end_of};
-ghost use Rattle.pw_signalling.specs.Rows.{bound, group_stated, group_unbound, lost, released, stated, unbound, with_remote};
+ghost use Rattle.pw_signalling.specs.Rows.{bound, group_stated, group_unbound, lost, released, stated, unbound, with_remote_part};
 
 use crate::binding::{is_named, is_of_group};
 use crate::cause::cause;
@@ -129,7 +129,7 @@ impl PwEnd {
 
     // The same end with another remote part.
     fn with_remote(self, remote: Option<Binding>) -> PwEnd
-        ensures { end_of result ≡ with_remote remote (end_of self) }
+        ensures { end_of result ≡ with_remote_part remote (end_of self) }
     {
         match self {
             PwEnd::Idle(end) => PwEnd::Idle(PwIdle::with(end.is_declined(), remote)),

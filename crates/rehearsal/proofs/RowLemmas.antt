@@ -8,7 +8,7 @@ use Rattle.net_base.specs.declared.plan.wire_plan.WirePlan.{WirePlan}
 use Rattle.command_text.specs.declared.command.Command.{Command}
 use Rattle.rehearsal.specs.Commands.{frames_from}
 use Rattle.rehearsal.specs.Draws.{next_number}
-use Rattle.rehearsal.specs.Rows.{edge_row, edges_from, circuit_row, circuits_from, mesh_wire, mesh_beside, mesh_among, first_spoke, second_spoke, spokes_from}
+use Rattle.rehearsal.specs.Rows.{edge_row, edges_from, rehearsed_circuit, circuits_from, mesh_wire, mesh_beside, mesh_among, first_spoke, second_spoke, spokes_from}
 
 -- a list goes on by the front of what is still to come
 pub added : {A : Type 0} (old new front rest more all : List A) → new ≡ old ++ front → more ≡ front ++ rest → old ++ more ≡ all → new ++ rest ≡ all
@@ -17,7 +17,7 @@ added old new front rest more all p e q = rw p (append_assoc old front rest ∙ 
 pub edges_next : (number : ℕ) → number < 17 → edges_from (17 - number) number ≡ edge_row number ∷ edges_from (17 - (number + 1)) (number + 1)
 edges_next number within = let e : 17 - number ≡ suc (17 - (number + 1)) = omega arith in rw e refl
 
-pub circuits_next : (number : ℕ) → number < 17 → circuits_from (17 - number) number ≡ circuit_row number ∷ circuits_from (17 - (number + 1)) (number + 1)
+pub circuits_next : (number : ℕ) → number < 17 → circuits_from (17 - number) number ≡ rehearsed_circuit number ∷ circuits_from (17 - (number + 1)) (number + 1)
 circuits_next number within = let e : 17 - number ≡ suc (17 - (number + 1)) = omega arith in rw e refl
 
 pub mesh_next : (from to number : ℕ) → to < 9 → mesh_beside (9 - to) from to number ≡ mesh_wire from to number ∷ mesh_beside (9 - (to + 1)) from (to + 1) (number + 1)
@@ -47,10 +47,10 @@ edges_more old new all row number within is pushed e =
     added old new (edge_row number ∷ []) (edges_from (17 - (number + 1)) (number + 1)) (edges_from (17 - number) number) all (pushed ∙ ap (λ (r : EdgePlan). old ++ r ∷ []) is)
     (edges_next number within) e
 
-pub circuits_more : (old new all : List CircuitPlan) (row : CircuitPlan) (number : ℕ) → number < 17 → row ≡ circuit_row number → new ≡ old ++ row ∷ []
+pub circuits_more : (old new all : List CircuitPlan) (row : CircuitPlan) (number : ℕ) → number < 17 → row ≡ rehearsed_circuit number → new ≡ old ++ row ∷ []
     → old ++ circuits_from (17 - number) number ≡ all → new ++ circuits_from (17 - (number + 1)) (number + 1) ≡ all
 circuits_more old new all row number within is pushed e =
-    added old new (circuit_row number ∷ []) (circuits_from (17 - (number + 1)) (number + 1)) (circuits_from (17 - number) number) all
+    added old new (rehearsed_circuit number ∷ []) (circuits_from (17 - (number + 1)) (number + 1)) (circuits_from (17 - number) number) all
     (pushed ∙ ap (λ (r : CircuitPlan). old ++ r ∷ []) is) (circuits_next number within) e
 
 pub mesh_more : (old new all : List WirePlan) (row : WirePlan) (from to number next : ℕ) → to < 9 → next ≡ number + 1 → row ≡ mesh_wire from to number → new ≡ old ++ row ∷ []

@@ -22,7 +22,7 @@ use Rattle.command_text.specs.declared.command.Command.{Command}
 use Rattle.command_text.specs.declared.command.Command.TheVariants.{One, Settle, Flow}
 use Rattle.command_text.specs.Planned.{IsPlanned}
 use Rattle.scenario_text.specs.declared.scenario.Scenario.{Scenario}
-use Rattle.rehearsal.specs.Commands.{commands, connect, connects, frame, frames_from, payload, station}
+use Rattle.rehearsal.specs.Commands.{commands, connect, connect_commands, frame, frames_from, payload, station}
 use Rattle.rehearsal.specs.Draws.{drawn, next_number}
 use Rattle.rehearsal.specs.Rows.{plan, wires}
 use Rattle.rehearsal.specs.Scenario.{rehearsal}
@@ -84,10 +84,10 @@ connect_planned (from ∷ to ∷ []) e =
     All-cons (IsPlanned plan) (One (Connect from to)) [] (edge_within from first.0, edge_within to second.0) (All-nil (IsPlanned plan))
 connect_planned (from ∷ to ∷ more ∷ rest) e = All-nil (IsPlanned plan)
 
-connects_planned : (rows : List WirePlan) → All (IsWireOf plan) rows → All (IsPlanned plan) (connects rows)
+connects_planned : (rows : List WirePlan) → All (IsWireOf plan) rows → All (IsPlanned plan) (connect_commands rows)
 connects_planned [] all = All-nil (IsPlanned plan)
 connects_planned (row ∷ rows) all =
-    All-append (IsPlanned plan) (connect row.path) (connects rows) (connect_planned row.path (All-head (IsWireOf plan) row rows all).edges)
+    All-append (IsPlanned plan) (connect row.path) (connect_commands rows) (connect_planned row.path (All-head (IsWireOf plan) row rows all).edges)
     (connects_planned rows (All-tail (IsWireOf plan) row rows all))
 
 -- a frame is as long, whether it goes to everybody or to a station
@@ -123,8 +123,8 @@ are_planned : (seed : ℕ) → All (IsPlanned plan) (commands wires seed)
 unfolding commands
 are_planned seed =
     let settled : All (IsPlanned plan) (Settle 10000 ∷ []) = All-cons (IsPlanned plan) (Settle 10000) [] (omega arith, omega arith) (All-nil (IsPlanned plan)) in
-    let connected = All-append (IsPlanned plan) (connects wires) (Settle 10000 ∷ []) (connects_planned wires wires_are) settled in
-    All-append (IsPlanned plan) (connects wires ++ Settle 10000 ∷ []) (frames_from 2000 seed) connected (frames_planned 2000 seed)
+    let connected = All-append (IsPlanned plan) (connect_commands wires) (Settle 10000 ∷ []) (connects_planned wires wires_are) settled in
+    All-append (IsPlanned plan) (connect_commands wires ++ Settle 10000 ∷ []) (frames_from 2000 seed) connected (frames_planned 2000 seed)
 
 -- the wires of the network
 rehearsed_wires : plan.wires ≡ wires

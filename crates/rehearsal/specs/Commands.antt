@@ -15,9 +15,9 @@ connect (from ∷ to ∷ []) = One (Connect from to) ∷ []
 connect (from ∷ to ∷ more ∷ rest) = []
 
 -- those of each wire, in the plan's order
-abbrev pub connects : List WirePlan → List Command
-connects [] = []
-connects (wire ∷ wires) = connect wire.path ++ connects wires
+abbrev pub connect_commands : List WirePlan → List Command
+connect_commands [] = []
+connect_commands (wire ∷ wires) = connect wire.path ++ connect_commands wires
 
 -- the station at a circuit, which has the number of its edge
 abbrev pub station : ℕ → List ℕ
@@ -44,4 +44,4 @@ frames_from (suc count) number =
 
 -- the connections, all deliveries that they lead to, and the frames
 unfoldable pub commands : List WirePlan → ℕ → List Command
-commands wires seed = (connects wires ++ Settle 10000 ∷ []) ++ frames_from 2000 seed
+commands wires seed = (connect_commands wires ++ Settle 10000 ∷ []) ++ frames_from 2000 seed

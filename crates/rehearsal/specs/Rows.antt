@@ -20,23 +20,23 @@ abbrev pub edges_from : ℕ → ℕ → List EdgePlan
 edges_from zero number = []
 edges_from (suc count) number = edge_row number ∷ edges_from count (number + 1)
 
-abbrev pub service_row : ServicePlan
-service_row = record { name = codes "s"; mtu = 1500; age = 300 }
+abbrev pub rehearsed_service : ServicePlan
+rehearsed_service = record { name = codes "s"; mtu = 1500; age = 300 }
 
 -- the circuit at an edge, which has its number
-abbrev pub circuit_row : ℕ → CircuitPlan
-circuit_row number = record { name = codes "c" ++ decimal number; edge = record { 0 = number - 1 }; service = record { 0 = 0 }; tag = None }
+abbrev pub rehearsed_circuit : ℕ → CircuitPlan
+rehearsed_circuit number = record { name = codes "c" ++ decimal number; edge = record { 0 = number - 1 }; service = record { 0 = 0 }; tag = None }
 
 abbrev pub circuits_from : ℕ → ℕ → List CircuitPlan
 circuits_from zero number = []
-circuits_from (suc count) number = circuit_row number ∷ circuits_from count (number + 1)
+circuits_from (suc count) number = rehearsed_circuit number ∷ circuits_from count (number + 1)
 
 -- what every wire offers at both ends: raw mode with a control word, the MTU of the service, and statuses
 abbrev pub offer : Offer
 offer = record { tagged = Bool.false; cword = Bool.true; mtu = Some 1500; vlan = None; vccv = None; status = Bool.true; group = 0; description = [] }
 
-abbrev pub wire_row : List ℕ → Link → WirePlan
-wire_row name link = record {
+abbrev pub rehearsed_wire : List ℕ → Link → WirePlan
+rehearsed_wire name link = record {
   name = name;
   service = record { 0 = 0 };
   class = link.class;
@@ -49,7 +49,7 @@ wire_row name link = record {
 
 -- mesh wires are numbered from 1: wire 1 is `m1`, of PW ID 101
 abbrev pub mesh_wire : ℕ → ℕ → ℕ → WirePlan
-mesh_wire from to number = wire_row (codes "m" ++ decimal number) (record { class = Mesh; from = from; to = to; pw_id = 100 + number; priority = 100 })
+mesh_wire from to number = rehearsed_wire (codes "m" ++ decimal number) (record { class = Mesh; from = from; to = to; pw_id = 100 + number; priority = 100 })
 
 -- the mesh wires from an edge to so many edges, the first of which is `to`; the first wire has this number
 abbrev pub mesh_beside : ℕ → ℕ → ℕ → ℕ → List WirePlan
@@ -64,10 +64,10 @@ mesh_among (suc count) from number = mesh_beside count from (from + 1) number ++
 -- the two spokes of spoke edge 9 + place: `p` to the core edge eight numbers before it, which is used first, and `q` to the one after
 -- that, where the first one stands behind the last one
 abbrev pub first_spoke : ℕ → WirePlan
-first_spoke place = wire_row (codes "p" ++ decimal (place + 9)) (record { class = Spoke; from = place + 9; to = place + 1; pw_id = 201 + 2 * place; priority = 10 })
+first_spoke place = rehearsed_wire (codes "p" ++ decimal (place + 9)) (record { class = Spoke; from = place + 9; to = place + 1; pw_id = 201 + 2 * place; priority = 10 })
 
 abbrev pub second_spoke : ℕ → WirePlan
-second_spoke place = wire_row (codes "q" ++ decimal (place + 9)) (record { class = Spoke; from = place + 9; to = (place + 1) % 8 + 1; pw_id = 202 + 2 * place; priority = 20 })
+second_spoke place = rehearsed_wire (codes "q" ++ decimal (place + 9)) (record { class = Spoke; from = place + 9; to = (place + 1) % 8 + 1; pw_id = 202 + 2 * place; priority = 20 })
 
 abbrev pub spokes_from : ℕ → ℕ → List WirePlan
 spokes_from zero place = []
@@ -77,4 +77,4 @@ unfoldable pub wires : List WirePlan
 wires = mesh_among 8 1 1 ++ spokes_from 8 0
 
 unfoldable pub plan : Plan
-plan = record { edges = edges_from 16 1; services = service_row ∷ []; circuits = circuits_from 16 1; wires = wires }
+plan = record { edges = edges_from 16 1; services = rehearsed_service ∷ []; circuits = circuits_from 16 1; wires = wires }

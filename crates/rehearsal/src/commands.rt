@@ -1,6 +1,6 @@
 //! What happens in a rehearsal.
 ghost use Rattle.std.specs.Prelude.{◌≡◌, ◌<◌, ◌+◌, ◌++◌, IfOk, OnOk};
-ghost use Rattle.rehearsal.specs.Commands.{commands, connect, connects, destination, frame, frames_from, payload, station};
+ghost use Rattle.rehearsal.specs.Commands.{commands, connect, connect_commands, destination, frame, frames_from, payload, station};
 ghost use Rattle.rehearsal.specs.Draws.{next_number};
 
 use crate::draws::Draws;
@@ -32,7 +32,7 @@ fn add_connect(commands: &mut List<Command>, path: &[EdgeId]) -> Result<(), NoMe
 
 // Adds that those of each wire do.
 fn add_connects(commands: &mut List<Command>, wires: &[WirePlan]) -> Result<(), NoMemory>
-    ensures { OnOk result (commands.new ≡ commands.old ++ connects wires.now) }
+    ensures { OnOk result (commands.new ≡ commands.old ++ connect_commands wires.now) }
 {
     for wire in wires {
         add_connect(commands, wire.path.as_slice())?;

@@ -1,6 +1,6 @@
 //! The network of a rehearsal.
 ghost use Rattle.std.specs.Prelude.{◌≡◌, ◌<◌, ◌≤◌, ◌∷◌, [], IfOk};
-ghost use Rattle.rehearsal.specs.Rows.{edge_row, edges_from, circuit_row, circuits_from, service_row, plan};
+ghost use Rattle.rehearsal.specs.Rows.{edge_row, edges_from, rehearsed_circuit, circuits_from, rehearsed_service, plan};
 
 use crate::numbered::numbered;
 use crate::wires::wires;
@@ -26,7 +26,7 @@ fn edges(alloc: Global) -> Result<List<EdgePlan>, NoMemory>
 }
 
 fn service() -> ServicePlan
-    ensures { result ≡ service_row }
+    ensures { result ≡ rehearsed_service }
 {
     ServicePlan {
         name: Name::read("s").unwrap(),
@@ -36,7 +36,7 @@ fn service() -> ServicePlan
 }
 
 fn services(alloc: Global) -> Result<List<ServicePlan>, NoMemory>
-    ensures { IfOk result (λ rows. rows ≡ service_row ∷ []) }
+    ensures { IfOk result (λ rows. rows ≡ rehearsed_service ∷ []) }
 {
     let mut rows = List::new(alloc);
     rows.push(service())?;
@@ -45,7 +45,7 @@ fn services(alloc: Global) -> Result<List<ServicePlan>, NoMemory>
 
 fn circuit(alloc: Global, number: u16) -> Result<CircuitPlan, NoMemory>
     requires { 1 ≤ number }
-    ensures { IfOk result (λ row. row ≡ circuit_row number) }
+    ensures { IfOk result (λ row. row ≡ rehearsed_circuit number) }
 {
     Ok(CircuitPlan {
         name: numbered(alloc, "c", number)?,

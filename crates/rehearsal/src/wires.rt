@@ -2,7 +2,7 @@
 ghost use Rattle.std.specs.Prelude.{◌≡◌, ◌<◌, ◌≤◌, ◌+◌, ◌-◌, ◌*◌, ◌++◌, ◌∷◌, [], length, IfOk, OnOk};
 ghost use Rattle.std.specs.Fmt.{decimal};
 ghost use Rattle.net_values.specs.Name.{IsName};
-ghost use Rattle.rehearsal.specs.Rows.{offer, wire_row, mesh_wire, mesh_beside, mesh_among, first_spoke, second_spoke, wires};
+ghost use Rattle.rehearsal.specs.Rows.{offer, rehearsed_wire, mesh_wire, mesh_beside, mesh_among, first_spoke, second_spoke, wires};
 
 use crate::link::Link;
 use crate::numbered::numbered;
@@ -43,7 +43,7 @@ fn wire(alloc: Global, letter: &str, number: u16, link: Link) -> Result<WirePlan
     requires one { length letter.now ≡ 1 }
     requires from { 1 ≤ link.from }
     requires to { 1 ≤ link.to }
-    ensures { IfOk result (λ row. row ≡ wire_row (letter.now ++ decimal number) link) }
+    ensures { IfOk result (λ row. row ≡ rehearsed_wire (letter.now ++ decimal number) link) }
 {
     let name = numbered(alloc, letter, number)?;
     let path = path(alloc, link.from, link.to)?;

@@ -27,13 +27,13 @@ use Rattle.text_pieces.specs.Pieces.{hex}
 use Rattle.text_lines.specs.Lines.{line_of}
 use Rattle.report_text.specs.Report.{entry_line, entry_words}
 use Rattle.report_text.specs.Words.{arrival_name, cause_name, circuit_name, edge_name, event_words, name_or_empty, state_name, switch_name, wire_end_name, wire_name}
-use Rattle.report_reading.specs.Named.{AreOctets}
+use Rattle.report_reading.specs.Named.{AreOctetsTold}
 use Rattle.report_entries.specs.declared.passed.Carried.{Carried}
 use Rattle.report_entries.specs.declared.passed.Passed.{Passed}
 use Rattle.report_entries.specs.declared.unread.Unread.{Unread}
 use Rattle.report_entries.specs.Cut.{before_mark, behind_mark, line_words, words_within}
 use Rattle.report_entries.specs.Entries.{aged_in, carried_in, copied_in, did_in, dropped_in, entered_in, entry_in, entry_of, exact, idle_in, left_in, line_entry, packet_told_in, passed_in, pong_in, said_in, sent_in, session_in, told_in, wire_told_in, words_entry}
-use Rattle.report_entries.specs.Events.{circuit_switch_in, connect_in, connection_event_in, deliver_in, event_in, event_of, frame_in, lose_in, of_record_size, packet_in, part_event_in, ping_in, priority_in, restart_in, status_in, tick_in, wire_switch_in}
+use Rattle.report_entries.specs.Events.{circuit_switch_told, connect_told, connection_event_in, deliver_told, event_told, event_of, frame_in, lose_told, of_record_size, packet_named, part_event_in, ping_told, priority_in, restart_told, status_told, tick_told, wire_switch_told}
 use Rattle.report_entries.specs.Reading.{◌>>=◌, Reads, arrival_in, cause_in, cause_rest_in, circuit_in, edge_in, ended_in, number_in, octets_in, sequence_in, state_in, switch_in, wire_end_in, wire_in}
 use Rattle.report_entries.proofs.DigitLemmas.{octets_again}
 use Rattle.report_entries.proofs.FoundLemmas.{few_words}
@@ -84,7 +84,7 @@ unfolding sequence_in
 sequence_again word = decimal_again 0 65535 word (omega arith)
 
 digits_again : (word : List ℕ) → IfSome (octets_in word) (λ o. hex o ≡ word)
-digits_again word = weaker (λ o. AreOctets o × (hex o ≡ word)) (λ o. hex o ≡ word) (octets_in word) (λ o is. is.1) (octets_again word)
+digits_again word = weaker (λ o. AreOctetsTold o × (hex o ≡ word)) (λ o. hex o ≡ word) (octets_in word) (λ o is. is.1) (octets_again word)
 
 switch_again : (word : List ℕ) → IfSome (switch_in word) (λ x. switch_name x ≡ word)
 unfolding switch_in
@@ -164,23 +164,23 @@ module _ (plan : Plan) where
   sized_again : (octets word : List ℕ) → hex octets ≡ word → IfSome (of_record_size octets) (λ o. hex o ≡ word)
   sized_again octets word at = by_word (λ o. hex o ≡ word) (nat_le (length octets) 262144) (Some octets) None at tt
 
-  packet_again : (words : List (List ℕ)) → IfSome (packet_in words) (λ n. decimal n ∷ [] ≡ words)
-  unfolding packet_in
+  packet_again : (words : List (List ℕ)) → IfSome (packet_named words) (λ n. decimal n ∷ [] ≡ words)
+  unfolding packet_named
   packet_again [] = tt
   packet_again (w0 ∷ []) = weaker (λ n. decimal n ≡ w0) (λ n. decimal n ∷ [] ≡ w0 ∷ []) (decimal_from 1 18446744073709551615 w0) (λ n at. ap (λ (w : List ℕ). w ∷ []) at)
       (decimal_again 1 18446744073709551615 w0 (omega arith))
   packet_again (w0 ∷ w1 ∷ rest) = tt
 
-  connect_again : (words : List (List ℕ)) → IfSome (connect_in (names_of plan) words) (λ e. event_words plan e ≡ codes "connect" ∷ words)
-  unfolding connect_in
+  connect_again : (words : List (List ℕ)) → IfSome (connect_told (names_of plan) words) (λ e. event_words plan e ≡ codes "connect" ∷ words)
+  unfolding connect_told
   connect_again [] = tt
   connect_again (w0 ∷ []) = tt
   connect_again (w0 ∷ w1 ∷ []) = then (λ a. edge_name plan a ≡ w0) (λ e. event_words plan e ≡ codes "connect" ∷ w0 ∷ w1 ∷ []) _ _ (edge_again w0) (λ from at_from.
       then (λ a. edge_name plan a ≡ w1) (λ e. event_words plan e ≡ codes "connect" ∷ w0 ∷ w1 ∷ []) _ _ (edge_again w1) (λ to at_to. (λ i. codes "connect" ∷ at_from i ∷ at_to i ∷ [])))
   connect_again (w0 ∷ w1 ∷ w2 ∷ rest) = tt
 
-  deliver_again : (words : List (List ℕ)) → IfSome (deliver_in (names_of plan) words) (λ e. event_words plan e ≡ codes "deliver" ∷ words)
-  unfolding deliver_in
+  deliver_again : (words : List (List ℕ)) → IfSome (deliver_told (names_of plan) words) (λ e. event_words plan e ≡ codes "deliver" ∷ words)
+  unfolding deliver_told
   deliver_again [] = tt
   deliver_again (w0 ∷ []) = tt
   deliver_again (w0 ∷ w1 ∷ []) = tt
@@ -190,22 +190,22 @@ module _ (plan : Plan) where
       (λ i. codes "deliver" ∷ at_from i ∷ at_to i ∷ at_count i ∷ []))))
   deliver_again (w0 ∷ w1 ∷ w2 ∷ w3 ∷ rest) = tt
 
-  lose_again : (words : List (List ℕ)) → IfSome (lose_in (names_of plan) words) (λ e. event_words plan e ≡ codes "lose" ∷ words)
-  unfolding lose_in
+  lose_again : (words : List (List ℕ)) → IfSome (lose_told (names_of plan) words) (λ e. event_words plan e ≡ codes "lose" ∷ words)
+  unfolding lose_told
   lose_again [] = tt
   lose_again (w0 ∷ []) = tt
   lose_again (w0 ∷ w1 ∷ []) = then (λ a. edge_name plan a ≡ w0) (λ e. event_words plan e ≡ codes "lose" ∷ w0 ∷ w1 ∷ []) _ _ (edge_again w0) (λ edge at_edge.
       then (λ a. edge_name plan a ≡ w1) (λ e. event_words plan e ≡ codes "lose" ∷ w0 ∷ w1 ∷ []) _ _ (edge_again w1) (λ peer at_peer. (λ i. codes "lose" ∷ at_edge i ∷ at_peer i ∷ [])))
   lose_again (w0 ∷ w1 ∷ w2 ∷ rest) = tt
 
-  restart_again : (words : List (List ℕ)) → IfSome (restart_in (names_of plan) words) (λ e. event_words plan e ≡ codes "restart" ∷ words)
-  unfolding restart_in
+  restart_again : (words : List (List ℕ)) → IfSome (restart_told (names_of plan) words) (λ e. event_words plan e ≡ codes "restart" ∷ words)
+  unfolding restart_told
   restart_again [] = tt
   restart_again (w0 ∷ []) = then (λ a. edge_name plan a ≡ w0) (λ e. event_words plan e ≡ codes "restart" ∷ w0 ∷ []) _ _ (edge_again w0) (λ edge at_edge. (λ i. codes "restart" ∷ at_edge i ∷ []))
   restart_again (w0 ∷ w1 ∷ rest) = tt
 
-  tick_again : (words : List (List ℕ)) → IfSome (tick_in words) (λ e. event_words plan e ≡ codes "tick" ∷ words)
-  unfolding tick_in
+  tick_again : (words : List (List ℕ)) → IfSome (tick_told words) (λ e. event_words plan e ≡ codes "tick" ∷ words)
+  unfolding tick_told
   tick_again [] = refl
   tick_again (w0 ∷ rest) = tt
 
@@ -219,8 +219,8 @@ module _ (plan : Plan) where
       (λ i. codes "frame" ∷ at_circuit i ∷ at_frame i ∷ []))))
   frame_again (w0 ∷ w1 ∷ w2 ∷ rest) = tt
 
-  wire_switch_again : (words : List (List ℕ)) → IfSome (wire_switch_in (names_of plan) words) (λ e. event_words plan e ≡ codes "wire" ∷ words)
-  unfolding wire_switch_in
+  wire_switch_again : (words : List (List ℕ)) → IfSome (wire_switch_told (names_of plan) words) (λ e. event_words plan e ≡ codes "wire" ∷ words)
+  unfolding wire_switch_told
   wire_switch_again [] = tt
   wire_switch_again (w0 ∷ []) = tt
   wire_switch_again (w0 ∷ w1 ∷ []) = tt
@@ -229,16 +229,16 @@ module _ (plan : Plan) where
       then (λ x. switch_name x ≡ w2) (λ e. event_words plan e ≡ codes "wire" ∷ w0 ∷ w1 ∷ w2 ∷ []) _ _ (switch_again w2) (λ on at_on. (λ i. codes "wire" ∷ at_edge i ∷ at_wire i ∷ at_on i ∷ []))))
   wire_switch_again (w0 ∷ w1 ∷ w2 ∷ w3 ∷ rest) = tt
 
-  circuit_switch_again : (words : List (List ℕ)) → IfSome (circuit_switch_in (names_of plan) words) (λ e. event_words plan e ≡ codes "circuit" ∷ words)
-  unfolding circuit_switch_in
+  circuit_switch_again : (words : List (List ℕ)) → IfSome (circuit_switch_told (names_of plan) words) (λ e. event_words plan e ≡ codes "circuit" ∷ words)
+  unfolding circuit_switch_told
   circuit_switch_again [] = tt
   circuit_switch_again (w0 ∷ []) = tt
   circuit_switch_again (w0 ∷ w1 ∷ []) = then (λ a. circuit_name plan a ≡ w0) (λ e. event_words plan e ≡ codes "circuit" ∷ w0 ∷ w1 ∷ []) _ _ (circuit_again w0) (λ circuit at_circuit.
       then (λ x. switch_name x ≡ w1) (λ e. event_words plan e ≡ codes "circuit" ∷ w0 ∷ w1 ∷ []) _ _ (switch_again w1) (λ on at_on. (λ i. codes "circuit" ∷ at_circuit i ∷ at_on i ∷ [])))
   circuit_switch_again (w0 ∷ w1 ∷ w2 ∷ rest) = tt
 
-  status_again : (words : List (List ℕ)) → IfSome (status_in (names_of plan) words) (λ e. event_words plan e ≡ codes "status" ∷ words)
-  unfolding status_in
+  status_again : (words : List (List ℕ)) → IfSome (status_told (names_of plan) words) (λ e. event_words plan e ≡ codes "status" ∷ words)
+  unfolding status_told
   status_again [] = tt
   status_again (w0 ∷ []) = tt
   status_again (w0 ∷ w1 ∷ []) = tt
@@ -259,8 +259,8 @@ module _ (plan : Plan) where
       (λ i. codes "priority" ∷ at_edge i ∷ at_wire i ∷ at_priority i ∷ []))))
   priority_again (w0 ∷ w1 ∷ w2 ∷ w3 ∷ rest) = tt
 
-  ping_again : (words : List (List ℕ)) → IfSome (ping_in (names_of plan) words) (λ e. event_words plan e ≡ codes "ping" ∷ words)
-  unfolding ping_in
+  ping_again : (words : List (List ℕ)) → IfSome (ping_told (names_of plan) words) (λ e. event_words plan e ≡ codes "ping" ∷ words)
+  unfolding ping_told
   ping_again [] = tt
   ping_again (w0 ∷ []) = tt
   ping_again (w0 ∷ w1 ∷ []) = then (λ a. edge_name plan a ≡ w0) (λ e. event_words plan e ≡ codes "ping" ∷ w0 ∷ w1 ∷ []) _ _ (edge_again w0) (λ edge at_edge.
@@ -293,12 +293,12 @@ module _ (plan : Plan) where
   event_of_again : (kind : List ℕ) (words : List (List ℕ)) → IfSome (event_of (names_of plan) kind words) (λ e. event_words plan e ≡ kind ∷ words)
   unfolding event_of
   event_of_again kind words = event_by kind (codes "frame") words _ _ (frame_again words)
-      (event_by kind (codes "arrive") words _ _ (then (λ n. decimal n ∷ [] ≡ words) (λ e. event_words plan e ≡ codes "arrive" ∷ words) (packet_in words) _ (packet_again words) (λ packet at. ap (λ (l : List (List ℕ)). codes "arrive" ∷ l) at))
-      (event_by kind (codes "drop") words _ _ (then (λ n. decimal n ∷ [] ≡ words) (λ e. event_words plan e ≡ codes "drop" ∷ words) (packet_in words) _ (packet_again words) (λ packet at. ap (λ (l : List (List ℕ)). codes "drop" ∷ l) at))
-      (event_by kind (codes "again") words _ _ (then (λ n. decimal n ∷ [] ≡ words) (λ e. event_words plan e ≡ codes "again" ∷ words) (packet_in words) _ (packet_again words) (λ packet at. ap (λ (l : List (List ℕ)). codes "again" ∷ l) at))
+      (event_by kind (codes "arrive") words _ _ (then (λ n. decimal n ∷ [] ≡ words) (λ e. event_words plan e ≡ codes "arrive" ∷ words) (packet_named words) _ (packet_again words) (λ packet at. ap (λ (l : List (List ℕ)). codes "arrive" ∷ l) at))
+      (event_by kind (codes "drop") words _ _ (then (λ n. decimal n ∷ [] ≡ words) (λ e. event_words plan e ≡ codes "drop" ∷ words) (packet_named words) _ (packet_again words) (λ packet at. ap (λ (l : List (List ℕ)). codes "drop" ∷ l) at))
+      (event_by kind (codes "again") words _ _ (then (λ n. decimal n ∷ [] ≡ words) (λ e. event_words plan e ≡ codes "again" ∷ words) (packet_named words) _ (packet_again words) (λ packet at. ap (λ (l : List (List ℕ)). codes "again" ∷ l) at))
       (connection_event_again kind words))))
 
-  event_again : (words : List (List ℕ)) → IfSome (event_in (names_of plan) words) (λ e. event_words plan e ≡ words)
+  event_again : (words : List (List ℕ)) → IfSome (event_told (names_of plan) words) (λ e. event_words plan e ≡ words)
   event_again [] = tt
   event_again (kind ∷ words) = event_of_again kind words
 
@@ -430,7 +430,7 @@ module _ (plan : Plan) where
   pong_again (w0 ∷ w1 ∷ w2 ∷ w3 ∷ rest) = tt
 
   did_again : (words : List (List ℕ)) → IfSome (did_in (names_of plan) words) (λ e. entry_words plan e ≡ codes ">" ∷ words)
-  did_again words = then (λ x. event_words plan x ≡ words) (λ e. entry_words plan e ≡ codes ">" ∷ words) (event_in (names_of plan) words) _ (event_again words) (λ event at. ap (λ (l : List (List ℕ)). codes ">" ∷ l) at)
+  did_again words = then (λ x. event_words plan x ≡ words) (λ e. entry_words plan e ≡ codes ">" ∷ words) (event_told (names_of plan) words) _ (event_again words) (λ event at. ap (λ (l : List (List ℕ)). codes ">" ∷ l) at)
 
   entry_by : (kind text : List ℕ) (words : List (List ℕ)) (x y : Option Entry) → IfSome x (λ e. entry_words plan e ≡ text ∷ words) → IfSome y (λ e. entry_words plan e ≡ kind ∷ words)
       → IfSome (cond (bytes_eq kind text) x y) (λ e. entry_words plan e ≡ kind ∷ words)

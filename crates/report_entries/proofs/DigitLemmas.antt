@@ -6,7 +6,7 @@ use Rattle.std.specs.List.{list_all}
 use Rattle.hex.specs.Hex.{encode_with, lower_digits}
 use Rattle.command_text.specs.Hex.{digit_value, unhex}
 use Rattle.text_pieces.specs.Pieces.{hex}
-use Rattle.report_reading.specs.Named.{AreOctets}
+use Rattle.report_reading.specs.Named.{AreOctetsTold}
 use Rattle.report_entries.specs.Reading.{is_small, octets_in}
 
 -- the test of the numbers below a bound, which computes
@@ -31,7 +31,7 @@ unfolding all_below
 digit_small d lt = below_at (λ n. is_small (slice_index lower_digits n)) 16 d refl lt
 
 -- digits have no capital letter
-pub digits_small : (octets : List ℕ) → AreOctets octets → list_all is_small (hex octets) ≡ true
+pub digits_small : (octets : List ℕ) → AreOctetsTold octets → list_all is_small (hex octets) ≡ true
 unfolding encode_with
 digits_small [] are = refl
 digits_small (octet ∷ octets) are =
@@ -70,7 +70,7 @@ digit_again octet small = elim (cases_lt octet 103) [
 
 -- octets, and their digits
 abbrev AreRead : List ℕ → List ℕ → Type 0
-AreRead word octets = AreOctets octets × (hex octets ≡ word)
+AreRead word octets = AreOctetsTold octets × (hex octets ≡ word)
 
 pair_again : (a b : ℕ) (rest : List ℕ) (x y : Option ℕ) (o : Option (List ℕ)) → IfSome x (IsDigit a) → IfSome y (IsDigit b) → IfSome o (AreRead rest)
     → IfSome (option_and_then (λ octet. option_map (λ octets. octet ∷ octets) o) (option_and_then (λ high. option_map (λ low. high * 16 + low) y) x)) (AreRead (a ∷ b ∷ rest))
@@ -83,14 +83,14 @@ pair_again a b rest (Some high) (Some low) (Some octets) first next behind =
     let back : (high * 16 + low) % 16 ≡ low = omega (arith, first.0, next.0) in
     let few : high * 16 + low < 256 = omega (arith, first.0, next.0) in
     (are_octets few, rw (front, back, first.1, next.1, behind.1) refl) where
-      are_octets : high * 16 + low < 256 → AreOctets ((high * 16 + low) ∷ octets)
+      are_octets : high * 16 + low < 256 → AreOctetsTold ((high * 16 + low) ∷ octets)
       are_octets few zero d lt = few
       are_octets few (suc k) d lt = behind.0 k d (omega (arith, lt))
 
 unhex_again : (word : List ℕ) → list_all is_small word ≡ true → IfSome (unhex word) (AreRead word)
 unfolding encode_with
 unhex_again [] small = (none, refl) where
-  none : AreOctets []
+  none : AreOctetsTold []
   none k d lt = absurd (omega (arith, lt))
 unhex_again (a ∷ []) small = tt
 unhex_again (a ∷ b ∷ rest) small =
@@ -99,7 +99,7 @@ unhex_again (a ∷ b ∷ rest) small =
     pair_again a b rest (digit_value a) (digit_value b) (unhex rest) (digit_again a first.0) (digit_again b next.0) (unhex_again rest next.1)
 
 -- octets that are read are written so
-pub octets_again : (word : List ℕ) → IfSome (octets_in word) (λ octets. AreOctets octets × (hex octets ≡ word))
+pub octets_again : (word : List ℕ) → IfSome (octets_in word) (λ octets. AreOctetsTold octets × (hex octets ≡ word))
 unfolding octets_in
 octets_again word = by (list_all is_small word) refl where
   by : (b : Bool) → list_all is_small word ≡ b → IfSome (cond b (unhex word) None) (AreRead word)

@@ -38,12 +38,12 @@ use Rattle.report_text.specs.Report.{entry_line, entry_words}
 use Rattle.report_text.specs.Words.{arrival_name, cause_name, circuit_name, edge_name, event_words, name_or_empty, state_name, switch_name, wire_end_name, wire_name}
 use Rattle.event_laws.specs.Law.{HasNames}
 use Rattle.event_laws.proofs.ValueLemmas.{number_said, octets_read, row_said}
-use Rattle.report_reading.specs.Named.{AreOctets, HasNamesApart, IsArrival, IsCircuit, IsEdge, IsNamed, IsNamedEvent, IsNumber, IsWire, IsWithin}
+use Rattle.report_reading.specs.Named.{AreOctetsTold, HasNamesApart, IsArrival, IsCircuit, IsEdge, IsNamed, IsNamedEvent, IsNumber, IsWire, IsFromTo}
 use Rattle.report_reading.proofs.ApartLemmas.{names_apart}
 use Rattle.report_reading.proofs.PlainLemmas.{entry_plain}
 use Rattle.report_entries.specs.Cut.{line_words, words_within}
 use Rattle.report_entries.specs.Entries.{aged_in, carried_in, copied_in, dropped_in, entered_in, entry_of, idle_in, left_in, line_entry, entry_in, packet_told_in, passed_in, pong_in, said_in, sent_in, session_in, told_in, wire_told_in, words_entry}
-use Rattle.report_entries.specs.Events.{circuit_switch_in, connect_in, connection_event_in, deliver_in, event_in, event_of, frame_in, lose_in, packet_in, part_event_in, ping_in, priority_in, restart_in, status_in, tick_in, wire_switch_in}
+use Rattle.report_entries.specs.Events.{circuit_switch_told, connect_told, connection_event_in, deliver_told, event_told, event_of, frame_in, lose_told, packet_named, part_event_in, ping_told, priority_in, restart_told, status_told, tick_told, wire_switch_told}
 use Rattle.report_entries.proofs.CutLemmas.{joined_free, line_is, words_found}
 use Rattle.report_entries.proofs.DigitLemmas.{digits_small}
 use Rattle.report_entries.specs.Laws.{IsFreeOf}
@@ -55,14 +55,14 @@ number_found : (n : ℕ) → IsNumber n → number_in (decimal n) ≡ Some n
 unfolding number_in
 number_found n is = number_said 0 18446744073709551615 n (omega arith) (omega (arith, is)) is
 
-within_found : (low high n : ℕ) → IsWithin low high n → high < 2 ^ 64 → decimal_from low high (decimal n) ≡ Some n
+within_found : (low high n : ℕ) → IsFromTo low high n → high < 2 ^ 64 → decimal_from low high (decimal n) ≡ Some n
 within_found low high n is few = number_said low high n is.0 is.1 (omega (arith, is.1, few))
 
-sequence_found : (n : ℕ) → IsWithin 0 65535 n → sequence_in (decimal n) ≡ Some n
+sequence_found : (n : ℕ) → IsFromTo 0 65535 n → sequence_in (decimal n) ≡ Some n
 unfolding sequence_in
 sequence_found n is = within_found 0 65535 n is (omega arith)
 
-octets_found : (octets : List ℕ) → AreOctets octets → octets_in (hex octets) ≡ Some octets
+octets_found : (octets : List ℕ) → AreOctetsTold octets → octets_in (hex octets) ≡ Some octets
 unfolding octets_in
 octets_found octets are = rw (digits_small octets are) (octets_read octets are)
 
@@ -145,8 +145,8 @@ module _ (plan : Plan) (names : HasNames plan) where
   unfolding wire_in
   wire_found a is = ap as_wire (row_said (λ (row : WirePlan). row.name) plan.wires a.0 names.wires is)
 
-  event_found : (x : Event) → IsNamedEvent plan x → event_in (names_of plan) (event_words plan x) ≡ Some x
-  unfolding event_of connection_event_in part_event_in connect_in deliver_in lose_in restart_in tick_in frame_in packet_in wire_switch_in circuit_switch_in status_in priority_in ping_in
+  event_found : (x : Event) → IsNamedEvent plan x → event_told (names_of plan) (event_words plan x) ≡ Some x
+  unfolding event_of connection_event_in part_event_in connect_told deliver_told lose_told restart_told tick_told frame_in packet_named wire_switch_told circuit_switch_told status_told priority_in ping_told
   event_found (event.Connect from to) is = rw (edge_found from is.0, edge_found to is.1) refl
   event_found (event.Deliver from to count) is = rw (edge_found from is.0, edge_found to is.1.0, within_found 1 65535 count is.1.1 (omega arith)) refl
   event_found (event.Lose edge peer) is = rw (edge_found edge is.0, edge_found peer is.1) refl

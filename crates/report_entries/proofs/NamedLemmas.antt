@@ -12,13 +12,13 @@ use Rattle.command_text.specs.Planned.{names_of}
 use Rattle.command_text.specs.Words.{decimal_from, is_decimal, value_from}
 use Rattle.text_pieces.specs.Pieces.{hex}
 use Rattle.report_text.specs.Report.{entry_line}
-use Rattle.report_reading.specs.Named.{AreOctets, IsArrival, IsCircuit, IsEdge, IsNamed, IsNamedEvent, IsNumber, IsPacket, IsWire, IsWithin}
+use Rattle.report_reading.specs.Named.{AreOctetsTold, IsArrival, IsCircuit, IsEdge, IsNamed, IsNamedEvent, IsNumber, IsNamedPacket, IsWire, IsFromTo}
 use Rattle.report_entries.specs.declared.passed.Carried.{Carried}
 use Rattle.report_entries.specs.declared.passed.Passed.{Passed}
 use Rattle.report_entries.specs.declared.unread.Unread.{Unread}
 use Rattle.report_entries.specs.Cut.{line_words}
 use Rattle.report_entries.specs.Entries.{aged_in, carried_in, copied_in, did_in, dropped_in, entered_in, entry_of, exact, idle_in, left_in, line_entry, entry_in, packet_told_in, passed_in, pong_in, said_in, sent_in, session_in, told_in, wire_told_in, words_entry}
-use Rattle.report_entries.specs.Events.{circuit_switch_in, connect_in, connection_event_in, deliver_in, event_in, event_of, frame_in, lose_in, of_record_size, packet_in, part_event_in, ping_in, priority_in, restart_in, status_in, tick_in, wire_switch_in}
+use Rattle.report_entries.specs.Events.{circuit_switch_told, connect_told, connection_event_in, deliver_told, event_told, event_of, frame_in, lose_told, of_record_size, packet_named, part_event_in, ping_told, priority_in, restart_told, status_told, tick_told, wire_switch_told}
 use Rattle.report_entries.proofs.DigitLemmas.{octets_again}
 use Rattle.report_entries.specs.Reading.{◌>>=◌, Reads, arrival_in, cause_in, circuit_in, edge_in, number_in, octets_in, sequence_in, state_in, switch_in, wire_end_in, wire_in}
 
@@ -39,9 +39,9 @@ placed : {A : Type 0} (P : A → Type 0) (make : ℕ → A) (o : Option ℕ) (co
 placed P make None count rows each same within = tt
 placed P make (Some n) count rows each same within = each n (omega (arith, same, within))
 
-decimal_within : (low high : ℕ) (word : List ℕ) → IfSome (decimal_from low high word) (IsWithin low high)
+decimal_within : (low high : ℕ) (word : List ℕ) → IfSome (decimal_from low high word) (IsFromTo low high)
 decimal_within low high word = by (is_decimal word) (nat_le low (value_from 0 word)) (nat_le (value_from 0 word) high) refl refl where
-  by : (a b c : Bool) → nat_le low (value_from 0 word) ≡ b → nat_le (value_from 0 word) high ≡ c → IfSome (cond (a && (b && c)) (Some (value_from 0 word)) None) (IsWithin low high)
+  by : (a b c : Bool) → nat_le low (value_from 0 word) ≡ b → nat_le (value_from 0 word) high ≡ c → IfSome (cond (a && (b && c)) (Some (value_from 0 word)) None) (IsFromTo low high)
   by true true true least most = (leb-true low (value_from 0 word) least, leb-true (value_from 0 word) high most)
   by true true false least most = tt
   by true false c least most = tt
@@ -53,14 +53,14 @@ weaker P Q (Some x) implied holds = implied x holds
 
 number_is : (word : List ℕ) → IfSome (number_in word) IsNumber
 unfolding number_in
-number_is word = weaker (IsWithin 0 18446744073709551615) IsNumber (decimal_from 0 18446744073709551615 word) (λ n is. omega (arith, is.1)) (decimal_within 0 18446744073709551615 word)
+number_is word = weaker (IsFromTo 0 18446744073709551615) IsNumber (decimal_from 0 18446744073709551615 word) (λ n is. omega (arith, is.1)) (decimal_within 0 18446744073709551615 word)
 
-sequence_is : (word : List ℕ) → IfSome (sequence_in word) (IsWithin 0 65535)
+sequence_is : (word : List ℕ) → IfSome (sequence_in word) (IsFromTo 0 65535)
 unfolding sequence_in
 sequence_is word = decimal_within 0 65535 word
 
-octets_are : (word : List ℕ) → IfSome (octets_in word) AreOctets
-octets_are word = weaker (λ octets. AreOctets octets × (hex octets ≡ word)) AreOctets (octets_in word) (λ octets is. is.0) (octets_again word)
+octets_are : (word : List ℕ) → IfSome (octets_in word) AreOctetsTold
+octets_are word = weaker (λ octets. AreOctetsTold octets × (hex octets ≡ word)) AreOctetsTold (octets_in word) (λ octets is. is.0) (octets_again word)
 
 anything : {A : Type 0} (o : Option A) → IfSome o (λ x. Unit {0})
 anything None = tt
@@ -91,44 +91,44 @@ module _ (plan : Plan) where
 
   -- ---- events
 
-  connect_is : (words : List (List ℕ)) → IfSome (connect_in (names_of plan) words) (IsNamedEvent plan)
-  unfolding connect_in
+  connect_is : (words : List (List ℕ)) → IfSome (connect_told (names_of plan) words) (IsNamedEvent plan)
+  unfolding connect_told
   connect_is [] = tt
   connect_is (w0 ∷ []) = tt
   connect_is (w0 ∷ w1 ∷ []) = then (IsEdge plan) (IsNamedEvent plan) _ _ (edge_is w0) (λ from is_from. then (IsEdge plan) (IsNamedEvent plan) _ _ (edge_is w1) (λ to is_to. (is_from, is_to)))
   connect_is (w0 ∷ w1 ∷ w2 ∷ rest) = tt
 
-  deliver_is : (words : List (List ℕ)) → IfSome (deliver_in (names_of plan) words) (IsNamedEvent plan)
-  unfolding deliver_in
+  deliver_is : (words : List (List ℕ)) → IfSome (deliver_told (names_of plan) words) (IsNamedEvent plan)
+  unfolding deliver_told
   deliver_is [] = tt
   deliver_is (w0 ∷ []) = tt
   deliver_is (w0 ∷ w1 ∷ []) = tt
   deliver_is (w0 ∷ w1 ∷ w2 ∷ []) = then (IsEdge plan) (IsNamedEvent plan) _ _ (edge_is w0)
       (λ from is_from. then (IsEdge plan) (IsNamedEvent plan) _ _ (edge_is w1)
-      (λ to is_to. then (IsWithin 1 65535) (IsNamedEvent plan) _ _ (decimal_within 1 65535 w2) (λ count is_count. (is_from, (is_to, is_count)))))
+      (λ to is_to. then (IsFromTo 1 65535) (IsNamedEvent plan) _ _ (decimal_within 1 65535 w2) (λ count is_count. (is_from, (is_to, is_count)))))
   deliver_is (w0 ∷ w1 ∷ w2 ∷ w3 ∷ rest) = tt
 
-  lose_is : (words : List (List ℕ)) → IfSome (lose_in (names_of plan) words) (IsNamedEvent plan)
-  unfolding lose_in
+  lose_is : (words : List (List ℕ)) → IfSome (lose_told (names_of plan) words) (IsNamedEvent plan)
+  unfolding lose_told
   lose_is [] = tt
   lose_is (w0 ∷ []) = tt
   lose_is (w0 ∷ w1 ∷ []) = then (IsEdge plan) (IsNamedEvent plan) _ _ (edge_is w0) (λ edge is_edge. then (IsEdge plan) (IsNamedEvent plan) _ _ (edge_is w1) (λ peer is_peer. (is_edge, is_peer)))
   lose_is (w0 ∷ w1 ∷ w2 ∷ rest) = tt
 
-  restart_is : (words : List (List ℕ)) → IfSome (restart_in (names_of plan) words) (IsNamedEvent plan)
-  unfolding restart_in
+  restart_is : (words : List (List ℕ)) → IfSome (restart_told (names_of plan) words) (IsNamedEvent plan)
+  unfolding restart_told
   restart_is [] = tt
   restart_is (w0 ∷ []) = then (IsEdge plan) (IsNamedEvent plan) _ _ (edge_is w0) (λ edge is_edge. is_edge)
   restart_is (w0 ∷ w1 ∷ rest) = tt
 
-  tick_is : (words : List (List ℕ)) → IfSome (tick_in words) (IsNamedEvent plan)
-  unfolding tick_in
+  tick_is : (words : List (List ℕ)) → IfSome (tick_told words) (IsNamedEvent plan)
+  unfolding tick_told
   tick_is [] = tt
   tick_is (w0 ∷ rest) = tt
 
-  sized : (octets : List ℕ) → AreOctets octets → IfSome (of_record_size octets) (λ frame. AreOctets frame × IsFrame frame)
+  sized : (octets : List ℕ) → AreOctetsTold octets → IfSome (of_record_size octets) (λ frame. AreOctetsTold frame × IsFrame frame)
   sized octets are = by (nat_le (length octets) 262144) refl where
-    by : (b : Bool) → nat_le (length octets) 262144 ≡ b → IfSome (cond b (Some octets) None) (λ frame. AreOctets frame × IsFrame frame)
+    by : (b : Bool) → nat_le (length octets) 262144 ≡ b → IfSome (cond b (Some octets) None) (λ frame. AreOctetsTold frame × IsFrame frame)
     by true few = (are, leb-true (length octets) 262144 few)
     by false many = tt
 
@@ -137,18 +137,18 @@ module _ (plan : Plan) where
   frame_is [] = tt
   frame_is (w0 ∷ []) = tt
   frame_is (w0 ∷ w1 ∷ []) = then (IsCircuit plan) (IsNamedEvent plan) _ _ (circuit_is w0)
-      (λ circuit is_circuit. then (AreOctets) (IsNamedEvent plan) _ _ (octets_are w1)
-      (λ octets is_octets. then (λ frame. AreOctets frame × IsFrame frame) (IsNamedEvent plan) _ _ (sized octets is_octets) (λ frame is_frame. (is_circuit, is_frame))))
+      (λ circuit is_circuit. then (AreOctetsTold) (IsNamedEvent plan) _ _ (octets_are w1)
+      (λ octets is_octets. then (λ frame. AreOctetsTold frame × IsFrame frame) (IsNamedEvent plan) _ _ (sized octets is_octets) (λ frame is_frame. (is_circuit, is_frame))))
   frame_is (w0 ∷ w1 ∷ w2 ∷ rest) = tt
 
-  packet_is : (words : List (List ℕ)) → IfSome (packet_in words) IsPacket
-  unfolding packet_in
+  packet_is : (words : List (List ℕ)) → IfSome (packet_named words) IsNamedPacket
+  unfolding packet_named
   packet_is [] = tt
   packet_is (w0 ∷ []) = decimal_within 1 18446744073709551615 w0
   packet_is (w0 ∷ w1 ∷ rest) = tt
 
-  wire_switch_is : (words : List (List ℕ)) → IfSome (wire_switch_in (names_of plan) words) (IsNamedEvent plan)
-  unfolding wire_switch_in
+  wire_switch_is : (words : List (List ℕ)) → IfSome (wire_switch_told (names_of plan) words) (IsNamedEvent plan)
+  unfolding wire_switch_told
   wire_switch_is [] = tt
   wire_switch_is (w0 ∷ []) = tt
   wire_switch_is (w0 ∷ w1 ∷ []) = tt
@@ -157,22 +157,22 @@ module _ (plan : Plan) where
       (λ wire is_wire. then (λ x. Unit {0}) (IsNamedEvent plan) _ _ (anything (switch_in w2)) (λ on is_on. (is_edge, is_wire))))
   wire_switch_is (w0 ∷ w1 ∷ w2 ∷ w3 ∷ rest) = tt
 
-  circuit_switch_is : (words : List (List ℕ)) → IfSome (circuit_switch_in (names_of plan) words) (IsNamedEvent plan)
-  unfolding circuit_switch_in
+  circuit_switch_is : (words : List (List ℕ)) → IfSome (circuit_switch_told (names_of plan) words) (IsNamedEvent plan)
+  unfolding circuit_switch_told
   circuit_switch_is [] = tt
   circuit_switch_is (w0 ∷ []) = tt
   circuit_switch_is (w0 ∷ w1 ∷ []) = then (IsCircuit plan) (IsNamedEvent plan) _ _ (circuit_is w0)
       (λ circuit is_circuit. then (λ x. Unit {0}) (IsNamedEvent plan) _ _ (anything (switch_in w1)) (λ on is_on. is_circuit))
   circuit_switch_is (w0 ∷ w1 ∷ w2 ∷ rest) = tt
 
-  status_is : (words : List (List ℕ)) → IfSome (status_in (names_of plan) words) (IsNamedEvent plan)
-  unfolding status_in
+  status_is : (words : List (List ℕ)) → IfSome (status_told (names_of plan) words) (IsNamedEvent plan)
+  unfolding status_told
   status_is [] = tt
   status_is (w0 ∷ []) = tt
   status_is (w0 ∷ w1 ∷ []) = tt
   status_is (w0 ∷ w1 ∷ w2 ∷ []) = then (IsEdge plan) (IsNamedEvent plan) _ _ (edge_is w0)
       (λ edge is_edge. then (IsWire plan) (IsNamedEvent plan) _ _ (wire_is w1)
-      (λ wire is_wire. then (IsWithin 0 31) (IsNamedEvent plan) _ _ (decimal_within 0 31 w2) (λ bits is_bits. (is_edge, (is_wire, is_bits)))))
+      (λ wire is_wire. then (IsFromTo 0 31) (IsNamedEvent plan) _ _ (decimal_within 0 31 w2) (λ bits is_bits. (is_edge, (is_wire, is_bits)))))
   status_is (w0 ∷ w1 ∷ w2 ∷ w3 ∷ rest) = tt
 
   priority_is : (words : List (List ℕ)) → IfSome (priority_in (names_of plan) words) (IsNamedEvent plan)
@@ -182,11 +182,11 @@ module _ (plan : Plan) where
   priority_is (w0 ∷ w1 ∷ []) = tt
   priority_is (w0 ∷ w1 ∷ w2 ∷ []) = then (IsEdge plan) (IsNamedEvent plan) _ _ (edge_is w0)
       (λ edge is_edge. then (IsWire plan) (IsNamedEvent plan) _ _ (wire_is w1)
-      (λ wire is_wire. then (IsWithin 0 255) (IsNamedEvent plan) _ _ (decimal_within 0 255 w2) (λ priority is_priority. (is_edge, (is_wire, is_priority)))))
+      (λ wire is_wire. then (IsFromTo 0 255) (IsNamedEvent plan) _ _ (decimal_within 0 255 w2) (λ priority is_priority. (is_edge, (is_wire, is_priority)))))
   priority_is (w0 ∷ w1 ∷ w2 ∷ w3 ∷ rest) = tt
 
-  ping_is : (words : List (List ℕ)) → IfSome (ping_in (names_of plan) words) (IsNamedEvent plan)
-  unfolding ping_in
+  ping_is : (words : List (List ℕ)) → IfSome (ping_told (names_of plan) words) (IsNamedEvent plan)
+  unfolding ping_told
   ping_is [] = tt
   ping_is (w0 ∷ []) = tt
   ping_is (w0 ∷ w1 ∷ []) = then (IsEdge plan) (IsNamedEvent plan) _ _ (edge_is w0) (λ edge is_edge. then (IsWire plan) (IsNamedEvent plan) _ _ (wire_is w1) (λ wire is_wire. (is_edge, is_wire)))
@@ -202,19 +202,19 @@ module _ (plan : Plan) where
 
   event_of_is : (kind : List ℕ) (words : List (List ℕ)) → IfSome (event_of (names_of plan) kind words) (IsNamedEvent plan)
   unfolding event_of
-  event_of_is kind words = by_word (IsNamedEvent plan) (bytes_eq kind (codes "frame")) _ _ (frame_is words) (by_word (IsNamedEvent plan) (bytes_eq kind (codes "arrive")) _ _ (then IsPacket (IsNamedEvent plan) (packet_in words) _ (packet_is words) (λ packet is. is)) (by_word (IsNamedEvent plan) (bytes_eq kind (codes "drop")) _ _ (then IsPacket (IsNamedEvent plan) (packet_in words) _ (packet_is words) (λ packet is. is)) (by_word (IsNamedEvent plan) (bytes_eq kind (codes "again")) _ _ (then IsPacket (IsNamedEvent plan) (packet_in words) _ (packet_is words) (λ packet is. is)) (connection_event_is kind words))))
+  event_of_is kind words = by_word (IsNamedEvent plan) (bytes_eq kind (codes "frame")) _ _ (frame_is words) (by_word (IsNamedEvent plan) (bytes_eq kind (codes "arrive")) _ _ (then IsNamedPacket (IsNamedEvent plan) (packet_named words) _ (packet_is words) (λ packet is. is)) (by_word (IsNamedEvent plan) (bytes_eq kind (codes "drop")) _ _ (then IsNamedPacket (IsNamedEvent plan) (packet_named words) _ (packet_is words) (λ packet is. is)) (by_word (IsNamedEvent plan) (bytes_eq kind (codes "again")) _ _ (then IsNamedPacket (IsNamedEvent plan) (packet_named words) _ (packet_is words) (λ packet is. is)) (connection_event_is kind words))))
 
-  event_is : (words : List (List ℕ)) → IfSome (event_in (names_of plan) words) (IsNamedEvent plan)
+  event_is : (words : List (List ℕ)) → IfSome (event_told (names_of plan) words) (IsNamedEvent plan)
   event_is [] = tt
   event_is (kind ∷ words) = event_of_is kind words
 
   -- ---- entries
 
   abbrev IsPassed : Passed → Type 0
-  IsPassed passed = IsNumber passed.origin × (IsNumber passed.hops × AreOctets passed.bytes)
+  IsPassed passed = IsNumber passed.origin × (IsNumber passed.hops × AreOctetsTold passed.bytes)
 
   abbrev IsCarried : Carried → Type 0
-  IsCarried carried = IsWire plan carried.wire × (IsArrival plan carried.arrival × (IsNumber carried.passed.origin × (IsNumber carried.passed.hops × AreOctets carried.passed.bytes)))
+  IsCarried carried = IsWire plan carried.wire × (IsArrival plan carried.arrival × (IsNumber carried.passed.origin × (IsNumber carried.passed.hops × AreOctetsTold carried.passed.bytes)))
 
   idle_is : (words : List (List ℕ)) → IfSome (idle_in words) (IsNamed plan)
   unfolding idle_in
@@ -227,7 +227,7 @@ module _ (plan : Plan) where
   said_is (w0 ∷ []) = tt
   said_is (w0 ∷ w1 ∷ []) = tt
   said_is (w0 ∷ w1 ∷ w2 ∷ []) = then (IsEdge plan) (IsNamed plan) _ _ (edge_is w0)
-      (λ from is_from. then (IsEdge plan) (IsNamed plan) _ _ (edge_is w1) (λ to is_to. then (AreOctets) (IsNamed plan) _ _ (octets_are w2) (λ octets is_octets. (is_from, (is_to, is_octets)))))
+      (λ from is_from. then (IsEdge plan) (IsNamed plan) _ _ (edge_is w1) (λ to is_to. then (AreOctetsTold) (IsNamed plan) _ _ (octets_are w2) (λ octets is_octets. (is_from, (is_to, is_octets)))))
   said_is (w0 ∷ w1 ∷ w2 ∷ w3 ∷ rest) = tt
 
   entered_is : (words : List (List ℕ)) → IfSome (entered_in (names_of plan) words) (IsNamed plan)
@@ -237,7 +237,7 @@ module _ (plan : Plan) where
   entered_is (w0 ∷ w1 ∷ []) = tt
   entered_is (w0 ∷ w1 ∷ w2 ∷ []) = then (IsCircuit plan) (IsNamed plan) _ _ (circuit_is w0)
       (λ circuit is_circuit. then (IsNumber) (IsNamed plan) _ _ (number_is w1)
-      (λ number is_number. then (AreOctets) (IsNamed plan) _ _ (octets_are w2) (λ octets is_octets. (is_circuit, (is_number, is_octets)))))
+      (λ number is_number. then (AreOctetsTold) (IsNamed plan) _ _ (octets_are w2) (λ octets is_octets. (is_circuit, (is_number, is_octets)))))
   entered_is (w0 ∷ w1 ∷ w2 ∷ w3 ∷ rest) = tt
 
   passed_is : (words : List (List ℕ)) → IfSome (passed_in words) IsPassed
@@ -246,7 +246,7 @@ module _ (plan : Plan) where
   passed_is (w0 ∷ []) = tt
   passed_is (w0 ∷ w1 ∷ []) = tt
   passed_is (w0 ∷ w1 ∷ w2 ∷ []) = then (IsNumber) IsPassed _ _ (number_is w0)
-      (λ origin is_origin. then (IsNumber) IsPassed _ _ (number_is w1) (λ hops is_hops. then (AreOctets) IsPassed _ _ (octets_are w2) (λ octets is_octets. (is_origin, (is_hops, is_octets)))))
+      (λ origin is_origin. then (IsNumber) IsPassed _ _ (number_is w1) (λ hops is_hops. then (AreOctetsTold) IsPassed _ _ (octets_are w2) (λ octets is_octets. (is_origin, (is_hops, is_octets)))))
   passed_is (w0 ∷ w1 ∷ w2 ∷ w3 ∷ rest) = tt
 
   carried_is : (words : List (List ℕ)) → IfSome (carried_in (names_of plan) words) IsCarried
@@ -319,11 +319,11 @@ module _ (plan : Plan) where
   pong_is (w0 ∷ w1 ∷ []) = tt
   pong_is (w0 ∷ w1 ∷ w2 ∷ []) = then (IsEdge plan) (IsNamed plan) _ _ (edge_is w0)
       (λ edge is_edge. then (IsWire plan) (IsNamed plan) _ _ (wire_is w1)
-      (λ wire is_wire. then (IsWithin 0 65535) (IsNamed plan) _ _ (sequence_is w2) (λ sequence is_sequence. (is_edge, (is_wire, is_sequence)))))
+      (λ wire is_wire. then (IsFromTo 0 65535) (IsNamed plan) _ _ (sequence_is w2) (λ sequence is_sequence. (is_edge, (is_wire, is_sequence)))))
   pong_is (w0 ∷ w1 ∷ w2 ∷ w3 ∷ rest) = tt
 
   did_is : (words : List (List ℕ)) → IfSome (did_in (names_of plan) words) (IsNamed plan)
-  did_is words = then (IsNamedEvent plan) (IsNamed plan) (event_in (names_of plan) words) _ (event_is words) (λ event is. is)
+  did_is words = then (IsNamedEvent plan) (IsNamed plan) (event_told (names_of plan) words) _ (event_is words) (λ event is. is)
 
   told_is : (kind : List ℕ) (words : List (List ℕ)) → IfSome (told_in (names_of plan) kind words) (IsNamed plan)
   unfolding told_in

@@ -16,7 +16,7 @@ use Rattle.report_entries.specs.declared.tally.Tally.{Tally}
 use Rattle.report_entries.specs.Cut.{line_words}
 use Rattle.report_entries.specs.Counted.{counted, first_counts}
 use Rattle.report_entries.specs.Laws.{IsFreeOf, counted_all}
-use Rattle.report_entries.specs.Report.{goes_on, is_last, is_last_of, told_of, with_entry}
+use Rattle.report_entries.specs.Report.{goes_on, ends_report, is_last_of, told_of, with_entry}
 use Rattle.report_entries.proofs.CutLemmas.{before_one, behind_one, joined, line_joined}
 use Rattle.report_entries.proofs.FoundLemmas.{entry_line_of, line_found}
 
@@ -35,8 +35,8 @@ not_last plan tally line (entry.Session edge peer name) = refl
 not_last plan tally line (entry.Wire edge wire down) = refl
 not_last plan tally line (entry.Pong edge wire sequence) = refl
 
-is_none : (plan : Plan) (line : List ℕ) (x : Entry) → line_words line ≡ entry_words plan x → (tally : Tally) → is_last tally line ≡ false
-unfolding is_last
+is_none : (plan : Plan) (line : List ℕ) (x : Entry) → line_words line ≡ entry_words plan x → (tally : Tally) → ends_report tally line ≡ false
+unfolding ends_report
 is_none plan line x words tally = ap (is_last_of tally line) words ∙ not_last plan tally line x
 
 -- a line, and its line feed
@@ -60,7 +60,7 @@ module _ (plan : Plan) (names : HasNames plan) (apart : HasNamesApart plan) wher
       omega (arith, more, length-append (entry_lines plan xs) rest, length-append (entry_lines plan (x ∷ xs)) rest, length-append (entry_line plan x) (entry_lines plan xs), ap length own.is, length-append own.line (codes "\n"))
 
   lines_read : (trace : List Entry) (most : ℕ) (tally : Tally) (last : List ℕ) → AllByRecursion (IsNamed plan) trace → length trace < most → IsFreeOf 10 last
-      → is_last (counted_all tally trace) last ≡ true
+      → ends_report (counted_all tally trace) last ≡ true
       → goes_on most plan tally (entry_lines plan trace ++ (last ++ codes "\n")) ≡ Ok trace
   lines_read trace zero tally last named few free right = absurd (omega (arith, few))
   lines_read [] (suc most) tally last named few free right = rw (behind_one 10 last [] free, before_one 10 last [] free, right) refl
@@ -75,7 +75,7 @@ module _ (plan : Plan) (names : HasNames plan) (apart : HasNamesApart plan) wher
       (ap (with_entry x) (lines_read xs most (counted x tally) last named.1 (omega (arith, few)) free right))
 
 pub report_read : (plan : Plan) (trace : List Entry) (last : List ℕ) → IsChecked plan → HasNames plan → AllByRecursion (IsNamed plan) trace → IsFreeOf 10 last
-    → is_last (counted_all first_counts trace) last ≡ true
+    → ends_report (counted_all first_counts trace) last ≡ true
     → told_of plan ((codes "vplsnet 1\n" ++ entry_lines plan trace) ++ (last ++ codes "\n")) ≡ Ok trace
 unfolding told_of
 report_read plan trace last checked names named free right =

@@ -23,7 +23,7 @@ use Rattle.report_entries.specs.declared.tally.Tally.{Tally}
 use Rattle.report_entries.specs.Counted.{counted, first_counts}
 use Rattle.report_entries.specs.Cut.{line_words}
 use Rattle.report_entries.specs.Laws.{IsFreeOf, counted_all}
-use Rattle.report_entries.specs.Report.{is_last, is_last_of, tally_line, told_of}
+use Rattle.report_entries.specs.Report.{ends_report, is_last_of, tally_line, told_of}
 use Rattle.report_entries.proofs.CutLemmas.{joined, joined_free, line_joined, words_found}
 use Rattle.report_entries.proofs.ReportFoundLemmas.{report_read}
 
@@ -169,7 +169,7 @@ record IsLastLine (trace : List Entry) (octets : List ℕ) : Type 0 where
   line : List ℕ
   is : octets ≡ line ++ codes "\n"
   free : IsFreeOf 10 line
-  right : is_last (counted_all first_counts trace) line ≡ true
+  right : ends_report (counted_all first_counts trace) line ≡ true
 
 right_words : (trace : List Entry) (ending : Ending) (line : List ℕ) → IsEnding ending → line_of (last_words trace ending) ≡ line ++ codes "\n" → is_last_of (counted_all first_counts trace) line (last_words trace ending) ≡ true
 right_words trace End line ends same = (bytes_eq-Decides (tally_line (counted_all first_counts trace)) (line ++ codes "\n")).1 (ap line_of (counts_told trace) ∙ same)
@@ -182,7 +182,7 @@ few_last trace (Crowded count) = omega arith
 few_last trace (TooMuch weight) = omega arith
 
 last_told : (trace : List Entry) (ending : Ending) → length trace < 2 ^ 64 → IsEnding ending → IsLastLine trace (last_line trace ending)
-unfolding is_last line_words
+unfolding ends_report line_words
 last_told trace ending few ends = by (last_words trace ending) refl (last_plain trace ending few ends) (few_last trace ending) where
   by : (words : List (List ℕ)) → last_words trace ending ≡ words → HasWords words → length words ≤ 10 → IsLastLine trace (line_of (last_words trace ending))
   by [] at plain short = absurd plain

@@ -13,7 +13,7 @@ use Rattle.report_entries.specs.Cut.{before_mark, behind_mark}
 use Rattle.report_entries.specs.Entries.{exact, line_entry, entry_in}
 use Rattle.report_entries.specs.Counted.{counted, first_counts}
 use Rattle.report_entries.specs.Laws.{TellsTrace, counted_all}
-use Rattle.report_entries.specs.Report.{found, goes_on, is_first, is_last, told_of, with_entry, ◌>>=◌}
+use Rattle.report_entries.specs.Report.{found_on_line, goes_on, begins_report, ends_report, told_of, with_entry, ◌>>=◌}
 
 -- an answer, and a line that is refused
 abbrev known : {A : Type 0} → A → Result A ℕ
@@ -54,12 +54,12 @@ reads_line plan entry line is = by (entry_in (names_of plan) line) is where
 record IsReadOn (plan : Plan) (tally : Tally) (text : List ℕ) (trace : List Entry) : Type 0 where
   line : List ℕ
   is : text ≡ entry_lines plan trace ++ (line ++ codes "\n")
-  right : is_last (counted_all tally trace) line ≡ true
+  right : ends_report (counted_all tally trace) line ≡ true
 
 ok_same : {x y : List Entry} → known x ≡ known y → x ≡ y
 ok_same e = cc e
 
-no_more : (plan : Plan) (tally : Tally) (text more : List ℕ) (trace : List Entry) → trace ≡ [] → behind_mark 10 text ≡ Some more → is_last tally (before_mark 10 text) ≡ true → more
+no_more : (plan : Plan) (tally : Tally) (text more : List ℕ) (trace : List Entry) → trace ≡ [] → behind_mark 10 text ≡ Some more → ends_report tally (before_mark 10 text) ≡ true → more
     ≡ [] → IsReadOn plan tally text trace
 no_more plan tally text more [] is cut right none = record {
   line = before_mark 10 text;
@@ -68,7 +68,7 @@ no_more plan tally text more [] is cut right none = record {
 }
 no_more plan tally text more (x ∷ xs) is cut right none = absurd (cc is)
 
-one_line : (plan : Plan) (tally : Tally) (text more : List ℕ) (trace : List Entry) → behind_mark 10 text ≡ Some more → is_last tally (before_mark 10 text) ≡ true
+one_line : (plan : Plan) (tally : Tally) (text more : List ℕ) (trace : List Entry) → behind_mark 10 text ≡ Some more → ends_report tally (before_mark 10 text) ≡ true
     → cond (nat_eq (length more) 0) (Ok []) (Err (tally.lines + 2)) ≡ Ok trace → IsReadOn plan tally text trace
 one_line plan tally text more trace cut right ends = by (nat_eq (length more) 0) refl ends where
   by : (b : Bool) → nat_eq (length more) 0 ≡ b → cond b (Ok []) (Err (tally.lines + 2)) ≡ Ok trace → IsReadOn plan tally text trace
@@ -100,31 +100,31 @@ goes_read : (most : ℕ) (plan : Plan) (tally : Tally) (text : List ℕ) (trace 
 goes_read zero plan tally text trace is = no_error (tally.lines + 1) trace is
 goes_read (suc most) plan tally text trace is = behind (behind_mark 10 text) refl is (λ more entry es at. goes_read most plan (counted entry tally) more es at) where
   entry_by : (more : List ℕ) → behind_mark 10 text ≡ Some more → (o : Option Entry) → line_entry plan (before_mark 10 text) ≡ o
-      → found (tally.lines + 1) o >>= (λ entry. with_entry entry (goes_on most plan (counted entry tally) more)) ≡ Ok trace
+      → found_on_line (tally.lines + 1) o >>= (λ entry. with_entry entry (goes_on most plan (counted entry tally) more)) ≡ Ok trace
       → ((entry : Entry) (es : List Entry) → goes_on most plan (counted entry tally) more ≡ Ok es → IsReadOn plan (counted entry tally) more es) → IsReadOn plan tally text trace
   entry_by more cut None reads at rest = no_error (tally.lines + 1) trace at
   entry_by more cut (Some entry) reads at rest =
       let told = told_behind entry (goes_on most plan (counted entry tally) more) trace at in
       subst (IsReadOn plan tally text) (sym told.trace_is) (one_more plan tally text more entry told.entries cut reads (rest entry told.entries told.told_is))
 
-  last_by : (more : List ℕ) → behind_mark 10 text ≡ Some more → (b : Bool) → is_last tally (before_mark 10 text) ≡ b
+  last_by : (more : List ℕ) → behind_mark 10 text ≡ Some more → (b : Bool) → ends_report tally (before_mark 10 text) ≡ b
       → cond b (cond (nat_eq (length more) 0) (Ok []) (Err (tally.lines + 2)))
-      (found (tally.lines + 1) (line_entry plan (before_mark 10 text)) >>= (λ entry. with_entry entry (goes_on most plan (counted entry tally) more))) ≡ Ok trace
+      (found_on_line (tally.lines + 1) (line_entry plan (before_mark 10 text)) >>= (λ entry. with_entry entry (goes_on most plan (counted entry tally) more))) ≡ Ok trace
       → ((entry : Entry) (es : List Entry) → goes_on most plan (counted entry tally) more ≡ Ok es → IsReadOn plan (counted entry tally) more es) → IsReadOn plan tally text trace
   last_by more cut true right at rest = one_line plan tally text more trace cut right at
   last_by more cut false other at rest = entry_by more cut (line_entry plan (before_mark 10 text)) refl at rest
 
   behind : (o : Option (List ℕ)) → behind_mark 10 text ≡ o
-      → found (tally.lines + 1) o >>= (λ more. cond (is_last tally (before_mark 10 text)) (cond (nat_eq (length more) 0) (Ok []) (Err (tally.lines + 2)))
-      (found (tally.lines + 1) (line_entry plan (before_mark 10 text)) >>= (λ entry. with_entry entry (goes_on most plan (counted entry tally) more)))) ≡ Ok trace
+      → found_on_line (tally.lines + 1) o >>= (λ more. cond (ends_report tally (before_mark 10 text)) (cond (nat_eq (length more) 0) (Ok []) (Err (tally.lines + 2)))
+      (found_on_line (tally.lines + 1) (line_entry plan (before_mark 10 text)) >>= (λ entry. with_entry entry (goes_on most plan (counted entry tally) more)))) ≡ Ok trace
       → ((more : List ℕ) (entry : Entry) (es : List Entry) → goes_on most plan (counted entry tally) more ≡ Ok es → IsReadOn plan (counted entry tally) more es) → IsReadOn plan tally text trace
   behind None cut at rest = no_error (tally.lines + 1) trace at
-  behind (Some more) cut at rest = last_by more cut (is_last tally (before_mark 10 text)) refl at (rest more)
+  behind (Some more) cut at rest = last_by more cut (ends_report tally (before_mark 10 text)) refl at (rest more)
 
 pub read_tells : (plan : Plan) (text : List ℕ) (trace : List Entry) → told_of plan text ≡ Ok trace → TellsTrace plan text trace
 unfolding told_of
 read_tells plan text trace is = behind (behind_mark 10 text) refl is where
-  first_by : (more : List ℕ) → behind_mark 10 text ≡ Some more → (b : Bool) → is_first (before_mark 10 text) ≡ b → cond b (goes_on (length more) plan first_counts more) (Err 1)
+  first_by : (more : List ℕ) → behind_mark 10 text ≡ Some more → (b : Bool) → begins_report (before_mark 10 text) ≡ b → cond b (goes_on (length more) plan first_counts more) (Err 1)
       ≡ Ok trace → TellsTrace plan text trace
   first_by more cut true first at =
       let rest : IsReadOn plan first_counts more trace = goes_read (length more) plan first_counts more trace at in
@@ -136,7 +136,7 @@ read_tells plan text trace is = behind (behind_mark 10 text) refl is where
       }
   first_by more cut false other at = no_error 1 trace at
 
-  behind : (o : Option (List ℕ)) → behind_mark 10 text ≡ o → found 1 o >>= (λ more. cond (is_first (before_mark 10 text)) (goes_on (length more) plan first_counts more) (Err 1))
+  behind : (o : Option (List ℕ)) → behind_mark 10 text ≡ o → found_on_line 1 o >>= (λ more. cond (begins_report (before_mark 10 text)) (goes_on (length more) plan first_counts more) (Err 1))
       ≡ Ok trace → TellsTrace plan text trace
   behind None cut at = no_error 1 trace at
-  behind (Some more) cut at = first_by more cut (is_first (before_mark 10 text)) refl at
+  behind (Some more) cut at = first_by more cut (begins_report (before_mark 10 text)) refl at

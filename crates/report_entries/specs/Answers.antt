@@ -31,8 +31,8 @@ Begins text (Err NoMemory) = Unit {0}
 
 -- One line more, of any number that may be left: it tells an entry, and the rest those behind it; it was a right last one; or it
 -- breaks the form.
-abbrev pub GoesOn : Plan → ReadSoFar → ReadSoFar → Result (Option Entry) ReportFault → Type 0
-GoesOn plan old new (Ok (Some entry)) = (most : ℕ) → goes_on (suc most) plan old.tally old.rest ≡ with_entry entry (goes_on most plan new.tally new.rest)
-GoesOn plan old new (Ok None) = (most : ℕ) → goes_on (suc most) plan old.tally old.rest ≡ Ok []
-GoesOn plan old new (Err (Form line)) = (most : ℕ) → goes_on (suc most) plan old.tally old.rest ≡ Err line
-GoesOn plan old new (Err NoMemory) = Unit {0}
+abbrev pub ReportGoesOn : Plan → ReadSoFar → ReadSoFar → Result (Option Entry) ReportFault → Type 0
+ReportGoesOn plan old new (Ok (Some entry)) = (most : ℕ) → goes_on (suc most) plan old.tally old.rest ≡ with_entry entry (goes_on most plan new.tally new.rest)
+ReportGoesOn plan old new (Ok None) = (most : ℕ) → goes_on (suc most) plan old.tally old.rest ≡ Ok []
+ReportGoesOn plan old new (Err (Form line)) = (most : ℕ) → goes_on (suc most) plan old.tally old.rest ≡ Err line
+ReportGoesOn plan old new (Err NoMemory) = Unit {0}

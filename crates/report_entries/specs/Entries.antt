@@ -10,7 +10,7 @@ use Rattle.report_text.specs.Report.{entry_line}
 use Rattle.report_entries.specs.declared.passed.Carried.{Carried}
 use Rattle.report_entries.specs.declared.passed.Passed.{Passed}
 use Rattle.report_entries.specs.Cut.{line_words}
-use Rattle.report_entries.specs.Events.{event_in}
+use Rattle.report_entries.specs.Events.{event_told}
 use Rattle.report_entries.specs.Reading.{◌>>=◌, arrival_in, cause_in, circuit_in, edge_in, number_in, octets_in, sequence_in, state_in, wire_end_in, wire_in}
 
 unfoldable pub idle_in : List (List ℕ) → Option Entry
@@ -133,7 +133,7 @@ packet_told_in names kind words =
 
 -- an event that was done
 abbrev pub did_in : PlanNames → List (List ℕ) → Option Entry
-did_in names words = event_in names words >>= (λ event. Some (Did event))
+did_in names words = event_told names words >>= (λ event. Some (Did event))
 
 -- or of an event or a frame
 unfoldable pub entry_of : PlanNames → List ℕ → List (List ℕ) → Option Entry

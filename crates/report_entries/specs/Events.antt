@@ -8,37 +8,37 @@ use Rattle.command_text.specs.declared.plan_names.PlanNames.{PlanNames}
 use Rattle.command_text.specs.Words.{decimal_from}
 use Rattle.report_entries.specs.Reading.{◌>>=◌, circuit_in, edge_in, octets_in, switch_in, wire_in}
 
-unfoldable pub connect_in : PlanNames → List (List ℕ) → Option Event
-connect_in names (from ∷ to ∷ []) = do
+unfoldable pub connect_told : PlanNames → List (List ℕ) → Option Event
+connect_told names (from ∷ to ∷ []) = do
   from ← edge_in names from
   to ← edge_in names to
   Some (Connect from to)
-connect_in names words = None
+connect_told names words = None
 
-unfoldable pub deliver_in : PlanNames → List (List ℕ) → Option Event
-deliver_in names (from ∷ to ∷ count ∷ []) = do
+unfoldable pub deliver_told : PlanNames → List (List ℕ) → Option Event
+deliver_told names (from ∷ to ∷ count ∷ []) = do
   from ← edge_in names from
   to ← edge_in names to
   count ← decimal_from 1 65535 count
   Some (Deliver from to count)
-deliver_in names words = None
+deliver_told names words = None
 
-unfoldable pub lose_in : PlanNames → List (List ℕ) → Option Event
-lose_in names (edge ∷ peer ∷ []) = do
+unfoldable pub lose_told : PlanNames → List (List ℕ) → Option Event
+lose_told names (edge ∷ peer ∷ []) = do
   edge ← edge_in names edge
   peer ← edge_in names peer
   Some (Lose edge peer)
-lose_in names words = None
+lose_told names words = None
 
-unfoldable pub restart_in : PlanNames → List (List ℕ) → Option Event
-restart_in names (edge ∷ []) = do
+unfoldable pub restart_told : PlanNames → List (List ℕ) → Option Event
+restart_told names (edge ∷ []) = do
   edge ← edge_in names edge
   Some (Restart edge)
-restart_in names words = None
+restart_told names words = None
 
-unfoldable pub tick_in : List (List ℕ) → Option Event
-tick_in [] = Some Tick
-tick_in words = None
+unfoldable pub tick_told : List (List ℕ) → Option Event
+tick_told [] = Some Tick
+tick_told words = None
 
 -- a frame of a capture has at most so many octets
 abbrev pub of_record_size : List ℕ → Option (List ℕ)
@@ -53,32 +53,32 @@ frame_in names (circuit ∷ octets ∷ []) = do
 frame_in names words = None
 
 -- the number of a packet
-unfoldable pub packet_in : List (List ℕ) → Option ℕ
-packet_in (packet ∷ []) = decimal_from 1 18446744073709551615 packet
-packet_in words = None
+unfoldable pub packet_named : List (List ℕ) → Option ℕ
+packet_named (packet ∷ []) = decimal_from 1 18446744073709551615 packet
+packet_named words = None
 
-unfoldable pub wire_switch_in : PlanNames → List (List ℕ) → Option Event
-wire_switch_in names (edge ∷ wire ∷ on ∷ []) = do
+unfoldable pub wire_switch_told : PlanNames → List (List ℕ) → Option Event
+wire_switch_told names (edge ∷ wire ∷ on ∷ []) = do
   edge ← edge_in names edge
   wire ← wire_in names wire
   on ← switch_in on
   Some (Wire edge wire on)
-wire_switch_in names words = None
+wire_switch_told names words = None
 
-unfoldable pub circuit_switch_in : PlanNames → List (List ℕ) → Option Event
-circuit_switch_in names (circuit ∷ on ∷ []) = do
+unfoldable pub circuit_switch_told : PlanNames → List (List ℕ) → Option Event
+circuit_switch_told names (circuit ∷ on ∷ []) = do
   circuit ← circuit_in names circuit
   on ← switch_in on
   Some (Circuit circuit on)
-circuit_switch_in names words = None
+circuit_switch_told names words = None
 
-unfoldable pub status_in : PlanNames → List (List ℕ) → Option Event
-status_in names (edge ∷ wire ∷ bits ∷ []) = do
+unfoldable pub status_told : PlanNames → List (List ℕ) → Option Event
+status_told names (edge ∷ wire ∷ bits ∷ []) = do
   edge ← edge_in names edge
   wire ← wire_in names wire
   bits ← decimal_from 0 31 bits
   Some (Status edge wire bits)
-status_in names words = None
+status_told names words = None
 
 unfoldable pub priority_in : PlanNames → List (List ℕ) → Option Event
 priority_in names (edge ∷ wire ∷ priority ∷ []) = do
@@ -88,43 +88,43 @@ priority_in names (edge ∷ wire ∷ priority ∷ []) = do
   Some (Priority edge wire priority)
 priority_in names words = None
 
-unfoldable pub ping_in : PlanNames → List (List ℕ) → Option Event
-ping_in names (edge ∷ wire ∷ []) = do
+unfoldable pub ping_told : PlanNames → List (List ℕ) → Option Event
+ping_told names (edge ∷ wire ∷ []) = do
   edge ← edge_in names edge
   wire ← wire_in names wire
   Some (Ping edge wire)
-ping_in names words = None
+ping_told names words = None
 
 -- the event of a first word that names a part of the plan
 unfoldable pub part_event_in : PlanNames → List ℕ → List (List ℕ) → Option Event
 part_event_in names kind words =
-    if bytes_eq kind (codes "wire") then wire_switch_in names words
-    else if bytes_eq kind (codes "circuit") then circuit_switch_in names words
-    else if bytes_eq kind (codes "status") then status_in names words
+    if bytes_eq kind (codes "wire") then wire_switch_told names words
+    else if bytes_eq kind (codes "circuit") then circuit_switch_told names words
+    else if bytes_eq kind (codes "status") then status_told names words
     else if bytes_eq kind (codes "priority") then priority_in names words
-    else if bytes_eq kind (codes "ping") then ping_in names words
+    else if bytes_eq kind (codes "ping") then ping_told names words
     else None
 
 -- or one that speaks of connections or of time
 unfoldable pub connection_event_in : PlanNames → List ℕ → List (List ℕ) → Option Event
 connection_event_in names kind words =
-    if bytes_eq kind (codes "connect") then connect_in names words
-    else if bytes_eq kind (codes "deliver") then deliver_in names words
-    else if bytes_eq kind (codes "lose") then lose_in names words
-    else if bytes_eq kind (codes "restart") then restart_in names words
-    else if bytes_eq kind (codes "tick") then tick_in words
+    if bytes_eq kind (codes "connect") then connect_told names words
+    else if bytes_eq kind (codes "deliver") then deliver_told names words
+    else if bytes_eq kind (codes "lose") then lose_told names words
+    else if bytes_eq kind (codes "restart") then restart_told names words
+    else if bytes_eq kind (codes "tick") then tick_told words
     else part_event_in names kind words
 
 -- or one that speaks of a frame or a packet
 unfoldable pub event_of : PlanNames → List ℕ → List (List ℕ) → Option Event
 event_of names kind words =
     if bytes_eq kind (codes "frame") then frame_in names words
-    else if bytes_eq kind (codes "arrive") then packet_in words >>= (λ packet. Some (Arrive packet))
-    else if bytes_eq kind (codes "drop") then packet_in words >>= (λ packet. Some (Discard packet))
-    else if bytes_eq kind (codes "again") then packet_in words >>= (λ packet. Some (Again packet))
+    else if bytes_eq kind (codes "arrive") then packet_named words >>= (λ packet. Some (Arrive packet))
+    else if bytes_eq kind (codes "drop") then packet_named words >>= (λ packet. Some (Discard packet))
+    else if bytes_eq kind (codes "again") then packet_named words >>= (λ packet. Some (Again packet))
     else connection_event_in names kind words
 
 -- the event that these words tell
-abbrev pub event_in : PlanNames → List (List ℕ) → Option Event
-event_in names [] = None
-event_in names (kind ∷ words) = event_of names kind words
+abbrev pub event_told : PlanNames → List (List ℕ) → Option Event
+event_told names [] = None
+event_told names (kind ∷ words) = event_of names kind words

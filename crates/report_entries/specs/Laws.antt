@@ -11,7 +11,7 @@ use Rattle.report_text.specs.Report.{entry_line, entry_lines}
 use Rattle.report_entries.specs.declared.tally.Tally.{Tally}
 use Rattle.report_entries.specs.Counted.{counted, first_counts}
 use Rattle.report_entries.specs.Entries.{line_entry}
-use Rattle.report_entries.specs.Report.{is_last, told_of}
+use Rattle.report_entries.specs.Report.{ends_report, told_of}
 
 -- the counts behind entries
 abbrev pub counted_all : Tally → List Entry → Tally
@@ -34,7 +34,7 @@ LinesNamePlaces = (plan : Plan) (line : List ℕ) (entry : Entry) → line_entry
 pub record TellsTrace (plan : Plan) (text : List ℕ) (trace : List Entry) : Type 0 where
   pub line : List ℕ
   pub is : text ≡ (codes "vplsnet 1\n" ++ entry_lines plan trace) ++ (line ++ codes "\n")
-  pub right : is_last (counted_all first_counts trace) line ≡ true
+  pub right : ends_report (counted_all first_counts trace) line ≡ true
 
 -- the trace that is told is one of which the text is the report
 abbrev pub TracesAreTold : Type 0
@@ -46,7 +46,7 @@ IsFreeOf mark octets = AllByRecursion (λ c. c == mark ≡ false) octets
 
 -- the report of entries that name places of a checked plan is read as these, behind any right last line
 abbrev pub ReportsAreRead : Type 0
-ReportsAreRead = (plan : Plan) (trace : List Entry) (last : List ℕ) → IsChecked plan → HasNames plan → AllByRecursion (IsNamed plan) trace → IsFreeOf 10 last → is_last (counted_all first_counts trace) last ≡ true
+ReportsAreRead = (plan : Plan) (trace : List Entry) (last : List ℕ) → IsChecked plan → HasNames plan → AllByRecursion (IsNamed plan) trace → IsFreeOf 10 last → ends_report (counted_all first_counts trace) last ≡ true
     → told_of plan ((codes "vplsnet 1\n" ++ entry_lines plan trace) ++ (last ++ codes "\n")) ≡ Ok trace
 
 -- a text that is the report of a trace tells this trace

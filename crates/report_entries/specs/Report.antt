@@ -17,9 +17,9 @@ abbrev pub ◌>>=◌ : {A B : Type 0} → Result A ℕ → (A → Result B ℕ) 
 (Err line) >>= f = Err line
 
 -- what was found, and else the number of the line
-abbrev pub found : {A : Type 0} → ℕ → Option A → Result A ℕ
-found line None = Err line
-found line (Some x) = Ok x
+abbrev pub found_on_line : {A : Type 0} → ℕ → Option A → Result A ℕ
+found_on_line line None = Err line
+found_on_line line (Some x) = Ok x
 
 -- ---- the last line
 
@@ -37,8 +37,8 @@ abbrev pub is_last_of : Tally → List ℕ → List (List ℕ) → Bool
 is_last_of tally line [] = false
 is_last_of tally line (kind ∷ words) = if bytes_eq kind (codes "end") then bytes_eq (tally_line tally) (line ++ codes "\n") else bytes_eq kind (codes "stop") && is_stop words
 
-unfoldable pub is_last : Tally → List ℕ → Bool
-is_last tally line = is_last_of tally line (line_words line)
+unfoldable pub ends_report : Tally → List ℕ → Bool
+ends_report tally line = is_last_of tally line (line_words line)
 
 -- ---- all lines
 
@@ -50,14 +50,14 @@ with_entry entry told = told >>= (λ entries. Ok (entry ∷ entries))
 -- octets, and behind them a right last line with nothing behind it
 abbrev pub goes_on : ℕ → Plan → Tally → List ℕ → Result (List Entry) ℕ
 goes_on zero plan tally text = Err (tally.lines + 1)
-goes_on (suc most) plan tally text = found (tally.lines + 1) (behind_mark line_feed text) >>= (λ more.
-    if is_last tally (before_mark line_feed text) then (if length more == 0 then Ok [] else Err (tally.lines + 2))
-    else found (tally.lines + 1) (line_entry plan (before_mark line_feed text)) >>= (λ entry. with_entry entry (goes_on most plan (counted entry tally) more)))
+goes_on (suc most) plan tally text = found_on_line (tally.lines + 1) (behind_mark line_feed text) >>= (λ more.
+    if ends_report tally (before_mark line_feed text) then (if length more == 0 then Ok [] else Err (tally.lines + 2))
+    else found_on_line (tally.lines + 1) (line_entry plan (before_mark line_feed text)) >>= (λ entry. with_entry entry (goes_on most plan (counted entry tally) more)))
 
 -- the first line names the format
-abbrev pub is_first : List ℕ → Bool
-is_first line = bytes_eq line (codes "vplsnet 1")
+abbrev pub begins_report : List ℕ → Bool
+begins_report line = bytes_eq line (codes "vplsnet 1")
 
 -- the trace that a report tells, or the first line that breaks the form of a report
 unfoldable pub told_of : Plan → List ℕ → Result (List Entry) ℕ
-told_of plan text = found 1 (behind_mark line_feed text) >>= (λ more. if is_first (before_mark line_feed text) then goes_on (length more) plan first_counts more else Err 1)
+told_of plan text = found_on_line 1 (behind_mark line_feed text) >>= (λ more. if begins_report (before_mark line_feed text) then goes_on (length more) plan first_counts more else Err 1)

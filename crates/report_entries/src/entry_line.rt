@@ -6,7 +6,7 @@ ghost use Rattle.report_entries.specs.Answers.{Finds};
 ghost use Rattle.report_entries.specs.Cut.{line_words};
 ghost use Rattle.report_entries.specs.Entries.{line_entry};
 ghost use Rattle.report_entries.specs.Reading.{Reads};
-ghost use Rattle.report_entries.specs.Report.{found};
+ghost use Rattle.report_entries.specs.Report.{found_on_line};
 
 use crate::entry::words_entry;
 use crate::{ReportFault, Unread};
@@ -58,7 +58,7 @@ pub fn entry_at(
 ) -> Result<Entry, ReportFault>
     requires names { names.now ≡ names_of plan.now }
     requires words { map (λ w. w.now) words.now ≡ line_words line.now }
-    ensures found { Finds result (found number (line_entry plan.now line.now)) }
+    ensures found { Finds result (found_on_line number (line_entry plan.now line.now)) }
     ensures named { IfOk result (IsNamed plan.now) }
 {
     match read_entry(alloc, plan, names, line, words) {

@@ -1,6 +1,6 @@
 //! The events that lines tell.
 ghost use Rattle.std.specs.Prelude.{◌≡◌, map};
-ghost use Rattle.report_entries.specs.Events.{circuit_switch_in, connect_in, connection_event_in, deliver_in, event_in, event_of, frame_in, lose_in, packet_in, part_event_in, ping_in, priority_in, restart_in, status_in, tick_in, wire_switch_in};
+ghost use Rattle.report_entries.specs.Events.{circuit_switch_told, connect_told, connection_event_in, deliver_told, event_told, event_of, frame_in, lose_told, packet_named, part_event_in, ping_told, priority_in, restart_told, status_told, tick_told, wire_switch_told};
 ghost use Rattle.report_entries.specs.Reading.{Reads};
 
 use crate::Unread;
@@ -10,9 +10,9 @@ use net_base::Event;
 use std::alloc::Global;
 
 // `connect E P`.
-#[tactic(auto, unfolding(crate::specs::Events::connect_in))]
+#[tactic(auto, unfolding(crate::specs::Events::connect_told))]
 fn connect(names: &PlanNames<'_>, words: &[&[u8]]) -> Result<Event, Unread>
-    ensures { Reads result (connect_in names.now (map (λ w. w.now) words.now)) }
+    ensures { Reads result (connect_told names.now (map (λ w. w.now) words.now)) }
 {
     match words {
         [from, to] => {
@@ -25,9 +25,9 @@ fn connect(names: &PlanNames<'_>, words: &[&[u8]]) -> Result<Event, Unread>
 }
 
 // `deliver E P N`, with N from 1 to 65535.
-#[tactic(auto, unfolding(crate::specs::Events::deliver_in))]
+#[tactic(auto, unfolding(crate::specs::Events::deliver_told))]
 fn deliver(names: &PlanNames<'_>, words: &[&[u8]]) -> Result<Event, Unread>
-    ensures { Reads result (deliver_in names.now (map (λ w. w.now) words.now)) }
+    ensures { Reads result (deliver_told names.now (map (λ w. w.now) words.now)) }
 {
     match words {
         [from, to, count] => {
@@ -41,9 +41,9 @@ fn deliver(names: &PlanNames<'_>, words: &[&[u8]]) -> Result<Event, Unread>
 }
 
 // `lose E P`.
-#[tactic(auto, unfolding(crate::specs::Events::lose_in))]
+#[tactic(auto, unfolding(crate::specs::Events::lose_told))]
 fn lose(names: &PlanNames<'_>, words: &[&[u8]]) -> Result<Event, Unread>
-    ensures { Reads result (lose_in names.now (map (λ w. w.now) words.now)) }
+    ensures { Reads result (lose_told names.now (map (λ w. w.now) words.now)) }
 {
     match words {
         [at, peer] => {
@@ -56,9 +56,9 @@ fn lose(names: &PlanNames<'_>, words: &[&[u8]]) -> Result<Event, Unread>
 }
 
 // `restart E`.
-#[tactic(auto, unfolding(crate::specs::Events::restart_in))]
+#[tactic(auto, unfolding(crate::specs::Events::restart_told))]
 fn restart(names: &PlanNames<'_>, words: &[&[u8]]) -> Result<Event, Unread>
-    ensures { Reads result (restart_in names.now (map (λ w. w.now) words.now)) }
+    ensures { Reads result (restart_told names.now (map (λ w. w.now) words.now)) }
 {
     match words {
         [at] => match edge(names, at) {
@@ -70,9 +70,9 @@ fn restart(names: &PlanNames<'_>, words: &[&[u8]]) -> Result<Event, Unread>
 }
 
 // `tick`.
-#[tactic(auto, unfolding(crate::specs::Events::tick_in))]
+#[tactic(auto, unfolding(crate::specs::Events::tick_told))]
 fn tick(words: &[&[u8]]) -> Result<Event, Unread>
-    ensures { Reads result (tick_in (map (λ w. w.now) words.now)) }
+    ensures { Reads result (tick_told (map (λ w. w.now) words.now)) }
 {
     match words {
         [] => Ok(Event::Tick),
@@ -99,9 +99,9 @@ fn frame(alloc: Global, names: &PlanNames<'_>, words: &[&[u8]]) -> Result<Event,
 }
 
 // The number of a packet, from 1.
-#[tactic(auto, unfolding(crate::specs::Events::packet_in))]
+#[tactic(auto, unfolding(crate::specs::Events::packet_named))]
 fn packet(words: &[&[u8]]) -> Result<u64, Unread>
-    ensures { Reads result (packet_in (map (λ w. w.now) words.now)) }
+    ensures { Reads result (packet_named (map (λ w. w.now) words.now)) }
 {
     match words {
         [packet] => ranged(1, u64::MAX, packet),
@@ -110,9 +110,9 @@ fn packet(words: &[&[u8]]) -> Result<u64, Unread>
 }
 
 // `wire E W on` and `wire E W off`.
-#[tactic(auto, unfolding(crate::specs::Events::wire_switch_in))]
+#[tactic(auto, unfolding(crate::specs::Events::wire_switch_told))]
 fn wire_switch(names: &PlanNames<'_>, words: &[&[u8]]) -> Result<Event, Unread>
-    ensures { Reads result (wire_switch_in names.now (map (λ w. w.now) words.now)) }
+    ensures { Reads result (wire_switch_told names.now (map (λ w. w.now) words.now)) }
 {
     match words {
         [at, of, on] => {
@@ -130,9 +130,9 @@ fn wire_switch(names: &PlanNames<'_>, words: &[&[u8]]) -> Result<Event, Unread>
 }
 
 // `circuit C on` and `circuit C off`.
-#[tactic(auto, unfolding(crate::specs::Events::circuit_switch_in))]
+#[tactic(auto, unfolding(crate::specs::Events::circuit_switch_told))]
 fn circuit_switch(names: &PlanNames<'_>, words: &[&[u8]]) -> Result<Event, Unread>
-    ensures { Reads result (circuit_switch_in names.now (map (λ w. w.now) words.now)) }
+    ensures { Reads result (circuit_switch_told names.now (map (λ w. w.now) words.now)) }
 {
     match words {
         [at, on] => {
@@ -145,9 +145,9 @@ fn circuit_switch(names: &PlanNames<'_>, words: &[&[u8]]) -> Result<Event, Unrea
 }
 
 // `status E W N`, with N from 0 to 31.
-#[tactic(auto, unfolding(crate::specs::Events::status_in))]
+#[tactic(auto, unfolding(crate::specs::Events::status_told))]
 fn status(names: &PlanNames<'_>, words: &[&[u8]]) -> Result<Event, Unread>
-    ensures { Reads result (status_in names.now (map (λ w. w.now) words.now)) }
+    ensures { Reads result (status_told names.now (map (λ w. w.now) words.now)) }
 {
     match words {
         [at, of, bits] => {
@@ -185,9 +185,9 @@ fn priority(names: &PlanNames<'_>, words: &[&[u8]]) -> Result<Event, Unread>
 }
 
 // `ping E W`.
-#[tactic(auto, unfolding(crate::specs::Events::ping_in))]
+#[tactic(auto, unfolding(crate::specs::Events::ping_told))]
 fn ping(names: &PlanNames<'_>, words: &[&[u8]]) -> Result<Event, Unread>
-    ensures { Reads result (ping_in names.now (map (λ w. w.now) words.now)) }
+    ensures { Reads result (ping_told names.now (map (λ w. w.now) words.now)) }
 {
     match words {
         [at, of] => {
@@ -267,7 +267,7 @@ fn event_of_kind(
 
 /// The event that the words behind the first one tell.
 pub fn event(alloc: Global, names: &PlanNames<'_>, words: &[&[u8]]) -> Result<Event, Unread>
-    ensures { Reads result (event_in names.now (map (λ w. w.now) words.now)) }
+    ensures { Reads result (event_told names.now (map (λ w. w.now) words.now)) }
 {
     match words {
         [kind, words @ ..] => event_of_kind(alloc, names, kind, words),

@@ -4,7 +4,7 @@ ghost use Rattle.std.specs.List.{list_all};
 ghost use Rattle.std.specs.Str.{bytes_eq};
 ghost use Rattle.command_text.specs.Words.{is_decimal, is_digit_of};
 ghost use Rattle.report_entries.specs.Cut.{line_words};
-ghost use Rattle.report_entries.specs.Report.{is_last, is_stop, tally_line};
+ghost use Rattle.report_entries.specs.Report.{ends_report, is_stop, tally_line};
 
 use crate::line_writer::LineWriter;
 use crate::tally::Tally;
@@ -80,7 +80,7 @@ fn tells_tally(writer: &mut LineWriter, tally: Tally, line: &[u8]) -> Result<boo
 }
 
 /// Whether a line with these words is a right last one behind these counts.
-#[tactic(auto, unfolding(crate::specs::Report::is_last))]
+#[tactic(auto, unfolding(crate::specs::Report::ends_report))]
 pub fn is_last_line(
     writer: &mut LineWriter,
     tally: Tally,
@@ -90,7 +90,7 @@ pub fn is_last_line(
     requires words { map (λ w. w.now) words.now ≡ line_words line.now }
     requires ready { writer.old.page ≡ [] }
     ensures ready { OnOk result (writer.new.page ≡ []) }
-    ensures last { IfOk result (λ last. last ≡ is_last tally line.now) }
+    ensures last { IfOk result (λ last. last ≡ ends_report tally line.now) }
 {
     match words {
         [kind, words @ ..] => {

@@ -2,7 +2,7 @@
 ghost use Rattle.std.specs.Prelude.{◌≡◌, ◌<◌, ◌≤◌, ◌+◌, ◌^◌, [], length, IfOk, IfSome, OnOk};
 ghost use Rattle.command_text.specs.Planned.{names_of};
 ghost use Rattle.report_reading.specs.Named.{IsNamed};
-ghost use Rattle.report_entries.specs.Answers.{Begins, GoesOn};
+ghost use Rattle.report_entries.specs.Answers.{Begins, ReportGoesOn};
 ghost use Rattle.report_entries.specs.Counted.{AreCounted};
 
 use crate::ReportFault;
@@ -88,7 +88,7 @@ impl<'a> ReportReader<'a> {
         ensures ready { OnOk result (self.new.waits ≡ []) }
         ensures lines { OnOk result (self.new.tally.lines ≤ self.old.tally.lines + 1) }
         ensures named { IfOk result (λ told. IfSome told (IsNamed plan.now)) }
-        ensures goes { GoesOn plan.now self.old self.new result }
+        ensures goes { ReportGoesOn plan.now self.old self.new result }
     {
         let number = self.tally.lines + 1;
         let (line, more) = cut_at(b'\n', self.rest);

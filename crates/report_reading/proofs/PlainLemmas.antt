@@ -41,7 +41,7 @@ use Rattle.event_laws.specs.Law.{AreNames, HasNames}
 use Rattle.event_laws.proofs.ValueLemmas.{row_name, numerals}
 use Rattle.read_lines.specs.Plain.{HasWords, IsPlain, IsPlainLine, is_plain}
 use Rattle.report_reading.proofs.ValueLemmas.{within_number}
-use Rattle.report_reading.specs.Named.{AreOctets, IsArrival, IsCircuit, IsEdge, IsNamed, IsNamedEvent, IsNumber, IsWire}
+use Rattle.report_reading.specs.Named.{AreOctetsTold, IsArrival, IsCircuit, IsEdge, IsNamed, IsNamedEvent, IsNumber, IsWire}
 
 plain_by : (test : ℕ → Bool) → ((c : ℕ) → test c ≡ true → is_plain c ≡ true) → (word : List ℕ) → list_all test word ≡ true → IsPlain word
 plain_by test none [] e = tt
@@ -81,7 +81,7 @@ hex_plain : (d : ℕ) → d < 16 → is_plain (slice_index lower_digits d) ≡ t
 unfolding all_below
 hex_plain d lt = below_at (λ n. is_plain (slice_index lower_digits n)) 16 d refl lt
 
-pub octets_plain : (octets : List ℕ) → AreOctets octets → IsPlain (hex octets)
+pub octets_plain : (octets : List ℕ) → AreOctetsTold octets → IsPlain (hex octets)
 unfolding encode_with
 octets_plain [] fit = tt
 octets_plain (octet ∷ octets) fit =

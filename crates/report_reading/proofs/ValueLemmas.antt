@@ -26,17 +26,17 @@ use Rattle.text_pieces.specs.Pieces.{hex}
 use Rattle.report_text.specs.Words.{arrival_name, cause_name, circuit_name, edge_name, state_name, switch_name, wire_end_name, wire_name}
 use Rattle.event_laws.specs.Law.{HasNames}
 use Rattle.event_laws.proofs.ValueLemmas.{number_said, octets_read, row_said, switch_said}
-use Rattle.report_reading.specs.Named.{AreOctets, HasNamesApart, IsArrival, IsCircuit, IsEdge, IsNumber, IsWire, IsWithin}
+use Rattle.report_reading.specs.Named.{AreOctetsTold, HasNamesApart, IsArrival, IsCircuit, IsEdge, IsNumber, IsWire, IsFromTo}
 
 -- what is read of a word is one value
 read_same : {A B : Type 0} (read : B → Option A) (a b : A) (x y : B) → read x ≡ Some a → read y ≡ Some b → x ≡ y → a ≡ b
 read_same read a b x y first next e = some_same (sym first ∙ (ap read e ∙ next))
 
-pub octets_same : (a b : List ℕ) → AreOctets a → AreOctets b → hex a ≡ hex b → a ≡ b
+pub octets_same : (a b : List ℕ) → AreOctetsTold a → AreOctetsTold b → hex a ≡ hex b → a ≡ b
 octets_same a b are_a are_b e = read_same unhex a b (hex a) (hex b) (octets_read a are_a) (octets_read b are_b) e
 
 -- a number in a range of numbers of 64 bits is one
-pub within_number : (low high n : ℕ) → IsWithin low high n → high < 2 ^ 64 → IsNumber n
+pub within_number : (low high n : ℕ) → IsFromTo low high n → high < 2 ^ 64 → IsNumber n
 within_number low high n is few = omega (arith, is.1, few)
 
 number_read : (n : ℕ) → IsNumber n → decimal_from 0 18446744073709551615 (decimal n) ≡ Some n

@@ -18,15 +18,15 @@ abbrev pub IsNumber : ℕ → Type 0
 IsNumber n = n < 2 ^ 64
 
 -- a number from one to another one
-abbrev pub IsWithin : ℕ → ℕ → ℕ → Type 0
-IsWithin low high n = (low ≤ n) × (n ≤ high)
+abbrev pub IsFromTo : ℕ → ℕ → ℕ → Type 0
+IsFromTo low high n = (low ≤ n) × (n ≤ high)
 
 -- the number of a packet that an event names
-abbrev pub IsPacket : ℕ → Type 0
-IsPacket n = IsWithin 1 18446744073709551615 n
+abbrev pub IsNamedPacket : ℕ → Type 0
+IsNamedPacket n = IsFromTo 1 18446744073709551615 n
 
-abbrev pub AreOctets : List ℕ → Type 0
-AreOctets octets = All (λ octet. octet < 256) octets
+abbrev pub AreOctetsTold : List ℕ → Type 0
+AreOctetsTold octets = All (λ octet. octet < 256) octets
 
 abbrev pub IsEdge : Plan → EdgeId → Type 0
 IsEdge plan edge = edge.0 < length plan.edges
@@ -50,31 +50,31 @@ pub record HasNamesApart (plan : Plan) : Type 0 where
 
 abbrev pub IsNamedEvent : Plan → Event → Type 0
 IsNamedEvent plan (event.Connect from to) = IsEdge plan from × IsEdge plan to
-IsNamedEvent plan (event.Deliver from to count) = IsEdge plan from × (IsEdge plan to × IsWithin 1 65535 count)
+IsNamedEvent plan (event.Deliver from to count) = IsEdge plan from × (IsEdge plan to × IsFromTo 1 65535 count)
 IsNamedEvent plan (event.Lose edge peer) = IsEdge plan edge × IsEdge plan peer
 IsNamedEvent plan (event.Restart edge) = IsEdge plan edge
 IsNamedEvent plan event.Tick = Unit {0}
-IsNamedEvent plan (event.Frame circuit octets) = IsCircuit plan circuit × (AreOctets octets × IsFrame octets)
-IsNamedEvent plan (event.Arrive packet) = IsPacket packet
-IsNamedEvent plan (event.Discard packet) = IsPacket packet
-IsNamedEvent plan (event.Again packet) = IsPacket packet
+IsNamedEvent plan (event.Frame circuit octets) = IsCircuit plan circuit × (AreOctetsTold octets × IsFrame octets)
+IsNamedEvent plan (event.Arrive packet) = IsNamedPacket packet
+IsNamedEvent plan (event.Discard packet) = IsNamedPacket packet
+IsNamedEvent plan (event.Again packet) = IsNamedPacket packet
 IsNamedEvent plan (event.Wire edge wire on) = IsEdge plan edge × IsWire plan wire
 IsNamedEvent plan (event.Circuit circuit on) = IsCircuit plan circuit
-IsNamedEvent plan (event.Status edge wire bits) = IsEdge plan edge × (IsWire plan wire × IsWithin 0 31 bits)
-IsNamedEvent plan (event.Priority edge wire priority) = IsEdge plan edge × (IsWire plan wire × IsWithin 0 255 priority)
+IsNamedEvent plan (event.Status edge wire bits) = IsEdge plan edge × (IsWire plan wire × IsFromTo 0 31 bits)
+IsNamedEvent plan (event.Priority edge wire priority) = IsEdge plan edge × (IsWire plan wire × IsFromTo 0 255 priority)
 IsNamedEvent plan (event.Ping edge wire) = IsEdge plan edge × IsWire plan wire
 
 abbrev pub IsNamed : Plan → Entry → Type 0
 IsNamed plan (entry.Did event) = IsNamedEvent plan event
 IsNamed plan entry.Idle = Unit {0}
-IsNamed plan (entry.Said from to octets) = IsEdge plan from × (IsEdge plan to × AreOctets octets)
-IsNamed plan (entry.In circuit number octets) = IsCircuit plan circuit × (IsNumber number × AreOctets octets)
+IsNamed plan (entry.Said from to octets) = IsEdge plan from × (IsEdge plan to × AreOctetsTold octets)
+IsNamed plan (entry.In circuit number octets) = IsCircuit plan circuit × (IsNumber number × AreOctetsTold octets)
 IsNamed plan (entry.Sent from to wire came packet origin hops octets) =
-    IsEdge plan from × (IsEdge plan to × (IsWire plan wire × (IsArrival plan came × (IsNumber packet × (IsNumber origin × (IsNumber hops × AreOctets octets))))))
+    IsEdge plan from × (IsEdge plan to × (IsWire plan wire × (IsArrival plan came × (IsNumber packet × (IsNumber origin × (IsNumber hops × AreOctetsTold octets))))))
 IsNamed plan (entry.Copied packet of) = IsNumber packet × IsNumber of
 IsNamed plan (entry.Aged packet) = IsNumber packet
-IsNamed plan (entry.Left circuit origin hops octets) = IsCircuit plan circuit × (IsNumber origin × (IsNumber hops × AreOctets octets))
+IsNamed plan (entry.Left circuit origin hops octets) = IsCircuit plan circuit × (IsNumber origin × (IsNumber hops × AreOctetsTold octets))
 IsNamed plan (entry.Dropped edge origin cause) = IsEdge plan edge × IsNumber origin
 IsNamed plan (entry.Session edge peer state) = IsEdge plan edge × IsEdge plan peer
 IsNamed plan (entry.Wire edge wire down) = IsEdge plan edge × IsWire plan wire
-IsNamed plan (entry.Pong edge wire sequence) = IsEdge plan edge × (IsWire plan wire × IsWithin 0 65535 sequence)
+IsNamed plan (entry.Pong edge wire sequence) = IsEdge plan edge × (IsWire plan wire × IsFromTo 0 65535 sequence)

@@ -4,5 +4,5 @@ use Rattle.text_lines.specs.Lines.{word_octets}
 use Rattle.report_text.specs.declared.event_words.EventWords.{EventWords}
 
 -- the octets of each word, in order
-abbrev pub told_words : EventWords → List (List ℕ)
-told_words words = map word_octets (take (min words.count 4) words.words)
+abbrev pub event_words_told : EventWords → List (List ℕ)
+event_words_told words = map word_octets (take (min words.count 4) words.words)

@@ -2,7 +2,7 @@
 ghost use Rattle.std.specs.Prelude.{◌≡◌, ◌∷◌, [], codes, map};
 ghost use Rattle.std.specs.Fmt.{decimal};
 ghost use Rattle.report_text.specs.Words.{circuit_name, edge_name, event_words, switch_name, wire_name};
-ghost use Rattle.report_text.specs.EventWords.{told_words};
+ghost use Rattle.report_text.specs.EventWords.{event_words_told};
 ghost use Rattle.text_lines.specs.Lines.{word_octets};
 
 use crate::names::{circuit_word, edge_word, switch_text, wire_word};
@@ -21,7 +21,7 @@ pub struct EventWords<'a> {
 impl<'a> EventWords<'a> {
     /// The words in order.
     pub fn as_slice(&self) -> &[Word<'a>]
-        ensures { map word_octets result.now ≡ told_words self.now }
+        ensures { map word_octets result.now ≡ event_words_told self.now }
     {
         let (words, _) = self.words.split_at(self.count.min(4));
         words
@@ -30,7 +30,7 @@ impl<'a> EventWords<'a> {
 
 // One word.
 fn one<'a>(word: Word<'a>) -> EventWords<'a>
-    ensures { told_words result ≡ word_octets word.entry ∷ [] }
+    ensures { event_words_told result ≡ word_octets word.entry ∷ [] }
 {
     let none = Word::Text(&[]);
     EventWords {
@@ -41,7 +41,7 @@ fn one<'a>(word: Word<'a>) -> EventWords<'a>
 
 // Two words.
 fn two<'a>(words: [Word<'a>; 2]) -> EventWords<'a>
-    ensures { told_words result ≡ map word_octets words.entry }
+    ensures { event_words_told result ≡ map word_octets words.entry }
 {
     let none = Word::Text(&[]);
     let [first, second] = words;
@@ -53,7 +53,7 @@ fn two<'a>(words: [Word<'a>; 2]) -> EventWords<'a>
 
 // Three words.
 fn three<'a>(words: [Word<'a>; 3]) -> EventWords<'a>
-    ensures { told_words result ≡ map word_octets words.entry }
+    ensures { event_words_told result ≡ map word_octets words.entry }
 {
     let [first, second, third] = words;
     EventWords {
@@ -64,7 +64,7 @@ fn three<'a>(words: [Word<'a>; 3]) -> EventWords<'a>
 
 // Four words.
 fn four<'a>(words: [Word<'a>; 4]) -> EventWords<'a>
-    ensures { told_words result ≡ map word_octets words.entry }
+    ensures { event_words_told result ≡ map word_octets words.entry }
 {
     EventWords { words, count: 4 }
 }
@@ -128,7 +128,7 @@ fn switch<'a>(on: bool) -> Word<'a>
 
 /// The words of an event, as a scenario writes it.
 pub fn words_of_event<'a>(plan: &'a Plan, event: &'a Event) -> EventWords<'a>
-    ensures { told_words result ≡ event_words plan.now event.now }
+    ensures { event_words_told result ≡ event_words plan.now event.now }
 {
     match *event {
         Event::Connect { from, to } => three(edges(plan, b"connect", from, to)),

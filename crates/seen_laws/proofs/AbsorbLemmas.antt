@@ -20,9 +20,9 @@ use Rattle.flight_laws.proofs.WorkLemmas.{closes-append}
 use Rattle.network_model.specs.Absorb.{absorb, absorb_all, absorb_one, all_entries_of}
 use Rattle.network_model.specs.State.{NetworkState, held, held_by, stands, with_edge, with_packet, with_pipe}
 use Rattle.network_model.proofs.CommonLemmas.{one_edges}
-use Rattle.seen_network.specs.Seen.{Seen, is_up}
+use Rattle.seen_network.specs.Seen.{Seen, is_shown_up}
 use Rattle.seen_laws.specs.Shows.{IsReady, Shows, tolds}
-use Rattle.seen_laws.specs.Work.{Tells, ended, up_after}
+use Rattle.seen_laws.specs.Work.{TellsChanges, ended, up_after}
 use Rattle.seen_laws.proofs.SeenLemmas.{SeesPackets, ShownBy, all_show, all_way}
 
 -- ---- the pipe of an edge to itself, which has no end
@@ -100,11 +100,11 @@ module _ (plan : Plan) (network : NetworkState) (me : EdgeId) (origin hops : ℕ
     | inr apart ↦ shown.rests a b apart ∙ (ready.rests a b apart ∙ ap (λ (e : EdgeState). held_by (e.peering b)) (sym (there a apart)))
   ]
 
-  same_up : (a wire : ℕ) → final.up a wire ≡ is_up ((after.edges a).told_down wire)
+  same_up : (a wire : ℕ) → final.up a wire ≡ is_shown_up ((after.edges a).told_down wire)
   same_up a wire = elim (cases_Bool (nat_eq a me.0)) [
-    | inl same ↦ subst (λ (n : ℕ). final.up n wire ≡ is_up ((after.edges n).told_down wire)) (sym (eqb-true a me.0 same))
-        (shown.up wire ∙ (ready.up wire ∙ ap (λ (e : EdgeState). is_up (e.told_down wire)) (sym here)))
-    | inr apart ↦ shown.ups a wire apart ∙ (ready.ups a wire apart ∙ ap (λ (e : EdgeState). is_up (e.told_down wire)) (sym (there a apart)))
+    | inl same ↦ subst (λ (n : ℕ). final.up n wire ≡ is_shown_up ((after.edges n).told_down wire)) (sym (eqb-true a me.0 same))
+        (shown.up wire ∙ (ready.up wire ∙ ap (λ (e : EdgeState). is_shown_up (e.told_down wire)) (sym here)))
+    | inr apart ↦ shown.ups a wire apart ∙ (ready.ups a wire apart ∙ ap (λ (e : EdgeState). is_shown_up (e.told_down wire)) (sym (there a apart)))
   ]
 
   own_pipe : final.pipes me.0 me.0 ≡ after.pipes me.0 me.0
@@ -179,7 +179,7 @@ on_still plan network me work seen on same circuit row is = on circuit row is �
     | inr apart ↦ ap (λ (e : EdgeState). e.circuit_on circuit.0) (edge_else me work.edge network a apart)
   ]
 
-module _ (plan : Plan) (network : NetworkState) (me : EdgeId) (first work : Work) (seen : Seen) (shows : Shows plan network seen) (begins : BeginsFrom network me first) (none : ℕ → Bool) (tells : Tells none first work)
+module _ (plan : Plan) (network : NetworkState) (me : EdgeId) (first work : Work) (seen : Seen) (shows : Shows plan network seen) (begins : BeginsFrom network me first) (none : ℕ → Bool) (tells : TellsChanges none first work)
     (kept : (k : ℕ) → is_there (work.edge.peering k) ≡ true → held_by (work.edge.peering k) ≡ held_by ((network.edges me.0).peering k)) (alone : stands network me.0 me.0 ≡ false) (turned : ℕ → Bool) (on : OnAfter plan network me work (record seen { on = turned })) where
   effects : work.effects ≡ tells.more
   effects = tells.given ∙ ap (λ (l : List Effect). l ++ tells.more) begins.effects
@@ -199,7 +199,7 @@ module _ (plan : Plan) (network : NetworkState) (me : EdgeId) (first work : Work
     rest = λ k. ap (λ (l : List ℕ). cond (ended k work.effects) [] l) (shows.rests me.0 k) ∙ rest_of (ended k work.effects) ((network.edges me.0).peering k) (work.edge.peering k) (stood k) (kept k);
     rests = λ a b apart. shows.rests a b;
     up = λ wire. rw (shows.up me.0 wire, effects) (sym
-        (tells.up wire ∙ ap (λ (d : ℕ → Option Rattle.net_base.specs.declared.trace.down.Down.Down). up_after wire tells.more (is_up (d wire))) begins.downs));
+        (tells.up wire ∙ ap (λ (d : ℕ → Option Rattle.net_base.specs.declared.trace.down.Down.Down). up_after wire tells.more (is_shown_up (d wire))) begins.downs));
     ups = λ a wire apart. shows.up a wire;
     on = on;
     under_way = shows.under_way;

@@ -35,10 +35,10 @@ use Rattle.flight_laws.proofs.ConnectLemmas.{ConnectsOn, connected_is, mended_on
 use Rattle.flight_laws.proofs.PipeLemmas.{all_edges}
 use Rattle.flight_laws.proofs.PlanLemmas.{both_in, ends_are, joined_apart, joined_turned}
 use Rattle.flight_laws.proofs.SettleLemmas.{edge_else, edge_pipes, edge_there}
-use Rattle.seen_network.specs.Seen.{Seen, is_up, with_standing}
+use Rattle.seen_network.specs.Seen.{Seen, is_shown_up, with_standing}
 use Rattle.seen_laws.specs.Events.{HasGone, IsShown, NoneAlone, WasIdle}
 use Rattle.seen_laws.specs.Shows.{AreUpTo, IsReady, Shows, copy_of, tolds}
-use Rattle.seen_laws.specs.Work.{Tells, ended, up_after}
+use Rattle.seen_laws.specs.Work.{TellsChanges, ended, up_after}
 use Rattle.seen_laws.proofs.AbsorbLemmas.{absorb_shows, on_still, rest_of}
 use Rattle.seen_laws.proofs.InputLemmas.{mends_tell, none}
 use Rattle.seen_laws.proofs.SeenLemmas.{told-append, tolds-append, work_told}
@@ -116,10 +116,10 @@ abbrev pub stood : NetworkState → EdgeId → EdgeId → Peering → Work
 stood network me peer kept = changes (with_peering peer (Some kept)) (changes (meeting peer) (begin_at network me))
 
 pub record Connects (network : NetworkState) (me peer : EdgeId) (kept : Peering) (work : Work) : Type 0 where
-  pub tells : Tells none (stood network me peer kept) work
+  pub tells : TellsChanges none (stood network me peer kept) work
   pub there : (k : ℕ) → is_there (work.edge.peering k) ≡ is_there ((stood network me peer kept).edge.peering k)
 
-opened_tells : (peer : EdgeId) (work : Work) → Tells none work (gives (effect.Session peer name.Initialized) work)
+opened_tells : (peer : EdgeId) (work : Work) → TellsChanges none work (gives (effect.Session peer name.Initialized) work)
 opened_tells peer work = gives_tell none (effect.Session peer name.Initialized) work (λ k. refl) (λ k. refl) (λ wire up. refl)
 
 connects_is : (plan : Plan) (network : NetworkState) (me peer : EdgeId) (one other : EdgePlan) → IsChecked plan → HasTypes plan → IsOrdered plan network → nat_eq me.0 peer.0 ≡ false
@@ -169,9 +169,9 @@ module _ (network : NetworkState) (me peer : EdgeId) (kept : Peering) (held_none
   told_shut : (k : ℕ) → closes k work.effects ≡ ended k work.effects
   told_shut k = ap (closes k) effects ∙ (on.tells.shut k ∙ ap (ended k) (sym effects))
 
-  told_up : (wire : ℕ) → is_up (work.edge.told_down wire) ≡ up_after wire work.effects (is_up ((network.edges me.0).told_down wire))
+  told_up : (wire : ℕ) → is_shown_up (work.edge.told_down wire) ≡ up_after wire work.effects (is_shown_up ((network.edges me.0).told_down wire))
   unfolding changes with_kept with_peering
-  told_up wire = on.tells.up wire ∙ ap (λ (es : List Effect). up_after wire es (is_up ((network.edges me.0).told_down wire))) (sym effects)
+  told_up wire = on.tells.up wire ∙ ap (λ (es : List Effect). up_after wire es (is_shown_up ((network.edges me.0).told_down wire))) (sym effects)
 
   circuits : work.edge.circuit_on ≡ (network.edges me.0).circuit_on
   unfolding changes with_kept with_peering
@@ -252,11 +252,11 @@ module _ (plan : Plan) (network : NetworkState) (seen : Seen) (shows : Shows pla
     | inr far ↦ ap (λ (e : EdgeState). held_by (e.peering b)) (sym (edge_else to hybrid network a far))
   ]
 
-  start_up : (a wire : ℕ) → is_up ((network.edges a).told_down wire) ≡ is_up ((start.edges a).told_down wire)
+  start_up : (a wire : ℕ) → is_shown_up ((network.edges a).told_down wire) ≡ is_shown_up ((start.edges a).told_down wire)
   start_up a wire = elim (cases_Bool (nat_eq a to.0)) [
-    | inl same ↦ subst (λ (n : ℕ). is_up ((network.edges n).told_down wire) ≡ is_up ((start.edges n).told_down wire)) (sym (eqb-true a to.0 same))
-        (ap (λ (e : EdgeState). is_up (e.told_down wire)) (sym (edge_there to hybrid network)))
-    | inr far ↦ ap (λ (e : EdgeState). is_up (e.told_down wire)) (sym (edge_else to hybrid network a far))
+    | inl same ↦ subst (λ (n : ℕ). is_shown_up ((network.edges n).told_down wire) ≡ is_shown_up ((start.edges n).told_down wire)) (sym (eqb-true a to.0 same))
+        (ap (λ (e : EdgeState). is_shown_up (e.told_down wire)) (sym (edge_there to hybrid network)))
+    | inr far ↦ ap (λ (e : EdgeState). is_shown_up (e.told_down wire)) (sym (edge_else to hybrid network a far))
   ]
 
   start_on : (a c : ℕ) → (network.edges a).circuit_on c ≡ (start.edges a).circuit_on c
@@ -338,7 +338,7 @@ module _ (plan : Plan) (network : NetworkState) (seen : Seen) (shows : Shows pla
     rest = λ k. ap (λ (l : List ℕ). cond (ended k two.effects) [] l) (middle_shows.rests to.0 k ∙ ap (λ (e : EdgeState). held_by (e.peering k)) middle_to)
         ∙ nothing_held (ended k two.effects) (two.edge.peering k) (still k);
     rests = λ a b gone. middle_shows.rests a b;
-    up = λ wire. ap (up_after wire two.effects) (middle_shows.up to.0 wire ∙ ap (λ (e : EdgeState). is_up (e.told_down wire)) middle_to)
+    up = λ wire. ap (up_after wire two.effects) (middle_shows.up to.0 wire ∙ ap (λ (e : EdgeState). is_shown_up (e.told_down wire)) middle_to)
         ∙ sym (told_up network to from other nothing' two there none_yet' wire);
     ups = λ a wire gone. middle_shows.up a wire;
     on = on_still plan middle to two between middle_shows.on (circuits network to from other nothing' two there none_yet' ∙ ap (λ (e : EdgeState). e.circuit_on) (sym middle_to));
@@ -437,7 +437,7 @@ module _ (plan : Plan) (network : NetworkState) (seen : Seen) (shows : Shows pla
     standing = λ a b. is.standing a b ∙ ap (λ (e : EdgeState). is_there (e.peering b)) (done_edges a);
     pipes = λ a b. is.pipes a b ∙ sym (done_alike.pipes a b);
     rests = λ a b. is.rests a b ∙ ap (λ (e : EdgeState). held_by (e.peering b)) (done_edges a);
-    up = λ a wire. is.up a wire ∙ ap (λ (e : EdgeState). is_up (e.told_down wire)) (done_edges a);
+    up = λ a wire. is.up a wire ∙ ap (λ (e : EdgeState). is_shown_up (e.told_down wire)) (done_edges a);
     on = λ circuit row at. is.on circuit row at ∙ ap (λ (e : EdgeState). e.circuit_on circuit.0) (done_edges row.edge.0);
     under_way = is.under_way ∙ ap (map copy_of) (sym done_alike.under_way);
     counted = subst (λ (n : ℕ). AreUpTo n s.under_way) (sym done_alike.sent) is.counted;

@@ -25,7 +25,7 @@ use Rattle.flight_laws.proofs.SaidLemmas.{all_octets}
 use Rattle.seen_network.specs.Seen.{Seen, cut, delivers, with_octets, with_rest}
 use Rattle.seen_laws.specs.Events.{IsShown, NoneAlone, WasIdle}
 use Rattle.seen_laws.specs.Shows.{IsReady, Shows}
-use Rattle.seen_laws.specs.Work.{Tells, ended}
+use Rattle.seen_laws.specs.Work.{TellsChanges, ended}
 use Rattle.seen_laws.proofs.AbsorbLemmas.{on_still, rest_of}
 use Rattle.seen_laws.proofs.EventLemmas.{IsButFor, losing_ready, work_shown}
 use Rattle.seen_laws.proofs.HeardLemmas.{HoldsRest, KeepsHeld, hears_rest, mends_keep_held}
@@ -87,7 +87,7 @@ module _ (plan : Plan) (network : NetworkState) (seen : Seen) (shows : Shows pla
     abbrev work : Work
     work = mends plan taken_all heard
 
-    tells : Tells any (begin_at network to) work
+    tells : TellsChanges any (begin_at network to) work
     tells = hears_tell plan taken_all from octets (begin_at network to)
 
     are_octets : AreOctets octets
@@ -101,7 +101,7 @@ module _ (plan : Plan) (network : NetworkState) (seen : Seen) (shows : Shows pla
     mended : KeepsHeld heard work
     mended = mends_keep_held plan taken_all heard
 
-    mend_tells : Tells none heard work
+    mend_tells : TellsChanges none heard work
     mend_tells = mends_tell plan taken_all heard
 
     stood_heard : (k : ℕ) → is_there (work.edge.peering k) ≡ true → is_there (heard.edge.peering k) ≡ true

@@ -26,7 +26,7 @@ use Rattle.flight_laws.proofs.RuledDeliverLemmas.{no_octets_by}
 use Rattle.seen_network.specs.Seen.{Seen, end_goes, happened, with_octets, with_rest, with_standing}
 use Rattle.seen_laws.specs.Events.{HasGone, IsShown, NoneAlone, WasIdle}
 use Rattle.seen_laws.specs.Shows.{AreUpTo, IsReady, Shows}
-use Rattle.seen_laws.specs.Work.{Tells, ended, up_after}
+use Rattle.seen_laws.specs.Work.{TellsChanges, ended, up_after}
 use Rattle.seen_laws.proofs.AbsorbLemmas.{BeginsFrom, absorb_shows, on_still, rest_of, works_ready}
 use Rattle.seen_laws.proofs.InputLemmas.{bits_tell, bridged_tells, lost_gone, lost_tells, none, priority_tells, then_mends, wire_tells}
 use Rattle.seen_laws.proofs.SeenLemmas.{work_told}
@@ -42,7 +42,7 @@ work_shown plan event network start seen me origin hops work ready =
     HasGone (work_told me origin hops work.effects (with_edge me work.edge start)) (absorb_shows plan start me origin hops work (happened event seen) ready)
 
 -- work that tells what it makes of the edge, and turns no circuit on or off
-pub plain_ready : (plan : Plan) (network : NetworkState) (me : EdgeId) (work : Work) (seen : Seen) → Shows plan network seen → NoneAlone network → Tells none (begin_at network me) work
+pub plain_ready : (plan : Plan) (network : NetworkState) (me : EdgeId) (work : Work) (seen : Seen) → Shows plan network seen → NoneAlone network → TellsChanges none (begin_at network me) work
     → IsReady plan network me work seen
 plain_ready plan network me work seen shows alone tells =
     works_ready plan network me (begin_at network me) work seen shows (begins_at network me) none tells (λ k there. tells.kept k refl there) (alone me.0) seen.on
@@ -121,7 +121,7 @@ pub record IsButFor (me peer : ℕ) (old new : Seen) : Type 0 where
   pub under_way : new.under_way ≡ old.under_way
 
 module _ (plan : Plan) (network : NetworkState) (me peer : EdgeId) (old seen : Seen) (shows : Shows plan network old) (but : IsButFor me.0 peer.0 old seen) (alone : NoneAlone network) (standing : stands network me.0 peer.0 ≡ true)
-    (work : Work) (tells : Tells none (begin_at network me) work) (gone : is_there (work.edge.peering peer.0) ≡ false) where
+    (work : Work) (tells : TellsChanges none (begin_at network me) work) (gone : is_there (work.edge.peering peer.0) ≡ false) where
   apart : nat_eq me.0 peer.0 ≡ false
   apart = elim (cases_Bool (nat_eq me.0 peer.0)) [
     | inl same ↦ clash (sym (alone me.0) ∙ (ap (stands network me.0) (eqb-true me.0 peer.0 same) ∙ standing))

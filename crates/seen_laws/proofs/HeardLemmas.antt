@@ -23,7 +23,7 @@ use Rattle.edge_model.proofs.HeldLemmas.{Holding, hears_pdu_held, mends_held, re
 use Rattle.edge_model.proofs.WalkLemmas.{hears_pdu_holds}
 use Rattle.network_model.specs.State.{held_by}
 use Rattle.seen_network.specs.Seen.{cut}
-use Rattle.seen_laws.specs.Work.{Tells, ended}
+use Rattle.seen_laws.specs.Work.{TellsChanges as Tells, ended}
 use Rattle.seen_laws.proofs.CutLemmas.{got_cut, more_stay}
 use Rattle.seen_laws.proofs.TellLemmas.{any, happens_with_ends_tells, hear_tells}
 

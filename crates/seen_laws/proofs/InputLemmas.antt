@@ -23,8 +23,8 @@ use Rattle.edge_model.proofs.SessionLemmas.{GivesOnly, are_all}
 use Rattle.edge_model.proofs.WalkLemmas.{hears_holds, mends_holds}
 use Rattle.flight_laws.specs.Meeting.{closes}
 use Rattle.network_model.specs.State.{held_by}
-use Rattle.seen_network.specs.Seen.{is_up}
-use Rattle.seen_laws.specs.Work.{Tells, ended, up_after}
+use Rattle.seen_network.specs.Seen.{is_shown_up}
+use Rattle.seen_laws.specs.Work.{TellsChanges as Tells, ended, up_after}
 use Rattle.seen_laws.proofs.TellLemmas.{any, changes_tell, happens_with_ends_tells, hear_tells, mend_tells, tells_not, tells_then}
 
 -- of no peer the edge hears
@@ -132,7 +132,7 @@ bridged_tells old new me circuits peering downs gives =
       circuits = circuits;
       stands = λ k. ap (λ (p : ℕ → Option Peering). is_there (p k)) peering ∙ stays_there (is_there (old.edge.peering k)) (ended k gives.more) (nothing.stays k);
       shut = λ k. nothing.shut k ∙ sym (nothing.stays k);
-      up = λ wire. ap (λ (d : ℕ → Option Down). is_up (d wire)) downs ∙ sym (nothing.still wire (is_up (old.edge.told_down wire)));
+      up = λ wire. ap (λ (d : ℕ → Option Down). is_shown_up (d wire)) downs ∙ sym (nothing.still wire (is_shown_up (old.edge.told_down wire)));
       kept = λ k apart there. ap (λ (p : ℕ → Option Peering). held_by (p k)) peering;
     }
 

@@ -42,7 +42,7 @@ use Rattle.flight_laws.proofs.RunLemmas.{run_ordered}
 use Rattle.network_model.proofs.RunLemmas.{after-append, along-append}
 use Rattle.network_model.proofs.PacketListLemmas.{run_numbered}
 use Rattle.flood_laws.proofs.RunLemmas.{runs_serve_once}
-use Rattle.seen_network.specs.Once.{OnceSeen, SeenServed, SeenWindow, SeenWithin, all_spared, entered_as, is_row_of, is_seen_copy, is_seen_site, is_sourced_by, spares_seen, times_seen}
+use Rattle.seen_network.specs.Once.{OnceSeen, SeenServed, SeenWindow, SeenWithin, all_spared, entered_as, is_circuit_row_of, is_seen_copy, is_seen_site, is_sourced_by, spares_seen, times_seen}
 use Rattle.seen_network.specs.Seen.{BeginsEvent, Seen, happened_or, is_idle_behind, seen_from, seen_in, told}
 use Rattle.seen_network.proofs.ReadLemmas.{idle_behind}
 use Rattle.seen_laws.specs.Shows.{Shows, copy_of}
@@ -89,7 +89,7 @@ within_same most origin (entry.Pong edge wire sequence ∷ es) all = within_same
 site_same : (plan : Plan) (network : NetworkState) (seen : Seen) (service : ServiceId) (circuit : CircuitId) → Shows plan network seen → is_seen_site plan seen service circuit
     ≡ is_site plan network service circuit
 site_same plan network seen service circuit shows = by (circuit_row plan circuit) refl where
-  by : (row : Option CircuitPlan) → circuit_row plan circuit ≡ row → is_row_of service row && seen.on circuit.0
+  by : (row : Option CircuitPlan) → circuit_row plan circuit ≡ row → is_circuit_row_of service row && seen.on circuit.0
       ≡ (Rattle.network_model.specs.Reach.is_row_of service row && is_row_on network circuit row)
   by None is = refl
   by (Some row) is = ap (λ (b : Bool). nat_eq row.service.0 service.0 && b) (shows.on circuit row is)
@@ -351,7 +351,7 @@ frame_seen plan network service address circuit octets placed taught = by (circu
     goes : (b : Bool) → b ≡ false → list_any (is_sourced_by plan service address)
         (cond b (idle network) (entering network circuit octets row (frame_work plan network circuit octets row))).entries ≡ true
     goes true e = clash (sym e)
-    goes false e = rw (ap (λ (r : Option CircuitPlan). is_row_of service r) is ∙ parts.0, sourced) refl
+    goes false e = rw (ap (λ (r : Option CircuitPlan). is_circuit_row_of service r) is ∙ parts.0, sourced) refl
 
 -- ---- what is taught in a window is seen in it
 

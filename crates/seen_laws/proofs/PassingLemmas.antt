@@ -32,7 +32,7 @@ use Rattle.flight_laws.proofs.SettleLemmas.{edge_else, edge_there}
 use Rattle.seen_network.specs.Seen.{Seen, SeenCopy, copy_goes, origin_among, repeats, with_copies, with_on, without_copy, without_edge}
 use Rattle.seen_laws.specs.Events.{HasGone, IsShown, NoneAlone, WasIdle}
 use Rattle.seen_laws.specs.Shows.{AreTold, IsReady, Shows, copy_of, tolds}
-use Rattle.seen_laws.specs.Work.{Tells}
+use Rattle.seen_laws.specs.Work.{TellsChanges}
 use Rattle.seen_laws.proofs.AbsorbLemmas.{BeginsFrom, OnAfter, absorb_shows, on_still, ready_alone, works_ready}
 use Rattle.seen_laws.proofs.AgeLemmas.{aged_shows, aged_told}
 use Rattle.seen_laws.proofs.CopyLemmas.{below_behind, below_more, none_without, without_below}
@@ -113,7 +113,7 @@ module _ (plan : Plan) (network : NetworkState) (seen : Seen) (shows : Shows pla
   abbrev done : Work
   done = changes (turned plan circuit row on) (begin_at network row.edge)
 
-  tells : Tells none done (mends plan taken_all done)
+  tells : TellsChanges none done (mends plan taken_all done)
   tells = mends_tell plan taken_all done
 
   now_on : OnAfter plan network row.edge (mends plan taken_all done) (with_on circuit.0 on seen)
@@ -191,7 +191,7 @@ frame_shown plan network seen shows alone circuit octets (Some row) = idle_or pl
   ready =
       let bridges = frame_bridges plan taken_all circuit octets (Some row) (begin_at network row.edge) in
       plain_ready plan (with_frame network) row.edge work seen (entered_shows plan network seen shows) (entered_alone network alone)
-      (subst (λ (w : Work). Tells none w work) (sym (entered_begin network row.edge))
+      (subst (λ (w : Work). TellsChanges none w work) (sym (entered_begin network row.edge))
       (bridged_tells (begin_at network row.edge) work bridges.edge.me bridges.edge.circuits bridges.edge.peering bridges.edge.downs bridges.effects))
 
 -- ---- packets
@@ -251,7 +251,7 @@ module _ (plan : Plan) (network : NetworkState) (seen : Seen) (shows : Shows pla
         plain_ready plan (without_packet packet.number network) packet.to work (copy_goes number seen)
         (subst (λ (n : ℕ). Shows plan (without_packet n network) (copy_goes number seen)) (sym (found number network.under_way packet is).named)
         (gone_shows plan network seen number shows)) (gone_alone network packet.number alone)
-        (subst (λ (w : Work). Tells none w work) (sym (gone_begin network packet.number packet.to))
+        (subst (λ (w : Work). TellsChanges none w work) (sym (gone_begin network packet.number packet.to))
         (bridged_tells (begin_at network packet.to) work bridges.edge.me bridges.edge.circuits bridges.edge.peering bridges.edge.downs bridges.effects))
 
   pub discard_shown : (packet : Option Packet) → packet_at network number ≡ packet → IsShown plan (Discard number) network seen (discard_event packet network)

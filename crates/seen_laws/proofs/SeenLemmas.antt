@@ -16,7 +16,7 @@ use Rattle.flight_laws.proofs.WorkLemmas.{said-append, same_end}
 use Rattle.network_model.specs.Absorb.{absorb_all, absorb_one, all_entries_of, entries_told}
 use Rattle.network_model.specs.State.{NetworkState, with_packet, with_pipe}
 use Rattle.network_model.proofs.AbsorbLemmas.{pipe_sends_none}
-use Rattle.seen_network.specs.Seen.{Seen, SeenCopy, copy_comes, end_goes, is_up, said_towards, session_told, told, with_copies, with_octets, with_rest, with_standing, with_up, without_copy}
+use Rattle.seen_network.specs.Seen.{Seen, SeenCopy, copy_comes, end_goes, is_shown_up, said_towards, session_told, told, with_copies, with_octets, with_rest, with_standing, with_up, without_copy}
 use Rattle.seen_network.proofs.CommonLemmas.{session_way, said_way}
 use Rattle.seen_laws.specs.Shows.{AreTold, AreUpTo, copy_of, tolds}
 use Rattle.seen_laws.specs.Work.{ended, up_after}
@@ -214,7 +214,7 @@ ended_shows me peer why seen = record {
 
 -- a wire that is told
 wire_shows : (me : EdgeId) (wire : Rattle.net_base.specs.declared.plan.places.WireId.WireId) (down : Option Rattle.net_base.specs.declared.trace.down.Down.Down) (seen : Seen)
-    → ShownBy me.0 (effect.Wire wire down ∷ []) seen (with_up me.0 wire.0 (is_up down) seen)
+    → ShownBy me.0 (effect.Wire wire down ∷ []) seen (with_up me.0 wire.0 (is_shown_up down) seen)
 unfolding with_up
 wire_shows me wire down seen = record {
   near = λ k. and_not_false (seen.stands me.0 k);

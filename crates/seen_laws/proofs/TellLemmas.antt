@@ -42,8 +42,8 @@ use Rattle.edge_model.proofs.AgainLemmas.{there_spoken}
 use Rattle.flight_laws.specs.Meeting.{closes}
 use Rattle.flight_laws.proofs.WorkLemmas.{closes-append}
 use Rattle.network_model.specs.State.{held_by}
-use Rattle.seen_network.specs.Seen.{is_up}
-use Rattle.seen_laws.specs.Work.{Tells, ended, is_ended, up_after}
+use Rattle.seen_network.specs.Seen.{is_shown_up}
+use Rattle.seen_laws.specs.Work.{TellsChanges as Tells, ended, is_ended, up_after}
 
 -- ---- joined effects
 
@@ -61,7 +61,7 @@ ended-append place (effect.Closed peer ∷ es) fs = ended-append place es fs
 
 pub up-append : (wire : ℕ) (es fs : List Effect) (up : Bool) → up_after wire (es ++ fs) up ≡ up_after wire fs (up_after wire es up)
 up-append wire [] fs up = refl
-up-append wire (effect.Wire other down ∷ es) fs up = up-append wire es fs (cond (nat_eq wire other.0) (is_up down) up)
+up-append wire (effect.Wire other down ∷ es) fs up = up-append wire es fs (cond (nat_eq wire other.0) (is_shown_up down) up)
 up-append wire (effect.Session peer state ∷ es) fs up = up-append wire es fs up
 up-append wire (effect.Sent peer other came octets ∷ es) fs up = up-append wire es fs up
 up-append wire (effect.Left circuit octets ∷ es) fs up = up-append wire es fs up
@@ -97,7 +97,7 @@ module _ (heard : ℕ → Bool) where
         ∙ (and_not (is_there (a.edge.peering k)) (ended k first.more) (ended k next.more)
         ∙ ap (λ (x : Bool). is_there (a.edge.peering k) && not x) (sym (ended-append k first.more next.more))));
     shut = λ k. closes-append k first.more next.more ∙ (rw (first.shut k, next.shut k) (sym (ended-append k first.more next.more)));
-    up = λ wire. next.up wire ∙ (ap (up_after wire next.more) (first.up wire) ∙ sym (up-append wire first.more next.more (is_up (a.edge.told_down wire))));
+    up = λ wire. next.up wire ∙ (ap (up_after wire next.more) (first.up wire) ∙ sym (up-append wire first.more next.more (is_shown_up (a.edge.told_down wire))));
     kept = λ k apart there_spoken.
         next.kept k apart there_spoken ∙ first.kept k apart (first_holds (is_there (b.edge.peering k)) (not (ended k next.more)) (sym (next.stands k) ∙ there_spoken));
   }
@@ -115,7 +115,7 @@ module _ (heard : ℕ → Bool) where
     circuits = circuits;
     stands = λ k. ap (λ (p : ℕ → Option Peering). is_there (p k)) peering ∙ and_not_false (is_there (work.edge.peering k));
     shut = λ k. refl;
-    up = λ wire. ap (λ (d : ℕ → Option Down). is_up (d wire)) downs;
+    up = λ wire. ap (λ (d : ℕ → Option Down). is_shown_up (d wire)) downs;
     kept = λ k apart there_spoken. ap (λ (p : ℕ → Option Peering). held_by (p k)) peering;
   }
 
@@ -157,7 +157,7 @@ module _ (heard : ℕ → Bool) where
     circuits = refl;
     stands = λ k. rw (none k) (and_not_false (is_there (work.edge.peering k)));
     shut = λ k. shuts k ∙ sym (none k);
-    up = λ wire. sym (still wire (is_up (work.edge.told_down wire)));
+    up = λ wire. sym (still wire (is_shown_up (work.edge.told_down wire)));
     kept = λ k apart there_spoken. refl;
   }
 
@@ -345,7 +345,7 @@ module _ (heard : ℕ → Bool) where
     circuits = only.edge.circuits;
     stands = λ k. ap (λ (p : ℕ → Option Peering). is_there (p k)) only.edge.peering ∙ and_not_false (is_there (a.edge.peering k));
     shut = λ k. refl;
-    up = λ wire. ap (λ (d : ℕ → Option Down). is_up (d wire)) only.edge.downs;
+    up = λ wire. ap (λ (d : ℕ → Option Down). is_shown_up (d wire)) only.edge.downs;
     kept = λ k apart there_spoken. ap (λ (p : ℕ → Option Peering). held_by (p k)) only.edge.peering;
   }
 
@@ -363,7 +363,7 @@ module _ (heard : ℕ → Bool) where
     kept = λ k apart there_spoken. refl;
   }
     where
-      by : (b : Bool) (old : Option Down) → is_up (cond b down old) ≡ cond b (is_up down) (is_up old)
+      by : (b : Bool) (old : Option Down) → is_shown_up (cond b down old) ≡ cond b (is_shown_up down) (is_shown_up old)
       by true old = refl
       by false old = refl
 

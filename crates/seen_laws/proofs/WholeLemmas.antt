@@ -40,7 +40,7 @@ use Rattle.flight_laws.proofs.PlaceLemmas.{IsFound, NamedEnd, end_of, find_holds
 use Rattle.flight_laws.proofs.RuledMendLemmas.{wire_fits}
 use Rattle.flood_laws.proofs.FarLemmas.{are_settled, far_advertises, joined_by}
 use Rattle.seen_network.specs.Calm.{is_seen_up, last_up}
-use Rattle.seen_network.specs.Seen.{Seen, is_up}
+use Rattle.seen_network.specs.Seen.{Seen, is_shown_up}
 use Rattle.seen_laws.proofs.MateLemmas.{GoesBack, Mates, OfEach, OfFirst, OfLast, from_first, from_last, mates_of, of_joined}
 use Rattle.seen_laws.proofs.SyncRunLemmas.{IsSyncedAt}
 
@@ -68,7 +68,7 @@ up_live role bits (Withdrawing label) remote is = some_cause _ is
 up_live role bits (Advertised label content) None is = some_cause _ is
 up_live role bits (Advertised label content) (Some binding) is = record { told = record { label = label; content = content; is = refl }; binding = binding; bound = refl }
 
-none_up : (down : Option Down) → is_up down ≡ true → down ≡ None
+none_up : (down : Option Down) → is_shown_up down ≡ true → down ≡ None
 none_up None is = refl
 none_up (Some why) is = clash is
 
@@ -137,9 +137,9 @@ module _ (plan : Plan) (network : NetworkState) (service : ServiceId) (wire : Wi
         ∙ found_is_any (is_named n row.pw_id) (is_end_of_wire wire) (end_places plan e) named.place named.named
         (rw (eq-eqb named.place.wire.0 wire.0 (ap (λ (w : WireId). w.0) named.wire_is), at_end) refl)
 
-    pub forwards_told : end_forwards plan (network.edges e.0) wire ≡ is_up ((network.edges e.0).told_down wire.0)
+    pub forwards_told : end_forwards plan (network.edges e.0) wire ≡ is_shown_up ((network.edges e.0).told_down wire.0)
     forwards_told = forwards_as_told plan (network.edges e.0) wire (synced e.0).synced here ∙ same_up ((network.edges e.0).told_down wire.0) where
-      same_up : (d : Option Down) → Rattle.edge_model.specs.Ends.is_up d ≡ is_up d
+      same_up : (d : Option Down) → Rattle.edge_model.specs.Ends.is_up d ≡ is_shown_up d
       same_up None = refl
       same_up (Some why) = refl
 
@@ -147,13 +147,13 @@ module _ (plan : Plan) (network : NetworkState) (service : ServiceId) (wire : Wi
     one_synced = (find_holds (IsSynced plan (network.edges e.0)) (is_named n row.pw_id) (end_places plan e) named.place
         (subst (λ (m : EdgeId). AllByRecursion (IsSynced plan (network.edges e.0)) (end_places plan m)) me_is (synced e.0).synced.each) named.named).holds
 
-    place_up : is_up ((network.edges e.0).told_down wire.0) ≡ true → down_at plan (network.edges e.0) named.place ≡ None
+    place_up : is_shown_up ((network.edges e.0).told_down wire.0) ≡ true → down_at plan (network.edges e.0) named.place ≡ None
     place_up up =
         let told : (network.edges e.0).told_down named.place.wire.0 ≡ None = ap (λ (w : WireId). (network.edges e.0).told_down w.0) named.wire_is ∙ none_up ((network.edges e.0).told_down wire.0) up in
         sym (cause_same ((network.edges e.0).told_down named.place.wire.0) (down_at plan (network.edges e.0) named.place) (one_synced.so at_end)) ∙ told
 
     -- it tells its neighbour, and holds what the neighbour tells
-    pub live : is_up ((network.edges e.0).told_down wire.0) ≡ true → Tells e.0 n.0 × Tells n.0 e.0
+    pub live : is_shown_up ((network.edges e.0).told_down wire.0) ≡ true → Tells e.0 n.0 × Tells n.0 e.0
     live up =
         let state : IsLive (end_at (network.edges e.0) named.place) = up_live (role_at plan (network.edges e.0) named.place) ((network.edges e.0).bits named.place.wire.0) _ _ (place_up up) in
         let same : end_at (network.edges e.0) named.place ≡ (network.edges e.0).ends wire.0 n.0 =
@@ -175,7 +175,7 @@ module _ (plan : Plan) (network : NetworkState) (service : ServiceId) (wire : Wi
             sym (joins_turned row.path x.0 w.0) ∙ (ap (λ (n : ℕ). joins x.0 n row.path) (sym same) ∙ mate_joined row.path x.0 y.0 other at)
 
   -- what is seen of the wire is so
-  module _ (seen : Seen) (shown_up : (a : ℕ) → seen.up a wire.0 ≡ is_up ((network.edges a).told_down wire.0)) where
+  module _ (seen : Seen) (shown_up : (a : ℕ) → seen.up a wire.0 ≡ is_shown_up ((network.edges a).told_down wire.0)) where
     first_joined : (x y : EdgeId) (rest : List EdgeId) → joins x.0 y.0 (x ∷ y ∷ rest) ≡ true
     first_joined x y rest = rw (same_number x.0, same_number y.0) refl
 

@@ -13,7 +13,7 @@ use Rattle.edge_model.specs.Work.{Work}
 use Rattle.flight_laws.specs.Meeting.{closes}
 use Rattle.network_model.specs.declared.packet.Packet.{Packet}
 use Rattle.network_model.specs.State.{NetworkState, held, held_by, stands, with_edge}
-use Rattle.seen_network.specs.Seen.{Seen, SeenCopy, is_up, told}
+use Rattle.seen_network.specs.Seen.{Seen, SeenCopy, is_shown_up, told}
 use Rattle.seen_laws.specs.Work.{ended, up_after}
 
 abbrev pub copy_of : Packet → SeenCopy
@@ -27,7 +27,7 @@ pub record Shows (plan : Plan) (network : NetworkState) (seen : Seen) : Type 0 w
   pub standing : (a b : ℕ) → seen.stands a b ≡ stands network a b
   pub pipes : (a b : ℕ) → seen.pipes a b ≡ network.pipes a b
   pub rests : (a b : ℕ) → seen.rests a b ≡ held network a b
-  pub up : (a wire : ℕ) → seen.up a wire ≡ is_up ((network.edges a).told_down wire)
+  pub up : (a wire : ℕ) → seen.up a wire ≡ is_shown_up ((network.edges a).told_down wire)
   pub on : (circuit : CircuitId) (row : CircuitPlan) → circuit_row plan circuit ≡ Some row → seen.on circuit.0 ≡ (network.edges row.edge.0).circuit_on circuit.0
   pub under_way : seen.under_way ≡ map copy_of network.under_way
   pub counted : AreUpTo network.sent seen.under_way
@@ -56,8 +56,8 @@ pub record IsReady (plan : Plan) (network : NetworkState) (me : EdgeId) (work : 
   pub outward : (a b : ℕ) → nat_eq b me.0 ≡ false → seen.pipes a b ≡ network.pipes a b
   pub rest : (k : ℕ) → (if ended k work.effects then [] else seen.rests me.0 k) ≡ held_by (work.edge.peering k)
   pub rests : (a b : ℕ) → nat_eq a me.0 ≡ false → seen.rests a b ≡ held network a b
-  pub up : (wire : ℕ) → up_after wire work.effects (seen.up me.0 wire) ≡ is_up (work.edge.told_down wire)
-  pub ups : (a wire : ℕ) → nat_eq a me.0 ≡ false → seen.up a wire ≡ is_up ((network.edges a).told_down wire)
+  pub up : (wire : ℕ) → up_after wire work.effects (seen.up me.0 wire) ≡ is_shown_up (work.edge.told_down wire)
+  pub ups : (a wire : ℕ) → nat_eq a me.0 ≡ false → seen.up a wire ≡ is_shown_up ((network.edges a).told_down wire)
   pub on : (circuit : CircuitId) (row : CircuitPlan) → circuit_row plan circuit ≡ Some row → seen.on circuit.0 ≡ ((with_edge me work.edge network).edges row.edge.0).circuit_on circuit.0
   pub under_way : seen.under_way ≡ map copy_of network.under_way
   pub counted : AreUpTo network.sent seen.under_way

@@ -138,9 +138,9 @@ happened (event.Status edge wire bits) seen = seen
 happened (event.Priority edge wire priority) seen = seen
 happened (event.Ping edge wire) seen = seen
 
-abbrev pub is_up : Option Down → Bool
-is_up None = true
-is_up (Some why) = false
+abbrev pub is_shown_up : Option Down → Bool
+is_shown_up None = true
+is_shown_up (Some why) = false
 
 -- a session that has ended takes its end with it
 abbrev pub session_told : ℕ → ℕ → StateName → Seen → Seen
@@ -151,7 +151,7 @@ session_told edge peer name seen = seen
 abbrev pub told : Entry → Seen → Seen
 told (entry.Said from to octets) seen = said_towards from.0 to.0 octets seen
 told (entry.Session edge peer name) seen = session_told edge.0 peer.0 name seen
-told (entry.Wire edge wire down) seen = with_up edge.0 wire.0 (is_up down) seen
+told (entry.Wire edge wire down) seen = with_up edge.0 wire.0 (is_shown_up down) seen
 told (entry.Sent from to wire arrival packet origin hops octets) seen = copy_comes packet origin seen
 told (entry.Copied packet of) seen = repeats packet (origin_among of seen.under_way) seen
 told (entry.Aged packet) seen = copy_goes packet seen

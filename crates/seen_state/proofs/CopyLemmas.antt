@@ -11,7 +11,7 @@ use Rattle.net_base.specs.declared.trace.state_name.StateName.{StateName}
 use Rattle.net_base.specs.declared.trace.state_name.StateName.TheVariants as state
 use Rattle.seen_network.specs.Once.{has_seen, is_seen_copy, names_seen}
 use Rattle.seen_network.specs.Seen.{Seen, SeenCopy, copy_comes, copy_goes, origin_among, repeats, said_towards, session_told, with_copies, with_octets, with_rest, with_standing, with_up, without_copy}
-use Rattle.seen_state.specs.Copies.{is_number, AreFew, CopyMaps, HaveOwnNumbers, Tells, copies_of, count_in, origin_under}
+use Rattle.seen_state.specs.Copies.{is_number, AreFew, CopyMaps, HaveOwnNumbers, TellsPackets as Tells, copies_of, count_in, origin_under}
 
 same_number : (a x : ℕ) → is_at (nat_cmp a) x ≡ (x == a)
 same_number a x = grind (arith, nat_tests)

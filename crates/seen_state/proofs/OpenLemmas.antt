@@ -4,19 +4,19 @@ use Rattle.net_values.proofs.RowLemmas.{replicate_length, replicate_default}
 use Rattle.seen_network.specs.Seen.{nothing_seen}
 use Rattle.seen_state.specs.declared.sizes.Sizes.{Sizes}
 use Rattle.seen_state.specs.PeerEnd.{no_end}
-use Rattle.seen_state.specs.Sight.{EdgeSeen, IsWhole, Shows, no_edge, shown}
+use Rattle.seen_state.specs.Sight.{EdgeSeen, IsWhole, ShowsSight, unseen_edge, shown}
 
-ends_none : (n m w : ℕ) (i j : ℕ) → slice_index_or (slice_index_or (replicate n (record { ends = replicate m no_end; up = replicate w false })) i no_edge).ends j no_end ≡ no_end
+ends_none : (n m w : ℕ) (i j : ℕ) → slice_index_or (slice_index_or (replicate n (record { ends = replicate m no_end; up = replicate w false })) i unseen_edge).ends j no_end ≡ no_end
 ends_none zero m w i j = refl
 ends_none (suc n) m w zero j = replicate_default m no_end j
 ends_none (suc n) m w (suc i) j = ends_none n m w i j
 
-none_up : (n m w : ℕ) (i j : ℕ) → slice_index_or (slice_index_or (replicate n (record { ends = replicate m no_end; up = replicate w false })) i no_edge).up j false ≡ false
+none_up : (n m w : ℕ) (i j : ℕ) → slice_index_or (slice_index_or (replicate n (record { ends = replicate m no_end; up = replicate w false })) i unseen_edge).up j false ≡ false
 none_up zero m w i j = refl
 none_up (suc n) m w zero j = replicate_default w false j
 none_up (suc n) m w (suc i) j = none_up n m w i j
 
-row_at : (n : ℕ) (e : EdgeSeen) (k : ℕ) → k < n → slice_index_or (replicate n e) k no_edge ≡ e
+row_at : (n : ℕ) (e : EdgeSeen) (k : ℕ) → k < n → slice_index_or (replicate n e) k unseen_edge ≡ e
 row_at zero e k h = absurd (omega (arith, h))
 row_at (suc n) e zero h = refl
 row_at (suc n) e (suc k) h = row_at n e k (omega (arith, h))
@@ -31,7 +31,7 @@ opened_whole sizes = record {
 }
 
 pub opened_shows : (sizes : Sizes)
-    → Shows (record {
+    → ShowsSight (record {
       sizes = sizes;
       edges = replicate sizes.edges (record { ends = replicate sizes.edges no_end; up = replicate sizes.wires false });
       on = replicate sizes.circuits true;

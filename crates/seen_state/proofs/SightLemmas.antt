@@ -5,7 +5,7 @@ use Rattle.std.proofs.lemmas.List.{get_or_default}
 use Rattle.net_values.proofs.BoolLemmas.{and_turned}
 use Rattle.seen_network.specs.Seen.{Seen, SeenCopy, at, at_both, cut, delivers, end_goes, said_towards, repeats, with_copies, with_octets, with_on, with_rest, with_standing, with_up, without_copy, without_edge}
 use Rattle.seen_state.specs.PeerEnd.{EndSeen, no_end, taken}
-use Rattle.seen_state.specs.Sight.{EdgeSeen, IsWhole, Shows, SightLists, edge_seen, end_seen, no_edge, shown}
+use Rattle.seen_state.specs.Sight.{EdgeSeen, IsWhole, ShowsSight as Shows, SightLists, edge_seen, end_seen, unseen_edge as no_edge, shown}
 use Rattle.seen_state.proofs.RowLemmas.{set_at}
 
 -- with another end

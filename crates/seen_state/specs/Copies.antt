@@ -34,7 +34,7 @@ HaveOwnNumbers [] = Unit {0}
 HaveOwnNumbers (copy ∷ copies) = (origin_among copy.number copies ≡ None) × HaveOwnNumbers copies
 
 -- the maps tell of these packets
-pub record Tells (maps : CopyMaps) (copies : List SeenCopy) : Type 0 where
+pub record TellsPackets (maps : CopyMaps) (copies : List SeenCopy) : Type 0 where
   pub origins : (number : ℕ) → origin_under maps number ≡ origin_among number copies
   pub counts : (origin : ℕ) → count_in maps.counts origin ≡ copies_of origin copies
   pub own : HaveOwnNumbers copies

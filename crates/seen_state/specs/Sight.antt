@@ -16,11 +16,11 @@ pub record SightLists : Type 0 where
   pub edges : List EdgeSeen
   pub on : List Bool
 
-abbrev pub no_edge : EdgeSeen
-no_edge = record { ends = []; up = [] }
+abbrev pub unseen_edge : EdgeSeen
+unseen_edge = record { ends = []; up = [] }
 
 abbrev pub edge_seen : SightLists → ℕ → EdgeSeen
-edge_seen sight me = slice_index_or sight.edges me no_edge
+edge_seen sight me = slice_index_or sight.edges me unseen_edge
 
 abbrev pub end_seen : SightLists → ℕ → ℕ → EndSeen
 end_seen sight me peer = slice_index_or (edge_seen sight me).ends peer no_end
@@ -48,8 +48,8 @@ abbrev pub sizes_of : Plan → Sizes
 sizes_of plan = record { edges = length plan.edges; wires = length plan.wires; circuits = length plan.circuits }
 
 -- what is seen is what a trace shows
-abbrev pub Shows : SightLists → Seen → Type 0
-Shows sight seen = shown sight seen.under_way ≡ seen
+abbrev pub ShowsSight : SightLists → Seen → Type 0
+ShowsSight sight seen = shown sight seen.under_way ≡ seen
 
 -- a wire is up at an edge, where one is told
 abbrev pub up_at : Seen → ℕ → Option EdgeId → Bool

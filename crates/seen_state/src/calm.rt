@@ -7,7 +7,7 @@ ghost use Rattle.net_base.specs.plan.Roles.{all_below, is_core_edge, is_spoke_ed
 ghost use Rattle.seen_network.specs.Calm.{has_seen_spokes, is_seen_calm, is_seen_drained, is_seen_full, is_seen_quiet, is_seen_up};
 ghost use Rattle.seen_network.specs.Seen.{Seen};
 ghost use Rattle.seen_state.specs.Calm.{has_one_spoke, is_full_between, is_quiet_between};
-ghost use Rattle.seen_state.specs.Sight.{Shows, shown};
+ghost use Rattle.seen_state.specs.Sight.{ShowsSight, shown};
 
 use crate::sight::Sight;
 use hvpls_spokes::{Role, is_mesh_between, role, starts_spoke};
@@ -20,7 +20,7 @@ impl Sight {
     #[tactic(auto, using(crate::proofs::CalmLemmas::shown_calm))]
     pub fn is_calm(&self, plan: &Plan, service: ServiceId) -> bool
         requires { IsWithinLimits plan.now }
-        ensures { (seen : Seen) → Shows self.now seen → result ≡ is_seen_calm plan.now seen service }
+        ensures { (seen : Seen) → ShowsSight self.now seen → result ≡ is_seen_calm plan.now seen service }
     {
         self.is_calm_alone(plan, service)
     }

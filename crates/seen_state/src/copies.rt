@@ -2,7 +2,7 @@
 ghost use Rattle.std.specs.Prelude.{◌≡◌, ◌<◌, ◌≤◌, ◌+◌, ◌-◌, ◌++◌, ◌∷◌, ◌==◌, ◌^◌, ℕ, [], Some, IfOk, OnOk, List, if◌then◌else◌};
 ghost use Rattle.seen_network.specs.Once.{has_seen, names_seen};
 ghost use Rattle.seen_network.specs.Seen.{Seen, SeenCopy, copy_comes, happened, origin_among, repeats, told, without_copy};
-ghost use Rattle.seen_state.specs.Copies.{Tells, copies_of, count_in, origin_under};
+ghost use Rattle.seen_state.specs.Copies.{TellsPackets, copies_of, count_in, origin_under};
 
 use net_base::{Entry, Event, NoMemory};
 use std::alloc::Global;
@@ -32,7 +32,7 @@ impl Copies {
     /// No packet is under way.
     #[tactic(auto, using(crate::proofs::CopyLemmas::none_few, crate::proofs::CopyLemmas::none_told))]
     pub fn new(alloc: Global) -> Copies
-        ensures told { Tells result [] }
+        ensures told { TellsPackets result [] }
         ensures comings { result.comings ≡ 0 }
     {
         Copies {
@@ -71,7 +71,7 @@ impl Copies {
     pub fn go(&mut self, number: u64) -> Result<Option<u64>, NoMemory>
         ensures origin { IfOk result (λ origin. origin ≡ origin_under self.old number) }
         ensures comings { self.new.comings ≡ self.old.comings }
-        ensures told { OnOk result ((copies : List SeenCopy) → Tells self.old copies → Tells self.new (without_copy number copies)) }
+        ensures told { OnOk result ((copies : List SeenCopy) → TellsPackets self.old copies → TellsPackets self.new (without_copy number copies)) }
     {
         let Some(origin) = self.origins.remove(&number) else {
             return Ok(None);
@@ -103,7 +103,7 @@ impl Copies {
         requires { self.old.comings < 2 ^ 63 }
         ensures gone { IfOk result (λ gone. gone ≡ origin_under self.old number) }
         ensures comings { OnOk result (self.new.comings ≡ self.old.comings + 1) }
-        ensures told { OnOk result ((copies : List SeenCopy) → Tells self.old copies → Tells self.new (without_copy number copies ++ record { number = number; origin = origin } ∷ [])) }
+        ensures told { OnOk result ((copies : List SeenCopy) → TellsPackets self.old copies → TellsPackets self.new (without_copy number copies ++ record { number = number; origin = origin } ∷ [])) }
     {
         let gone = self.go(number)?;
         self.count_up(origin)?;
@@ -144,7 +144,7 @@ impl Copies {
     #[tactic(auto, unfolding(seen_network::specs::Seen::with_copies, seen_network::specs::Seen::with_octets, seen_network::specs::Seen::with_on, seen_network::specs::Seen::with_rest, seen_network::specs::Seen::with_standing, seen_network::specs::Seen::without_edge))]
     pub fn happen(&mut self, event: &Event) -> Result<(), NoMemory>
         ensures comings { self.new.comings ≡ self.old.comings }
-        ensures told { OnOk result ((seen : Seen) → Tells self.old seen.under_way → Tells self.new (happened event.now seen).under_way) }
+        ensures told { OnOk result ((seen : Seen) → TellsPackets self.old seen.under_way → TellsPackets self.new (happened event.now seen).under_way) }
     {
         match *event {
             Event::Arrive { packet } => self.leave(packet),
@@ -167,7 +167,7 @@ impl Copies {
     // A packet goes, where it is under way.
     fn leave(&mut self, number: u64) -> Result<(), NoMemory>
         ensures comings { self.new.comings ≡ self.old.comings }
-        ensures told { OnOk result ((copies : List SeenCopy) → Tells self.old copies → Tells self.new (without_copy number copies)) }
+        ensures told { OnOk result ((copies : List SeenCopy) → TellsPackets self.old copies → TellsPackets self.new (without_copy number copies)) }
     {
         match self.go(number) {
             Ok(_) => Ok(()),
@@ -179,7 +179,7 @@ impl Copies {
     pub fn tell(&mut self, entry: &Entry) -> Result<(), NoMemory>
         requires { self.old.comings < 2 ^ 63 }
         ensures comings { OnOk result (self.new.comings ≤ self.old.comings + 1) }
-        ensures told { OnOk result ((seen : Seen) → Tells self.old seen.under_way → Tells self.new (told entry.now seen).under_way) }
+        ensures told { OnOk result ((seen : Seen) → TellsPackets self.old seen.under_way → TellsPackets self.new (told entry.now seen).under_way) }
     {
         match *entry {
             Entry::Sent { packet, origin, .. } => self.enter(packet, origin),
@@ -202,7 +202,7 @@ impl Copies {
     fn enter(&mut self, number: u64, origin: u64) -> Result<(), NoMemory>
         requires { self.old.comings < 2 ^ 63 }
         ensures comings { OnOk result (self.new.comings ≤ self.old.comings + 1) }
-        ensures told { OnOk result ((seen : Seen) → Tells self.old seen.under_way → Tells self.new (copy_comes number origin seen).under_way) }
+        ensures told { OnOk result ((seen : Seen) → TellsPackets self.old seen.under_way → TellsPackets self.new (copy_comes number origin seen).under_way) }
     {
         match self.come(number, origin) {
             Ok(_) => Ok(()),
@@ -215,7 +215,7 @@ impl Copies {
     fn repeat(&mut self, number: u64, of: u64) -> Result<(), NoMemory>
         requires { self.old.comings < 2 ^ 63 }
         ensures comings { OnOk result (self.new.comings ≤ self.old.comings + 1) }
-        ensures told { OnOk result ((seen : Seen) → Tells self.old seen.under_way → Tells self.new (repeats number (origin_among of seen.under_way) seen).under_way) }
+        ensures told { OnOk result ((seen : Seen) → TellsPackets self.old seen.under_way → TellsPackets self.new (repeats number (origin_among of seen.under_way) seen).under_way) }
     {
         match self.origin(of) {
             Some(origin) => self.enter(number, origin),
@@ -226,14 +226,14 @@ impl Copies {
     /// Whether some copy of a frame is under way.
     #[tactic(auto, using(crate::proofs::CopyLemmas::seen_some))]
     pub fn has(&self, origin: u64) -> bool
-        ensures { (seen : Seen) → Tells self.now seen.under_way → result ≡ has_seen seen origin }
+        ensures { (seen : Seen) → TellsPackets self.now seen.under_way → result ≡ has_seen seen origin }
     {
         self.count(origin) != 0
     }
 
     /// Whether the packet with a number is under way, and carries a copy of a frame.
     pub fn names(&self, origin: u64, number: u64) -> bool
-        ensures { (seen : Seen) → Tells self.now seen.under_way → result ≡ names_seen seen origin number }
+        ensures { (seen : Seen) → TellsPackets self.now seen.under_way → result ≡ names_seen seen origin number }
     {
         match self.origin(number) {
             Some(other) => other == origin,

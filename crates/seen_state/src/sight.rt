@@ -3,7 +3,7 @@ ghost use Rattle.std.specs.Prelude.{◌≡◌, ◌<◌, [], false, true, option_
 ghost use Rattle.seen_network.specs.Seen.{Seen, delivers, end_goes, happened, nothing_seen, said_towards, session_told, told, with_on, with_standing, with_up, without_edge};
 ghost use Rattle.seen_state.specs.PeerEnd.{no_end};
 ghost use Rattle.seen_state.specs.Placed.{IsEventWithin, IsWithin};
-ghost use Rattle.seen_state.specs.Sight.{Shows, end_seen, shown, sizes_of, up_at};
+ghost use Rattle.seen_state.specs.Sight.{ShowsSight, end_seen, shown, sizes_of, up_at};
 
 use crate::peer_end::PeerEnd;
 use crate::seen_edge::SeenEdge;
@@ -37,7 +37,7 @@ impl Sight {
         requires from { from.0 < self.old.sizes.edges }
         requires to { to.0 < self.old.sizes.edges }
         ensures sizes { self.new.sizes ≡ self.old.sizes }
-        ensures shows { (seen : Seen) → Shows self.old seen → Shows self.new (with_standing to.0 from.0 true (with_standing from.0 to.0 true seen)) }
+        ensures shows { (seen : Seen) → ShowsSight self.old seen → ShowsSight self.new (with_standing to.0 from.0 true (with_standing from.0 to.0 true seen)) }
     {
         self.stand(from, to);
         self.stand(to, from);
@@ -48,7 +48,7 @@ impl Sight {
         requires edge { edge.0 < self.old.sizes.edges }
         requires peer { peer.0 < self.old.sizes.edges }
         ensures sizes { self.new.sizes ≡ self.old.sizes }
-        ensures shows { (seen : Seen) → Shows self.old seen → Shows self.new (with_standing edge.0 peer.0 true seen) }
+        ensures shows { (seen : Seen) → ShowsSight self.old seen → ShowsSight self.new (with_standing edge.0 peer.0 true seen) }
     {
         self.edges[edge.0 as usize].ends[peer.0 as usize].stand();
     }
@@ -58,7 +58,7 @@ impl Sight {
         requires edge { edge.0 < self.old.sizes.edges }
         requires peer { peer.0 < self.old.sizes.edges }
         ensures sizes { self.new.sizes ≡ self.old.sizes }
-        ensures shows { (seen : Seen) → Shows self.old seen → Shows self.new (end_goes edge.0 peer.0 seen) }
+        ensures shows { (seen : Seen) → ShowsSight self.old seen → ShowsSight self.new (end_goes edge.0 peer.0 seen) }
     {
         self.edges[edge.0 as usize].ends[peer.0 as usize].go();
     }
@@ -68,7 +68,7 @@ impl Sight {
         requires from { from.0 < self.old.sizes.edges }
         requires to { to.0 < self.old.sizes.edges }
         ensures sizes { self.new.sizes ≡ self.old.sizes }
-        ensures shows { OnOk result ((seen : Seen) → Shows self.old seen → Shows self.new (said_towards from.0 to.0 octets.now seen)) }
+        ensures shows { OnOk result ((seen : Seen) → ShowsSight self.old seen → ShowsSight self.new (said_towards from.0 to.0 octets.now seen)) }
     {
         self.edges[to.0 as usize].ends[from.0 as usize].say(octets)
     }
@@ -78,7 +78,7 @@ impl Sight {
         requires from { from.0 < self.old.sizes.edges }
         requires to { to.0 < self.old.sizes.edges }
         ensures sizes { self.new.sizes ≡ self.old.sizes }
-        ensures shows { (seen : Seen) → Shows self.old seen → Shows self.new (delivers from.0 to.0 count seen) }
+        ensures shows { (seen : Seen) → ShowsSight self.old seen → ShowsSight self.new (delivers from.0 to.0 count seen) }
     {
         self.edges[to.0 as usize].ends[from.0 as usize].take(count as usize);
     }
@@ -87,7 +87,7 @@ impl Sight {
     pub fn restart(&mut self, edge: EdgeId)
         requires edge { edge.0 < self.old.sizes.edges }
         ensures sizes { self.new.sizes ≡ self.old.sizes }
-        ensures shows { (seen : Seen) → Shows self.old seen → Shows self.new (without_edge edge.0 seen) }
+        ensures shows { (seen : Seen) → ShowsSight self.old seen → ShowsSight self.new (without_edge edge.0 seen) }
     {
         self.edges[edge.0 as usize].restart();
     }
@@ -97,7 +97,7 @@ impl Sight {
         requires edge { edge.0 < self.old.sizes.edges }
         requires wire { wire.0 < self.old.sizes.wires }
         ensures sizes { self.new.sizes ≡ self.old.sizes }
-        ensures shows { (seen : Seen) → Shows self.old seen → Shows self.new (with_up edge.0 wire.0 up seen) }
+        ensures shows { (seen : Seen) → ShowsSight self.old seen → ShowsSight self.new (with_up edge.0 wire.0 up seen) }
     {
         self.edges[edge.0 as usize].up[wire.0 as usize] = up;
     }
@@ -106,7 +106,7 @@ impl Sight {
     pub fn set_on(&mut self, circuit: CircuitId, on: bool)
         requires circuit { circuit.0 < self.old.sizes.circuits }
         ensures sizes { self.new.sizes ≡ self.old.sizes }
-        ensures shows { (seen : Seen) → Shows self.old seen → Shows self.new (with_on circuit.0 on seen) }
+        ensures shows { (seen : Seen) → ShowsSight self.old seen → ShowsSight self.new (with_on circuit.0 on seen) }
     {
         self.on[circuit.0 as usize] = on;
     }
@@ -116,7 +116,7 @@ impl Sight {
     pub fn happen(&mut self, event: &Event)
         requires { IsEventWithin self.old.sizes event.now }
         ensures sizes { self.new.sizes ≡ self.old.sizes }
-        ensures shows { (seen : Seen) → Shows self.old seen → Shows self.new (happened event.now seen) }
+        ensures shows { (seen : Seen) → ShowsSight self.old seen → ShowsSight self.new (happened event.now seen) }
     {
         match *event {
             Event::Connect { from, to } => self.connect(from, to),
@@ -141,7 +141,7 @@ impl Sight {
     pub fn tell(&mut self, entry: &Entry) -> Result<(), NoMemory>
         requires { IsWithin self.old.sizes entry.now }
         ensures sizes { self.new.sizes ≡ self.old.sizes }
-        ensures shows { OnOk result ((seen : Seen) → Shows self.old seen → Shows self.new (told entry.now seen)) }
+        ensures shows { OnOk result ((seen : Seen) → ShowsSight self.old seen → ShowsSight self.new (told entry.now seen)) }
     {
         match *entry {
             Entry::Said {
@@ -174,7 +174,7 @@ impl Sight {
         requires edge { edge.0 < self.old.sizes.edges }
         requires peer { peer.0 < self.old.sizes.edges }
         ensures sizes { self.new.sizes ≡ self.old.sizes }
-        ensures shows { (seen : Seen) → Shows self.old seen → Shows self.new (session_told edge.0 peer.0 state seen) }
+        ensures shows { (seen : Seen) → ShowsSight self.old seen → ShowsSight self.new (session_told edge.0 peer.0 state seen) }
     {
         match state {
             StateName::Ended(_) => self.end(edge, peer),
@@ -216,7 +216,7 @@ impl Sight {
     /// Whether a circuit is on.
     #[tactic(auto, unfolding(crate::specs::Sight::shown))]
     pub fn is_on(&self, circuit: CircuitId) -> bool
-        ensures { (seen : Seen) → Shows self.now seen → result ≡ seen.on circuit.0 }
+        ensures { (seen : Seen) → ShowsSight self.now seen → result ≡ seen.on circuit.0 }
     {
         match self.on.get(circuit.0 as usize) {
             Some(on) => *on,
@@ -228,7 +228,7 @@ impl Sight {
     #[tactic(auto, using(crate::proofs::OpenLemmas::opened))]
     pub fn new(alloc: Global, plan: &Plan) -> Result<Sight, NoMemory>
         ensures sizes { IfOk result (λ sight. sight.sizes ≡ sizes_of plan.now) }
-        ensures shows { IfOk result (λ sight. Shows sight nothing_seen) }
+        ensures shows { IfOk result (λ sight. ShowsSight sight nothing_seen) }
     {
         let sizes = Sizes {
             edges: plan.edges.len(),

@@ -16,7 +16,7 @@ use Rattle.seen_network.specs.Once.{SeenWindow, all_spared, has_seen, is_seen_fl
 use Rattle.seen_network.specs.Seen.{BeginsEvent, Seen, happened_or, is_idle_behind, nothing_seen, seen_from, seen_in}
 use Rattle.seen_network.proofs.ReadLemmas.{seen_on}
 use Rattle.seen_windows.specs.EventEntries.{HasNoEvent}
-use Rattle.seen_windows.specs.Past.{Among, AreOpen, AreOwed, Closes, Describes, GoesTo, HasOpened, HasPassed, IsLeft, IsOpen, IsOpened, IsOwed, Lists, Opens, OpensOne, WasOver, flooded_to}
+use Rattle.seen_windows.specs.Past.{AmongWindows, AreOpen, AreOwed, Closes, Describes, GoesTo, HasOpened, HasPassed, IsLeftOpen, IsOpen, IsOpened, IsOwed, Lists, Opens, OpensOne, WasOver, flooded_to}
 use Rattle.seen_windows.specs.declared.window.Window.{Window}
 use Rattle.seen_windows.proofs.EventLemmas.{CutBefore, CutBehind, IsLast, StandsBefore, begins_on, cut_at, ends_bare, entered_on, event_at, flooded_before, place_on, spared_none, spared_on, append_none}
 
@@ -56,7 +56,7 @@ more_told plan before circuit octets front back service origin window begins d =
 
 more_listed : (plan : Plan) (before : List Entry) (circuit : CircuitId) (octets : List ℕ) (front back : List Entry) (service : ServiceId) (origin : ℕ) (lasting lasting2 : List Window)
     → BeginsEvent back
-    → ((window : Window) → Among window lasting → Among window lasting2)
+    → ((window : Window) → AmongWindows window lasting → AmongWindows window lasting2)
     → Lists plan before circuit octets front service origin lasting → Lists plan before circuit octets (front ++ back) service origin lasting2
 more_listed plan before circuit octets front back service origin lasting lasting2 begins goes l =
     record { window = l.window; describes = more_told plan before circuit octets front back service origin l.window begins l.describes; listed = goes l.window l.listed }
@@ -133,7 +133,7 @@ module _ (plan : Plan) (done : List Entry) (event : Event) (rest : List Entry) (
   whole before circuit octets between is = ap (λ (xs : List Entry). xs ++ last) is ∙ append_assoc before (Did (Frame circuit octets) ∷ between) last
 
   -- a window that is left is spared so far
-  left_open : (window : Window) → IsLeft (seen_in done) (is_idle_behind rest) event lasting found window → IsOpen plan trace window
+  left_open : (window : Window) → IsLeftOpen (seen_in done) (is_idle_behind rest) event lasting found window → IsOpen plan trace window
   left_open window (inl was) = from (are_open.only window was.0) where
     from : IsOpen plan done window → IsOpen plan trace window
     from o = record {
@@ -166,13 +166,13 @@ module _ (plan : Plan) (done : List Entry) (event : Event) (rest : List Entry) (
     }
 
   -- the windows that are open are
-  open_only : (window : Window) → Among window lasting2 → IsOpen plan trace window
+  open_only : (window : Window) → AmongWindows window lasting2 → IsOpen plan trace window
   open_only window among = left_open window (passed.stayed window among)
 
   -- one that is left stays, or it is over
   stays_or_over : (before : List Entry) (circuit : CircuitId) (octets : List ℕ) (during : List Entry) (service : ServiceId) (origin : ℕ) (window : Window) → trace
       ≡ before ++ Did (Frame circuit octets) ∷ during
-      → Describes plan before circuit octets during service origin window → IsLeft (seen_in done) (is_idle_behind rest) event lasting found window
+      → Describes plan before circuit octets during service origin window → IsLeftOpen (seen_in done) (is_idle_behind rest) event lasting found window
       → Lists plan before circuit octets during service origin lasting2 ⊎ WasOver before circuit octets during origin
   stays_or_over before circuit octets during service origin window is d left = by (has_seen (seen_in trace) window.origin) refl where
     nil : during ≡ during ++ []
@@ -246,7 +246,7 @@ module _ (plan : Plan) (done : List Entry) (event : Event) (rest : List Entry) (
         (sym l.back) (λ h spared. open_here circuit octets service origin (sym l.same) h))
 
   -- those that are owed are
-  owed_only : (window : Window) → Among window owed2 → IsOwed plan trace window
+  owed_only : (window : Window) → AmongWindows window owed2 → IsOwed plan trace window
   owed_only window among = by (passed.closed window among) where
     nil : (xs : List Entry) → xs ≡ xs ++ []
     nil [] = refl
@@ -284,7 +284,7 @@ module _ (plan : Plan) (done : List Entry) (event : Event) (rest : List Entry) (
       describes = o.describes;
     }
 
-    by : Among window owed ⊎ Closes (seen_in done) (is_idle_behind rest) event lasting found (seen_in trace) plan trace window → IsOwed plan trace window
+    by : AmongWindows window owed ⊎ Closes (seen_in done) (is_idle_behind rest) event lasting found (seen_in trace) plan trace window → IsOwed plan trace window
     by (inl kept) = was (are_owed.only window kept)
     by (inr c) = now c (left_open window c.left)
 
@@ -292,7 +292,7 @@ module _ (plan : Plan) (done : List Entry) (event : Event) (rest : List Entry) (
   owes : (before : List Entry) (circuit : CircuitId) (octets : List ℕ) (during : List Entry) (service : ServiceId) (origin : ℕ) (window : Window) → trace
       ≡ before ++ Did (Frame circuit octets) ∷ during
       → SeenWindow plan before circuit octets during service origin → Describes plan before circuit octets during service origin window
-      → IsLeft (seen_in done) (is_idle_behind rest) event lasting found window
+      → IsLeftOpen (seen_in done) (is_idle_behind rest) event lasting found window
       → Lists plan before circuit octets during service origin owed2
   owes before circuit octets during service origin window is w d left = record {
     window = window;

@@ -7,7 +7,7 @@ use Rattle.net_base.specs.declared.plan.places.CircuitId.{CircuitId}
 use Rattle.net_base.specs.declared.plan.places.ServiceId.{ServiceId}
 use Rattle.net_base.specs.declared.trace.entry.Entry.{Entry}
 use Rattle.hvpls_spokes.specs.PortSet.{has}
-use Rattle.seen_network.specs.Once.{SeenServed, SeenWithin, is_row_of, is_seen_site, times_seen}
+use Rattle.seen_network.specs.Once.{SeenServed, SeenWithin, is_circuit_row_of, is_seen_site, times_seen}
 use Rattle.seen_network.specs.Seen.{seen_in}
 use Rattle.seen_windows.specs.Past.{AreOwed, Describes, IsOwed, Lists}
 use Rattle.seen_windows.specs.Verdict.{IsFirstOwed, IsOwing, IsServed, OnceAnswers, Unserved}
@@ -26,7 +26,7 @@ site_is : (plan : Plan) (before : List Entry) (circuit : CircuitId) (octets : Li
 site_is plan before circuit octets during service origin window d site = by (nat_lt site.0 (length plan.circuits)) refl where
   by : (b : Bool) → nat_lt site.0 (length plan.circuits) ≡ b → b && has window.sites site.0 ≡ is_seen_site plan (seen_in before) service site && not (site.0 == circuit.0)
   by true within = d.sites site (grind (arith, nat_tests, within))
-  by false past = sym (ap (λ (row : Option CircuitPlan). (is_row_of service row && (seen_in before).on site.0) && not (site.0 == circuit.0)) (no_row plan.circuits site.0 past))
+  by false past = sym (ap (λ (row : Option CircuitPlan). (is_circuit_row_of service row && (seen_in before).on site.0) && not (site.0 == circuit.0)) (no_row plan.circuits site.0 past))
 
 -- once at each site by the window is once at each site by the trace
 served : (plan : Plan) (trace before : List Entry) (circuit : CircuitId) (octets : List ℕ) (during : List Entry) (service : ServiceId) (origin : ℕ) (window : Window)

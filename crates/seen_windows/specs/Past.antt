@@ -78,26 +78,26 @@ pub record WasOver (before : List Entry) (circuit : CircuitId) (octets : List �
   pub over : has_seen (seen_in (before ++ Did (Frame circuit octets) ∷ first)) origin ≡ false
 
 -- the window is one of these
-abbrev pub Among : Window → List Window → Type 0
-Among window [] = ⊥
-Among window (w ∷ ws) = (window ≡ w) ⊎ Among window ws
+abbrev pub AmongWindows : Window → List Window → Type 0
+AmongWindows window [] = ⊥
+AmongWindows window (w ∷ ws) = (window ≡ w) ⊎ AmongWindows window ws
 
 -- some window of the list is that of the frame
 pub record Lists (plan : Plan) (before : List Entry) (circuit : CircuitId) (octets : List ℕ) (during : List Entry) (service : ServiceId) (origin : ℕ) (windows : List Window) : Type 0 where
   pub window : Window
   pub describes : Describes plan before circuit octets during service origin window
-  pub listed : Among window windows
+  pub listed : AmongWindows window windows
 
 -- the windows that are open: each that opened and was spared, but for those that were over once
 pub record AreOpen (plan : Plan) (trace : List Entry) (windows : List Window) : Type 0 where
-  pub only : (window : Window) → Among window windows → IsOpen plan trace window
+  pub only : (window : Window) → AmongWindows window windows → IsOpen plan trace window
   pub each : (before : List Entry) (circuit : CircuitId) (octets : List ℕ) (during : List Entry) (service : ServiceId) (origin : ℕ)
       → trace ≡ before ++ Did (Frame circuit octets) ∷ during → HasOpened plan before circuit octets during service origin → all_spared origin (seen_in before) during ≡ true
       → Lists plan before circuit octets during service origin windows ⊎ WasOver before circuit octets during origin
 
 -- the windows of frames that have to leave once at each site: each that the trace shows
 pub record AreOwed (plan : Plan) (trace : List Entry) (windows : List Window) : Type 0 where
-  pub only : (window : Window) → Among window windows → IsOwed plan trace window
+  pub only : (window : Window) → AmongWindows window windows → IsOwed plan trace window
   pub each : (before : List Entry) (circuit : CircuitId) (octets : List ℕ) (during after : List Entry) (service : ServiceId) (origin : ℕ)
       → trace ≡ before ++ Did (Frame circuit octets) ∷ (during ++ after) → BeginsEvent after → SeenWindow plan before circuit octets during service origin
       → Lists plan before circuit octets during service origin windows
@@ -131,24 +131,24 @@ flooded_to plan service None entries = true
 flooded_to plan service (Some address) entries = not (list_any (is_sourced_by plan service address.0) entries)
 
 -- the window is open yet when the event and its entries are over, but for the copies of its frame
-abbrev pub IsLeft : Seen → (idle : Bool) → Event → List Window → Option Window → Window → Type 0
-IsLeft seen idle event lasting found window = (Among window lasting × (spares_seen seen window.origin idle event ≡ true)) ⊎ (found ≡ Some window)
+abbrev pub IsLeftOpen : Seen → (idle : Bool) → Event → List Window → Option Window → Window → Type 0
+IsLeftOpen seen idle event lasting found window = (AmongWindows window lasting × (spares_seen seen window.origin idle event ≡ true)) ⊎ (found ≡ Some window)
 
 -- no copy is under way any more, and it was flooded
 pub record Closes (seen : Seen) (idle : Bool) (event : Event) (lasting : List Window) (found : Option Window) (now : Seen) (plan : Plan) (trace : List Entry) (window : Window) : Type 0 where
-  pub left : IsLeft seen idle event lasting found window
+  pub left : IsLeftOpen seen idle event lasting found window
   pub over : has_seen now window.origin ≡ false
   pub flooded : flooded_to plan window.service window.destination trace ≡ true
 
 -- the windows that are open behind an event, and those that it closed among those that are owed
 pub record HasPassed (plan : Plan) (before : List Entry) (event : Event) (during : List Entry) (found : Option Window) (lasting owed lasting2 owed2 : List Window) : Type 0 where
-  pub stays : (window : Window) → IsLeft (seen_in before) (is_idle_behind during) event lasting found window
-      → has_seen (seen_in (before ++ Did event ∷ during)) window.origin ≡ true → Among window lasting2
-  pub stayed : (window : Window) → Among window lasting2
-      → IsLeft (seen_in before) (is_idle_behind during) event lasting found window
-  pub kept : (window : Window) → Among window owed → Among window owed2
-  pub closes : (window : Window) → IsLeft (seen_in before) (is_idle_behind during) event lasting found window
+  pub stays : (window : Window) → IsLeftOpen (seen_in before) (is_idle_behind during) event lasting found window
+      → has_seen (seen_in (before ++ Did event ∷ during)) window.origin ≡ true → AmongWindows window lasting2
+  pub stayed : (window : Window) → AmongWindows window lasting2
+      → IsLeftOpen (seen_in before) (is_idle_behind during) event lasting found window
+  pub kept : (window : Window) → AmongWindows window owed → AmongWindows window owed2
+  pub closes : (window : Window) → IsLeftOpen (seen_in before) (is_idle_behind during) event lasting found window
       → has_seen (seen_in (before ++ Did event ∷ during)) window.origin ≡ false
-      → flooded_to plan window.service window.destination (before ++ Did event ∷ during) ≡ true → Among window owed2
-  pub closed : (window : Window) → Among window owed2
-      → Among window owed ⊎ Closes (seen_in before) (is_idle_behind during) event lasting found (seen_in (before ++ Did event ∷ during)) plan (before ++ Did event ∷ during) window
+      → flooded_to plan window.service window.destination (before ++ Did event ∷ during) ≡ true → AmongWindows window owed2
+  pub closed : (window : Window) → AmongWindows window owed2
+      → AmongWindows window owed ⊎ Closes (seen_in before) (is_idle_behind during) event lasting found (seen_in (before ++ Did event ∷ during)) plan (before ++ Did event ∷ during) window

@@ -10,7 +10,7 @@ use Rattle.seen_network.specs.Once.{OnceSeen, SeenServed, SeenWindow, SeenWithin
 use Rattle.seen_network.specs.Seen.{BeginsEvent, seen_in}
 use Rattle.hvpls_spokes.specs.PortSet.{has}
 use Rattle.seen_windows.specs.EventEntries.{entered_place}
-use Rattle.seen_windows.specs.Past.{Among}
+use Rattle.seen_windows.specs.Past.{AmongWindows}
 use Rattle.seen_windows.specs.declared.window.Window.{Window}
 
 -- a window whose frame did not leave once at each site and nowhere else; so many entries stand before the one by which it entered
@@ -48,11 +48,11 @@ pub record IsServed (plan : Plan) (trace : List Entry) (window : Window) : Type 
 -- the window of a frame that did not
 pub record IsOwing (plan : Plan) (trace : List Entry) (owed : List Window) (place : ℕ) : Type 0 where
   pub window : Window
-  pub owes : Among window owed
+  pub owes : AmongWindows window owed
   pub place_is : window.place ≡ place
   pub unserved : IsServed plan trace window → ⊥
 
 -- the first place of those that did not, where there is one
 abbrev pub IsFirstOwed : Plan → List Entry → List Window → Option ℕ → Type 0
-IsFirstOwed plan trace owed None = (window : Window) → Among window owed → IsServed plan trace window
-IsFirstOwed plan trace owed (Some place) = IsOwing plan trace owed place × ((window : Window) → Among window owed → (IsServed plan trace window → ⊥) → place ≤ window.place)
+IsFirstOwed plan trace owed None = (window : Window) → AmongWindows window owed → IsServed plan trace window
+IsFirstOwed plan trace owed (Some place) = IsOwing plan trace owed place × ((window : Window) → AmongWindows window owed → (IsServed plan trace window → ⊥) → place ≤ window.place)

@@ -14,7 +14,7 @@ use Rattle.session_core.specs.Laws.{tells_end, IsFarewell, OneNotice, NeverSilen
 use Rattle.session_core.proofs.AddressLemmas.{numbers_apart, one_larger}
 use Rattle.session_core.specs.Parameters.{longest, proposal, proposal_refusal, refusal_reason}
 use Rattle.session_core.specs.Phase.{Phase, is_agreed}
-use Rattle.session_core.specs.State.{SessionState, SessionView, Stands, EndedBy, IsProper, is_active, opened, number_of}
+use Rattle.session_core.specs.State.{SessionState, SessionView, Stands, EndedBy, IsProper, is_active, opened, address_number as number_of}
 use Rattle.session_core.specs.StatusCodes.{about}
 use Rattle.session_core.specs.Table.{SessionEvent, Start, Heard, Received, Refused, Spoke, Ticked, Closed, Ends, next_of, outcome_of, third, view_after, notified, judged, reason_in, data_refusing}
 

@@ -28,13 +28,13 @@ abbrev pub in_phase : Phase → Standing → SessionState
 in_phase state s = record { phase = state; peers = s.peers; hold = s.hold; max_pdu = s.max_pdu; wait = s.wait; silence = s.silence }
 
 -- an address as an unsigned number
-abbrev pub number_of : Addr → ℕ
-number_of address = big_number 4 address.0
+abbrev pub address_number : Addr → ℕ
+address_number address = big_number 4 address.0
 
 -- the end with the larger address is the active one: it opens the connection and speaks first (RFC 5036 sections 2.5.2 and
 -- 2.5.3)
 abbrev pub is_active : Peers → Bool
-is_active peers = nat_lt (number_of peers.peer) (number_of peers.me)
+is_active peers = nat_lt (address_number peers.peer) (address_number peers.me)
 
 -- The two ends are apart, and what this one proposes is in range: a KeepAlive Time of at least 3, and a Max PDU Length from
 -- 256 to 4096.

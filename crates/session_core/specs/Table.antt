@@ -100,8 +100,8 @@ abbrev pub is_keep_alive_due : SessionState → Bool
 is_keep_alive_due s = is_agreed s.phase && nat_le (third s.hold) s.silence
 
 -- a tick passed, and the session is as it is now
-abbrev pub ticked : SessionState → Outcome
-ticked s =
+abbrev pub ticked_session : SessionState → Outcome
+ticked_session s =
     if is_expired s then Ends reason.Expired (about_none keep_alive_timer_expired ∷ [])
     else Goes s (if is_keep_alive_due s then reply.KeepAlive ∷ [] else [])
 
@@ -117,7 +117,7 @@ table state (Received message) active s = Ends reason.Unexpected (about message 
 table state (Heard sender) active s = heard_sender sender s
 table state (Refused fault) active s = Ends reason.Decode (about_none (data_of fault) ∷ [])
 table state Spoke active s = Goes (record s { silence = 0 }) []
-table state Ticked active s = ticked (a_tick_later s)
+table state Ticked active s = ticked_session (a_tick_later s)
 table state (Closed why) active s = Ends why []
 table state Start active s = Stay
 

@@ -6,7 +6,7 @@ use Rattle.net_values.proofs.BoolLemmas.{true_clash}
 use Rattle.net_values.proofs.NumberLemmas.{apart_back, two_same, turned_away}
 use Rattle.pw_tlvs.specs.declared.pw_status.PwStatus.{PwStatus}
 use Rattle.status_exchange.specs.declared.wish.Wish.{Wish}
-use Rattle.status_exchange.specs.Exchange.{EdgeStatuses, Exchange, IsWiring, StatusWork, StatusMessage, Wiring, absorb, at, at_two, clears, is_connected}
+use Rattle.status_exchange.specs.Exchange.{EdgeStatuses, Exchange, IsWiring, StatusWork, StatusMessage, Wiring, absorb, at, at_two, clears, is_exchange_connected}
 use Rattle.status_exchange.specs.Laws.{of_wire}
 use Rattle.status_exchange.specs.Line.{IsLine, after}
 use Rattle.status_exchange.proofs.LineLemmas.{turned}
@@ -24,7 +24,7 @@ pub record PairOf (near far : Wish) (near_knows far_knows : Option PwStatus) (on
   pub both : one ≡ other
 
 abbrev pub IsPair : Exchange → ℕ → ℕ → ℕ → Type 0
-IsPair x a b k = PairOf ((x.edges a).local k) ((x.edges b).local k) ((x.edges a).remote k) ((x.edges b).remote k) (is_connected x a b) (is_connected x b a) (x.ways a b) (x.ways b a)
+IsPair x a b k = PairOf ((x.edges a).local k) ((x.edges b).local k) ((x.edges a).remote k) ((x.edges b).remote k) (is_exchange_connected x a b) (is_exchange_connected x b a) (x.ways a b) (x.ways b a)
     (x.heard a b) (x.heard b a) k
 
 -- what is on its way between two edges
@@ -34,7 +34,7 @@ pub record WayOf (one other : Bool) (out : List StatusMessage) (test : ℕ → B
   pub between : AllTold test out
 
 abbrev pub IsWay : Wiring → Exchange → ℕ → ℕ → Type 0
-IsWay w x a b = WayOf (is_connected x a b) (is_connected x b a) (x.ways a b) (λ k. w.joins k a b)
+IsWay w x a b = WayOf (is_exchange_connected x a b) (is_exchange_connected x b a) (x.ways a b) (λ k. w.joins k a b)
 
 pub record Holds (w : Wiring) (x : Exchange) : Type 0 where
   pub pairs : (a b k : ℕ) → w.joins k a b ≡ true → IsPair x a b k
@@ -59,7 +59,7 @@ is_two a b c d = (a == c && b == d) || (a == d && b == c)
 pub record Frame (w : Wiring) (me peer : ℕ) (x y : Exchange) : Type 0 where
   pub local : (e k : ℕ) → w.joins k me peer ≡ false → (y.edges e).local k ≡ (x.edges e).local k
   pub remote : (e k : ℕ) → w.joins k me peer ≡ false → (y.edges e).remote k ≡ (x.edges e).remote k
-  pub next : (a b : ℕ) → is_two a b me peer ≡ false → is_connected y a b ≡ is_connected x a b
+  pub next : (a b : ℕ) → is_two a b me peer ≡ false → is_exchange_connected y a b ≡ is_exchange_connected x a b
   pub ways : (a b : ℕ) → is_two a b me peer ≡ false → y.ways a b ≡ x.ways a b
   pub heard : (a b : ℕ) → is_two a b me peer ≡ false → y.heard a b ≡ x.heard a b
 
@@ -153,7 +153,7 @@ module _ (w : Wiring) (laws : IsWiring w) (me peer : ℕ) (x y : Exchange) (fram
       same_pair a b k is h = ⊎_elim
           (λ (e : (a ≡ me) × (b ≡ peer)). rw (e.0, e.1) (pair k is))
           (λ (e : (a ≡ peer) × (b ≡ me)). rw (e.0, e.1)
-          (pair_turned ((y.edges me).local k) ((y.edges peer).local k) ((y.edges me).remote k) ((y.edges peer).remote k) (is_connected y me peer) (is_connected y peer me)
+          (pair_turned ((y.edges me).local k) ((y.edges peer).local k) ((y.edges me).remote k) ((y.edges peer).remote k) (is_exchange_connected y me peer) (is_exchange_connected y peer me)
           (y.ways me peer) (y.ways peer me) (y.heard me peer) (y.heard peer me) k (pair k is)))
           h
 
@@ -234,7 +234,7 @@ absorb_frame w me peer t x minds = record {
 
 -- an edge's work has gone in: what is kept of it and its peer
 pub absorb_pair : (me peer k : ℕ) (t : StatusWork) (x : Exchange) → (me == peer) ≡ false
-    → PairOf (t.edge.local k) ((x.edges peer).local k) (t.edge.remote k) ((x.edges peer).remote k) (is_some (t.edge.next peer)) (is_connected x peer me) (x.ways me peer ++ t.out)
+    → PairOf (t.edge.local k) ((x.edges peer).local k) (t.edge.remote k) ((x.edges peer).remote k) (is_some (t.edge.next peer)) (is_exchange_connected x peer me) (x.ways me peer ++ t.out)
     (x.ways peer me) (x.heard me peer) (x.heard peer me) k
     → IsPair (absorb me peer t x) me peer k
 absorb_pair me peer k t x apart p =
@@ -246,11 +246,11 @@ absorb_pair me peer k t x apart p =
     ) p
 
 pub absorb_way : (w : Wiring) (me peer : ℕ) (t : StatusWork) (x : Exchange) → (me == peer) ≡ false
-    → WayOf (is_some (t.edge.next peer)) (is_connected x peer me) (x.ways me peer ++ t.out) (λ k. w.joins k me peer) → IsWay w (absorb me peer t x) me peer
+    → WayOf (is_some (t.edge.next peer)) (is_exchange_connected x peer me) (x.ways me peer ++ t.out) (λ k. w.joins k me peer) → IsWay w (absorb me peer t x) me peer
 absorb_way w me peer t x apart p = rw (at_same me t.edge x.edges, at_other me peer t.edge x.edges (apart_back me peer apart), two_at me peer (x.ways me peer ++ t.out) x.ways) p
 
 pub absorb_back : (w : Wiring) (me peer : ℕ) (t : StatusWork) (x : Exchange) → (me == peer) ≡ false
-    → WayOf (is_connected x peer me) (is_some (t.edge.next peer)) (x.ways peer me) (λ k. w.joins k peer me) → IsWay w (absorb me peer t x) peer me
+    → WayOf (is_exchange_connected x peer me) (is_some (t.edge.next peer)) (x.ways peer me) (λ k. w.joins k peer me) → IsWay w (absorb me peer t x) peer me
 absorb_back w me peer t x apart p = rw (
   at_same me t.edge x.edges,
   at_other me peer t.edge x.edges (apart_back me peer apart),

@@ -6,8 +6,8 @@ use Rattle.net_values.proofs.NumberLemmas.{equal_turned, apart_back, turned_away
 use Rattle.pw_tlvs.specs.declared.pw_status.PwStatus.{PwStatus}
 use Rattle.status_exchange.specs.declared.wish.Wish.{Wish}
 use Rattle.status_exchange.specs.declared.wish.Wish.TheVariants.{Active, Standby, Ask}
-use Rattle.status_exchange.specs.Exchange.{Applies, Apply, EdgeStatuses, Exchange, IsWiring, Step, StatusWork, StatusMessage, Wiring, absorb, at, at_two, clears, connects, first, hears, heard_first, is_connected, learns, loses, run, sets, silent, step, Connects, Loses, Hears, Sets}
-use Rattle.status_exchange.specs.Laws.{Agree, ExchangesAgree, IsAgreed, IsEnd, is_known_active, of_wire}
+use Rattle.status_exchange.specs.Exchange.{Applies, Apply, EdgeStatuses, Exchange, IsWiring, Step, StatusWork, StatusMessage, Wiring, absorb, at, at_two, clears, exchange_connects, first, exchange_hears, heard_first, is_exchange_connected, exchange_learns, exchange_loses, run, exchange_sets, silent, step, Connects, Loses, Hears, Sets}
+use Rattle.status_exchange.specs.Laws.{Agree, ExchangesAgree, IsExchangeAgreed, IsEnd, is_known_active, of_wire}
 use Rattle.status_exchange.specs.Line.{IsLine, answer}
 use Rattle.status_exchange.specs.Wish.{becomes, is_active, is_ask, status_of}
 use Rattle.status_exchange.proofs.LineLemmas as line
@@ -49,7 +49,7 @@ module _ (w : Wiring) (laws : IsWiring w) where
     called = record (x.edges me) { local = at j wish (x.edges me).local }
 
     abbrev statuses : StatusWork
-    statuses = sets peer j wish (x.edges me)
+    statuses = exchange_sets peer j wish (x.edges me)
 
     stay : Stays peer called statuses.edge
     stay = tells_stay peer j (silent called)
@@ -66,16 +66,16 @@ module _ (w : Wiring) (laws : IsWiring w) where
 
     -- the other wires between the two
     set_other : (k : ℕ) → w.joins k me peer ≡ true → (k == j) ≡ false
-        → PairOf (statuses.edge.local k) ((x.edges peer).local k) (statuses.edge.remote k) ((x.edges peer).remote k) (is_some (statuses.edge.next peer)) (is_connected x peer me)
+        → PairOf (statuses.edge.local k) ((x.edges peer).local k) (statuses.edge.remote k) ((x.edges peer).remote k) (is_some (statuses.edge.next peer)) (is_exchange_connected x peer me)
         (x.ways me peer ++ statuses.out) (x.ways peer me) (x.heard me peer) (x.heard peer me) k
     set_other k joined away = rw (stay.local k, at_other j k wish (x.edges me).local away, stay.remote k, stay.there)
-        (more_told ((x.edges me).local k) ((x.edges peer).local k) ((x.edges me).remote k) ((x.edges peer).remote k) (is_connected x me peer) (is_connected x peer me) (x.ways me peer)
+        (more_told ((x.edges me).local k) ((x.edges peer).local k) ((x.edges me).remote k) ((x.edges peer).remote k) (is_exchange_connected x me peer) (is_exchange_connected x peer me) (x.ways me peer)
         (x.ways peer me) (x.heard me peer) (x.heard peer me) statuses.out k
         (tells_other peer j k (silent called) (equal_turned j k ∙ away)) (old.pairs me peer k joined))
 
     -- the wire itself
     set_this : (k : ℕ) → w.joins k me peer ≡ true → (k == j) ≡ true
-        → PairOf (statuses.edge.local k) ((x.edges peer).local k) (statuses.edge.remote k) ((x.edges peer).remote k) (is_some (statuses.edge.next peer)) (is_connected x peer me)
+        → PairOf (statuses.edge.local k) ((x.edges peer).local k) (statuses.edge.remote k) ((x.edges peer).remote k) (is_some (statuses.edge.next peer)) (is_exchange_connected x peer me)
         (x.ways me peer ++ statuses.out) (x.ways peer me) (x.heard me peer) (x.heard peer me) k
     set_this k joined same =
         let now : at j wish (x.edges me).local k ≡ wish = rw same refl in
@@ -92,10 +92,10 @@ module _ (w : Wiring) (laws : IsWiring w) where
           both = p.both;
         })
 
-    set_none : is_connected x me peer ≡ false → x.ways me peer ++ statuses.out ≡ []
+    set_none : is_exchange_connected x me peer ≡ false → x.ways me peer ++ statuses.out ≡ []
     set_none gone = rw ((old.ways me peer).none gone, tells_none peer j (silent called) gone) refl
 
-    set_way : WayOf (is_some (statuses.edge.next peer)) (is_connected x peer me) (x.ways me peer ++ statuses.out) (λ k. w.joins k me peer)
+    set_way : WayOf (is_some (statuses.edge.next peer)) (is_exchange_connected x peer me) (x.ways me peer ++ statuses.out) (λ k. w.joins k me peer)
     set_way = rw stay.there (record {
       both = (old.ways me peer).both;
       none = set_none;
@@ -118,7 +118,7 @@ module _ (w : Wiring) (laws : IsWiring w) where
     taken = record x { ways = at_two from to ts x.ways; heard = at_two from to (x.heard from to ++ t ∷ []) x.heard }
 
     abbrev answering : StatusWork
-    answering = hears from t.wire (status_of t.wish) (x.edges to)
+    answering = exchange_hears from t.wire (status_of t.wish) (x.edges to)
 
     joined_first : w.joins t.wire from to ≡ true
     joined_first = (subst (AllTold (λ (k : ℕ). w.joins k from to)) way (old.ways from to).between).0
@@ -135,17 +135,17 @@ module _ (w : Wiring) (laws : IsWiring w) where
     to_apart : (to == from) ≡ false
     to_apart = laws.apart t.wire to from joined_here
 
-    connected : is_connected x from to ≡ true
-    connected = by (is_connected x from to) refl
+    connected : is_exchange_connected x from to ≡ true
+    connected = by (is_exchange_connected x from to) refl
       where
         no : t ∷ ts ≡ [] → ⊥
         no e = cc (e)
 
-        by : (b : Bool) → is_connected x from to ≡ b → is_connected x from to ≡ true
+        by : (b : Bool) → is_exchange_connected x from to ≡ b → is_exchange_connected x from to ≡ true
         by true is = is
         by false is = absurd (no (sym way ∙ (old.ways from to).none is))
 
-    here : is_connected x to from ≡ true
+    here : is_exchange_connected x to from ≡ true
     here = (old.ways to from).both ∙ connected
 
     take_frame : Frame w from to x taken
@@ -157,7 +157,7 @@ module _ (w : Wiring) (laws : IsWiring w) where
       heard = λ a b away. two_away from to a b (x.heard from to ++ t ∷ []) x.heard (grind (arith, away));
     }
 
-    heard_stay : Stays from (learns t.wire (status_of t.wish) (x.edges to)) answering.edge
+    heard_stay : Stays from (exchange_learns t.wire (status_of t.wish) (x.edges to)) answering.edge
     heard_stay = hears_stay from t.wire (status_of t.wish) (x.edges to)
 
     heard_minds : Minds w to from (x.edges to) answering.edge
@@ -172,7 +172,7 @@ module _ (w : Wiring) (laws : IsWiring w) where
 
     abbrev HeardPair : ℕ → Type 0
     HeardPair k = PairOf (answering.edge.local k) ((x.edges from).local k) (answering.edge.remote k) ((x.edges from).remote k) (is_some (answering.edge.next from))
-        (is_connected x from to) (x.ways to from ++ answering.out) ts (x.heard to from) (x.heard from to ++ t ∷ []) k
+        (is_exchange_connected x from to) (x.ways to from ++ answering.out) ts (x.heard to from) (x.heard from to ++ t ∷ []) k
 
     heard_this : (k : ℕ) → w.joins k to from ≡ true → (k == t.wire) ≡ true → HeardPair k
     heard_this k joined same =
@@ -222,7 +222,7 @@ module _ (w : Wiring) (laws : IsWiring w) where
           | inr away ↦ heard_other k joined away
         ]))
 
-    heard_way : WayOf (is_some (answering.edge.next from)) (is_connected taken from to) (taken.ways to from ++ answering.out) (λ k. w.joins k to from)
+    heard_way : WayOf (is_some (answering.edge.next from)) (is_exchange_connected taken from to) (taken.ways to from ++ answering.out) (λ k. w.joins k to from)
     heard_way = rw (heard_stay.there, two_away from to to from ts x.ways (turned_away from to from_apart)) (record {
       both = (old.ways to from).both;
       none = λ gone. true_clash (sym here ∙ gone);
@@ -230,7 +230,7 @@ module _ (w : Wiring) (laws : IsWiring w) where
           (hears_between (λ (k : ℕ). w.joins k to from) from t.wire (status_of t.wish) (x.edges to) joined_here);
     })
 
-    heard_back : WayOf (is_connected taken from to) (is_some (answering.edge.next from)) (taken.ways from to) (λ k. w.joins k from to)
+    heard_back : WayOf (is_exchange_connected taken from to) (is_some (answering.edge.next from)) (taken.ways from to) (λ k. w.joins k from to)
     heard_back = rw (heard_stay.there, two_at from to ts x.ways) (record { both = (old.ways from to).both; none = λ gone. true_clash (sym connected ∙ gone); between = rest_between })
 
     hears_hold : Holds w (absorb to from answering taken)
@@ -241,12 +241,12 @@ module _ (w : Wiring) (laws : IsWiring w) where
 
   module _ (a b : ℕ) (x : Exchange) (apart : (a == b) ≡ false) (old : Holds w x) where
     abbrev one_lost : Exchange
-    one_lost = record x { edges = at a (loses w a b (x.edges a)) x.edges }
+    one_lost = record x { edges = at a (exchange_loses w a b (x.edges a)) x.edges }
 
     abbrev both_lost : Exchange
-    both_lost = record x { edges = at b (loses w b a (x.edges b)) (at a (loses w a b (x.edges a)) x.edges) }
+    both_lost = record x { edges = at b (exchange_loses w b a (x.edges b)) (at a (exchange_loses w a b (x.edges a)) x.edges) }
 
-    loses_minds : (me peer : ℕ) → Minds w me peer (x.edges me) (loses w me peer (x.edges me))
+    loses_minds : (me peer : ℕ) → Minds w me peer (x.edges me) (exchange_loses w me peer (x.edges me))
     loses_minds me peer = record {
       local = λ k away. refl;
       remote = λ k away. rw away refl;
@@ -254,19 +254,19 @@ module _ (w : Wiring) (laws : IsWiring w) where
     }
 
     b_is : one_lost.edges b ≡ x.edges b
-    b_is = at_other a b (loses w a b (x.edges a)) x.edges (apart_back a b apart)
+    b_is = at_other a b (exchange_loses w a b (x.edges a)) x.edges (apart_back a b apart)
 
     lost_frame : Frame w a b x (clears a b both_lost)
     lost_frame = frame_both w a b x both_lost (clears a b both_lost)
-        (frame_both w a b x one_lost both_lost (edge_frame w a b (loses w a b (x.edges a)) x (loses_minds a b))
-        (frame_turned w laws b a one_lost both_lost (edge_frame w b a (loses w b a (x.edges b)) one_lost (rw b_is (loses_minds b a)))))
+        (frame_both w a b x one_lost both_lost (edge_frame w a b (exchange_loses w a b (x.edges a)) x (loses_minds a b))
+        (frame_turned w laws b a one_lost both_lost (edge_frame w b a (exchange_loses w b a (x.edges b)) one_lost (rw b_is (loses_minds b a)))))
         (clears_frame w a b both_lost)
 
-    lost_a : both_lost.edges a ≡ loses w a b (x.edges a)
-    lost_a = at_other b a (loses w b a (x.edges b)) (at a (loses w a b (x.edges a)) x.edges) apart ∙ at_same a (loses w a b (x.edges a)) x.edges
+    lost_a : both_lost.edges a ≡ exchange_loses w a b (x.edges a)
+    lost_a = at_other b a (exchange_loses w b a (x.edges b)) (at a (exchange_loses w a b (x.edges a)) x.edges) apart ∙ at_same a (exchange_loses w a b (x.edges a)) x.edges
 
-    lost_b : both_lost.edges b ≡ loses w b a (x.edges b)
-    lost_b = at_same b (loses w b a (x.edges b)) (at a (loses w a b (x.edges a)) x.edges)
+    lost_b : both_lost.edges b ≡ exchange_loses w b a (x.edges b)
+    lost_b = at_same b (exchange_loses w b a (x.edges b)) (at a (exchange_loses w a b (x.edges a)) x.edges)
 
     cleared_out : (f : ℕ → ℕ → List StatusMessage) → at_two a b [] (at_two b a [] f) a b ≡ []
     cleared_out f = two_at a b [] (at_two b a [] f)
@@ -274,7 +274,7 @@ module _ (w : Wiring) (laws : IsWiring w) where
     cleared_back : (f : ℕ → ℕ → List StatusMessage) → at_two a b [] (at_two b a [] f) b a ≡ []
     cleared_back f = two_away a b b a [] (at_two b a [] f) (turned_away a b apart) ∙ two_at b a [] f
 
-    none_next : (me peer : ℕ) → (loses w me peer (x.edges me)).next peer ≡ None
+    none_next : (me peer : ℕ) → (exchange_loses w me peer (x.edges me)).next peer ≡ None
     none_next me peer = at_same peer None (x.edges me).next
 
     lost_pair : (k : ℕ) → w.joins k a b ≡ true → IsPair (clears a b both_lost) a b k
@@ -289,10 +289,10 @@ module _ (w : Wiring) (laws : IsWiring w) where
     -- ---- a connection stands
 
     abbrev one_status : StatusWork
-    one_status = connects w a b (x.edges a)
+    one_status = exchange_connects w a b (x.edges a)
 
     abbrev other_status : StatusWork
-    other_status = connects w b a (x.edges b)
+    other_status = exchange_connects w b a (x.edges b)
 
     abbrev opened : ℕ → ℕ → EdgeStatuses
     opened me peer = record (x.edges me) { next = at peer (Some 1) (x.edges me).next }
@@ -303,20 +303,20 @@ module _ (w : Wiring) (laws : IsWiring w) where
     abbrev both_up : Exchange
     both_up = absorb b a other_status one_up
 
-    up_stay : (me peer : ℕ) → Stays peer (opened me peer) (connects w me peer (x.edges me)).edge
+    up_stay : (me peer : ℕ) → Stays peer (opened me peer) (exchange_connects w me peer (x.edges me)).edge
     up_stay me peer = all_stay w me peer 0 w.count (silent (opened me peer))
 
-    up_there : (me peer : ℕ) → is_some ((connects w me peer (x.edges me)).edge.next peer) ≡ true
+    up_there : (me peer : ℕ) → is_some ((exchange_connects w me peer (x.edges me)).edge.next peer) ≡ true
     up_there me peer = (up_stay me peer).there ∙ ap is_some (at_same peer (Some 1) (x.edges me).next)
 
-    up_minds : (me peer : ℕ) → Minds w me peer (x.edges me) (connects w me peer (x.edges me)).edge
+    up_minds : (me peer : ℕ) → Minds w me peer (x.edges me) (exchange_connects w me peer (x.edges me)).edge
     up_minds me peer = record {
       local = λ k away. (up_stay me peer).local k;
       remote = λ k away. (up_stay me peer).remote k;
       others = λ p away. (up_stay me peer).others p away ∙ at_other peer p (Some 1) (x.edges me).next away;
     }
 
-    up_told : (me peer k : ℕ) → w.joins k me peer ≡ true → of_wire k (connects w me peer (x.edges me)).out ≡ (x.edges me).local k ∷ []
+    up_told : (me peer k : ℕ) → w.joins k me peer ≡ true → of_wire k (exchange_connects w me peer (x.edges me)).out ≡ (x.edges me).local k ∷ []
     up_told me peer k joined = all_told w me peer 0 w.count k (silent (opened me peer)) (ap is_some (at_same peer (Some 1) (x.edges me).next)) joined (omega arith)
         (omega (arith, laws.within k me peer joined))
 
@@ -340,7 +340,7 @@ module _ (w : Wiring) (laws : IsWiring w) where
     other_way : one_up.ways b a ≡ []
     other_way = two_away a b b a ((clears a b x).ways a b ++ one_status.out) (clears a b x).ways (turned_away a b apart) ∙ cleared_back x.ways
 
-    module _ (gone : is_connected x a b ≡ false) where
+    module _ (gone : is_exchange_connected x a b ≡ false) where
       up_pair : (k : ℕ) → w.joins k b a ≡ true → IsPair both_up b a k
       up_pair k joined =
           let front : w.joins k a b ≡ true = laws.turned k b a joined in
@@ -368,10 +368,10 @@ module _ (w : Wiring) (laws : IsWiring w) where
             both = refl;
           }))
 
-      up_back : WayOf (is_some (other_status.edge.next a)) (is_connected one_up a b) (one_up.ways b a ++ other_status.out) (λ k. w.joins k b a)
+      up_back : WayOf (is_some (other_status.edge.next a)) (is_exchange_connected one_up a b) (one_up.ways b a ++ other_status.out) (λ k. w.joins k b a)
       up_back = rw (a_up, other_way, up_there a b, up_there b a) (record { both = refl; none = λ is. true_clash is; between = all_between w b a 0 w.count (silent (opened b a)) tt })
 
-      up_way : WayOf (is_connected one_up a b) (is_some (other_status.edge.next a)) (one_up.ways a b) (λ k. w.joins k a b)
+      up_way : WayOf (is_exchange_connected one_up a b) (is_some (other_status.edge.next a)) (one_up.ways a b) (λ k. w.joins k a b)
       up_way = rw (a_up, one_way, up_there a b, up_there b a) (record { both = refl; none = λ is. true_clash is; between = all_between w a b 0 w.count (silent (opened a b)) tt })
 
       connects_hold : Holds w both_up
@@ -418,7 +418,7 @@ agree w x a b k holds joined back = record {
   ends = λ there. (end_of a b p there, end_of b a q (sym p.both ∙ there));
   quiet = λ there out_none back_none. quiet there out_none back_none;
   used = λ is.
-      let them = first_of (is_connected x a b) (is_active ((x.edges a).local k)) (is_known_active ((x.edges a).remote k)) is in
+      let them = first_of (is_exchange_connected x a b) (is_active ((x.edges a).local k)) (is_known_active ((x.edges a).remote k)) is in
       (them.0, ap is_known_active (sym p.near_last) ∙ them.1);
   gone = λ none. ((holds.ways a b).none none, (p.gone none).0);
 }
@@ -429,10 +429,10 @@ agree w x a b k holds joined back = record {
     q : IsPair x b a k
     q = holds.pairs b a k back
 
-    end_of : (me peer : ℕ) → IsPair x me peer k → is_connected x me peer ≡ true → IsEnd x me peer k
+    end_of : (me peer : ℕ) → IsPair x me peer k → is_exchange_connected x me peer ≡ true → IsEnd x me peer k
     end_of me peer r there = record { after_way = (r.line there).heard; asked = (r.line there).near_asks; knows = r.near_last }
 
-    quiet : is_connected x a b ≡ true → x.ways a b ≡ [] → x.ways b a ≡ [] → IsAgreed x a b k
+    quiet : is_exchange_connected x a b ≡ true → x.ways a b ≡ [] → x.ways b a ≡ [] → IsExchangeAgreed x a b k
     quiet there out_none back_none =
         let l = subst (λ (ts : List StatusMessage). IsLine ((x.edges a).local k) ((x.edges b).local k) ((x.edges a).remote k) ((x.edges b).remote k) [] (of_wire k ts)) back_none
         (subst (λ (ts : List StatusMessage). IsLine ((x.edges a).local k) ((x.edges b).local k) ((x.edges a).remote k) ((x.edges b).remote k) (of_wire k ts)

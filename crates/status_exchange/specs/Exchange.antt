@@ -4,7 +4,7 @@ use Rattle.std.specs.Prelude.{◌≡◌, ◌<◌, ◌+◌, ◌==◌, ◌&&◌, �
 use Rattle.pw_tlvs.specs.declared.pw_status.PwStatus.{PwStatus}
 use Rattle.pw_messages.specs.Sender.{following}
 use Rattle.status_exchange.specs.declared.wish.Wish.{Wish}
-use Rattle.status_exchange.specs.Wish.{becomes, is_told, status_of}
+use Rattle.status_exchange.specs.Wish.{becomes, is_status_told, status_of}
 
 -- which edges a wire has, in either order; the wires are the numbers below `count`
 pub record Wiring : Type 0 where
@@ -60,39 +60,39 @@ tells_as peer wire (Some id) t = record {
   out = t.out ++ record { wire = wire; wish = t.edge.local wire; id = id } ∷ [];
 }
 
-abbrev pub tells : ℕ → ℕ → StatusWork → StatusWork
-tells peer wire t = tells_as peer wire (t.edge.next peer) t
+abbrev pub exchange_tells : ℕ → ℕ → StatusWork → StatusWork
+exchange_tells peer wire t = tells_as peer wire (t.edge.next peer) t
 
 -- so many wires from this one on, those with the peer
-abbrev pub tells_from : Wiring → ℕ → ℕ → ℕ → ℕ → StatusWork → StatusWork
-tells_from w me peer wire zero t = t
-tells_from w me peer wire (suc n) t = tells_from w me peer (wire + 1) n (if w.joins wire me peer then tells peer wire t else t)
+abbrev pub exchange_tells_from : Wiring → ℕ → ℕ → ℕ → ℕ → StatusWork → StatusWork
+exchange_tells_from w me peer wire zero t = t
+exchange_tells_from w me peer wire (suc n) t = exchange_tells_from w me peer (wire + 1) n (if w.joins wire me peer then exchange_tells peer wire t else t)
 
 -- a connection stands: all wires with the peer are told
-abbrev pub connects : Wiring → ℕ → ℕ → EdgeStatuses → StatusWork
-connects w me peer edge = tells_from w me peer 0 w.count (silent (record edge { next = at peer (Some 1) edge.next }))
+abbrev pub exchange_connects : Wiring → ℕ → ℕ → EdgeStatuses → StatusWork
+exchange_connects w me peer edge = exchange_tells_from w me peer 0 w.count (silent (record edge { next = at peer (Some 1) edge.next }))
 
 -- a connection is lost, and what was known by it
-abbrev pub loses : Wiring → ℕ → ℕ → EdgeStatuses → EdgeStatuses
-loses w me peer edge = record edge {
+abbrev pub exchange_loses : Wiring → ℕ → ℕ → EdgeStatuses → EdgeStatuses
+exchange_loses w me peer edge = record edge {
   remote = λ wire. if w.joins wire me peer then None else edge.remote wire;
   next = at peer None edge.next;
 }
 
 -- a status of a wire with the peer is heard
-abbrev pub learns : ℕ → PwStatus → EdgeStatuses → EdgeStatuses
-learns wire status edge = record edge {
+abbrev pub exchange_learns : ℕ → PwStatus → EdgeStatuses → EdgeStatuses
+exchange_learns wire status edge = record edge {
   local = at wire (becomes status (edge.local wire)) edge.local;
   remote = at wire (Some status) edge.remote;
 }
 
-abbrev pub hears : ℕ → ℕ → PwStatus → EdgeStatuses → StatusWork
-hears peer wire status edge =
-    if is_told status (edge.local wire) then tells peer wire (silent (learns wire status edge)) else silent (learns wire status edge)
+abbrev pub exchange_hears : ℕ → ℕ → PwStatus → EdgeStatuses → StatusWork
+exchange_hears peer wire status edge =
+    if is_status_told status (edge.local wire) then exchange_tells peer wire (silent (exchange_learns wire status edge)) else silent (exchange_learns wire status edge)
 
 -- an end calls its wire something else
-abbrev pub sets : ℕ → ℕ → Wish → EdgeStatuses → StatusWork
-sets peer wire wish edge = tells peer wire (silent (record edge { local = at wire wish edge.local }))
+abbrev pub exchange_sets : ℕ → ℕ → Wish → EdgeStatuses → StatusWork
+exchange_sets peer wire wish edge = exchange_tells peer wire (silent (record edge { local = at wire wish edge.local }))
 
 -- ---- the exchange
 
@@ -121,25 +121,25 @@ pub data Step : Type 0 where
   -- the edge calls its wire with the peer something else
   Sets : (me peer wire : ℕ) (wish : Wish) → Step
 
-abbrev pub is_connected : Exchange → ℕ → ℕ → Bool
-is_connected x a b = is_some ((x.edges a).next b)
+abbrev pub is_exchange_connected : Exchange → ℕ → ℕ → Bool
+is_exchange_connected x a b = is_some ((x.edges a).next b)
 
 -- the first of what is on its way is heard
 abbrev pub heard_first : ℕ → ℕ → List StatusMessage → Exchange → Exchange
 heard_first from to [] x = x
 heard_first from to (t ∷ ts) x =
-    absorb to from (hears from t.wire (status_of t.wish) (x.edges to))
+    absorb to from (exchange_hears from t.wire (status_of t.wish) (x.edges to))
     (record x { ways = at_two from to ts x.ways; heard = at_two from to (x.heard from to ++ t ∷ []) x.heard })
 
 abbrev pub step : Wiring → Exchange → Step → Exchange
-step w x (Connects a b) = absorb b a (connects w b a (x.edges b)) (absorb a b (connects w a b (x.edges a)) (clears a b x))
-step w x (Loses a b) = clears a b (record x { edges = at b (loses w b a (x.edges b)) (at a (loses w a b (x.edges a)) x.edges) })
+step w x (Connects a b) = absorb b a (exchange_connects w b a (x.edges b)) (absorb a b (exchange_connects w a b (x.edges a)) (clears a b x))
+step w x (Loses a b) = clears a b (record x { edges = at b (exchange_loses w b a (x.edges b)) (at a (exchange_loses w a b (x.edges a)) x.edges) })
 step w x (Hears from to) = heard_first from to (x.ways from to) x
-step w x (Sets me peer wire wish) = absorb me peer (sets peer wire wish (x.edges me)) x
+step w x (Sets me peer wire wish) = absorb me peer (exchange_sets peer wire wish (x.edges me)) x
 
 -- the step can be done: two edges are connected once, what is on its way is heard where they are, and a wire is set at an end of it
 abbrev pub Applies : Wiring → Exchange → Step → Type 0
-Applies w x (Connects a b) = ((a == b) ≡ false) × (is_connected x a b ≡ false)
+Applies w x (Connects a b) = ((a == b) ≡ false) × (is_exchange_connected x a b ≡ false)
 Applies w x (Loses a b) = (a == b) ≡ false
 Applies w x (Hears from to) = Unit {0}
 Applies w x (Sets me peer wire wish) = w.joins wire me peer ≡ true
@@ -153,8 +153,8 @@ run w x [] = x
 run w x (s ∷ ss) = run w (step w x s) ss
 
 -- each end stands by, nothing is known, and no connection stands
-abbrev pub first_edge : EdgeStatuses
-first_edge = record { local = λ wire. Wish.Standby; remote = λ wire. None; next = λ peer. None }
+abbrev pub fresh_statuses : EdgeStatuses
+fresh_statuses = record { local = λ wire. Wish.Standby; remote = λ wire. None; next = λ peer. None }
 
 abbrev pub first : Exchange
-first = record { edges = λ me. first_edge; ways = λ from to. []; heard = λ from to. [] }
+first = record { edges = λ me. fresh_statuses; ways = λ from to. []; heard = λ from to. [] }

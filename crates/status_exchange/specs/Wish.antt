@@ -44,5 +44,5 @@ abbrev pub becomes : PwStatus → Wish → Wish
 becomes status wish = rests status (yields status wish)
 
 -- what it then calls the wire is told where it was asked, and where that has changed
-abbrev pub is_told : PwStatus → Wish → Bool
-is_told status wish = asks status || not (is_same_wish (becomes status wish) wish)
+abbrev pub is_status_told : PwStatus → Wish → Bool
+is_status_told status wish = asks status || not (is_same_wish (becomes status wish) wish)

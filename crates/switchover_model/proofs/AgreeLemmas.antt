@@ -22,8 +22,8 @@ use Rattle.independent_model.specs.Calls.{uses, uses_with}
 use Rattle.independent_model.specs.Tell.{notification}
 use Rattle.independent_model.specs.Wires.{is_between, wire_named, wiring}
 use Rattle.switchover_model.specs.After.{known_after_all}
-use Rattle.switchover_model.specs.Laws.{AgreesOn, HasTypes, IsAgreed, KnowsAfter, ScriptsAgree}
-use Rattle.switchover_model.specs.Network.{SwitchState, done_all, first_network, flight, held_by, stands}
+use Rattle.switchover_model.specs.Laws.{AgreesOn, HasSwitchTypes, IsAgreed, KnowsAfter, ScriptsAgree}
+use Rattle.switchover_model.specs.Network.{SwitchState, done_all, first_network, flight, held_by, switches_stand}
 use Rattle.switchover_model.proofs.FlightLemmas.{AreTold, message_in_row, messages_are, messages_told, octets_told, told_is}
 use Rattle.switchover_model.proofs.RunLemmas.{Follows, all_follow, first_follows, stands_is}
 use Rattle.switchover_model.proofs.TwoLemmas.{edge_there, named_is, other_end_is, wiring_is}
@@ -70,7 +70,7 @@ module _ (plan : Plan) (checked : IsChecked plan) (from to wire : ℕ) (row : Wi
 some_octets : (m : Message) (id : LdpId) (more : List ℕ) → written m id ++ more ≡ [] → ⊥
 some_octets m id more e = cc (e)
 
-module _ (plan : Plan) (checked : IsChecked plan) (types : HasTypes plan) where
+module _ (plan : Plan) (checked : IsChecked plan) (types : HasSwitchTypes plan) where
   none_told : (from : ℕ) (edge : EdgePlan) (there : slice_get plan.edges from ≡ Some edge) (ts : List StatusMessage) → AreTold plan ts → octets_told plan from ts ≡ [] → ts ≡ []
   none_told from edge there [] told none = refl
   none_told from edge there (t ∷ ts) told none = absurd (some_octets (notification told.0.row from t.wish t.id) (platform_of edge.address) (octets_told plan from ts)
@@ -85,7 +85,7 @@ module _ (plan : Plan) (checked : IsChecked plan) (types : HasTypes plan) where
     agreed : Agree f.y a b wire
     agreed = agree (wiring plan) f.y a b wire f.holds joined back
 
-    both : stands x a b ≡ stands x b a
+    both : switches_stand x a b ≡ switches_stand x b a
     both = sym (stands_is plan checked types x f a b) ∙ (agreed.both ∙ stands_is plan checked types x f b a)
 
     remote_is : (k : ℕ) → (x.edges k).remote wire ≡ (f.y.edges k).remote wire
@@ -94,11 +94,11 @@ module _ (plan : Plan) (checked : IsChecked plan) (types : HasTypes plan) where
     local_is : (k : ℕ) → (x.edges k).local wire ≡ (f.y.edges k).local wire
     local_is k = ap (λ (e : EdgeStatuses). e.local wire) (f.matches.edges k)
 
-    uses_is : (me peer : ℕ) → is_between plan wire me peer ≡ true → uses plan me (x.edges me) wire ≡ exchange_laws.uses (f.y.edges me) peer wire
+    uses_is : (me peer : ℕ) → is_between plan wire me peer ≡ true → uses plan me (x.edges me) wire ≡ exchange_laws.exchange_uses (f.y.edges me) peer wire
     uses_is me peer is = ap (uses_with (x.edges me) wire) (other_end_is plan me peer wire checked is)
         ∙ rw (sym (stands_is plan checked types x f me peer), local_is me, remote_is me) refl
 
-    knows : stands x a b ≡ true → KnowsAfter plan x a b wire row
+    knows : switches_stand x a b ≡ true → KnowsAfter plan x a b wire row
     knows there =
         let end = (agreed.ends (stands_is plan checked types x f a b ∙ there)).0 in
         record {
@@ -108,7 +108,7 @@ module _ (plan : Plan) (checked : IsChecked plan) (types : HasTypes plan) where
               ∙ rw (remote_is a, local_is b) end.after_way;
         }
 
-    quiet : stands x a b ≡ true → flight x a b ≡ [] → flight x b a ≡ [] → IsAgreed plan x a b wire
+    quiet : switches_stand x a b ≡ true → flight x a b ≡ [] → flight x b a ≡ [] → IsAgreed plan x a b wire
     quiet there out_none back_none =
         let one = edge_there plan wire a b checked joined in
         let two = edge_there plan wire b a checked back in

@@ -12,11 +12,11 @@ use Rattle.pw_messages.proofs.CommonLemmas.{following_small}
 use Rattle.status_exchange.specs.declared.wish.Wish.{Wish}
 use Rattle.status_exchange.specs.Exchange.{EdgeStatuses, StatusWork, StatusMessage, at, silent}
 use Rattle.status_exchange.specs.Exchange as exchange
-use Rattle.status_exchange.specs.Wish.{is_same_wish, is_told, status_of}
-use Rattle.independent_model.specs.Calls.{connects, sets}
+use Rattle.status_exchange.specs.Wish.{is_same_wish, is_status_told, status_of}
+use Rattle.independent_model.specs.Calls.{independent_connects, sets}
 use Rattle.independent_model.specs.Hear.{hears_message, hears_of, hears_status, learns}
-use Rattle.switchover_model.specs.Network.{id_of, said_to, taken_all}
-use Rattle.independent_model.specs.State.{ConnectionState, Receiver, IndepState, fresh, id_next, spoken, statuses_of, with_connection, with_local, with_remote}
+use Rattle.switchover_model.specs.Network.{edge_numbered, said_to, taken_all}
+use Rattle.independent_model.specs.State.{ConnectionState, Receiver, IndepState, fresh_connection, id_next, spoken, statuses_of, with_connection, with_local, with_remote}
 use Rattle.independent_model.specs.Tell.{notification, octets_on, tells, tells_by, tells_from, tells_in}
 use Rattle.independent_model.specs.Wires.{is_between, other_end, wiring}
 use Rattle.independent_model.specs.Work.{Goes, Outcome, and_then}
@@ -68,33 +68,33 @@ at_first plan me peer start edge calls receivers small = record { said = sym (ap
 module _ (plan : Plan) (me peer : ℕ) (start : IndepState) (before : List LinkCall) where
   -- what the edge calls a wire is told
   tell_does : (k : ℕ) (row : WirePlan) (out : List StatusMessage) (edge : IndepState) (calls : List LinkCall) → slice_get plan.wires k ≡ Some row → At plan me peer start before out edge calls
-      → Does plan me peer start before (exchange.tells peer k (record { edge = statuses_of edge; out = out })) (tells plan taken_all me (id_of peer) k edge calls)
+      → Does plan me peer start before (exchange.exchange_tells peer k (record { edge = statuses_of edge; out = out })) (tells plan taken_all me (edge_numbered peer) k edge calls)
   unfolding with_connection
   tell_does k row out edge calls row_is at_now = by (edge.connection peer) refl
     where
-      by_row : tells plan taken_all me (id_of peer) k edge calls ≡ tells_by plan taken_all me (id_of peer) k row (edge.connection peer) edge calls
-      by_row = ap (λ (o : Option WirePlan). tells_in plan taken_all me (id_of peer) k o edge calls) row_is
+      by_row : tells plan taken_all me (edge_numbered peer) k edge calls ≡ tells_by plan taken_all me (edge_numbered peer) k row (edge.connection peer) edge calls
+      by_row = ap (λ (o : Option WirePlan). tells_in plan taken_all me (edge_numbered peer) k o edge calls) row_is
 
       by : (o : Option ConnectionState) → edge.connection peer ≡ o
-          → Does plan me peer start before (exchange.tells peer k (record { edge = statuses_of edge; out = out })) (tells plan taken_all me (id_of peer) k edge calls)
+          → Does plan me peer start before (exchange.exchange_tells peer k (record { edge = statuses_of edge; out = out })) (tells plan taken_all me (edge_numbered peer) k edge calls)
       by None is = record {
         edge = edge;
         calls = calls;
         out = out;
-        is = by_row ∙ ap (λ (o : Option ConnectionState). tells_by plan taken_all me (id_of peer) k row o edge calls) is;
+        is = by_row ∙ ap (λ (o : Option ConnectionState). tells_by plan taken_all me (edge_numbered peer) k row o edge calls) is;
         statuses = ap (λ (o : Option ConnectionState). exchange.tells_as peer k (option_map id_next o) (record { edge = statuses_of edge; out = out })) is;
         at = at_now;
       }
       by (Some kept) is =
           let telling : StatusMessage = record { wire = k; wish = edge.local k; id = kept.next_id } in
           let octets = octets_on plan me row (edge.local k) kept.next_id in
-          let call = call_of (id_of peer) false octets true in
+          let call = call_of (edge_numbered peer) false octets true in
           let number : kept.next_id < 2 ^ 32 = at_now.small peer kept.next_id (ap (option_map id_next) is) in
           record {
             edge = with_connection peer (Some (spoken kept)) edge;
             calls = calls ++ call ∷ [];
             out = out ++ telling ∷ [];
-            is = by_row ∙ ap (λ (o : Option ConnectionState). tells_by plan taken_all me (id_of peer) k row o edge calls) is;
+            is = by_row ∙ ap (λ (o : Option ConnectionState). tells_by plan taken_all me (edge_numbered peer) k row o edge calls) is;
             statuses = ap (λ (o : Option ConnectionState). exchange.tells_as peer k (option_map id_next o) (record { edge = statuses_of edge; out = out })) is
                 ∙ (λ i. record { edge = record (statuses_of edge) { next = λ p. next_is p (p == peer) i }; out = out ++ telling ∷ [] });
             at = record {
@@ -128,16 +128,16 @@ module _ (plan : Plan) (me peer : ℕ) (start : IndepState) (before : List LinkC
 
   -- all wires with the peer are told
   all_do : IsChecked plan → (k n : ℕ) (out : List StatusMessage) (edge : IndepState) (calls : List LinkCall) → At plan me peer start before out edge calls
-      → Does plan me peer start before (exchange.tells_from (wiring plan) me peer k n (record { edge = statuses_of edge; out = out })) (tells_from plan taken_all me (id_of peer) k n edge calls)
+      → Does plan me peer start before (exchange.exchange_tells_from (wiring plan) me peer k n (record { edge = statuses_of edge; out = out })) (tells_from plan taken_all me (edge_numbered peer) k n edge calls)
   all_do checked k zero out edge calls at_now = record { edge = edge; calls = calls; out = out; is = refl; statuses = refl; at = at_now }
   all_do checked k (suc n) out edge calls at_now = by (is_between plan k me peer) refl (λ o e c a. all_do checked (k + 1) n o e c a)
     where
       by : (b : Bool) → is_between plan k me peer ≡ b
           → ((o : List StatusMessage) (e : IndepState) (c : List LinkCall) → At plan me peer start before o e c
-          → Does plan me peer start before (exchange.tells_from (wiring plan) me peer (k + 1) n (record { edge = statuses_of e; out = o })) (tells_from plan taken_all me (id_of peer) (k + 1) n e c))
-          → Does plan me peer start before (exchange.tells_from (wiring plan) me peer (k + 1) n
-          (if b then exchange.tells peer k (record { edge = statuses_of edge; out = out }) else record { edge = statuses_of edge; out = out }))
-          (and_then (if b then tells plan taken_all me (id_of peer) k edge calls else Goes edge calls) (λ e c. tells_from plan taken_all me (id_of peer) (k + 1) n e c))
+          → Does plan me peer start before (exchange.exchange_tells_from (wiring plan) me peer (k + 1) n (record { edge = statuses_of e; out = o })) (tells_from plan taken_all me (edge_numbered peer) (k + 1) n e c))
+          → Does plan me peer start before (exchange.exchange_tells_from (wiring plan) me peer (k + 1) n
+          (if b then exchange.exchange_tells peer k (record { edge = statuses_of edge; out = out }) else record { edge = statuses_of edge; out = out }))
+          (and_then (if b then tells plan taken_all me (edge_numbered peer) k edge calls else Goes edge calls) (λ e c. tells_from plan taken_all me (edge_numbered peer) (k + 1) n e c))
       by true is again =
           let two = between_two plan k me peer checked is in
           let d = tell_does k two.row out edge calls two.row_is at_now in
@@ -146,8 +146,8 @@ module _ (plan : Plan) (me peer : ℕ) (start : IndepState) (before : List LinkC
             edge = r.edge;
             calls = r.calls;
             out = r.out;
-            is = ap (λ (o : Outcome). and_then o (λ e c. tells_from plan taken_all me (id_of peer) (k + 1) n e c)) d.is ∙ r.is;
-            statuses = ap (exchange.tells_from (wiring plan) me peer (k + 1) n) d.statuses ∙ r.statuses;
+            is = ap (λ (o : Outcome). and_then o (λ e c. tells_from plan taken_all me (edge_numbered peer) (k + 1) n e c)) d.is ∙ r.is;
+            statuses = ap (exchange.exchange_tells_from (wiring plan) me peer (k + 1) n) d.statuses ∙ r.statuses;
             at = r.at;
           }
       by false is again = again out edge calls at_now
@@ -161,29 +161,29 @@ receivers_same edge b = refl
 pub hear_does : (plan : Plan) (me peer k : ℕ) (row : WirePlan) (wish : Wish) (id : ℕ) (edge : IndepState) (calls : List LinkCall) → IsChecked plan → slice_get plan.wires k ≡ Some row
     → is_between plan k me peer ≡ true
     → ((p n : ℕ) → option_map id_next (edge.connection p) ≡ Some n → n < 2 ^ 32)
-    → Does plan me peer edge calls (exchange.hears peer k (status_of wish) (statuses_of edge)) (hears_message plan taken_all me (id_of peer) (notification row peer wish id) edge calls)
+    → Does plan me peer edge calls (exchange.exchange_hears peer k (status_of wish) (statuses_of edge)) (hears_message plan taken_all me (edge_numbered peer) (notification row peer wish id) edge calls)
 unfolding with_local with_remote
 hear_does plan me peer k row wish id edge calls checked row_is joined small = record { edge = d.edge; calls = d.calls; out = d.out; is = named ∙ d.is; statuses = d.statuses; at = d.at }
   where
-    named : hears_message plan taken_all me (id_of peer) (notification row peer wish id) edge calls ≡ hears_status plan taken_all me (id_of peer) k (status_of wish) edge calls
-    named = ap (λ (o : Option ℕ). hears_of plan taken_all me (id_of peer) (status_of wish) o edge calls) (named_is plan me peer k row checked row_is joined)
+    named : hears_message plan taken_all me (edge_numbered peer) (notification row peer wish id) edge calls ≡ hears_status plan taken_all me (edge_numbered peer) k (status_of wish) edge calls
+    named = ap (λ (o : Option ℕ). hears_of plan taken_all me (edge_numbered peer) (status_of wish) o edge calls) (named_is plan me peer k row checked row_is joined)
 
     first : At plan me peer edge calls [] (learns k (status_of wish) edge) calls
     first = at_first plan me peer edge (learns k (status_of wish) edge) calls (receivers_same edge) small
 
     by : (b : Bool) → Does plan me peer edge calls
-        (if b then exchange.tells peer k (silent (exchange.learns k (status_of wish) (statuses_of edge))) else silent (exchange.learns k (status_of wish) (statuses_of edge)))
-        (if b then tells plan taken_all me (id_of peer) k (learns k (status_of wish) edge) calls else Goes (learns k (status_of wish) edge) calls)
+        (if b then exchange.exchange_tells peer k (silent (exchange.exchange_learns k (status_of wish) (statuses_of edge))) else silent (exchange.exchange_learns k (status_of wish) (statuses_of edge)))
+        (if b then tells plan taken_all me (edge_numbered peer) k (learns k (status_of wish) edge) calls else Goes (learns k (status_of wish) edge) calls)
     by true = tell_does plan me peer edge calls k row [] (learns k (status_of wish) edge) calls row_is first
     by false = record { edge = learns k (status_of wish) edge; calls = calls; out = []; is = refl; statuses = refl; at = first }
 
-    d : Does plan me peer edge calls (exchange.hears peer k (status_of wish) (statuses_of edge)) (hears_status plan taken_all me (id_of peer) k (status_of wish) edge calls)
-    d = by (is_told (status_of wish) (edge.local k))
+    d : Does plan me peer edge calls (exchange.exchange_hears peer k (status_of wish) (statuses_of edge)) (hears_status plan taken_all me (edge_numbered peer) k (status_of wish) edge calls)
+    d = by (is_status_told (status_of wish) (edge.local k))
 
 -- a wire is called something else
-pub set_does : (plan : Plan) (me peer k : ℕ) (row : WirePlan) (wish : Wish) (edge : IndepState) (calls : List LinkCall) → slice_get plan.wires k ≡ Some row → other_end plan me k ≡ Some (id_of peer)
+pub set_does : (plan : Plan) (me peer k : ℕ) (row : WirePlan) (wish : Wish) (edge : IndepState) (calls : List LinkCall) → slice_get plan.wires k ≡ Some row → other_end plan me k ≡ Some (edge_numbered peer)
     → is_same_wish (edge.local k) wish ≡ false → ((p n : ℕ) → option_map id_next (edge.connection p) ≡ Some n → n < 2 ^ 32)
-    → Does plan me peer edge calls (exchange.sets peer k wish (statuses_of edge)) (sets plan taken_all me k wish edge calls)
+    → Does plan me peer edge calls (exchange.exchange_sets peer k wish (statuses_of edge)) (sets plan taken_all me k wish edge calls)
 unfolding with_local
 set_does plan me peer k row wish edge calls row_is other away small =
     let first : At plan me peer edge calls [] (with_local k wish edge) calls = at_first plan me peer edge (with_local k wish edge) calls (receivers_same edge) small in
@@ -192,10 +192,10 @@ set_does plan me peer k row wish edge calls row_is other away small =
 
 -- a connection stands
 pub connect_does : (plan : Plan) (me peer : ℕ) (edge : IndepState) (calls : List LinkCall) → IsChecked plan → ((p n : ℕ) → option_map id_next (edge.connection p) ≡ Some n → n < 2 ^ 32)
-    → Does plan me peer (with_connection peer (Some fresh) edge) calls (exchange.connects (wiring plan) me peer (statuses_of edge)) (connects plan taken_all me (id_of peer) edge calls)
+    → Does plan me peer (with_connection peer (Some fresh_connection) edge) calls (exchange.exchange_connects (wiring plan) me peer (statuses_of edge)) (independent_connects plan taken_all me (edge_numbered peer) edge calls)
 unfolding with_connection
 connect_does plan me peer edge calls checked small =
-    let up = with_connection peer (Some fresh) edge in
+    let up = with_connection peer (Some fresh_connection) edge in
     let first : At plan me peer up calls [] up calls = at_first plan me peer up up calls (receivers_same up) (λ p n. number p n (p == peer)) in
     let d = all_do plan me peer up calls checked 0 (length plan.wires) [] up calls first in
     record {
@@ -203,15 +203,15 @@ connect_does plan me peer edge calls checked small =
       calls = d.calls;
       out = d.out;
       is = d.is;
-      statuses = ap (λ (e : EdgeStatuses). exchange.tells_from (wiring plan) me peer 0 (length plan.wires) (silent e))
+      statuses = ap (λ (e : EdgeStatuses). exchange.exchange_tells_from (wiring plan) me peer 0 (length plan.wires) (silent e))
           (λ i. record (statuses_of edge) { next = λ p. next_is p (p == peer) i }) ∙ d.statuses;
       at = d.at;
     }
   where
-    next_is : (p : ℕ) (b : Bool) → (if b then Some 1 else option_map id_next (edge.connection p)) ≡ option_map id_next (if b then Some fresh else edge.connection p)
+    next_is : (p : ℕ) (b : Bool) → (if b then Some 1 else option_map id_next (edge.connection p)) ≡ option_map id_next (if b then Some fresh_connection else edge.connection p)
     next_is p true = refl
     next_is p false = refl
 
-    number : (p n : ℕ) (b : Bool) → option_map id_next (if b then Some fresh else edge.connection p) ≡ Some n → n < 2 ^ 32
+    number : (p n : ℕ) (b : Bool) → option_map id_next (if b then Some fresh_connection else edge.connection p) ≡ Some n → n < 2 ^ 32
     number p n true e = let one : 1 ≡ n = cc (e) in omega (arith, one)
     number p n false e = small p n e

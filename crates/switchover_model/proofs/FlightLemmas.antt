@@ -27,7 +27,7 @@ use Rattle.status_exchange.specs.declared.wish.Wish.TheVariants.{Active, Standby
 use Rattle.status_exchange.specs.Exchange.{StatusMessage}
 use Rattle.status_exchange.specs.Wish.{status_of}
 use Rattle.switchover_model.specs.After.{octets_of_all}
-use Rattle.switchover_model.specs.Laws.{HasGroups, HasTypes, IsRouter}
+use Rattle.switchover_model.specs.Laws.{HasGroups, HasSwitchTypes, IsRouter}
 use Rattle.independent_model.specs.Tell.{notification, octets_by, octets_on}
 
 -- ---- one message
@@ -148,7 +148,7 @@ cut (x ∷ a) b (y ∷ c) d e = ⊎_elim
     (λ (h : GoesBehind a b c d). inr (record { more = h.more; whole = join_front x y a (c ++ h.more) (front_heads x y a b c d e) h.whole; rest = h.rest }))
     (cut a b c d (front_tails x y a b c d e))
 
-module _ (plan : Plan) (checked : IsChecked plan) (types : HasTypes plan) (from : ℕ) (edge : EdgePlan) (place : slice_get plan.edges from ≡ Some edge) where
+module _ (plan : Plan) (checked : IsChecked plan) (types : HasSwitchTypes plan) (from : ℕ) (edge : EdgePlan) (place : slice_get plan.edges from ≡ Some edge) where
   group_small : (row : WirePlan) → HasGroups row → (offer_of row from).group < 2 ^ 32
   group_small row groups = by (is_first from row.path)
     where

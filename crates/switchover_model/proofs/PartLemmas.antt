@@ -17,14 +17,14 @@ use Rattle.ldp_stream.specs.State.{place_behind}
 use Rattle.ldp_stream.proofs.FrontOfLemmas.{front_is_read}
 use Rattle.pw_messages.specs.Content.{pw_status_code}
 use Rattle.pw_messages.specs.LinkAnswers.{Answers}
-use Rattle.status_exchange.specs.Wish.{is_told}
-use Rattle.independent_model.specs.Calls.{hears, hears_on}
+use Rattle.status_exchange.specs.Wish.{is_status_told}
+use Rattle.independent_model.specs.Calls.{independent_hears, hears_on}
 use Rattle.independent_model.specs.Hear.{hears_all, hears_by, hears_few, hears_front, hears_message, hears_messages, hears_notice, hears_of, hears_status, learns}
 use Rattle.independent_model.specs.State.{ConnectionState, Stopped, Receiver, IndepState, Receiving, Broken, receiver_set, with_connection, with_receiver, with_local, with_remote}
 use Rattle.independent_model.specs.Tell.{octets_on, puts, tells, tells_by, tells_in}
 use Rattle.independent_model.specs.Wires.{wire_named}
 use Rattle.independent_model.specs.Work.{Goes, Outcome, Stops, and_then}
-use Rattle.switchover_model.specs.Laws.{HeardInParts}
+use Rattle.switchover_model.specs.Laws.{SwitchHeardInParts}
 use Rattle.switchover_model.proofs.DoesLemmas.{receiver_part}
 use Rattle.switchover_model.proofs.NetworkLemmas.{held_in, held_is}
 
@@ -98,7 +98,7 @@ module _ (plan : Plan) (told : Answers) (me : ℕ) (peer : EdgeId) where
   learns_keep k s e = refl
 
   status_keeps : (k : ℕ) (s : PwStatus) (e : IndepState) (c : List LinkCall) → KeepsReceiver peer.0 (receiver_at peer.0 e) (hears_status plan told me peer k s e c)
-  status_keeps k s e c = by (is_told s (e.local k))
+  status_keeps k s e c = by (is_status_told s (e.local k))
     where
       by : (b : Bool) → KeepsReceiver peer.0 (receiver_at peer.0 e) (if b then tells plan told me peer k (learns k s e) c else Goes (learns k s e) c)
       by true = subst (λ (v : Option Receiver). KeepsReceiver peer.0 v (tells plan told me peer k (learns k s e) c)) (learns_keep k s e) (tells_keep k (learns k s e) c)
@@ -170,11 +170,11 @@ module _ (plan : Plan) (told : Answers) (me : ℕ) (peer : EdgeId) where
 
   -- where what is left was put back, it is heard on with
   on_open : (base : ℕ) (held more : List ℕ) (e : IndepState) (c : List LinkCall) → receiver_at peer.0 e ≡ Some Stopped
-      → hears plan told me peer more (with_receiver peer.0 (Receiving base held) e) c ≡ hears_all plan told me peer base (held ++ more) e c
+      → independent_hears plan told me peer more (with_receiver peer.0 (Receiving base held) e) c ≡ hears_all plan told me peer base (held ++ more) e c
   on_open base held more e c deaf = by (e.connection peer.0) refl deaf
     where
       by : (o : Option ConnectionState) → e.connection peer.0 ≡ o → option_map receiver_part o ≡ Some Stopped
-          → hears plan told me peer more (with_receiver peer.0 (Receiving base held) e) c ≡ hears_all plan told me peer base (held ++ more) e c
+          → independent_hears plan told me peer more (with_receiver peer.0 (Receiving base held) e) c ≡ hears_all plan told me peer base (held ++ more) e c
       by None is none = absurd (cc (none))
       by (Some kept) is at =
           ap (λ (o : Option ConnectionState). hears_on plan told me peer more o (with_receiver peer.0 (Receiving base held) e) c) (set_here peer.0 (Receiving base held) e kept is)
@@ -182,7 +182,7 @@ module _ (plan : Plan) (told : Answers) (me : ℕ) (peer : EdgeId) where
 
   parts : (n m base : ℕ) (octets more : List ℕ) (e : IndepState) (c : List LinkCall) → AreOctets (octets ++ more) → length octets < n → length (octets ++ more) < m
       → receiver_at peer.0 e ≡ Some Stopped
-      → hears_few plan told me peer m base (octets ++ more) e c ≡ and_then (hears_few plan told me peer n base octets e c) (λ e c. hears plan told me peer more e c)
+      → hears_few plan told me peer m base (octets ++ more) e c ≡ and_then (hears_few plan told me peer n base octets e c) (λ e c. independent_hears plan told me peer more e c)
   parts zero m base octets more e c are few many deaf = absurd (omega (arith, few))
   parts (suc n) zero base octets more e c are few many deaf = absurd (omega (arith, many))
   parts (suc n) (suc m) base octets more e c are few many deaf = by (λ b rest e c them one two at. parts n (suc m) b rest more e c them one two at) (front_of 4096 octets) refl
@@ -191,15 +191,15 @@ module _ (plan : Plan) (told : Answers) (me : ℕ) (peer : EdgeId) where
       before = octets_before octets more are
 
       by : ((b : ℕ) (rest : List ℕ) (e : IndepState) (c : List LinkCall) → AreOctets (rest ++ more) → length rest < n → length (rest ++ more) < suc m → receiver_at peer.0 e ≡ Some Stopped
-          → hears_few plan told me peer (suc m) b (rest ++ more) e c ≡ and_then (hears_few plan told me peer n b rest e c) (λ e c. hears plan told me peer more e c))
+          → hears_few plan told me peer (suc m) b (rest ++ more) e c ≡ and_then (hears_few plan told me peer n b rest e c) (λ e c. independent_hears plan told me peer more e c))
           → (front : Front) → front_of 4096 octets ≡ front → hears_few plan told me peer (suc m) base (octets ++ more) e c
-          ≡ and_then (hears_few plan told me peer (suc n) base octets e c) (λ e c. hears plan told me peer more e c)
+          ≡ and_then (hears_few plan told me peer (suc n) base octets e c) (λ e c. independent_hears plan told me peer more e c)
       by again More is =
           enough (suc m) (suc (length (octets ++ more))) base (octets ++ more) e c are many (omega arith)
-          ∙ (sym (on_open base octets more e c deaf) ∙ ap (λ (o : Outcome). and_then o (λ e c. hears plan told me peer more e c)) (sym (few_at n base octets More e c is)))
+          ∙ (sym (on_open base octets more e c deaf) ∙ ap (λ (o : Outcome). and_then o (λ e c. independent_hears plan told me peer more e c)) (sym (few_at n base octets More e c is)))
       by again (Bad wrong) is =
           few_at m base (octets ++ more) (Bad wrong) e c (front_is_read.bad_more 4096 octets more wrong are (omega arith) is)
-          ∙ ap (λ (o : Outcome). and_then o (λ e c. hears plan told me peer more e c)) (sym (few_at n base octets (Bad wrong) e c is))
+          ∙ ap (λ (o : Outcome). and_then o (λ e c. independent_hears plan told me peer more e c)) (sym (few_at n base octets (Bad wrong) e c is))
       by again (Got pdu rest) is =
           let whole : front_of 4096 (octets ++ more) ≡ Got pdu (rest ++ more) = front_is_read.got_more 4096 octets more rest pdu are (omega arith) is in
           let them : AreOctets (rest ++ more) = front_is_read.behind 4096 (octets ++ more) (rest ++ more) pdu are (omega arith) whole in
@@ -209,14 +209,14 @@ module _ (plan : Plan) (told : Answers) (me : ℕ) (peer : EdgeId) where
           few_at m base (octets ++ more) (Got pdu (rest ++ more)) e c whole
           ∙ (then_same (Some Stopped) (hears_messages plan told me peer pdu.messages e c)
           (λ e c. hears_few plan told me peer m (place_behind base (length (octets ++ more) - length (rest ++ more))) (rest ++ more) e c)
-          (λ e c. and_then (hears_few plan told me peer n (place_behind base (length octets - length rest)) rest e c) (λ e c. hears plan told me peer more e c))
+          (λ e c. and_then (hears_few plan told me peer n (place_behind base (length octets - length rest)) rest e c) (λ e c. independent_hears plan told me peer more e c))
           (messages_keep pdu.messages e c (Some Stopped) deaf)
           (λ e c at. ap (λ (k : ℕ). hears_few plan told me peer m (place_behind base k) (rest ++ more) e c) size
           ∙ (enough m (suc m) (place_behind base (length octets - length rest)) (rest ++ more) e c them (omega (arith, fewer, many)) (omega (arith, fewer, many))
           ∙ again (place_behind base (length octets - length rest)) rest e c them (omega (arith, less, few)) (omega (arith, fewer, many)) at))
           ∙ (then_then (hears_messages plan told me peer pdu.messages e c) (λ e c. hears_few plan told me peer n (place_behind base (length octets - length rest)) rest e c)
-          (λ e c. hears plan told me peer more e c)
-          ∙ ap (λ (o : Outcome). and_then o (λ e c. hears plan told me peer more e c)) (sym (few_at n base octets (Got pdu rest) e c is))))
+          (λ e c. independent_hears plan told me peer more e c)
+          ∙ ap (λ (o : Outcome). and_then o (λ e c. independent_hears plan told me peer more e c)) (sym (few_at n base octets (Got pdu rest) e c is))))
 
   deaf_at : (e : IndepState) (kept : ConnectionState) → e.connection peer.0 ≡ Some kept → receiver_at peer.0 (with_receiver peer.0 Stopped e) ≡ Some Stopped
   deaf_at e kept is = ap (option_map receiver_part) (set_here peer.0 Stopped e kept is)
@@ -224,11 +224,11 @@ module _ (plan : Plan) (told : Answers) (me : ℕ) (peer : EdgeId) where
   -- The octets that are held and come are octets. Where something stops the first part, the second is not heard.
   pub heard_in_parts : (first more : List ℕ) (e : IndepState) (c : List LinkCall)
       → ((base : ℕ) (held : List ℕ) → receiver_at peer.0 e ≡ Some (Receiving base held) → AreOctets (held ++ (first ++ more)))
-      → hears plan told me peer (first ++ more) e c ≡ and_then (hears plan told me peer first e c) (λ e c. hears plan told me peer more e c)
+      → independent_hears plan told me peer (first ++ more) e c ≡ and_then (independent_hears plan told me peer first e c) (λ e c. independent_hears plan told me peer more e c)
   heard_in_parts first more e c are = by (e.connection peer.0) refl
     where
       by_receiver : (kept : ConnectionState) → e.connection peer.0 ≡ Some kept → (receiver : Receiver) → kept.receiver ≡ receiver
-          → hears_by plan told me peer (first ++ more) receiver e c ≡ and_then (hears_by plan told me peer first receiver e c) (λ e c. hears plan told me peer more e c)
+          → hears_by plan told me peer (first ++ more) receiver e c ≡ and_then (hears_by plan told me peer first receiver e c) (λ e c. independent_hears plan told me peer more e c)
       by_receiver kept is (Receiving base held) at =
           let them : AreOctets ((held ++ first) ++ more) = subst AreOctets (sym (append_assoc held first more)) (are base held (ap (option_map receiver_part) is ∙ ap (λ (x : Receiver). Some x) at)) in
           ap (λ (l : List ℕ). hears_all plan told me peer base l (with_receiver peer.0 Stopped e) c) (sym (append_assoc held first more))
@@ -239,11 +239,11 @@ module _ (plan : Plan) (told : Answers) (me : ℕ) (peer : EdgeId) where
           ∙ ap (λ (receiver : Receiver). hears_by plan told me peer more receiver e c) at)
 
       by : (o : Option ConnectionState) → e.connection peer.0 ≡ o → hears_on plan told me peer (first ++ more) o e c
-          ≡ and_then (hears_on plan told me peer first o e c) (λ e c. hears plan told me peer more e c)
+          ≡ and_then (hears_on plan told me peer first o e c) (λ e c. independent_hears plan told me peer more e c)
       by None is = sym (ap (λ (o : Option ConnectionState). hears_on plan told me peer more o e c) is)
       by (Some kept) is =
           ap (λ (receiver : Receiver). hears_by plan told me peer (first ++ more) receiver e c) refl ∙ by_receiver kept is kept.receiver refl
 
-pub in_parts : HeardInParts
+pub in_parts : SwitchHeardInParts
 in_parts plan told me peer first more e c are =
     heard_in_parts plan told me peer first more e c (λ base held is. subst (λ (l : List ℕ). AreOctets (l ++ (first ++ more))) (held_is (e.connection peer.0) ∙ ap held_in is) are)

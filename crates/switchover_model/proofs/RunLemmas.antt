@@ -22,13 +22,13 @@ use Rattle.status_exchange.specs.Wish.{is_same_wish, status_of}
 use Rattle.status_exchange.proofs.PairLemmas.{Holds, two_at, two_away}
 use Rattle.status_exchange.proofs.RunLemmas.{first_holds, step_holds}
 use Rattle.status_exchange.proofs.StatusLemmas.{AllTold, at_other, at_same, told_append}
-use Rattle.independent_model.specs.Calls.{connects, hears, hears_on, is_connected, loses, sets}
+use Rattle.independent_model.specs.Calls.{independent_connects, independent_hears, hears_on, is_connected, loses, sets}
 use Rattle.independent_model.specs.Hear.{hears_all, hears_by, hears_few, hears_front, hears_message}
-use Rattle.switchover_model.specs.Laws.{DeliveriesGoOn, HasTypes}
+use Rattle.switchover_model.specs.Laws.{DeliveriesGoOn, HasSwitchTypes}
 use Rattle.switchover_model.specs.declared.switch_line.SwitchLine.{SwitchLine}
 use Rattle.switchover_model.specs.declared.switch_line.SwitchLine.TheVariants as line
-use Rattle.switchover_model.specs.Network.{IsGoing, SwitchState, absorbs, connecting, connects_one, cutting, delivering, delivers, delivers_next, delivers_one, does, done, done_all, first_network, flight, held_by, held_with, id_of, is_idle, is_waiting, next_pair, said_to, setting, settling, some_between, stands, taken_all}
-use Rattle.independent_model.specs.State.{ConnectionState, Stopped, Receiver, IndepState, Receiving, Broken, receiver_set, fresh, id_next, statuses_of, with_connection, with_receiver, without_remotes}
+use Rattle.switchover_model.specs.Network.{IsGoing, SwitchState, absorbs, connecting, connects_one, cutting, delivering, delivers, delivers_next, delivers_one, does, done, done_all, first_network, flight, held_by, held_with, edge_numbered, is_idle, is_waiting, next_pair, said_to, setting, settling, some_between, switches_stand, taken_all}
+use Rattle.independent_model.specs.State.{ConnectionState, Stopped, Receiver, IndepState, Receiving, Broken, receiver_set, fresh_connection, id_next, statuses_of, with_connection, with_receiver, without_remotes}
 use Rattle.independent_model.specs.Tell.{notification}
 use Rattle.independent_model.specs.Wires.{is_between, other_end, wiring}
 use Rattle.independent_model.specs.Work.{Goes, Outcome, and_then}
@@ -78,7 +78,7 @@ module _ (plan : Plan) (me peer : ℕ) (x : SwitchState) (y : Exchange) (t : Sta
   absorbed = subst (λ (p : Outcome). Matches plan (absorbs me p x) (absorb me peer t y)) (sym d.is)
       (subst (λ (u : StatusWork). Matches plan (absorbs me (Goes d.edge d.calls) x) (absorb me peer u y)) (sym d.statuses) (done_matches plan me peer x d.edge d.calls y_after apart is_done))
 
-module _ (plan : Plan) (checked : IsChecked plan) (types : HasTypes plan) where
+module _ (plan : Plan) (checked : IsChecked plan) (types : HasSwitchTypes plan) where
   abbrev w : Wiring
   w = wiring plan
 
@@ -101,15 +101,15 @@ module _ (plan : Plan) (checked : IsChecked plan) (types : HasTypes plan) where
   -- ---- a wire is called something else
 
   set_follows : (me peer wire : ℕ) (row : WirePlan) (wish : Wish) (x : SwitchState) → slice_get plan.wires wire ≡ Some row → is_between plan wire me peer ≡ true
-      → other_end plan me wire ≡ Some (id_of peer)
+      → other_end plan me wire ≡ Some (edge_numbered peer)
       → is_same_wish ((x.edges me).local wire) wish ≡ false → Follows x → Follows (setting plan me wire wish x)
   set_follows me peer wire row wish x row_is joined other away f =
       let d = set_does plan me peer wire row wish (x.edges me) [] row_is other away (f.matches.small me) in
       record {
-        y = absorb me peer (exchange.sets peer wire wish (statuses_of (x.edges me))) f.y;
-        matches = absorbed plan me peer x f.y (exchange.sets peer wire wish (statuses_of (x.edges me))) (sets plan taken_all me wire wish (x.edges me) []) (x.edges me)
+        y = absorb me peer (exchange.exchange_sets peer wire wish (statuses_of (x.edges me))) f.y;
+        matches = absorbed plan me peer x f.y (exchange.exchange_sets peer wire wish (statuses_of (x.edges me))) (sets plan taken_all me wire wish (x.edges me) []) (x.edges me)
             (laws.apart wire me peer joined) f.matches d refl (λ b away. refl) (f.matches.open_all me peer);
-        holds = subst (λ (e : EdgeStatuses). Holds w (absorb me peer (exchange.sets peer wire wish e) f.y)) (sym (f.matches.edges me)) (step_holds w laws f.y (Sets me peer wire wish) joined f.holds);
+        holds = subst (λ (e : EdgeStatuses). Holds w (absorb me peer (exchange.exchange_sets peer wire wish e) f.y)) (sym (f.matches.edges me)) (step_holds w laws f.y (Sets me peer wire wish) joined f.holds);
       }
 
   -- ---- both are connected
@@ -132,16 +132,16 @@ module _ (plan : Plan) (checked : IsChecked plan) (types : HasTypes plan) where
       by false true is to = same j k b a to other
       by false false is to = refl
 
-  started : (me peer : ℕ) (e : IndepState) → is_connected e peer ≡ false → held_by ((with_connection peer (Some fresh) e).connection peer) ≡ held_by (e.connection peer)
+  started : (me peer : ℕ) (e : IndepState) → is_connected e peer ≡ false → held_by ((with_connection peer (Some fresh_connection) e).connection peer) ≡ held_by (e.connection peer)
   unfolding with_connection
   started me peer e none = rw (self peer, none_there (e.connection peer) none) refl
 
-  started_receivers : (peer : ℕ) (e : IndepState) (k : ℕ) → (k == peer) ≡ false → option_map receiver_part ((with_connection peer (Some fresh) e).connection k)
+  started_receivers : (peer : ℕ) (e : IndepState) (k : ℕ) → (k == peer) ≡ false → option_map receiver_part ((with_connection peer (Some fresh_connection) e).connection k)
       ≡ option_map receiver_part (e.connection k)
   unfolding with_connection
   started_receivers peer e k away = rw away refl
 
-  started_open : (peer : ℕ) (e : IndepState) → AreOpen (option_map receiver_part ((with_connection peer (Some fresh) e).connection peer))
+  started_open : (peer : ℕ) (e : IndepState) → AreOpen (option_map receiver_part ((with_connection peer (Some fresh_connection) e).connection peer))
   unfolding with_connection
   started_open peer e = rw (self peer) tt
 
@@ -185,10 +185,10 @@ module _ (plan : Plan) (checked : IsChecked plan) (types : HasTypes plan) where
       }
 
       t1 : StatusWork
-      t1 = exchange.connects w a b (f.y.edges a)
+      t1 = exchange.exchange_connects w a b (f.y.edges a)
 
       t2 : StatusWork
-      t2 = exchange.connects w b a (f.y.edges b)
+      t2 = exchange.exchange_connects w b a (f.y.edges b)
 
       up : Holds w (absorb b a t2 (absorb a b t1 y0))
       up = step_holds w laws f.y (Connects a b) (apart, stands_is x f a b ∙ gone) f.holds
@@ -196,38 +196,38 @@ module _ (plan : Plan) (checked : IsChecked plan) (types : HasTypes plan) where
       x1 : SwitchState
       x1 = connects_one plan a b x0
 
-      d1 : Does plan a b (with_connection b (Some fresh) (x.edges a)) [] t1 (connects plan taken_all a (id_of b) (x.edges a) [])
-      d1 = subst (λ (e : EdgeStatuses). Does plan a b (with_connection b (Some fresh) (x.edges a)) [] (exchange.connects w a b e) (connects plan taken_all a (id_of b) (x.edges a) []))
+      d1 : Does plan a b (with_connection b (Some fresh_connection) (x.edges a)) [] t1 (independent_connects plan taken_all a (edge_numbered b) (x.edges a) [])
+      d1 = subst (λ (e : EdgeStatuses). Does plan a b (with_connection b (Some fresh_connection) (x.edges a)) [] (exchange.exchange_connects w a b e) (independent_connects plan taken_all a (edge_numbered b) (x.edges a) []))
           (f.matches.edges a)
           (connect_does plan a b (x.edges a) [] checked (f.matches.small a))
 
       m1 : Matches plan x1 (absorb a b t1 y0)
-      m1 = absorbed plan a b x0 y0 t1 (connects plan taken_all a (id_of b) (x.edges a) []) (with_connection b (Some fresh) (x.edges a)) apart m0 d1 (started a b (x.edges a) gone)
+      m1 = absorbed plan a b x0 y0 t1 (independent_connects plan taken_all a (edge_numbered b) (x.edges a) []) (with_connection b (Some fresh_connection) (x.edges a)) apart m0 d1 (started a b (x.edges a) gone)
           (started_receivers b (x.edges a)) (started_open b (x.edges a))
 
       b_is : x1.edges b ≡ x.edges b
       b_is = rw (apart_back a b apart) refl
 
-      d2 : Does plan b a (with_connection a (Some fresh) (x1.edges b)) [] t2 (connects plan taken_all b (id_of a) (x1.edges b) [])
-      d2 = subst (λ (e : EdgeStatuses). Does plan b a (with_connection a (Some fresh) (x1.edges b)) [] (exchange.connects w b a e)
-          (connects plan taken_all b (id_of a) (x1.edges b) [])) (ap statuses_of b_is ∙ f.matches.edges b)
+      d2 : Does plan b a (with_connection a (Some fresh_connection) (x1.edges b)) [] t2 (independent_connects plan taken_all b (edge_numbered a) (x1.edges b) [])
+      d2 = subst (λ (e : EdgeStatuses). Does plan b a (with_connection a (Some fresh_connection) (x1.edges b)) [] (exchange.exchange_connects w b a e)
+          (independent_connects plan taken_all b (edge_numbered a) (x1.edges b) [])) (ap statuses_of b_is ∙ f.matches.edges b)
           (connect_does plan b a (x1.edges b) [] checked (m1.small b))
 
       m2 : Matches plan (connecting plan a b x) (absorb b a t2 (absorb a b t1 y0))
-      m2 = absorbed plan b a x1 (absorb a b t1 y0) t2 (connects plan taken_all b (id_of a) (x1.edges b) []) (with_connection a (Some fresh) (x1.edges b)) (apart_back a b apart) m1 d2
+      m2 = absorbed plan b a x1 (absorb a b t1 y0) t2 (independent_connects plan taken_all b (edge_numbered a) (x1.edges b) []) (with_connection a (Some fresh_connection) (x1.edges b)) (apart_back a b apart) m1 d2
           (started b a (x1.edges b) (ap (λ (e : IndepState). is_connected e a) b_is ∙ other_gone)) (started_receivers a (x1.edges b)) (started_open a (x1.edges b))
 
   -- ---- both lose the connection
 
-  lost_statuses : (me peer : ℕ) (e : IndepState) → statuses_of (loses plan me (id_of peer) e) ≡ exchange.loses w me peer (statuses_of e)
+  lost_statuses : (me peer : ℕ) (e : IndepState) → statuses_of (loses plan me (edge_numbered peer) e) ≡ exchange.exchange_loses w me peer (statuses_of e)
   unfolding with_connection without_remotes
-  lost_statuses me peer e = λ i. record (exchange.loses w me peer (statuses_of e)) { next = λ p. by p (p == peer) i }
+  lost_statuses me peer e = λ i. record (exchange.exchange_loses w me peer (statuses_of e)) { next = λ p. by p (p == peer) i }
     where
       by : (p : ℕ) (b : Bool) → option_map id_next (if b then None else e.connection p) ≡ (if b then None else option_map id_next (e.connection p))
       by p true = refl
       by p false = refl
 
-  lost_connection : (me peer : ℕ) (e : IndepState) (p : ℕ) → (loses plan me (id_of peer) e).connection p ≡ (if p == peer then None else e.connection p)
+  lost_connection : (me peer : ℕ) (e : IndepState) (p : ℕ) → (loses plan me (edge_numbered peer) e).connection p ≡ (if p == peer then None else e.connection p)
   unfolding with_connection without_remotes
   lost_connection me peer e p = refl
 
@@ -238,15 +238,15 @@ module _ (plan : Plan) (checked : IsChecked plan) (types : HasTypes plan) where
       y2 = step w f.y (Loses a b)
 
       edge_is : (k : ℕ) (s t : Bool) → (k == b) ≡ s → (k == a) ≡ t
-          → statuses_of (if s then loses plan b (id_of a) (x.edges b) else if t then loses plan a (id_of b) (x.edges a) else x.edges k)
-          ≡ (if s then exchange.loses w b a (f.y.edges b) else if t then exchange.loses w a b (f.y.edges a) else f.y.edges k)
-      edge_is k true t is to = lost_statuses b a (x.edges b) ∙ ap (exchange.loses w b a) (f.matches.edges b)
-      edge_is k false true is to = lost_statuses a b (x.edges a) ∙ ap (exchange.loses w a b) (f.matches.edges a)
+          → statuses_of (if s then loses plan b (edge_numbered a) (x.edges b) else if t then loses plan a (edge_numbered b) (x.edges a) else x.edges k)
+          ≡ (if s then exchange.exchange_loses w b a (f.y.edges b) else if t then exchange.exchange_loses w a b (f.y.edges a) else f.y.edges k)
+      edge_is k true t is to = lost_statuses b a (x.edges b) ∙ ap (exchange.exchange_loses w b a) (f.matches.edges b)
+      edge_is k false true is to = lost_statuses a b (x.edges a) ∙ ap (exchange.exchange_loses w a b) (f.matches.edges a)
       edge_is k false false is to = f.matches.edges k
 
       -- what is kept of a connection
       left : (k p : ℕ) (s t : Bool) → (k == b) ≡ s → (k == a) ≡ t → (P : Option ConnectionState → Type 0) → P None → P ((x.edges k).connection p)
-          → P ((if s then loses plan b (id_of a) (x.edges b) else if t then loses plan a (id_of b) (x.edges a) else x.edges k).connection p)
+          → P ((if s then loses plan b (edge_numbered a) (x.edges b) else if t then loses plan a (edge_numbered b) (x.edges a) else x.edges k).connection p)
       left k p true t is to P none kept = subst P (sym (lost_connection b a (x.edges b) p)) (by (p == a))
         where
           by : (u : Bool) → P (if u then None else (x.edges b).connection p)
@@ -273,7 +273,7 @@ module _ (plan : Plan) (checked : IsChecked plan) (types : HasTypes plan) where
       gone_at j k false false is to = ap (λ (l : List ℕ). l ++ x.pipes j k) (ap held_by (still (k == b) (k == a) refl refl)) ∙ f.matches.octets j k
         where
           still : (s t : Bool) → (k == b) ≡ s → (k == a) ≡ t
-              → (if s then loses plan b (id_of a) (x.edges b) else if t then loses plan a (id_of b) (x.edges a) else x.edges k).connection j ≡ (x.edges k).connection j
+              → (if s then loses plan b (edge_numbered a) (x.edges b) else if t then loses plan a (edge_numbered b) (x.edges a) else x.edges k).connection j ≡ (x.edges k).connection j
           still true t e g =
               let away : (j == a) ≡ false = grind (arith, is, e) in
               lost_connection b a (x.edges b) j ∙ rw away (ap (λ (n : ℕ). (x.edges n).connection j) (sym (eqb-true k b e)))
@@ -291,7 +291,7 @@ module _ (plan : Plan) (checked : IsChecked plan) (types : HasTypes plan) where
       held_still j k is to = ap held_by (still (k == b) (k == a) refl refl)
         where
           still : (s t : Bool) → (k == b) ≡ s → (k == a) ≡ t
-              → (if s then loses plan b (id_of a) (x.edges b) else if t then loses plan a (id_of b) (x.edges a) else x.edges k).connection j ≡ (x.edges k).connection j
+              → (if s then loses plan b (edge_numbered a) (x.edges b) else if t then loses plan a (edge_numbered b) (x.edges a) else x.edges k).connection j ≡ (x.edges k).connection j
           still true t e g =
               let away : (j == a) ≡ false = grind (arith, is, e) in
               lost_connection b a (x.edges b) j ∙ rw away (ap (λ (n : ℕ). (x.edges n).connection j) (sym (eqb-true k b e)))
@@ -375,8 +375,8 @@ module _ (plan : Plan) (checked : IsChecked plan) (types : HasTypes plan) where
     rest_told : AreTold plan ts
     rest_told = (subst (AreTold plan) h.way (h.told from to)).1
 
-    heard_does : Does plan to from edge calls (exchange.hears from t.wire (status_of t.wish) (statuses_of edge))
-        (hears_message plan taken_all to (id_of from) (notification is_told.row from t.wish t.id) edge calls)
+    heard_does : Does plan to from edge calls (exchange.exchange_hears from t.wire (status_of t.wish) (statuses_of edge))
+        (hears_message plan taken_all to (edge_numbered from) (notification is_told.row from t.wish t.id) edge calls)
     heard_does = hear_does plan to from t.wire is_told.row t.wish t.id edge calls checked is_told.row_is joined_back h.small
 
     abbrev taken : Exchange
@@ -389,7 +389,7 @@ module _ (plan : Plan) (checked : IsChecked plan) (types : HasTypes plan) where
     heard_now = absorb to from heard_work taken
 
     heard_holds : Holds w heard_now
-    heard_holds = subst (λ (u : StatusWork). Holds w (absorb to from u taken)) (ap (exchange.hears from t.wire (status_of t.wish)) (sym h.here) ∙ heard_does.statuses)
+    heard_holds = subst (λ (u : StatusWork). Holds w (absorb to from u taken)) (ap (exchange.exchange_hears from t.wire (status_of t.wish)) (sym h.here) ∙ heard_does.statuses)
         (subst (λ (l : List StatusMessage). Holds w (heard_first from to l h.now)) h.way (step_holds w laws h.now (Hears from to) tt h.holds))
 
     back_way : at_two from to ts h.now.ways to from ≡ h.now.ways to from
@@ -411,7 +411,7 @@ module _ (plan : Plan) (checked : IsChecked plan) (types : HasTypes plan) where
         )
     heard_past a b false is = h.past a b
 
-    hear_one : HeardOne x f from to start t ts (h.now.heard from to) (hears_message plan taken_all to (id_of from) (notification is_told.row from t.wish t.id) edge calls)
+    hear_one : HeardOne x f from to start t ts (h.now.heard from to) (hears_message plan taken_all to (edge_numbered from) (notification is_told.row from t.wish t.id) edge calls)
     hear_one = record {
       edge = heard_does.edge;
       calls = heard_does.calls;
@@ -455,7 +455,7 @@ module _ (plan : Plan) (checked : IsChecked plan) (types : HasTypes plan) where
     heard_is : hearing.now.heard from to ≡ past ++ gone
 
   few_heard : (x : SwitchState) (f : Follows x) (from to : ℕ) (start : IndepState) (n base : ℕ) (octets more : List ℕ) (ms : List StatusMessage) (edge : IndepState) (calls : List LinkCall) → octets ++ more ≡ octets_told plan from ms
-      → (h : Hearing x f from to start ms edge calls) → HeardSome x f from to start octets more (h.now.heard from to) (hears_few plan taken_all to (id_of from) n base octets edge calls)
+      → (h : Hearing x f from to start ms edge calls) → HeardSome x f from to start octets more (h.now.heard from to) (hears_few plan taken_all to (edge_numbered from) n base octets edge calls)
   few_heard x f from to start zero base octets more ms edge calls e h =
       record { left = ms; gone = []; base = base; rest = octets; edge = edge; calls = calls; is = refl; behind = e; split = refl; hearing = h; heard_is = sym (append-nil (h.now.heard from to)) }
   few_heard x f from to start (suc n) base octets more [] edge calls e h = record {
@@ -465,7 +465,7 @@ module _ (plan : Plan) (checked : IsChecked plan) (types : HasTypes plan) where
     rest = octets;
     edge = edge;
     calls = calls;
-    is = ap (λ (g : Front). hears_front plan taken_all to (id_of from) (hears_few plan taken_all to (id_of from) n) base octets g edge calls)
+    is = ap (λ (g : Front). hears_front plan taken_all to (edge_numbered from) (hears_few plan taken_all to (edge_numbered from) n) base octets g edge calls)
         (ap (front_of 4096) (front_empty octets more e) ∙ none_front);
     behind = e;
     split = refl;
@@ -485,11 +485,11 @@ module _ (plan : Plan) (checked : IsChecked plan) (types : HasTypes plan) where
       there : HasRow plan from
       there = edge_there plan t.wire from to checked (joined x f from to start t ts edge calls h)
 
-      by_front : (g : Front) → front_of 4096 octets ≡ g → hears_few plan taken_all to (id_of from) (suc n) base octets edge calls
-          ≡ hears_front plan taken_all to (id_of from) (hears_few plan taken_all to (id_of from) n) base octets g edge calls
-      by_front g is = ap (λ (g : Front). hears_front plan taken_all to (id_of from) (hears_few plan taken_all to (id_of from) n) base octets g edge calls) is
+      by_front : (g : Front) → front_of 4096 octets ≡ g → hears_few plan taken_all to (edge_numbered from) (suc n) base octets edge calls
+          ≡ hears_front plan taken_all to (edge_numbered from) (hears_few plan taken_all to (edge_numbered from) n) base octets g edge calls
+      by_front g is = ap (λ (g : Front). hears_front plan taken_all to (edge_numbered from) (hears_few plan taken_all to (edge_numbered from) n) base octets g edge calls) is
 
-      waits : front_of 4096 octets ≡ More → HeardSome x f from to start octets more (h.now.heard from to) (hears_few plan taken_all to (id_of from) (suc n) base octets edge calls)
+      waits : front_of 4096 octets ≡ More → HeardSome x f from to start octets more (h.now.heard from to) (hears_few plan taken_all to (edge_numbered from) (suc n) base octets edge calls)
       waits is = record {
         left = t ∷ ts;
         gone = [];
@@ -504,11 +504,11 @@ module _ (plan : Plan) (checked : IsChecked plan) (types : HasTypes plan) where
         heard_is = sym (append-nil (h.now.heard from to));
       }
 
-      gets : ((rest : List ℕ) (one : HeardOne x f from to start t ts (h.now.heard from to) (hears_message plan taken_all to (id_of from) (notification told.row from t.wish t.id) edge calls)) → rest ++ more ≡ octets_told plan from ts
+      gets : ((rest : List ℕ) (one : HeardOne x f from to start t ts (h.now.heard from to) (hears_message plan taken_all to (edge_numbered from) (notification told.row from t.wish t.id) edge calls)) → rest ++ more ≡ octets_told plan from ts
           → HeardSome x f from to start rest more (one.hearing.now.heard from to)
-          (hears_few plan taken_all to (id_of from) n (place_behind base (length octets - length rest)) rest one.edge one.calls))
+          (hears_few plan taken_all to (edge_numbered from) n (place_behind base (length octets - length rest)) rest one.edge one.calls))
           → HasNext plan checked types from there.row there.is t told ts octets more
-          → HeardSome x f from to start octets more (h.now.heard from to) (hears_few plan taken_all to (id_of from) (suc n) base octets edge calls)
+          → HeardSome x f from to start octets more (h.now.heard from to) (hears_few plan taken_all to (edge_numbered from) (suc n) base octets edge calls)
       gets again next =
           let one = hear_one x f from to start t ts edge calls h in
           let on = again next.rest one next.behind in
@@ -521,7 +521,7 @@ module _ (plan : Plan) (checked : IsChecked plan) (types : HasTypes plan) where
             calls = on.calls;
             is = by_front (Got (record { id = platform_of there.row.address; messages = notification told.row from t.wish t.id ∷ [] }) next.rest) next.front
                 ∙ (ap (λ (o : Outcome). and_then (and_then o (λ e c. Goes e c))
-                (λ e c. hears_few plan taken_all to (id_of from) n (place_behind base (length octets - length next.rest)) next.rest e c)) one.is ∙ on.is);
+                (λ e c. hears_few plan taken_all to (edge_numbered from) n (place_behind base (length octets - length next.rest)) next.rest e c)) one.is ∙ on.is);
             behind = on.behind;
             split = next.split ∙ (ap (λ (l : List ℕ). octets_in_row plan from t (slice_get plan.wires t.wire) ++ l) on.split
                 ∙ sym (append_assoc (octets_in_row plan from t (slice_get plan.wires t.wire)) (octets_told plan from on.gone) on.rest));
@@ -602,10 +602,10 @@ module _ (plan : Plan) (checked : IsChecked plan) (types : HasTypes plan) where
         ∙ (ap (λ (l : List ℕ). here.held ++ l) (take-append-drop count (x.pipes from to))
         ∙ (ap (λ (l : List ℕ). l ++ x.pipes from to) (sym (ap held_by here.is ∙ ap held_with here.opened)) ∙ f.matches.octets from to))
 
-    hears_is : hears plan taken_all to (id_of from) (take count (x.pipes from to)) (x.edges to) []
-        ≡ hears_all plan taken_all to (id_of from) here.base (here.held ++ take count (x.pipes from to)) start []
-    hears_is = ap (λ (o : Option ConnectionState). hears_on plan taken_all to (id_of from) (take count (x.pipes from to)) o (x.edges to) []) here.is
-        ∙ ap (λ (receiver : Receiver). hears_by plan taken_all to (id_of from) (take count (x.pipes from to)) receiver (x.edges to) []) here.opened
+    hears_is : independent_hears plan taken_all to (edge_numbered from) (take count (x.pipes from to)) (x.edges to) []
+        ≡ hears_all plan taken_all to (edge_numbered from) here.base (here.held ++ take count (x.pipes from to)) start []
+    hears_is = ap (λ (o : Option ConnectionState). hears_on plan taken_all to (edge_numbered from) (take count (x.pipes from to)) o (x.edges to) []) here.is
+        ∙ ap (λ (receiver : Receiver). hears_by plan taken_all to (edge_numbered from) (take count (x.pipes from to)) receiver (x.edges to) []) here.opened
 
     start_statuses : statuses_of start ≡ f.y.edges to
     start_statuses = receiver_statuses from Stopped (x.edges to) ∙ f.matches.edges to
@@ -628,7 +628,7 @@ module _ (plan : Plan) (checked : IsChecked plan) (types : HasTypes plan) where
     }
 
     heard : HeardSome x f from to start (here.held ++ take count (x.pipes from to)) (drop count (x.pipes from to)) (f.y.heard from to)
-        (hears_all plan taken_all to (id_of from) here.base (here.held ++ take count (x.pipes from to)) start [])
+        (hears_all plan taken_all to (edge_numbered from) here.base (here.held ++ take count (x.pipes from to)) start [])
     unfolding first_hearing
     heard = few_heard x f from to start (suc (length (here.held ++ take count (x.pipes from to)))) here.base (here.held ++ take count (x.pipes from to)) (drop count (x.pipes from to))
         (f.y.ways from to) start [] whole first_hearing
@@ -697,7 +697,7 @@ module _ (plan : Plan) (checked : IsChecked plan) (types : HasTypes plan) where
     }
 
     -- what comes is not refused
-    goes : IsGoing (hears plan taken_all to (id_of from) (take count (x.pipes from to)) (x.edges to) [])
+    goes : IsGoing (independent_hears plan taken_all to (edge_numbered from) (take count (x.pipes from to)) (x.edges to) [])
     goes = subst IsGoing (sym (hears_is ∙ heard.is)) tt
 
   -- ---- every line
@@ -733,9 +733,9 @@ module _ (plan : Plan) (checked : IsChecked plan) (types : HasTypes plan) where
   not_or p q is = (grind (arith, is), grind (arith, is))
 
   line_follows : (line : SwitchLine) (x : SwitchState) → is_idle plan x line ≡ false → Follows x → Follows (does plan line x)
-  line_follows (line.Connect a b) x runs f = let both = not_or (some_between plan a.0 b.0 (length plan.wires)) (stands x a.0 b.0) runs in
+  line_follows (line.Connect a b) x runs f = let both = not_or (some_between plan a.0 b.0 (length plan.wires)) (switches_stand x a.0 b.0) runs in
       connect_follows a.0 b.0 x (some_joins a.0 b.0 (length plan.wires) both.0) both.1 f
-  line_follows (line.Cut a b) x runs f = let both = not_or (some_between plan a.0 b.0 (length plan.wires)) (not (stands x a.0 b.0)) runs in
+  line_follows (line.Cut a b) x runs f = let both = not_or (some_between plan a.0 b.0 (length plan.wires)) (not (switches_stand x a.0 b.0)) runs in
       cut_follows a.0 b.0 x (some_joins a.0 b.0 (length plan.wires) both.0) f
   line_follows (line.Deliver from to count) x runs f = delivers_follow from.0 to.0 (take count (x.pipes from.0 to.0)) x f
   line_follows (line.Settle count) x runs f = settle_follows count x f

@@ -12,13 +12,13 @@ use Rattle.ldp_grammar.specs.declared.message.Message.{Message}
 use Rattle.pw_messages.specs.LinkAnswers.{Answers}
 use Rattle.status_exchange.specs.Laws.{is_known_active}
 use Rattle.status_exchange.specs.Wish.{is_active, is_ask, status_of}
-use Rattle.independent_model.specs.Calls.{hears, uses}
+use Rattle.independent_model.specs.Calls.{independent_hears, uses}
 use Rattle.independent_model.specs.State.{IndepState}
 use Rattle.independent_model.specs.Work.{and_then}
 use Rattle.independent_model.specs.Wires.{is_between}
 use Rattle.switchover_model.specs.declared.switch_line.SwitchLine.{SwitchLine}
 use Rattle.switchover_model.specs.After.{known_after_all, octets_of_all}
-use Rattle.switchover_model.specs.Network.{IsGoing, SwitchState, done_all, first_network, flight, held_by, id_of, is_waiting, stands, taken_all}
+use Rattle.switchover_model.specs.Network.{IsGoing, SwitchState, done_all, first_network, flight, held_by, edge_numbered, is_waiting, switches_stand, taken_all}
 
 -- the numbers of a plan are those that their types hold
 pub record IsRouter (row : EdgePlan) : Type 0 where
@@ -29,7 +29,7 @@ pub record HasGroups (row : WirePlan) : Type 0 where
   pub near : row.near.group < 2 ^ 32
   pub far : row.far.group < 2 ^ 32
 
-pub record HasTypes (plan : Plan) : Type 0 where
+pub record HasSwitchTypes (plan : Plan) : Type 0 where
   pub routers : All IsRouter plan.edges
   pub groups : All HasGroups plan.wires
 
@@ -56,25 +56,25 @@ pub record IsAgreed (plan : Plan) (x : SwitchState) (a b wire : ℕ) : Type 0 wh
 
 -- two edges with a wire
 pub record AgreesOn (plan : Plan) (x : SwitchState) (a b wire : ℕ) (row : WirePlan) : Type 0 where
-  pub both : stands x a b ≡ stands x b a
-  pub after : stands x a b ≡ true → KnowsAfter plan x a b wire row
-  pub quiet : stands x a b ≡ true → flight x a b ≡ [] → flight x b a ≡ [] → IsAgreed plan x a b wire
+  pub both : switches_stand x a b ≡ switches_stand x b a
+  pub after : switches_stand x a b ≡ true → KnowsAfter plan x a b wire row
+  pub quiet : switches_stand x a b ≡ true → flight x a b ≡ [] → flight x b a ≡ [] → IsAgreed plan x a b wire
   -- what is known is the last that was heard on this connection, and a wire is used only where that, and the edge itself, calls it active
   pub last : KnowsLast plan x a b wire row
   pub used : uses plan a (x.edges a) wire ≡ true → (is_active ((x.edges a).local wire) ≡ true) × (is_known_active ((x.edges a).remote wire) ≡ true)
-  pub gone : stands x a b ≡ false → (flight x a b ≡ []) × ((x.edges a).remote wire ≡ None)
+  pub gone : switches_stand x a b ≡ false → (flight x a b ≡ []) × ((x.edges a).remote wire ≡ None)
 
 abbrev pub ScriptsAgree : Type 0
-ScriptsAgree = (plan : Plan) → IsChecked plan → HasTypes plan → (lines : List SwitchLine) → (a b wire : ℕ) (row : WirePlan) → slice_get plan.wires wire ≡ Some row → is_between plan wire a b ≡ true
+ScriptsAgree = (plan : Plan) → IsChecked plan → HasSwitchTypes plan → (lines : List SwitchLine) → (a b wire : ℕ) (row : WirePlan) → slice_get plan.wires wire ≡ Some row → is_between plan wire a b ≡ true
     → AgreesOn plan (done_all plan lines first_network) a b wire row
 
 -- A joined piece is heard like its two parts in turn, over every answer of a link; where something stops the first part, the second is not
 -- heard.
-abbrev pub HeardInParts : Type 0
-HeardInParts = (plan : Plan) (told : Answers) (me : ℕ) (peer : EdgeId) (first more : List ℕ) (edge : IndepState) (calls : List LinkCall) → AreOctets (held_by (edge.connection peer.0) ++ (first ++ more))
-    → hears plan told me peer (first ++ more) edge calls ≡ and_then (hears plan told me peer first edge calls) (λ e c. hears plan told me peer more e c)
+abbrev pub SwitchHeardInParts : Type 0
+SwitchHeardInParts = (plan : Plan) (told : Answers) (me : ℕ) (peer : EdgeId) (first more : List ℕ) (edge : IndepState) (calls : List LinkCall) → AreOctets (held_by (edge.connection peer.0) ++ (first ++ more))
+    → independent_hears plan told me peer (first ++ more) edge calls ≡ and_then (independent_hears plan told me peer first edge calls) (λ e c. independent_hears plan told me peer more e c)
 
 -- No octets of the network are refused: whatever is on its way after any lines, an edge to which some of it comes goes on.
 abbrev pub DeliveriesGoOn : Type 0
-DeliveriesGoOn = (plan : Plan) → IsChecked plan → HasTypes plan → (lines : List SwitchLine) (from to count : ℕ) → is_waiting ((done_all plan lines first_network).pipes from to) ≡ true
-    → IsGoing (hears plan taken_all to (id_of from) (take count ((done_all plan lines first_network).pipes from to)) ((done_all plan lines first_network).edges to) [])
+DeliveriesGoOn = (plan : Plan) → IsChecked plan → HasSwitchTypes plan → (lines : List SwitchLine) (from to count : ℕ) → is_waiting ((done_all plan lines first_network).pipes from to) ≡ true
+    → IsGoing (independent_hears plan taken_all to (edge_numbered from) (take count ((done_all plan lines first_network).pipes from to)) ((done_all plan lines first_network).edges to) [])

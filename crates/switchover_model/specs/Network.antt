@@ -7,7 +7,7 @@ use Rattle.pw_messages.specs.LinkAnswers.{Answers}
 use Rattle.status_exchange.specs.declared.wish.Wish.{Wish}
 use Rattle.status_exchange.specs.Exchange.{at, at_two}
 use Rattle.status_exchange.specs.Wish.{is_same_wish}
-use Rattle.independent_model.specs.Calls.{connects, hears, is_connected, loses, sets}
+use Rattle.independent_model.specs.Calls.{independent_connects, independent_hears, is_connected, loses, sets}
 use Rattle.independent_model.specs.State.{ConnectionState, Stopped, Receiver, IndepState, Receiving, Broken, first_state}
 use Rattle.independent_model.specs.Wires.{is_between, other_end}
 use Rattle.independent_model.specs.Work.{Goes, Outcome, Stops}
@@ -45,17 +45,17 @@ flight x from to = held_by ((x.edges to).connection from) ++ x.pipes from to
 abbrev pub taken_all : Answers
 taken_all k = true
 
-abbrev pub id_of : ℕ → EdgeId
-id_of place = record { 0 = place }
+abbrev pub edge_numbered : ℕ → EdgeId
+edge_numbered place = record { 0 = place }
 
 -- what was put to a peer
 abbrev pub said_to : ℕ → List LinkCall → List ℕ
 said_to peer [] = []
 said_to peer (call ∷ calls) = if call.peer.0 == peer then call.bytes ++ said_to peer calls else said_to peer calls
 
-abbrev pub edge_of : Outcome → IndepState
-edge_of (Goes edge calls) = edge
-edge_of (Stops why edge calls) = edge
+abbrev pub edge_after : Outcome → IndepState
+edge_after (Goes edge calls) = edge
+edge_after (Stops why edge calls) = edge
 
 abbrev pub calls_of : Outcome → List LinkCall
 calls_of (Goes edge calls) = calls
@@ -69,7 +69,7 @@ IsGoing (Stops why edge calls) = ⊥
 -- it goes into the network
 abbrev pub absorbs : ℕ → Outcome → SwitchState → SwitchState
 absorbs me o x = record x {
-  edges = at me (edge_of o) x.edges;
+  edges = at me (edge_after o) x.edges;
   pipes = λ a b. if a == me then x.pipes a b ++ said_to b (calls_of o) else x.pipes a b;
 }
 
@@ -77,7 +77,7 @@ absorbs me o x = record x {
 
 -- an edge is connected with another one
 abbrev pub connects_one : Plan → ℕ → ℕ → SwitchState → SwitchState
-connects_one plan me peer x = absorbs me (connects plan taken_all me (id_of peer) (x.edges me) []) x
+connects_one plan me peer x = absorbs me (independent_connects plan taken_all me (edge_numbered peer) (x.edges me) []) x
 
 -- both are, the first one first
 abbrev pub connecting : Plan → ℕ → ℕ → SwitchState → SwitchState
@@ -85,12 +85,12 @@ connecting plan a b x = connects_one plan b a (connects_one plan a b (record x {
 
 -- an edge loses the connection with another one
 abbrev pub loses_one : Plan → ℕ → ℕ → SwitchState → SwitchState
-loses_one plan me peer x = record x { edges = at me (loses plan me (id_of peer) (x.edges me)) x.edges }
+loses_one plan me peer x = record x { edges = at me (loses plan me (edge_numbered peer) (x.edges me)) x.edges }
 
 -- both lose the connection, with all octets
 abbrev pub cutting : Plan → ℕ → ℕ → SwitchState → SwitchState
 cutting plan a b x = record {
-  edges = at b (loses plan b (id_of a) (x.edges b)) (at a (loses plan a (id_of b) (x.edges a)) x.edges);
+  edges = at b (loses plan b (edge_numbered a) (x.edges b)) (at a (loses plan a (edge_numbered b) (x.edges a)) x.edges);
   pipes = at_two a b [] (at_two b a [] x.pipes);
   came = at_two a b [] (at_two b a [] x.came);
 }
@@ -98,7 +98,7 @@ cutting plan a b x = record {
 -- the first octets come
 abbrev pub delivering : Plan → ℕ → ℕ → ℕ → SwitchState → SwitchState
 delivering plan from to count x =
-    absorbs to (hears plan taken_all to (id_of from) (take count (x.pipes from to)) (x.edges to) [])
+    absorbs to (independent_hears plan taken_all to (edge_numbered from) (take count (x.pipes from to)) (x.edges to) [])
     (record x { pipes = at_two from to (drop count (x.pipes from to)) x.pipes; came = at_two from to (x.came from to ++ take count (x.pipes from to)) x.came })
 
 -- octets are on their way
@@ -124,8 +124,8 @@ abbrev pub some_between : Plan → ℕ → ℕ → ℕ → Bool
 some_between plan a b zero = false
 some_between plan a b (suc n) = is_between plan n a b || some_between plan a b n
 
-abbrev pub stands : SwitchState → ℕ → ℕ → Bool
-stands x a b = is_connected (x.edges a) b
+abbrev pub switches_stand : SwitchState → ℕ → ℕ → Bool
+switches_stand x a b = is_connected (x.edges a) b
 
 -- the first of so many places, from this one on, that passes a test
 abbrev pub first_place : (ℕ → Bool) → ℕ → ℕ → Option ℕ
@@ -155,8 +155,8 @@ settling plan (suc n) x = delivers_next plan (settling plan n) (next_pair plan x
 
 -- the line is idle
 abbrev pub is_idle : Plan → SwitchState → SwitchLine → Bool
-is_idle plan x (Connect a b) = not (some_between plan a.0 b.0 (length plan.wires)) || stands x a.0 b.0
-is_idle plan x (Cut a b) = not (some_between plan a.0 b.0 (length plan.wires)) || not (stands x a.0 b.0)
+is_idle plan x (Connect a b) = not (some_between plan a.0 b.0 (length plan.wires)) || switches_stand x a.0 b.0
+is_idle plan x (Cut a b) = not (some_between plan a.0 b.0 (length plan.wires)) || not (switches_stand x a.0 b.0)
 is_idle plan x (Deliver from to count) = not (is_waiting (x.pipes from.0 to.0))
 is_idle plan x (Settle count) = not (is_some (next_pair plan x))
 is_idle plan x (Set me wire wish) = not (is_some (other_end plan me.0 wire.0)) || is_same_wish ((x.edges me.0).local wire.0) wish

@@ -6,21 +6,21 @@ use Rattle.net_base.specs.declared.outside.link_call.LinkCall.{LinkCall}
 use Rattle.net_base.specs.declared.plan.Plan.{Plan}
 use Rattle.net_base.specs.declared.plan.places.WireId.{WireId}
 use Rattle.status_exchange.specs.declared.wish.Wish.{Wish}
-use Rattle.independent_model.specs.Calls.{connects, hears, loses, sets, uses}
+use Rattle.independent_model.specs.Calls.{independent_connects, independent_hears, loses, sets, uses}
 use Rattle.independent_model.specs.State.{IndepState}
 use Rattle.independent_model.specs.Work.{Goes, Outcome}
 use Rattle.switchover_model.specs.declared.switch_entry.SwitchEntry.{SwitchEntry}
 use Rattle.switchover_model.specs.declared.switch_entry.SwitchEntry.TheVariants.{Said, Uses, Idle}
 use Rattle.switchover_model.specs.declared.switch_line.SwitchLine.{SwitchLine}
 use Rattle.switchover_model.specs.declared.switch_line.SwitchLine.TheVariants.{Connect, Cut, Deliver, Settle, Set}
-use Rattle.switchover_model.specs.Network.{SwitchState, calls_of, connects_one, delivers, delivers_one, done, edge_of, id_of, is_idle, is_waiting, loses_one, next_pair, taken_all}
+use Rattle.switchover_model.specs.Network.{SwitchState, calls_of, connects_one, delivers, delivers_one, done, edge_after, edge_numbered, is_idle, is_waiting, loses_one, next_pair, taken_all}
 
 -- ---- after a call of an edge
 
 -- what it has put
 abbrev pub said_entries : ℕ → List LinkCall → List SwitchEntry
 said_entries me [] = []
-said_entries me (call ∷ calls) = Said (id_of me) call.peer call.bytes ∷ said_entries me calls
+said_entries me (call ∷ calls) = Said (edge_numbered me) call.peer call.bytes ∷ said_entries me calls
 
 -- whether an edge uses each of so many wires, from this one on
 abbrev pub used_from : Plan → ℕ → IndepState → ℕ → ℕ → List Bool
@@ -38,8 +38,8 @@ wire_of place = record { 0 = place }
 abbrev pub turned : ℕ → ℕ → Bool → Bool → List SwitchEntry
 turned me wire true true = []
 turned me wire false false = []
-turned me wire true false = Uses (id_of me) (wire_of wire) false ∷ []
-turned me wire false true = Uses (id_of me) (wire_of wire) true ∷ []
+turned me wire true false = Uses (edge_numbered me) (wire_of wire) false ∷ []
+turned me wire false true = Uses (edge_numbered me) (wire_of wire) true ∷ []
 
 -- the wires from this one on that the edge uses otherwise than before
 abbrev pub turned_all : ℕ → ℕ → List Bool → List Bool → List SwitchEntry
@@ -48,15 +48,15 @@ turned_all me wire (was ∷ before) [] = []
 turned_all me wire (was ∷ before) (is ∷ now) = turned me wire was is ++ turned_all me (wire + 1) before now
 
 abbrev pub moment : Plan → ℕ → Outcome → IndepState → List SwitchEntry
-moment plan me outcome before = said_entries me (calls_of outcome) ++ turned_all me 0 (used plan me before) (used plan me (edge_of outcome))
+moment plan me outcome before = said_entries me (calls_of outcome) ++ turned_all me 0 (used plan me before) (used plan me (edge_after outcome))
 
 -- ---- of the steps of a line
 
 abbrev pub connect_entries : Plan → ℕ → ℕ → SwitchState → List SwitchEntry
-connect_entries plan me peer x = moment plan me (connects plan taken_all me (id_of peer) (x.edges me) []) (x.edges me)
+connect_entries plan me peer x = moment plan me (independent_connects plan taken_all me (edge_numbered peer) (x.edges me) []) (x.edges me)
 
 abbrev pub lose_entries : Plan → ℕ → ℕ → SwitchState → List SwitchEntry
-lose_entries plan me peer x = moment plan me (Goes (loses plan me (id_of peer) (x.edges me)) []) (x.edges me)
+lose_entries plan me peer x = moment plan me (Goes (loses plan me (edge_numbered peer) (x.edges me)) []) (x.edges me)
 
 abbrev pub set_entries : Plan → ℕ → ℕ → Wish → SwitchState → List SwitchEntry
 set_entries plan me wire wish x = moment plan me (sets plan taken_all me wire wish (x.edges me) []) (x.edges me)
@@ -64,7 +64,7 @@ set_entries plan me wire wish x = moment plan me (sets plan taken_all me wire wi
 -- of one octet that comes
 abbrev pub hear_entries : Plan → ℕ → ℕ → SwitchState → List SwitchEntry
 hear_entries plan from to x =
-    if is_waiting (x.pipes from to) then moment plan to (hears plan taken_all to (id_of from) (take 1 (x.pipes from to)) (x.edges to) []) (x.edges to) else []
+    if is_waiting (x.pipes from to) then moment plan to (independent_hears plan taken_all to (edge_numbered from) (take 1 (x.pipes from to)) (x.edges to) []) (x.edges to) else []
 
 abbrev pub deliver_entries : Plan → ℕ → ℕ → List ℕ → SwitchState → List SwitchEntry
 deliver_entries plan from to [] x = []

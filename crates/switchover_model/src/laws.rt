@@ -1,5 +1,5 @@
 //! What holds after every script.
-ghost use Rattle.switchover_model.specs.Laws.{DeliveriesGoOn, HeardInParts, ScriptsAgree};
+ghost use Rattle.switchover_model.specs.Laws.{DeliveriesGoOn, SwitchHeardInParts, ScriptsAgree};
 
 /// Of each wire between two edges of a checked plan, after the lines of any script: both edges are connected or none is. While they are,
 /// what an edge is still to hear of the other one, held or on its way, are status Notifications of the wires between them; once it has
@@ -11,7 +11,7 @@ pub fn scripts_agree()
 
 /// Octets are heard alike in one piece and in two, whatever a link answers.
 pub fn heard_in_parts()
-    ensures { HeardInParts }
+    ensures { SwitchHeardInParts }
 {}
 
 /// No octets of the network are refused, whatever lines have come before.

@@ -6,11 +6,11 @@ use Rattle.net_base.specs.declared.plan.Plan.{Plan}
 use Rattle.net_base.specs.declared.plan.places.EdgeId.{EdgeId}
 use Rattle.net_base.specs.plan.Accepted.{IsChecked}
 use Rattle.independent_model.specs.State.{first_state}
-use Rattle.independent_mode.specs.Lists.{IndepLists, seen}
-use Rattle.switchover_net.specs.Rows.{AreFresh, IsRow, no_edge, seen_row}
+use Rattle.independent_mode.specs.Lists.{IndepLists, independent_seen}
+use Rattle.switchover_net.specs.Rows.{AreFresh, IsRow, edge_past as no_edge, seen_row}
 
-no_edge_seen : (plan : Plan) (k : ℕ) → seen (no_edge plan k) ≡ first_state
-unfolding seen
+no_edge_seen : (plan : Plan) (k : ℕ) → independent_seen (no_edge plan k) ≡ first_state
+unfolding independent_seen
 no_edge_seen plan k = refl
 
 pub fresh_none : (plan : Plan) → AreFresh plan 0 []
@@ -19,13 +19,13 @@ fresh_none plan = record { len = refl; planned = λ k below. refl; placed = λ k
 abbrev edge_id : ℕ → EdgeId
 edge_id k = record { 0 = k }
 
-fresh_more : (plan : Plan) (count : ℕ) (edges : List IndepLists) (more : IndepLists) → AreFresh plan count edges → more.plan ≡ plan → more.me ≡ record { 0 = count } → seen more
+fresh_more : (plan : Plan) (count : ℕ) (edges : List IndepLists) (more : IndepLists) → AreFresh plan count edges → more.plan ≡ plan → more.me ≡ record { 0 = count } → independent_seen more
     ≡ first_state → AreFresh plan (count + 1) (edges ++ more ∷ [])
 fresh_more plan count edges more are planned placed first = record {
   len = length-append edges (more ∷ []) ∙ omega (arith, are.len);
   planned = λ k below. ap (λ (e : IndepLists). e.plan) (index_end edges more (no_edge plan k) k) ∙ planned_by k below (nat_eq k (length edges)) refl;
   placed = λ k. ap (λ (e : IndepLists). e.me) (index_end edges more (no_edge plan k) k) ∙ placed_by k (nat_eq k (length edges)) refl;
-  first = λ k. ap seen (index_end edges more (no_edge plan k) k) ∙ first_by k (nat_eq k (length edges));
+  first = λ k. ap independent_seen (index_end edges more (no_edge plan k) k) ∙ first_by k (nat_eq k (length edges));
 } where
   planned_by : (k : ℕ) → k < count + 1 → (b : Bool) → nat_eq k (length edges) ≡ b → (cond b more (slice_index_or edges k (no_edge plan k))).plan ≡ plan
   planned_by k below true e = planned
@@ -40,12 +40,12 @@ fresh_more plan count edges more are planned placed first = record {
   placed_by k true e = placed ∙ ap edge_id (sym are.len ∙ sym (eqb-true k (length edges) e))
   placed_by k false e = are.placed k
 
-  first_by : (k : ℕ) (b : Bool) → seen (cond b more (slice_index_or edges k (no_edge plan k))) ≡ first_state
+  first_by : (k : ℕ) (b : Bool) → independent_seen (cond b more (slice_index_or edges k (no_edge plan k))) ≡ first_state
   first_by k true = first
   first_by k false = are.first k
 
 pub fresh_next : (plan : Plan) (count : ℕ) (edges after : List IndepLists) (more : IndepLists) → AreFresh plan count edges → after ≡ edges ++ more ∷ [] → more.plan ≡ plan → more.me
-    ≡ record { 0 = count } → seen more ≡ first_state → AreFresh plan (count + 1) after
+    ≡ record { 0 = count } → independent_seen more ≡ first_state → AreFresh plan (count + 1) after
 fresh_next plan count edges after more are is planned placed first = subst (λ (es : List IndepLists). AreFresh plan (count + 1) es) (sym is) (fresh_more plan count edges more are planned placed first)
 
 -- all edges of a plan

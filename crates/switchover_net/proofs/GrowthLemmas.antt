@@ -20,13 +20,13 @@ use Rattle.status_exchange.specs.Laws.{is_known_active}
 use Rattle.status_exchange.specs.Wish.{is_active}
 use Rattle.status_exchange.proofs.StatusLemmas.{at_same}
 use Rattle.independent_mode.specs.Receiver.{Holds, HoldsBy}
-use Rattle.independent_model.specs.Calls.{hears, hears_on, is_connected, uses, uses_with}
+use Rattle.independent_model.specs.Calls.{independent_hears, hears_on, is_connected, uses, uses_with}
 use Rattle.independent_model.specs.Hear.{hears_by, hears_few, hears_front, hears_messages}
 use Rattle.independent_model.specs.State.{ConnectionState, Stopped, Receiver, IndepState, Receiving, Broken, receiver_set, with_connection, with_receiver}
 use Rattle.independent_model.specs.Wires.{other_end}
 use Rattle.independent_model.specs.Work.{Goes, Outcome, Stops, and_then}
 use Rattle.switchover_model.specs.declared.switch_entry.SwitchEntry.{SwitchEntry}
-use Rattle.switchover_model.specs.Network.{IsGoing, calls_of, delivers_one, edge_of, is_waiting, taken_all}
+use Rattle.switchover_model.specs.Network.{IsGoing, calls_of, delivers_one, edge_after, is_waiting, taken_all}
 use Rattle.switchover_model.specs.Text.{hear_entries, turned_all, used, used_from}
 use Rattle.switchover_net.specs.Net.{Makes, NetLists}
 use Rattle.switchover_net.specs.Pipes.{pipes_of}
@@ -173,12 +173,12 @@ module _ (plan : Plan) (told : Answers) (me : ℕ) (peer : EdgeId) (e : IndepSta
     by_connection None holds_now is = nothing is
     by_connection (Some kept) holds_now is = by_receiver kept.receiver holds_now is
 
-    pub grown : HoldsBy before (edge.connection peer.0) → hears plan told me peer octets edge calls ≡ Goes e c → IsSilent plan me edge e calls c
+    pub grown : HoldsBy before (edge.connection peer.0) → independent_hears plan told me peer octets edge calls ≡ Goes e c → IsSilent plan me edge e calls c
     grown holds_now is = by_connection (edge.connection peer.0) holds_now is
 
 -- ---- of the network
 
-going_is : (o : Outcome) → IsGoing o → o ≡ Goes (edge_of o) (calls_of o)
+going_is : (o : Outcome) → IsGoing o → o ≡ Goes (edge_after o) (calls_of o)
 going_is (Goes edge calls) going = refl
 going_is (Stops why edge calls) going = absurd going
 
@@ -199,17 +199,17 @@ put_nothing a b p = λ i x y. by x y (x == a) (y == b) refl refl i
     by x y false t one two = refl
 
 module _ (plan : Plan) (me : ℕ) (peer : EdgeId) (old new : NetLists) (calls : List LinkCall) (before after : ℕ)
-    (going : IsGoing (hears plan taken_all me peer (take 1 (pipes_of old.pipes peer.0 me)) (seen_row old.row me) []))
-    (done : HasDone me old.row new.row calls (hears plan taken_all me peer (take 1 (pipes_of old.pipes peer.0 me)) (seen_row old.row me) []))
+    (going : IsGoing (independent_hears plan taken_all me peer (take 1 (pipes_of old.pipes peer.0 me)) (seen_row old.row me) []))
+    (done : HasDone me old.row new.row calls (independent_hears plan taken_all me peer (take 1 (pipes_of old.pipes peer.0 me)) (seen_row old.row me) []))
     (held : HoldsBy before ((seen_row old.row me).connection peer.0)) (held_now : HoldsBy after ((seen_row new.row me).connection peer.0)) (more : before < after) where
   abbrev outcome : Outcome
-  outcome = hears plan taken_all me peer (take 1 (pipes_of old.pipes peer.0 me)) (seen_row old.row me) []
+  outcome = independent_hears plan taken_all me peer (take 1 (pipes_of old.pipes peer.0 me)) (seen_row old.row me) []
 
-  state : seen_row new.row me ≡ edge_of outcome
-  state = ap (λ (f : ℕ → IndepState). f me) done.state ∙ at_same me (edge_of outcome) (seen_row old.row)
+  state : seen_row new.row me ≡ edge_after outcome
+  state = ap (λ (f : ℕ → IndepState). f me) done.state ∙ at_same me (edge_after outcome) (seen_row old.row)
 
-  silent : IsSilent plan me (seen_row old.row me) (edge_of outcome) [] (calls_of outcome)
-  silent = grown plan taken_all me peer (edge_of outcome) (calls_of outcome) after (subst (λ (s : IndepState). HoldsBy after (s.connection peer.0)) state held_now)
+  silent : IsSilent plan me (seen_row old.row me) (edge_after outcome) [] (calls_of outcome)
+  silent = grown plan taken_all me peer (edge_after outcome) (calls_of outcome) after (subst (λ (s : IndepState). HoldsBy after (s.connection peer.0)) state held_now)
       (take 1 (pipes_of old.pipes peer.0 me)) before (seen_row old.row me) []
       (omega (arith, length-take 1 (pipes_of old.pipes peer.0 me))) more held (going_is outcome going)
 

@@ -17,10 +17,10 @@ use Rattle.switchover_model.specs.declared.switch_entry.SwitchEntry.{SwitchEntry
 use Rattle.switchover_model.specs.declared.switch_entry.SwitchEntry.TheVariants.{Idle}
 use Rattle.switchover_model.specs.declared.switch_line.SwitchLine.{SwitchLine}
 use Rattle.switchover_model.specs.declared.switch_line.SwitchLine.TheVariants as line
-use Rattle.switchover_model.specs.Network.{SwitchState, connecting, connects_one, cutting, delivers, delivers_next, delivers_one, delivering, does, done, done_all, first_network, first_pair, is_idle, is_waiting, loses_one, next_pair, settling, some_between, stands}
+use Rattle.switchover_model.specs.Network.{SwitchState, connecting, connects_one, cutting, delivers, delivers_next, delivers_one, delivering, does, done, done_all, first_network, first_pair, is_idle, is_waiting, loses_one, next_pair, settling, some_between, switches_stand}
 use Rattle.switchover_model.specs.Text.{connect_entries, deliver_entries, entries, hear_entries, line_entries, lose_entries, next_entries, settle_entries}
 use Rattle.switchover_model.proofs.TwoLemmas.{wiring_is}
-use Rattle.switchover_net.specs.Net.{IsReached, Makes, NetLists, Shows, cut_entries, pair_entries}
+use Rattle.switchover_net.specs.Net.{IsReached, Makes, NetLists, ShowsSwitchState as Shows, cut_entries, pair_entries}
 use Rattle.switchover_net.specs.Pipes.{pipes_of}
 use Rattle.switchover_net.specs.Rows.{seen_row}
 use Rattle.switchover_net.proofs.ReachedLemmas.{reached_more}
@@ -267,7 +267,7 @@ some_apart plan a b (suc n) laws is = by (is_between plan n a b) refl is (λ e. 
 
 pub cut_apart : (net : NetLists) (a b : EdgeId) → IsReached net → ((x : SwitchState) → Shows net x → is_idle net.row.plan x (line.Cut a b) ≡ false) → (b.0 == a.0) ≡ false
 cut_apart net a b reached runs = some_apart net.row.plan a.0 b.0 (length net.row.plan.wires) (wiring_is net.row.plan reached.checked)
-    (joined (some_between net.row.plan a.0 b.0 (length net.row.plan.wires)) (not (stands (done_all net.row.plan reached.lines first_network) a.0 b.0))
+    (joined (some_between net.row.plan a.0 b.0 (length net.row.plan.wires)) (not (switches_stand (done_all net.row.plan reached.lines first_network) a.0 b.0))
     (runs (done_all net.row.plan reached.lines first_network) reached.shows))
   where
     joined : (p q : Bool) → (not p || q) ≡ false → p ≡ true

@@ -7,14 +7,14 @@ use Rattle.net_base.specs.declared.plan.places.EdgeId.{EdgeId}
 use Rattle.status_exchange.specs.declared.wish.Wish.{Wish}
 use Rattle.status_exchange.specs.Exchange.{at, at_two}
 use Rattle.status_exchange.proofs.StatusLemmas.{at_same}
-use Rattle.independent_model.specs.Calls.{connects, hears, loses, sets}
+use Rattle.independent_model.specs.Calls.{independent_connects, independent_hears as hears, loses, sets}
 use Rattle.independent_model.specs.State.{IndepState, first_state}
 use Rattle.independent_model.specs.Wires.{other_end}
 use Rattle.independent_model.specs.Work.{Outcome}
 use Rattle.switchover_model.specs.declared.switch_entry.SwitchEntry.{SwitchEntry}
-use Rattle.switchover_model.specs.Network.{SwitchState, calls_of, connects_one, delivering, delivers_one, edge_of, first_network, is_waiting, loses_one, said_to, setting, taken_all}
+use Rattle.switchover_model.specs.Network.{SwitchState, calls_of, connects_one, delivering, delivers_one, edge_after, first_network, is_waiting, loses_one, said_to, setting, taken_all}
 use Rattle.switchover_model.specs.Text.{connect_entries, hear_entries, lose_entries, moment, said_entries, set_entries, turned_all, used}
-use Rattle.switchover_net.specs.Net.{Makes, NetLists, Shows}
+use Rattle.switchover_net.specs.Net.{Makes, NetLists, ShowsSwitchState as Shows}
 use Rattle.switchover_net.specs.Pipes.{bytes_of, no_octets, pipes_of}
 use Rattle.switchover_net.specs.Rows.{HasDone, RowLists, seen_row}
 use Rattle.switchover_net.proofs.ToLemmas.{AllTo, all_said, connects_to, hears_to, none_said, sets_to}
@@ -45,7 +45,7 @@ put_there me peer calls q all a b = by (a == me) (b == peer) refl refl
 
 -- an edge has done a work for a peer, over the edges and over octets that were on their way
 pub record Worked (plan : Plan) (me : ℕ) (work : (ℕ → ℕ → List ℕ) → IndepState → Outcome) (left : (ℕ → ℕ → List ℕ) → ℕ → ℕ → List ℕ) (new : NetLists) (first last : List SwitchEntry) (e : ℕ → IndepState) (p : ℕ → ℕ → List ℕ) : Type 0 where
-  pub edges : seen_row new.row ≡ at me (edge_of (work p (e me))) e
+  pub edges : seen_row new.row ≡ at me (edge_after (work p (e me))) e
   pub pipes : pipes_of new.pipes ≡ (λ a b. if a == me then left p a b ++ said_to b (calls_of (work p (e me))) else left p a b)
   pub tells : last ≡ first ++ moment plan me (work p (e me)) (e me)
 
@@ -65,8 +65,8 @@ module _ (plan : Plan) (me peer : ℕ) (work : (ℕ → ℕ → List ℕ) → In
     tells = told ∙ (ap (λ (c : List LinkCall). (first ++ said_entries me c) ++ turned_all me 0 before (used plan me (seen_row row me))) done.put
         ∙ (ap (λ (b : List Bool). (first ++ said_entries me (calls_of outcome)) ++ turned_all me 0 b (used plan me (seen_row row me))) was
         ∙ (ap (λ (s : IndepState). (first ++ said_entries me (calls_of outcome)) ++ turned_all me 0 (used plan me (seen_row old.row me)) (used plan me s))
-        (ap (λ (f : ℕ → IndepState). f me) done.state ∙ at_same me (edge_of outcome) (seen_row old.row))
-        ∙ append_assoc first (said_entries me (calls_of outcome)) (turned_all me 0 (used plan me (seen_row old.row me)) (used plan me (edge_of outcome))))));
+        (ap (λ (f : ℕ → IndepState). f me) done.state ∙ at_same me (edge_after outcome) (seen_row old.row))
+        ∙ append_assoc first (said_entries me (calls_of outcome)) (turned_all me 0 (used plan me (seen_row old.row me)) (used plan me (edge_after outcome))))));
   }
 
   pub worked : (x : SwitchState) → Shows old x → Worked plan me work left new first last x.edges x.pipes
@@ -76,13 +76,13 @@ module _ (plan : Plan) (me peer : ℕ) (work : (ℕ → ℕ → List ℕ) → In
 -- ---- each call
 
 pub connected : (plan : Plan) (me : ℕ) (peer : EdgeId) (old new : NetLists) (row : RowLists) (calls : List LinkCall) (before : List Bool) (first last : List SwitchEntry)
-    → HasDone me old.row row calls (connects plan taken_all me peer (seen_row old.row me) []) → new.row ≡ row → before ≡ used plan me (seen_row old.row me)
+    → HasDone me old.row row calls (independent_connects plan taken_all me peer (seen_row old.row me) []) → new.row ≡ row → before ≡ used plan me (seen_row old.row me)
     → pipes_of new.pipes ≡ at_two me peer.0 (pipes_of old.pipes me peer.0 ++ bytes_of calls) (pipes_of old.pipes)
     → last ≡ (first ++ said_entries me calls) ++ turned_all me 0 before (used plan me (seen_row row me))
     → Makes old new first last (connects_one plan me peer.0) (connect_entries plan me peer.0)
 connected plan me peer old new row calls before first last done row_is was put told =
-    let w : (x : SwitchState) → Shows old x → Worked plan me (λ p e. connects plan taken_all me peer e []) (λ p. p) new first last x.edges x.pipes
-    = worked plan me peer.0 (λ p e. connects plan taken_all me peer e []) (λ p. p) old new row calls before first last (λ p e. connects_to plan taken_all me peer e) done row_is was put told in
+    let w : (x : SwitchState) → Shows old x → Worked plan me (λ p e. independent_connects plan taken_all me peer e []) (λ p. p) new first last x.edges x.pipes
+    = worked plan me peer.0 (λ p e. independent_connects plan taken_all me peer e []) (λ p. p) old new row calls before first last (λ p e. connects_to plan taken_all me peer e) done row_is was put told in
     record { shows = λ x sh. record { edges = (w x sh).edges; pipes = (w x sh).pipes }; tells = λ x sh. (w x sh).tells }
 
 pub was_set : (plan : Plan) (me wire : ℕ) (peer : EdgeId) (wish : Wish) (old new : NetLists) (row : RowLists) (calls : List LinkCall) (before : List Bool) (first last : List SwitchEntry)

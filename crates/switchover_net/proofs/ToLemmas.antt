@@ -15,10 +15,10 @@ use Rattle.ldp_stream.specs.State.{place_behind}
 use Rattle.pw_messages.specs.Content.{pw_status_code}
 use Rattle.pw_messages.specs.LinkAnswers.{Answers}
 use Rattle.status_exchange.specs.declared.wish.Wish.{Wish}
-use Rattle.status_exchange.specs.Wish.{is_same_wish, is_told}
-use Rattle.independent_model.specs.Calls.{connects, hears, hears_on, sets, tells_other}
+use Rattle.status_exchange.specs.Wish.{is_same_wish, is_status_told}
+use Rattle.independent_model.specs.Calls.{independent_connects, independent_hears, hears_on, sets, tells_other}
 use Rattle.independent_model.specs.Hear.{hears_by, hears_few, hears_front, hears_message, hears_messages, hears_notice, hears_of, hears_status, learns}
-use Rattle.independent_model.specs.State.{ConnectionState, Stopped, Receiver, IndepState, Receiving, Broken, fresh, with_connection, with_receiver, with_local}
+use Rattle.independent_model.specs.State.{ConnectionState, Stopped, Receiver, IndepState, Receiving, Broken, fresh_connection, with_connection, with_receiver, with_local}
 use Rattle.independent_model.specs.Tell.{octets_on, puts, tells, tells_by, tells_from, tells_in, tells_place}
 use Rattle.independent_model.specs.Wires.{is_between, other_end, wire_named}
 use Rattle.independent_model.specs.Work.{Goes, Outcome, Stops, and_then}
@@ -83,11 +83,11 @@ module _ (plan : Plan) (told : Answers) (me : ℕ) (peer : EdgeId) where
   from_to k zero e c all = all
   from_to k (suc n) e c all = then_to (tells_place plan told me peer k e c) (λ e c. tells_from plan told me peer (k + 1) n e c) (place_to k e c all) (λ e c a. from_to (k + 1) n e c a)
 
-  pub connects_to : (e : IndepState) → To (connects plan told me peer e [])
-  connects_to e = from_to 0 (length plan.wires) (with_connection peer.0 (Some fresh) e) [] tt
+  pub connects_to : (e : IndepState) → To (independent_connects plan told me peer e [])
+  connects_to e = from_to 0 (length plan.wires) (with_connection peer.0 (Some fresh_connection) e) [] tt
 
   status_to : (k : ℕ) (s : PwStatus) (e : IndepState) (c : List LinkCall) → AllTo peer.0 c → To (hears_status plan told me peer k s e c)
-  status_to k s e c all = by (is_told s (e.local k))
+  status_to k s e c all = by (is_status_told s (e.local k))
     where
       by : (b : Bool) → To (if b then tells plan told me peer k (learns k s e) c else Goes (learns k s e) c)
       by true = tells_to k (learns k s e) c all
@@ -125,7 +125,7 @@ module _ (plan : Plan) (told : Answers) (me : ℕ) (peer : EdgeId) where
           (messages_to pdu.messages e c all) (λ e c a. again (place_behind base (length held - length rest)) rest e c a)
       by (Bad wrong) again = all
 
-  pub hears_to : (octets : List ℕ) (e : IndepState) → To (hears plan told me peer octets e [])
+  pub hears_to : (octets : List ℕ) (e : IndepState) → To (independent_hears plan told me peer octets e [])
   hears_to octets e = by (e.connection peer.0)
     where
       by_receiver : (receiver : Receiver) → To (hears_by plan told me peer octets receiver e [])

@@ -6,7 +6,7 @@ use Rattle.independent_model.specs.Calls.{uses}
 use Rattle.independent_model.specs.State.{IndepState}
 use Rattle.switchover_model.specs.declared.switch_entry.SwitchEntry.{SwitchEntry}
 use Rattle.switchover_model.specs.declared.switch_entry.SwitchEntry.TheVariants.{Said}
-use Rattle.switchover_model.specs.Network.{id_of}
+use Rattle.switchover_model.specs.Network.{edge_numbered}
 use Rattle.switchover_model.specs.Text.{said_entries, turned, turned_all, used_from}
 
 -- ---- wires that are used
@@ -37,9 +37,9 @@ pub ruleset used_steps = (used_more, used_end, used_long)
 -- ---- what was put
 
 said_more : (me : ℕ) (calls : List LinkCall) (place : ℕ) (call : LinkCall) → place < length calls → call ≡ slice_index_or calls place call → said_entries me (drop place calls)
-    ≡ Said (id_of me) call.peer call.bytes ∷ said_entries me (drop (place + 1) calls)
+    ≡ Said (edge_numbered me) call.peer call.bytes ∷ said_entries me (drop (place + 1) calls)
 said_more me [] place call within at = absurd (omega (arith, within))
-said_more me (x ∷ calls) zero call within at = ap (λ (c : LinkCall). Said (id_of me) c.peer c.bytes ∷ said_entries me calls) (sym at)
+said_more me (x ∷ calls) zero call within at = ap (λ (c : LinkCall). Said (edge_numbered me) c.peer c.bytes ∷ said_entries me calls) (sym at)
 said_more me (x ∷ calls) (suc place) call within at =
     let behind : suc place + 1 ≡ suc (place + 1) = omega arith in
     rw behind (said_more me calls place call (omega (arith, within)) at)
@@ -51,11 +51,11 @@ said_end me (x ∷ calls) zero past = absurd (omega (arith, past))
 said_end me (x ∷ calls) (suc place) past = said_end me calls place (omega (arith, past))
 
 pub said_goes : (me : ℕ) (calls : List LinkCall) (place : ℕ) (call : LinkCall) (so_far now all : List SwitchEntry) → place < length calls → call ≡ slice_index_or calls place call → now
-    ≡ so_far ++ Said (id_of me) call.peer call.bytes ∷ []
+    ≡ so_far ++ Said (edge_numbered me) call.peer call.bytes ∷ []
     → so_far ++ said_entries me (drop place calls) ≡ all → now ++ said_entries me (drop (place + 1) calls) ≡ all
 said_goes me calls place call so_far now all within at pushed goes =
     ap (λ (l : List SwitchEntry). l ++ said_entries me (drop (place + 1) calls)) pushed
-    ∙ (append_assoc so_far (Said (id_of me) call.peer call.bytes ∷ []) (said_entries me (drop (place + 1) calls))
+    ∙ (append_assoc so_far (Said (edge_numbered me) call.peer call.bytes ∷ []) (said_entries me (drop (place + 1) calls))
     ∙ (ap (λ (l : List SwitchEntry). so_far ++ l) (sym (said_more me calls place call within at)) ∙ goes))
 
 pub said_ends : (me : ℕ) (calls : List LinkCall) (place : ℕ) (so_far all : List SwitchEntry) → length calls ≤ place → so_far ++ said_entries me (drop place calls) ≡ all → so_far ≡ all

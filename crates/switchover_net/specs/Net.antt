@@ -4,7 +4,7 @@ use Rattle.net_base.specs.declared.plan.Plan.{Plan}
 use Rattle.switchover_model.specs.declared.switch_entry.SwitchEntry.{SwitchEntry}
 use Rattle.switchover_model.specs.declared.switch_line.SwitchLine.{SwitchLine}
 use Rattle.net_base.specs.plan.Accepted.{IsChecked}
-use Rattle.switchover_model.specs.Laws.{HasTypes}
+use Rattle.switchover_model.specs.Laws.{HasSwitchTypes}
 use Rattle.switchover_model.specs.Network.{SwitchState, connects_one, done_all, first_network, loses_one}
 use Rattle.switchover_model.specs.Text.{connect_entries, lose_entries}
 use Rattle.switchover_net.specs.Pipes.{PipeLists, pipes_of}
@@ -18,10 +18,10 @@ pub record NetLists : Type 0 where
 pub record IsNet (net : NetLists) : Type 0 where
   pub checked : IsChecked net.row.plan
   pub size : net.pipes.size ≡ length net.row.plan.edges
-  pub types : HasTypes net.row.plan
+  pub types : HasSwitchTypes net.row.plan
 
 -- The edges are in this state, and these octets are on their way. What came by a connection before is not kept: it is for laws alone.
-pub record Shows (net : NetLists) (x : SwitchState) : Type 0 where
+pub record ShowsSwitchState (net : NetLists) (x : SwitchState) : Type 0 where
   pub edges : seen_row net.row ≡ x.edges
   pub pipes : pipes_of net.pipes ≡ x.pipes
 
@@ -29,14 +29,14 @@ pub record Shows (net : NetLists) (x : SwitchState) : Type 0 where
 pub record IsReached (net : NetLists) : Type 0 where
   pub checked : IsChecked net.row.plan
   pub lines : List SwitchLine
-  pub shows : Shows net (done_all net.row.plan lines first_network)
+  pub shows : ShowsSwitchState net (done_all net.row.plan lines first_network)
 
 -- ---- what a call makes of it
 
 -- from each state that the network shows it goes to the next one, and this is told behind what was told before
 pub record Makes (old new : NetLists) (before after : List SwitchEntry) (next : SwitchState → SwitchState) (told : SwitchState → List SwitchEntry) : Type 0 where
-  pub shows : (x : SwitchState) → Shows old x → Shows new (next x)
-  pub tells : (x : SwitchState) → Shows old x → after ≡ before ++ told x
+  pub shows : (x : SwitchState) → ShowsSwitchState old x → ShowsSwitchState new (next x)
+  pub tells : (x : SwitchState) → ShowsSwitchState old x → after ≡ before ++ told x
 
 -- ---- lines
 

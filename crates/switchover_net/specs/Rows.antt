@@ -7,23 +7,23 @@ use Rattle.net_base.specs.declared.plan.Plan.{Plan}
 use Rattle.net_base.specs.plan.Accepted.{IsChecked}
 use Rattle.independent_model.specs.State.{IndepState, first_state}
 use Rattle.independent_model.specs.Work.{Outcome}
-use Rattle.independent_mode.specs.Lists.{IndepLists, seen}
+use Rattle.independent_mode.specs.Lists.{IndepLists, independent_seen}
 use Rattle.status_exchange.specs.Exchange.{at}
-use Rattle.switchover_model.specs.Network.{calls_of, edge_of}
+use Rattle.switchover_model.specs.Network.{calls_of, edge_after}
 
 pub record RowLists : Type 0 where
   pub plan : Plan
   pub edges : List IndepLists
 
 -- an edge past the plan
-abbrev pub no_edge : Plan → ℕ → IndepLists
-no_edge plan k = record { plan = plan; me = record { 0 = k }; wishes = []; remotes = []; connections = [] }
+abbrev pub edge_past : Plan → ℕ → IndepLists
+edge_past plan k = record { plan = plan; me = record { 0 = k }; wishes = []; remotes = []; connections = [] }
 
 abbrev pub edge_lists : RowLists → ℕ → IndepLists
-edge_lists row k = slice_index_or row.edges k (no_edge row.plan k)
+edge_lists row k = slice_index_or row.edges k (edge_past row.plan k)
 
 unfoldable pub seen_row : RowLists → ℕ → IndepState
-seen_row row k = seen (edge_lists row k)
+seen_row row k = independent_seen (edge_lists row k)
 
 -- what always holds of it
 pub record IsRow (row : RowLists) : Type 0 where
@@ -35,13 +35,13 @@ pub record IsRow (row : RowLists) : Type 0 where
 -- so many edges of a plan before their first call
 pub record AreFresh (plan : Plan) (count : ℕ) (edges : List IndepLists) : Type 0 where
   pub len : length edges ≡ count
-  pub planned : (k : ℕ) → k < count → (slice_index_or edges k (no_edge plan k)).plan ≡ plan
-  pub placed : (k : ℕ) → (slice_index_or edges k (no_edge plan k)).me ≡ record { 0 = k }
-  pub first : (k : ℕ) → seen (slice_index_or edges k (no_edge plan k)) ≡ first_state
+  pub planned : (k : ℕ) → k < count → (slice_index_or edges k (edge_past plan k)).plan ≡ plan
+  pub placed : (k : ℕ) → (slice_index_or edges k (edge_past plan k)).me ≡ record { 0 = k }
+  pub first : (k : ℕ) → independent_seen (slice_index_or edges k (edge_past plan k)) ≡ first_state
 
 -- an edge did this work, and what it put was given out
 pub record HasDone (me : ℕ) (old new : RowLists) (calls : List LinkCall) (outcome : Outcome) : Type 0 where
-  pub state : seen_row new ≡ at me (edge_of outcome) (seen_row old)
+  pub state : seen_row new ≡ at me (edge_after outcome) (seen_row old)
   pub put : calls ≡ calls_of outcome
 
 -- it is not the link that stopped it

@@ -2,7 +2,7 @@
 ghost use Rattle.std.specs.Prelude.{◌≡◌, ◌<◌, [], true, is_some, length, IfOk};
 ghost use Rattle.net_base.specs.plan.Accepted.{IsChecked};
 ghost use Rattle.independent_mode.specs.Receiver.{HoldsBy};
-ghost use Rattle.independent_model.specs.Calls.{connects, hears, is_connected, loses, sets, uses};
+ghost use Rattle.independent_model.specs.Calls.{independent_connects, independent_hears, is_connected, loses, sets, uses};
 ghost use Rattle.independent_model.specs.State.{first_state};
 ghost use Rattle.independent_model.specs.Wires.{other_end};
 ghost use Rattle.independent_model.specs.Work.{NeverRefused};
@@ -155,7 +155,7 @@ impl EdgeRow {
         ensures plan { self.new.plan ≡ self.old.plan }
         ensures link { NeverLink result }
         ensures refused { NeverRefused result }
-        ensures step { IfOk result (λ calls. HasDone me.0 self.old self.new calls (connects self.old.plan taken_all me.0 peer (seen_row self.old me.0) [])) }
+        ensures step { IfOk result (λ calls. HasDone me.0 self.old self.new calls (independent_connects self.old.plan taken_all me.0 peer (seen_row self.old me.0) [])) }
     {
         let mut link = TakingLink::new(alloc);
         let done = self.edges[me.0 as usize].connected(alloc, peer, &mut link);
@@ -179,8 +179,8 @@ impl EdgeRow {
         requires peer { peer.0 < length self.old.plan.edges }
         ensures plan { self.new.plan ≡ self.old.plan }
         ensures link { NeverLink result }
-        ensures refused { IsGoing (hears self.old.plan taken_all me.0 peer bytes.now (seen_row self.old me.0) []) → NeverRefused result }
-        ensures step { IfOk result (λ calls. HasDone me.0 self.old self.new calls (hears self.old.plan taken_all me.0 peer bytes.now (seen_row self.old me.0) [])) }
+        ensures refused { IsGoing (independent_hears self.old.plan taken_all me.0 peer bytes.now (seen_row self.old me.0) []) → NeverRefused result }
+        ensures step { IfOk result (λ calls. HasDone me.0 self.old self.new calls (independent_hears self.old.plan taken_all me.0 peer bytes.now (seen_row self.old me.0) [])) }
     {
         let mut link = TakingLink::new(alloc);
         let done = self.edges[me.0 as usize].hear(alloc, peer, bytes, &mut link);

@@ -4,7 +4,7 @@ ghost use Rattle.std.specs.List.{All};
 ghost use Rattle.net_base.specs.declared.plan.wire_plan.WirePlan.{WirePlan};
 ghost use Rattle.net_base.specs.plan.Accepted.{IsChecked};
 ghost use Rattle.independent_model.specs.Wires.{is_between};
-ghost use Rattle.switchover_model.specs.Laws.{AgreesOn, HasTypes};
+ghost use Rattle.switchover_model.specs.Laws.{AgreesOn, HasSwitchTypes};
 ghost use Rattle.switchover_model.specs.Network.{done_all, first_network};
 ghost use Rattle.switchover_model.specs.Text.{script_entries};
 ghost use Rattle.switchover_model.specs.Planned.{IsLineOf};
@@ -25,7 +25,7 @@ pub fn play(
     lines: &[SwitchLine],
 ) -> Result<List<List<SwitchEntry>>, NoMemory>
     requires checked { IsChecked plan.now }
-    requires types { HasTypes plan.now }
+    requires types { HasSwitchTypes plan.now }
     requires known { All (IsLineOf plan.now) lines.now }
     ensures entries { IfOk result (λ told. told ≡ script_entries plan.now lines.now first_network) }
     ensures agrees { (a b wire : ℕ) (row : WirePlan) → slice_get plan.now.wires wire ≡ Some row → is_between plan.now wire a b ≡ true → AgreesOn plan.now (done_all plan.now lines.now first_network) a b wire row }

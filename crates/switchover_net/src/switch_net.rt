@@ -1,9 +1,9 @@
 //! The network of edges in independent mode.
 ghost use Rattle.std.specs.Prelude.{◌≡◌, ◌<◌, List, IfOk};
 ghost use Rattle.net_base.specs.plan.Accepted.{IsChecked};
-ghost use Rattle.switchover_model.specs.Laws.{HasTypes};
+ghost use Rattle.switchover_model.specs.Laws.{HasSwitchTypes};
 ghost use Rattle.switchover_model.specs.Network.{first_network};
-ghost use Rattle.switchover_net.specs.Net.{Shows};
+ghost use Rattle.switchover_net.specs.Net.{ShowsSwitchState};
 
 mod lines;
 mod steps;
@@ -38,9 +38,9 @@ impl SwitchNet {
     #[tactic(auto, using(crate::proofs::NetLemmas::opened))]
     pub fn open(alloc: Global, plan: &Plan) -> Result<SwitchNet, NoMemory>
         requires checked { IsChecked plan.now }
-        requires types { HasTypes plan.now }
+        requires types { HasSwitchTypes plan.now }
         ensures plan { IfOk result (λ net. net.row.plan ≡ plan.now) }
-        ensures first { IfOk result (λ net. Shows net first_network) }
+        ensures first { IfOk result (λ net. ShowsSwitchState net first_network) }
     {
         Ok(SwitchNet {
             row: EdgeRow::open(alloc, plan)?,

@@ -40,8 +40,8 @@ wire_at plan number word words = said_at (short_wire plan) number word words
 -- ---- lines
 
 -- connect E P
-unfoldable pub connect_in : Plan → ℕ → List (List ℕ) → Result SwitchLine ScriptFault
-connect_in plan number words = do
+unfoldable pub connect_line : Plan → ℕ → List (List ℕ) → Result SwitchLine ScriptFault
+connect_line plan number words = do
   edge ← edge_at plan number 2 words
   peer ← edge_at plan number 3 words
   end ← ends_behind number 3 words
@@ -56,8 +56,8 @@ cut_in plan number words = do
   Ok (line.Cut (record { 0 = edge }) (record { 0 = peer }))
 
 -- deliver E P N
-unfoldable pub deliver_in : Plan → ℕ → List (List ℕ) → Result SwitchLine ScriptFault
-deliver_in plan number words = do
+unfoldable pub deliver_line : Plan → ℕ → List (List ℕ) → Result SwitchLine ScriptFault
+deliver_line plan number words = do
   from ← edge_at plan number 2 words
   to ← edge_at plan number 3 words
   count ← said_at (decimal_from 1 65535) number 4 words
@@ -93,16 +93,16 @@ abbrev pub set_by : Plan → Option Wish → ℕ → List (List ℕ) → Result 
 set_by plan (Some wish) number words = set_in plan wish number words
 set_by plan None number words = Err (Bad number 1)
 
-abbrev pub line_by : Plan → ℕ → List ℕ → List (List ℕ) → Result SwitchLine ScriptFault
-line_by plan number word words =
-    if bytes_eq word (codes "connect") then connect_in plan number words
+abbrev pub switchover_line_by : Plan → ℕ → List ℕ → List (List ℕ) → Result SwitchLine ScriptFault
+switchover_line_by plan number word words =
+    if bytes_eq word (codes "connect") then connect_line plan number words
     else if bytes_eq word (codes "cut") then cut_in plan number words
-    else if bytes_eq word (codes "deliver") then deliver_in plan number words
+    else if bytes_eq word (codes "deliver") then deliver_line plan number words
     else if bytes_eq word (codes "settle") then settle_in number words
     else set_by plan (wish_of word) number words
 
 unfoldable pub switch_line_of : Plan → ℕ → List (List ℕ) → Result SwitchLine ScriptFault
-switch_line_of plan number words = line_by plan number (first_of words) words
+switch_line_of plan number words = switchover_line_by plan number (first_of words) words
 
 -- the lines, the first of which has this number
 abbrev pub switch_lines_of : Plan → ℕ → List (List (List ℕ)) → Result (List SwitchLine) ScriptFault

@@ -4,7 +4,7 @@ ghost use Rattle.command_text.specs.Planned.{names_of};
 ghost use Rattle.net_base.specs.plan.NameFaults.{wire_names};
 ghost use Rattle.script_words.specs.Reading.{said_at};
 ghost use Rattle.switchover_model.specs.Planned.{IsLineOf};
-ghost use Rattle.switchover_script.specs.Lines.{between_two, connect_in, cut_in, deliver_in, edge_at, has_two_edges, set_in, settle_in, short_wire, switch_line_of, wire_at, wish_of};
+ghost use Rattle.switchover_script.specs.Lines.{between_two, connect_line, cut_in, deliver_line, edge_at, has_two_edges, set_in, settle_in, short_wire, switch_line_of, wire_at, wish_of};
 
 use command_text::{PlanNames, is_same};
 use net_base::{EdgeId, Plan, WireId};
@@ -81,7 +81,7 @@ fn wire(plan: &Plan, names: &PlanNames<'_>, number: u32, line: &Line) -> Result<
 }
 
 // `connect E P`.
-#[tactic(auto, unfolding(crate::specs::Lines::connect_in))]
+#[tactic(auto, unfolding(crate::specs::Lines::connect_line))]
 fn connect(
     plan: &Plan,
     names: &PlanNames<'_>,
@@ -89,7 +89,7 @@ fn connect(
     line: &Line,
 ) -> Result<SwitchLine, ScriptFault>
     requires names { names.now ≡ names_of plan.now }
-    ensures exact { result ≡ connect_in plan.now number line.now }
+    ensures exact { result ≡ connect_line plan.now number line.now }
     ensures planned { IfOk result (IsLineOf plan.now) }
 {
     let from = edge(plan, names, number, 2, line)?;
@@ -123,7 +123,7 @@ fn cut(
 }
 
 // `deliver E P N`, with N from 1 to 65535.
-#[tactic(auto, unfolding(crate::specs::Lines::deliver_in))]
+#[tactic(auto, unfolding(crate::specs::Lines::deliver_line))]
 fn deliver(
     plan: &Plan,
     names: &PlanNames<'_>,
@@ -131,7 +131,7 @@ fn deliver(
     line: &Line,
 ) -> Result<SwitchLine, ScriptFault>
     requires names { names.now ≡ names_of plan.now }
-    ensures exact { result ≡ deliver_in plan.now number line.now }
+    ensures exact { result ≡ deliver_line plan.now number line.now }
     ensures planned { IfOk result (IsLineOf plan.now) }
 {
     let from = edge(plan, names, number, 2, line)?;

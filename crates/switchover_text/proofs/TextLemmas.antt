@@ -4,15 +4,15 @@ use Rattle.std.proofs.lemmas.List.{at_drop_all, at_drop_more}
 use Rattle.net_base.specs.declared.plan.Plan.{Plan}
 use Rattle.switchover_model.specs.declared.switch_entry.SwitchEntry.{SwitchEntry}
 use Rattle.switchover_model.specs.declared.switch_line.SwitchLine.{SwitchLine}
-use Rattle.switchover_text.specs.Text.{done_line, first_told, lines_text, told_behind, told_lines, told_words}
+use Rattle.switchover_text.specs.Text.{done_line, first_told, lines_text, told_behind, told_lines, entry_words_told}
 use Rattle.text_lines.specs.Lines.{line_of}
 
 -- the line of the next entry, and those behind it
 pub told_from : (plan : Plan) (entries : List SwitchEntry) (index : ℕ) (entry : SwitchEntry) → index < length entries → entry ≡ get_or entries index entry
-    → told_lines plan (drop index entries) ≡ line_of (told_words plan entry) ++ told_lines plan (drop (index + 1) entries)
+    → told_lines plan (drop index entries) ≡ line_of (entry_words_told plan entry) ++ told_lines plan (drop (index + 1) entries)
 told_from plan entries index entry within is =
     at_drop_more (told_lines plan) entries index entry within
-    ∙ ap (λ (first : SwitchEntry). line_of (told_words plan first) ++ told_lines plan (drop (index + 1) entries)) (sym is)
+    ∙ ap (λ (first : SwitchEntry). line_of (entry_words_told plan first) ++ told_lines plan (drop (index + 1) entries)) (sym is)
 
 -- the next line with what was told of it, and those behind it
 pub text_from : (plan : Plan) (lines : List SwitchLine) (told behind : List (List SwitchEntry)) (entries : List SwitchEntry) (index : ℕ) (none : SwitchLine) → index < length lines

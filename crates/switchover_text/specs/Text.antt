@@ -38,14 +38,14 @@ abbrev pub answer_word : Bool → List ℕ
 answer_word true = codes "yes"
 answer_word false = codes "no"
 
-abbrev pub told_words : Plan → SwitchEntry → List (List ℕ)
-told_words plan (Said edge peer octets) = codes "said" ∷ edge_name plan edge ∷ edge_name plan peer ∷ hex octets ∷ []
-told_words plan (Uses edge wire on) = codes "uses" ∷ edge_name plan edge ∷ wire_name plan wire ∷ answer_word on ∷ []
-told_words plan Idle = codes "idle" ∷ []
+abbrev pub entry_words_told : Plan → SwitchEntry → List (List ℕ)
+entry_words_told plan (Said edge peer octets) = codes "said" ∷ edge_name plan edge ∷ edge_name plan peer ∷ hex octets ∷ []
+entry_words_told plan (Uses edge wire on) = codes "uses" ∷ edge_name plan edge ∷ wire_name plan wire ∷ answer_word on ∷ []
+entry_words_told plan Idle = codes "idle" ∷ []
 
 abbrev pub told_lines : Plan → List SwitchEntry → List ℕ
 told_lines plan [] = []
-told_lines plan (entry ∷ entries) = line_of (told_words plan entry) ++ told_lines plan entries
+told_lines plan (entry ∷ entries) = line_of (entry_words_told plan entry) ++ told_lines plan entries
 
 -- ---- the report
 

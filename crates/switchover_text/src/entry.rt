@@ -1,7 +1,7 @@
 //! What is told of a line.
 ghost use Rattle.std.specs.Prelude.{◌≡◌, ◌∷◌, [], map};
 ghost use Rattle.report_text.specs.Words.{edge_name, wire_name};
-ghost use Rattle.switchover_text.specs.Text.{answer_word, told_lines, told_words};
+ghost use Rattle.switchover_text.specs.Text.{answer_word, told_lines, entry_words_told};
 ghost use Rattle.text_lines.specs.Lines.{line_of, word_octets};
 ghost use Rattle.text_lines.specs.Written.{PutsOn};
 ghost use Rattle.text_pieces.specs.Pieces.{hex};
@@ -47,7 +47,7 @@ fn put_told<K: Sink>(
     plan: &Plan,
     entry: &SwitchEntry,
 ) -> Result<(), Failed>
-    ensures { PutsOn K.taken K.faults page.old page.new sink.old sink.new result (line_of (told_words plan.now entry.now)) }
+    ensures { PutsOn K.taken K.faults page.old page.new sink.old sink.new result (line_of (entry_words_told plan.now entry.now)) }
 {
     match *entry {
         SwitchEntry::Said {

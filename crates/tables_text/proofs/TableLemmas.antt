@@ -17,7 +17,7 @@ use Rattle.edge_model.specs.State.{EdgeState, addresses_of, end_at}
 use Rattle.network_model.specs.State.{NetworkState, edge_at}
 use Rattle.provider_edge.specs.Lists.{EdgeLists, seen}
 use Rattle.report_text.specs.Words.{name_or_empty}
-use Rattle.text_lines.specs.Written.{Written, GoesOn, Puts}
+use Rattle.text_lines.specs.Written.{Written, WritingGoesOn, Puts}
 use Rattle.text_lines.proofs.WrittenLemmas.{goes_none}
 use Rattle.tables_text.specs.Addresses.{by_address}
 use Rattle.tables_text.specs.Tables.{address_line, address_lines, edge_text, edge_texts, end_line, end_lines, service_lines, service_name, service_text, session_line, session_lines}
@@ -100,9 +100,9 @@ service_put result old now plan told name called ports held entries learned a b 
 
 -- nothing is put for a service without a bridge
 pub service_left_out : (w : Written) (plan : Plan) (me : EdgeId) (place : ℕ) (name : List ℕ) (entries : List MacEntry) → place < length plan.services
-    → (service_row plan (record { 0 = place }) ≡ None) ⊎ (ports_of plan (record { 0 = place }) me ≡ []) → GoesOn w w (service_text plan name (ports_of plan (record { 0 = place }) me) entries)
+    → (service_row plan (record { 0 = place }) ≡ None) ⊎ (ports_of plan (record { 0 = place }) me ≡ []) → WritingGoesOn w w (service_text plan name (ports_of plan (record { 0 = place }) me) entries)
 service_left_out w plan me place name entries within none =
-    subst (λ (l : List ℕ). GoesOn w w l) (sym (service_unbridged plan me plan.services place name entries refl within none)) (goes_none w)
+    subst (λ (l : List ℕ). WritingGoesOn w w l) (sym (service_unbridged plan me plan.services place name entries refl within none)) (goes_none w)
 
 -- what is told of an edge of a network
 pub edge_put : {T E : Type 0} (result : Result T E) (old now : Written) (plan held : Plan) (me own : EdgeId) (edge part : EdgeState) → held ≡ plan → own ≡ me → part ≡ edge

@@ -2,7 +2,7 @@
 ghost use Rattle.std.specs.Prelude.{◌<◌, length};
 ghost use Rattle.net_base.specs.plan.Accepted.{IsChecked};
 ghost use Rattle.network_model.specs.State.{edge_at};
-ghost use Rattle.psn_net.specs.Lists.{seen};
+ghost use Rattle.psn_net.specs.Lists.{network_seen};
 ghost use Rattle.tables_text.specs.Tables.{edge_text, tables};
 ghost use Rattle.text_lines.specs.Written.{PutsOn};
 
@@ -22,7 +22,7 @@ fn put_place<K: Sink>(
 ) -> Result<(), Failed>
     requires place { place < length network.now.plan.edges }
     requires checked { IsChecked network.now.plan }
-    ensures { PutsOn K.taken K.faults page.old page.new sink.old sink.new result (edge_text network.now.plan (record { 0 = place }) (edge_at (seen network.now) (record { 0 = place }))) }
+    ensures { PutsOn K.taken K.faults page.old page.new sink.old sink.new result (edge_text network.now.plan (record { 0 = place }) (edge_at (network_seen network.now) (record { 0 = place }))) }
 {
     match network.edge(EdgeId(place as u16)) {
         Some(edge) => put_edge(page, sink, sorting, edge),
@@ -40,7 +40,7 @@ pub fn put_tables<K: Sink>(
     sorting: &mut Sorting,
     network: &Network,
 ) -> Result<(), Failed>
-    ensures { PutsOn K.taken K.faults page.old page.new sink.old sink.new result (tables network.now.plan (seen network.now)) }
+    ensures { PutsOn K.taken K.faults page.old page.new sink.old sink.new result (tables network.now.plan (network_seen network.now)) }
 {
     for place in 0..network.count() {
         put_place(page, sink, sorting, network, place)?;

@@ -3,7 +3,7 @@ use Rattle.std.proofs.Common.{◌≡◌, ◌≢◌, ◌≤◌, ◌<◌, ◌+◌,
 use Rattle.std.proofs.Math.Seq.{take-add, take-append-add}
 use Rattle.std.proofs.lemmas.List.{append-nil, take_all, take-append-le}
 use Rattle.net_base.specs.outside.Outside.{Appends, Rose}
-use Rattle.text_lines.specs.Written.{Written, GoesOn, Moves, AppendsFront, IsCut, Puts, Writes}
+use Rattle.text_lines.specs.Written.{Written, WritingGoesOn as GoesOn, Moves, AppendsFront, IsCut, Puts, Writes}
 
 -- what was taken goes on, piece by piece
 pub appends_more : (old between new : Option (List ℕ)) (first second both : List ℕ) → first ++ second ≡ both → Appends old between first → Appends between new second → Appends old new both

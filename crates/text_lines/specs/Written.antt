@@ -13,7 +13,7 @@ written taken faults waiting = record { taken = taken; faults = faults; waiting 
 
 -- the text went on by these octets: the sink took a front of what waited and of them, and the rest waits; where there are none, all
 -- is as it was
-pub record GoesOn (old now : Written) (octets : List ℕ) : Type 0 where
+pub record WritingGoesOn (old now : Written) (octets : List ℕ) : Type 0 where
   pub gained : List ℕ
   pub taken : Appends old.taken now.taken gained
   pub text : gained ++ now.waiting ≡ old.waiting ++ octets
@@ -33,7 +33,7 @@ pub record IsCut (old now : Written) (octets : List ℕ) : Type 0 where
 
 -- octets were put
 abbrev pub Puts : {T E : Type 0} → Result T E → Written → Written → List ℕ → Type 0
-Puts (Ok value) old now octets = GoesOn old now octets
+Puts (Ok value) old now octets = WritingGoesOn old now octets
 Puts (Err fault) old now octets = IsCut old now octets
 
 -- octets were put on a page before a sink, of which it tells what it took and how many of its calls failed

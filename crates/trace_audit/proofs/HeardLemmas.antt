@@ -9,9 +9,9 @@ use Rattle.trace_audit.specs.declared.audit_stop.AuditStop.{AuditStop}
 use Rattle.trace_audit.specs.declared.audit_stop.AuditStop.TheVariants as stop
 use Rattle.trace_audit.specs.declared.ears.Ears.{Ears}
 use Rattle.trace_audit.specs.Audited.{IsAudited}
-use Rattle.trace_audit.specs.Heard.{Answers, HasHeardAll, Hears, HearsOn, IsBehind, IsHeard, WasTold, with_front}
+use Rattle.trace_audit.specs.Heard.{Answers, HasHeardAll, Hears, HearsOn, IsBehind, IsHeard, WasTold, with_front_entries}
 
-entry_behind : (front : List Entry) (entry : Entry) (told : Result (List Entry) ℕ) → with_front front (with_entry entry told) ≡ with_front (front ++ entry ∷ []) told
+entry_behind : (front : List Entry) (entry : Entry) (told : Result (List Entry) ℕ) → with_front_entries front (with_entry entry told) ≡ with_front_entries (front ++ entry ∷ []) told
 entry_behind front entry (Ok entries) = ap Ok (sym (append_assoc front (entry ∷ []) entries))
 entry_behind front entry (Err line) = refl
 
@@ -22,21 +22,21 @@ pub hears_entry : (plan : Plan) (old new : ReadSoFar) (ears heard : Ears) (entry
     → IsBehind plan text left new heard
 hears_entry plan old new ears heard entry goes hears text left is = record {
   front = is.front ++ entry ∷ [];
-  told = is.told ∙ (ap (with_front is.front) (goes left) ∙ entry_behind is.front entry (goes_on left plan new.tally new.rest));
+  told = is.told ∙ (ap (with_front_entries is.front) (goes left) ∙ entry_behind is.front entry (goes_on left plan new.tally new.rest));
   heard = hears is.front is.heard;
 }
 
 -- the last line
 pub hears_last : (plan : Plan) (old : ReadSoFar) (ears : Ears) → ((most : ℕ) → goes_on (suc most) plan old.tally old.rest ≡ Ok []) → (text : List ℕ) (left : ℕ)
     → IsBehind plan text (suc left) old ears → IsHeard plan text ears
-hears_last plan old ears goes text left is = record { trace = is.front; told = is.told ∙ (ap (with_front is.front) (goes left) ∙ ap Ok (append-nil is.front)); heard = is.heard }
+hears_last plan old ears goes text left is = record { trace = is.front; told = is.told ∙ (ap (with_front_entries is.front) (goes left) ∙ ap Ok (append-nil is.front)); heard = is.heard }
 
 -- a line that breaks the form
 pub hears_break : (plan : Plan) (old : ReadSoFar) (ears : Ears) (line : ℕ) → ((most : ℕ) → goes_on (suc most) plan old.tally old.rest ≡ Err line) → (text : List ℕ) (left : ℕ)
     → IsBehind plan text (suc left) old ears → told_of plan text ≡ Err line
-hears_break plan old ears line goes text left is = is.told ∙ ap (with_front is.front) (goes left)
+hears_break plan old ears line goes text left is = is.told ∙ ap (with_front_entries is.front) (goes left)
 
-front_none : (told : Result (List Entry) ℕ) → told ≡ with_front [] told
+front_none : (told : Result (List Entry) ℕ) → told ≡ with_front_entries [] told
 front_none (Ok entries) = refl
 front_none (Err line) = refl
 
@@ -50,7 +50,7 @@ one_less plan text left reader ears some is = subst (λ (n : ℕ). IsBehind plan
 
 -- none is left
 pub no_line : (plan : Plan) (text : List ℕ) (left : ℕ) (reader : ReadSoFar) (ears : Ears) → left ≡ 0 → IsBehind plan text left reader ears → told_of plan text ≡ Err (reader.tally.lines + 1)
-no_line plan text left reader ears none is = is.told ∙ ap (λ (n : ℕ). with_front is.front (goes_on n plan reader.tally reader.rest)) none
+no_line plan text left reader ears none is = is.told ∙ ap (λ (n : ℕ). with_front_entries is.front (goes_on n plan reader.tally reader.rest)) none
 
 -- the last line was heard
 pub heard_on : (plan : Plan) (text : List ℕ) (left : ℕ) (old : ReadSoFar) (ears : Ears) (new : ReadSoFar) (heard : Ears) (result : Result Bool AuditStop)

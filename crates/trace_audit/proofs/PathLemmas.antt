@@ -22,7 +22,7 @@ use Rattle.net_base.specs.trace.Split.{Split, SplitEntry, SplitSent, is_switchin
 use Rattle.report_entries.specs.Reading.{ok_of}
 use Rattle.trace_audit.specs.declared.judge.Judge.{Judge}
 use Rattle.trace_audit.specs.Arrivals.{Entered, has_come, is_entered, with_came}
-use Rattle.trace_audit.specs.Judged.{begun, came_after, crosses, entered_at, entered_by, first_line, has_one, inner_found, is_crossing, is_stray, judges, judges_all, with_one}
+use Rattle.trace_audit.specs.Judged.{begun, came_after, crosses, entered_at, entered_in_service, first_line, has_one, inner_found, is_crossing, is_stray, judges, judges_all, with_one}
 
 -- ---- the frames that entered
 
@@ -96,7 +96,7 @@ abbrev named : ℕ → ServiceId → List ℕ → Entered
 named number service frame = record { number = number; service = service.0; frame = frame }
 
 here_came : (plan : Plan) (circuit : CircuitId) (number : ℕ) (octets : List ℕ) (es : List Entry) (origin : ℕ) (service : ServiceId) (frame : List ℕ) (of : Option ServiceId) (inner : Result (List ℕ) DropCause)
-    → service_of plan circuit ≡ of → inner_at plan circuit octets ≡ inner → has_come (with_one [] (entered_by number of (ok_of inner))) (named origin service frame) ≡ true
+    → service_of plan circuit ≡ of → inner_at plan circuit octets ≡ inner → has_come (with_one [] (entered_in_service number of (ok_of inner))) (named origin service frame) ≡ true
     → HasCome plan (entry.In circuit number octets ∷ es) origin service frame
 here_came plan circuit number octets es origin service frame None inner is_of is_inner any = clash any
 here_came plan circuit number octets es origin service frame (Some own) (Err why) is_of is_inner any = clash any
@@ -144,8 +144,8 @@ come_found plan (entry.Pong edge wire sequence ∷ es) origin service frame any 
 one_came : (plan : Plan) (sender : CircuitId) (origin : ℕ) (entered : List ℕ) (service : ServiceId) (frame : List ℕ) → service_of plan sender ≡ Some service → inner_at plan sender entered ≡ Ok frame
     → has_come (entry_came plan (entry.In sender origin entered)) (named origin service frame) ≡ true
 one_came plan sender origin entered service frame of_service as_entered =
-    ap (λ (of : Option ServiceId). has_come (with_one [] (entered_by origin of (inner_found plan sender entered))) (named origin service frame)) of_service
-    ∙ (ap (λ (inner : Result (List ℕ) DropCause). has_come (with_one [] (entered_by origin (Some service) (ok_of inner))) (named origin service frame)) as_entered
+    ap (λ (of : Option ServiceId). has_come (with_one [] (entered_in_service origin of (inner_found plan sender entered))) (named origin service frame)) of_service
+    ∙ (ap (λ (inner : Result (List ℕ) DropCause). has_come (with_one [] (entered_in_service origin (Some service) (ok_of inner))) (named origin service frame)) as_entered
     ∙ rw (entered_itself (named origin service frame)) refl)
 
 come_listed : (plan : Plan) (es : List Entry) (sender : CircuitId) (origin : ℕ) (entered : List ℕ) (service : ServiceId) (frame : List ℕ) → Among (entry.In sender origin entered) es
@@ -162,7 +162,7 @@ come_listed plan (e ∷ es) sender origin entered service frame (inr later) of_s
 
 come_in : (plan : Plan) (earlier : List Entry) (circuit : CircuitId) (origin : ℕ) (octets : List ℕ) (of : Option ServiceId) (inner : Result (List ℕ) DropCause)
     → service_of plan circuit ≡ of → inner_at plan circuit octets ≡ inner
-    → has_one (came_list plan earlier) (entered_by origin of (ok_of inner)) ≡ true → CameIn plan earlier circuit origin octets
+    → has_one (came_list plan earlier) (entered_in_service origin of (ok_of inner)) ≡ true → CameIn plan earlier circuit origin octets
 come_in plan earlier circuit origin octets None inner is_of is_inner come = clash come
 come_in plan earlier circuit origin octets (Some service) (Err why) is_of is_inner come = clash come
 come_in plan earlier circuit origin octets (Some service) (Ok frame) is_of is_inner come =
@@ -196,8 +196,8 @@ entry_isolated plan earlier (entry.Pong edge wire sequence) is = tt
 
 pub isolated_entry : (plan : Plan) (earlier : List Entry) (e : Entry) → IsolatedEntry plan earlier e → is_stray plan (came_list plan earlier) e ≡ false
 isolated_entry plan earlier (entry.Left circuit origin hops octets) is =
-    ap (λ (of : Option ServiceId). not (has_one (came_list plan earlier) (entered_by origin of (inner_found plan circuit octets)))) is.receiver_service
-    ∙ (ap (λ (inner : Result (List ℕ) DropCause). not (has_one (came_list plan earlier) (entered_by origin (Some is.service) (ok_of inner)))) is.as_left
+    ap (λ (of : Option ServiceId). not (has_one (came_list plan earlier) (entered_in_service origin of (inner_found plan circuit octets)))) is.receiver_service
+    ∙ (ap (λ (inner : Result (List ℕ) DropCause). not (has_one (came_list plan earlier) (entered_in_service origin (Some is.service) (ok_of inner)))) is.as_left
     ∙ ap not (come_listed plan earlier is.sender origin is.entered is.service is.frame is.before is.sender_service is.as_entered))
 isolated_entry plan earlier (entry.Did event) is = refl
 isolated_entry plan earlier entry.Idle is = refl

@@ -50,20 +50,20 @@ pub record IsGoodTrace (plan : Plan) (trace : List Entry) : Type 0 where
   pub once : OnceSeen 12 plan trace
 
 -- the report tells a trace of which this holds
-pub record Tells (plan : Plan) (text : List ℕ) (holds : List Entry → Type 0) : Type 0 where
+pub record TellsTraceHolding (plan : Plan) (text : List ℕ) (holds : List Entry → Type 0) : Type 0 where
   pub trace : List Entry
   pub told : told_of plan text ≡ Ok trace
   pub is : holds trace
 
 -- the report is good
 abbrev pub IsGood : Plan → List ℕ → Type 0
-IsGood plan text = Tells plan text (IsGoodTrace plan)
+IsGood plan text = TellsTraceHolding plan text (IsGoodTrace plan)
 
 -- a report is good, its form is broken first at a line, or the first rule that fails of its trace is told at the first line where it does
 abbrev pub IsAudited : Plan → List ℕ → Result (Unit {0}) AuditStop → Type 0
 IsAudited plan text (Ok done) = IsGood plan text
 IsAudited plan text (Err (stop.Form line)) = told_of plan text ≡ Err line
-IsAudited plan text (Err (stop.Isolated line)) = Tells plan text (λ trace. FirstStray plan trace line)
-IsAudited plan text (Err (stop.Split line)) = Tells plan text (λ trace. FirstOfSplit plan trace line)
-IsAudited plan text (Err (stop.Once line)) = Tells plan text (λ trace. FirstOfOnce plan trace line)
+IsAudited plan text (Err (stop.Isolated line)) = TellsTraceHolding plan text (λ trace. FirstStray plan trace line)
+IsAudited plan text (Err (stop.Split line)) = TellsTraceHolding plan text (λ trace. FirstOfSplit plan trace line)
+IsAudited plan text (Err (stop.Once line)) = TellsTraceHolding plan text (λ trace. FirstOfOnce plan trace line)
 IsAudited plan text (Err stop.NoMemory) = Unit {0}

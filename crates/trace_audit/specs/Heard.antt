@@ -13,13 +13,13 @@ use Rattle.trace_audit.specs.declared.ears.Ears.{Ears}
 use Rattle.trace_audit.specs.Audited.{FirstOfOnce, FirstOfSplit, FirstStray, IsGoodTrace}
 use Rattle.trace_audit.specs.Judged.{begun, judges_all}
 
-abbrev pub stop_of : ReportFault → AuditStop
-stop_of (fault.Form line) = Form line
-stop_of fault.NoMemory = NoMemory
+abbrev pub fault_stop : ReportFault → AuditStop
+fault_stop (fault.Form line) = Form line
+fault_stop fault.NoMemory = NoMemory
 
 -- entries in front of those that are told behind them
-abbrev pub with_front : List Entry → Result (List Entry) ℕ → Result (List Entry) ℕ
-with_front front told = told >>= (λ entries. Ok (front ++ entries))
+abbrev pub with_front_entries : List Entry → Result (List Entry) ℕ → Result (List Entry) ℕ
+with_front_entries front told = told >>= (λ entries. Ok (front ++ entries))
 
 -- they were begun for the plan, and the line that names the format and one for each entry were read
 pub record AreEarsOf (plan : Plan) (ears : Ears) : Type 0 where
@@ -39,7 +39,7 @@ pub record WasTold (plan : Plan) (ears : Ears) : Type 0 where
 -- the entries of a front of the lines were heard, and the rest tells those behind it, by so many lines at most
 pub record IsBehind (plan : Plan) (text : List ℕ) (left : ℕ) (reader : ReadSoFar) (ears : Ears) : Type 0 where
   pub front : List Entry
-  pub told : told_of plan text ≡ with_front front (goes_on left plan reader.tally reader.rest)
+  pub told : told_of plan text ≡ with_front_entries front (goes_on left plan reader.tally reader.rest)
   pub heard : HasHeardAll plan front ears
 
 -- the entries of all lines were heard

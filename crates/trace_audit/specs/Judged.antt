@@ -27,13 +27,13 @@ abbrev pub inner_found : Plan → CircuitId → List ℕ → Option (List ℕ)
 inner_found plan circuit octets = ok_of (inner_at plan circuit octets)
 
 -- a frame of a circuit as it is known in its service
-abbrev pub entered_by : ℕ → Option ServiceId → Option (List ℕ) → Option Entered
-entered_by number None frame = None
-entered_by number (Some service) None = None
-entered_by number (Some service) (Some frame) = Some (record { number = number; service = service.0; frame = frame })
+abbrev pub entered_in_service : ℕ → Option ServiceId → Option (List ℕ) → Option Entered
+entered_in_service number None frame = None
+entered_in_service number (Some service) None = None
+entered_in_service number (Some service) (Some frame) = Some (record { number = number; service = service.0; frame = frame })
 
 abbrev pub entered_at : Plan → CircuitId → ℕ → List ℕ → Option Entered
-entered_at plan circuit number octets = entered_by number (service_of plan circuit) (inner_found plan circuit octets)
+entered_at plan circuit number octets = entered_in_service number (service_of plan circuit) (inner_found plan circuit octets)
 
 abbrev pub has_one : List Entered → Option Entered → Bool
 has_one came None = false

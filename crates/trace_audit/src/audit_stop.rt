@@ -33,9 +33,9 @@ impl From<NoMemory> for AuditStop {
 impl From<ReportFault> for AuditStop {
     ghost use Rattle.std.specs.Prelude.{◌≡◌};
     ghost use Rattle.std.specs.Prelude.{◌≡◌};
-    ghost use Rattle.trace_audit.specs.Heard.{stop_of};
+    ghost use Rattle.trace_audit.specs.Heard.{fault_stop};
 
-    ghost from_gives = { λ fault e. e ≡ stop_of fault };
+    ghost from_gives = { λ fault e. e ≡ fault_stop fault };
 
     fn from(fault: ReportFault) -> Self {
         match fault {

@@ -21,15 +21,15 @@ use Rattle.vplsnet.specs.declared.audit_rule.AuditRule.{AuditRule}
 use Rattle.vplsnet.specs.declared.audit_rule.AuditRule.TheVariants as rule
 use Rattle.vplsnet.specs.declared.outcome.Outcome.{Outcome}
 use Rattle.vplsnet.specs.declared.outcome.Outcome.TheVariants.{Done, Usage, ReadFault, WriteFault, TooLong, ScenarioRefused, NoCircuit, CaptureRefused, ScriptRefused, AuditRefused, Stopped, DecodeRefused, Unfinished, NoMemory}
-use Rattle.vplsnet.specs.Answers.{CallsFor, Completes, Finishes, IsCutShort, IsEndOf, IsJudged, IsMade, IsRefused, IsSound, IsSoundOutcome, IsTooLong, IsWhole, Makes, MakesRun, SaysOutcome, run_text}
+use Rattle.vplsnet.specs.Answers.{CallsFor, Completes, Finishes, IsCutShort, IsEndOf, IsJudged, IsMade, IsRefused, IsSoundFile as IsSound, IsSoundOutcome, IsTooLong, IsWholeTaken, MakesAnswer, MakesRun, SaysOutcome, run_text}
 use Rattle.vplsnet.specs.Around.{Files, Around, HasWriteFault, IsUntouched, Has, TellsFile}
 use Rattle.vplsnet.specs.Asked.{Asked, Replay, Tables, Capture, Decode, Rehearse, Migrate, Discover, Switchover, Audit}
 use Rattle.vplsnet.specs.Audit.{stop_of}
 use Rattle.vplsnet.specs.Capture.{lacks_circuit}
 use Rattle.vplsnet.specs.Decode.{IsDecoding, IsDecodedAs}
-use Rattle.vplsnet.specs.Discover.{IsDiscovery}
+use Rattle.vplsnet.specs.Discover.{IsDiscoverRun}
 use Rattle.vplsnet.specs.Files.{IsLonger, IsNotHad}
-use Rattle.vplsnet.specs.Inputs.{AreReadNext, ComesTo, IsNext, IsNextAfter, IsNextBehind, IsNextDiscovery, IsNextExchange, IsNextReport, IsNextOf, IsNextPlayed, IsNextRead, IsReadNext, Discovery, Exchange, Report, Migration, Next, Reads, Refuses, Run, Stream, Wanted, Work, Works, played, report_file, scenario_limit, script_file, stream_limit}
+use Rattle.vplsnet.specs.Inputs.{AreReadNext, ComesTo, IsNextInput, IsNextAfter, IsNextBehind, IsNextDiscovery, IsNextExchange, IsNextReport, IsNextOf, IsNextPlayed, IsNextRead, IsReadNext, Discovery, Exchange, Report, Migration, Next, Reads, Refuses, Run, Stream, Wanted, CommandWork, Works, played, report_file, scenario_limit, script_file, stream_limit}
 use Rattle.vplsnet.specs.ScenarioFile.{HasNoScenario, IsOfFile}
 use Rattle.vplsnet.specs.RunOver.{outcome_by, run_of}
 use Rattle.vplsnet.specs.ScenarioRun.{IsScenarioRun, whole_run}
@@ -94,7 +94,7 @@ stream_own (Pending at (octet ∷ rest)) = refl
 stream_own (Refused base fault) = refl
 
 -- what was made and taken whole is an answer
-whole_answers : (around : Around) (asked : Asked) (network : Option NetLists) (outcome : Outcome) → is_own outcome ≡ true → IsWhole around asked network outcome
+whole_answers : (around : Around) (asked : Asked) (network : Option NetLists) (outcome : Outcome) → is_own outcome ≡ true → IsWholeTaken around asked network outcome
     → SaysOutcome around asked network outcome
 whole_answers around asked network Done own whole = whole
 whole_answers around asked network (Stopped stop) own whole = whole
@@ -282,7 +282,7 @@ one_behind : (file : Next) (IsNextOfIt : List ℕ → Next → Type 0) → ((oct
 one_behind file IsNextOfIt one [] next other a b = a ∙ sym b
 one_behind file IsNextOfIt one (octets ∷ read) next other a b = one octets next other a b
 
-one_next : (asked : Asked) (read : List (List ℕ)) (next other : Next) → IsNext asked read next → IsNext asked read other → next ≡ other
+one_next : (asked : Asked) (read : List (List ℕ)) (next other : Next) → IsNextInput asked read next → IsNextInput asked read other → next ≡ other
 one_next (Replay file) [] next other a b = a ∙ sym b
 one_next (Replay file) (octets ∷ read) next other a b = one_read (Replay file) (document octets) read next other a b
 one_next (Tables file) [] next other a b = a ∙ sym b
@@ -331,7 +331,7 @@ record ReadsOn (Holds : List ℕ → List ℕ → Type 0) (next : Next) : Type 0
   holds : Holds wanted.name octets
   fits : length octets ≤ wanted.limit
 
-reads_on : (Holds : List ℕ → List ℕ → Type 0) (asked : Asked) (before : List (List ℕ)) (octets : List ℕ) (next : Next) → IsReadNext Holds asked before octets → IsNext asked before next
+reads_on : (Holds : List ℕ → List ℕ → Type 0) (asked : Asked) (before : List (List ℕ)) (octets : List ℕ) (next : Next) → IsReadNext Holds asked before octets → IsNextInput asked before next
     → ReadsOn Holds next
 reads_on Holds asked before octets next reads is = record {
   wanted = reads.wanted;
@@ -342,23 +342,23 @@ reads_on Holds asked before octets next reads is = record {
 }
 
 -- of two readings behind the same files, of which one tells them, the same comes next, or one of them reads on
-followed : (around : Around) (asked : Asked) (before read others : List (List ℕ)) (next other : Next) → AreReadNext (Has around.files) asked before read → IsNext asked (before ++ read) next
-    → AreReadNext (IsSound around) asked before others → IsNext asked (before ++ others) other → (next ≡ other) ⊎ ReadsOn (IsSound around) next ⊎ ReadsOn (Has around.files) other
+followed : (around : Around) (asked : Asked) (before read others : List (List ℕ)) (next other : Next) → AreReadNext (Has around.files) asked before read → IsNextInput asked (before ++ read) next
+    → AreReadNext (IsSound around) asked before others → IsNextInput asked (before ++ others) other → (next ≡ other) ⊎ ReadsOn (IsSound around) next ⊎ ReadsOn (Has around.files) other
 followed around asked before [] [] next other are is told calls =
-    inl (one_next asked before next other (subst (λ (l : List (List ℕ)). IsNext asked l next) (append-nil before) is) (subst (λ (l : List (List ℕ)). IsNext asked l other) (append-nil before) calls))
+    inl (one_next asked before next other (subst (λ (l : List (List ℕ)). IsNextInput asked l next) (append-nil before) is) (subst (λ (l : List (List ℕ)). IsNextInput asked l other) (append-nil before) calls))
 followed around asked before [] (octets ∷ others) next other are is told calls =
-    inr (inl (reads_on (IsSound around) asked before octets next told.0 (subst (λ (l : List (List ℕ)). IsNext asked l next) (append-nil before) is)))
+    inr (inl (reads_on (IsSound around) asked before octets next told.0 (subst (λ (l : List (List ℕ)). IsNextInput asked l next) (append-nil before) is)))
 followed around asked before (octets ∷ read) [] next other are is told calls =
-    inr (inr (reads_on (Has around.files) asked before octets other are.0 (subst (λ (l : List (List ℕ)). IsNext asked l other) (append-nil before) calls)))
+    inr (inr (reads_on (Has around.files) asked before octets other are.0 (subst (λ (l : List (List ℕ)). IsNextInput asked l other) (append-nil before) calls)))
 followed around asked before (octets ∷ read) (same ∷ others) next other are is told calls =
     let wanted : Reads told.0.wanted ≡ Reads are.0.wanted = one_next asked before (Reads told.0.wanted) (Reads are.0.wanted) told.0.next are.0.next in
     let file : told.0.wanted ≡ are.0.wanted = cc (wanted) in
     let tells : TellsFile around.files are.0.wanted.name same = subst (λ (w : Wanted). TellsFile around.files w.name same) file told.0.holds.tells in
     let equal : same ≡ octets = same_octets around.files are.0.wanted.name same octets tells are.0.holds in
     followed around asked (before ++ octets ∷ []) read others next other are.1
-    (subst (λ (l : List (List ℕ)). IsNext asked l next) (sym (append_assoc before (octets ∷ []) read)) is)
+    (subst (λ (l : List (List ℕ)). IsNextInput asked l next) (sym (append_assoc before (octets ∷ []) read)) is)
     (subst (λ (o : List ℕ). AreReadNext (IsSound around) asked (before ++ o ∷ []) others) equal told.1)
-    (subst (λ (l : List (List ℕ)). IsNext asked l other) (sym (append_assoc before (octets ∷ []) others)) (subst (λ (o : List ℕ). IsNext asked (before ++ o ∷ others) other) equal calls))
+    (subst (λ (l : List (List ℕ)). IsNextInput asked l other) (sym (append_assoc before (octets ∷ []) others)) (subst (λ (o : List ℕ). IsNextInput asked (before ++ o ∷ others) other) equal calls))
 
 -- the reading of an answer, beside that of a sound surrounding
 met : (around : Around) (asked : Asked) (next : Next) (called : Outcome) → ComesTo (Has around.files) asked next → (sound : IsSoundOutcome around asked called) → (next ≡ sound.next)
@@ -446,7 +446,7 @@ decode_end octets text network outcome called makes end =
     let same = (one_parsing.one 0 largest_pdu octets makes.text_is.pdus end.pdus makes.ending end.ending (omega arith) makes.text_is.parsed end.parsed).ending_is in
     makes.ends ∙ (ap outcome_of_ending same ∙ sym end.ends)
 
-discovery_end : (plan : Plan) (lines : List ScriptLine) (text : List ℕ) (network : Option NetLists) (outcome called : Outcome) → IsDiscovery plan lines text network outcome
+discovery_end : (plan : Plan) (lines : List ScriptLine) (text : List ℕ) (network : Option NetLists) (outcome called : Outcome) → IsDiscoverRun plan lines text network outcome
     → called ≡ outcome_by (run_of plan (events_made plan lines)).stop → outcome ≡ called
 discovery_end plan lines text network Done called makes is = sym (is ∙ sym (ap (λ (r : Ended). outcome_by r.stop) makes.is_run.is_run.ends))
 discovery_end plan lines text network (Stopped stop) called makes is = sym (is ∙ sym (ap (λ (r : Ended). outcome_by r.stop) makes.is_run.is_run.ends))
@@ -463,7 +463,7 @@ discovery_end plan lines text network (DecodeRefused fault) called makes is = ab
 discovery_end plan lines text network (Unfinished at) called makes is = absurd makes
 discovery_end plan lines text network NoMemory called makes is = absurd makes
 
-makes_end : (asked : Asked) (work : Work) (text : List ℕ) (network : Option NetLists) (outcome called : Outcome) → Makes asked work text network outcome → IsEndOf work called → outcome ≡ called
+makes_end : (asked : Asked) (work : CommandWork) (text : List ℕ) (network : Option NetLists) (outcome called : Outcome) → MakesAnswer asked work text network outcome → IsEndOf work called → outcome ≡ called
 makes_end asked (Run scenario captures) text network outcome called makes end = run_end asked scenario captures text network outcome called makes end
 makes_end asked (Stream octets) text network outcome called makes end = decode_end octets text network outcome called makes end
 makes_end asked (Migration scenario) text network outcome called makes end = makes.ends ∙ sym end
@@ -501,7 +501,7 @@ judged_never around asked line which called judged sound = elim (met around aske
   ]
 ]
 
-whole_called : (around : Around) (asked : Asked) (network : Option NetLists) (outcome called : Outcome) → IsWhole around asked network outcome → IsSoundOutcome around asked called → outcome ≡ called
+whole_called : (around : Around) (asked : Asked) (network : Option NetLists) (outcome called : Outcome) → IsWholeTaken around asked network outcome → IsSoundOutcome around asked called → outcome ≡ called
 whole_called around asked network outcome called whole sound = (made_called around asked whole.text network outcome called whole.made sound).0
 
 completes : (around : Around) (asked : Asked) (network : Option NetLists) (outcome : Outcome) → SaysOutcome around asked network outcome → Completes around asked outcome

@@ -15,7 +15,7 @@ use Rattle.command_run.specs.Made.{made_by}
 use Rattle.command_run.proofs.PlannedLemmas.{made_planned}
 use Rattle.command_text.specs.Planned.{IsPlanned, names_of}
 use Rattle.discovery_net.specs.Acts.{Act, Does, Tells, events_in}
-use Rattle.discovery_net.specs.Deeds.{Discovery as DiscoveryState, Hello, adjacency_lives, hello_of, octets_of, opened}
+use Rattle.discovery_net.specs.Deeds.{Discovery as DiscoveryState, Hello, adjacency_lives, hello_numbered, octets_of_hello, discovery_opened as opened}
 use Rattle.discovery_net.specs.Lines.{Lapse, acts_of, after_line, bring_acts, downs, lapses_from, lapses_with, may_open, next_hello}
 use Rattle.discovery_net.specs.Lists.{DiscoveryLists, ended_at}
 use Rattle.discovery_net.specs.Script.{HoldsBehindEach, events_made, script_acts, script_course}
@@ -26,7 +26,7 @@ use Rattle.discovery_script.specs.declared.note.Note.TheVariants as note
 use Rattle.discovery_script.specs.declared.placed_note.PlacedNote.{PlacedNote}
 use Rattle.discovery_script.specs.declared.script_line.ScriptLine.{ScriptLine}
 use Rattle.discovery_script.specs.declared.script_line.ScriptLine.TheVariants as line
-use Rattle.discovery_script.specs.Lines.{lines_in}
+use Rattle.discovery_script.specs.Lines.{discovery_lines_in}
 use Rattle.discovery_script.specs.Planned.{IsLineOf}
 use Rattle.flight_laws.specs.Ends.{HasTypes}
 use Rattle.network_model.specs.State.{NetworkState, empty_network, stands}
@@ -44,8 +44,8 @@ use Rattle.vplsnet.specs.declared.outcome.Outcome.TheVariants.{ScenarioRefused, 
 use Rattle.vplsnet.specs.Answers.{SaysOutcome}
 use Rattle.vplsnet.specs.Around.{Around, Files, Has, IsUntouched}
 use Rattle.vplsnet.specs.Asked.{Discover}
-use Rattle.vplsnet.specs.Discover.{IsDiscovery, IsDiscoveryRun, discovery_text}
-use Rattle.vplsnet.specs.Inputs.{ComesTo, Discovery, IsNext, IsNextBehind, IsNextDiscovery, Refuses, Wanted, Works, next_script, script_file, script_limit}
+use Rattle.vplsnet.specs.Discover.{IsDiscoverRun, IsDiscoveryRun, discovery_text}
+use Rattle.vplsnet.specs.Inputs.{ComesTo, Discovery, IsNextInput, IsNextBehind, IsNextDiscovery, Refuses, Wanted, Works, next_script, script_file, script_limit}
 use Rattle.vplsnet.specs.PlanFile.{HasBoth, IsReadOfTwo, LacksOne, ReadsSecond}
 use Rattle.vplsnet.specs.Reads.{GainsReads, IsReadOfNext}
 use Rattle.vplsnet.specs.RunOver.{outcome_by}
@@ -101,10 +101,10 @@ downs_planned plan (lapse ∷ lapses) network are = by (stands network lapse.edg
 
 line_planned : (plan : Plan) (d : DiscoveryState) (l : ScriptLine) → IsLineOf plan l → All (IsEventOf plan) (events_in (acts_of plan d l))
 line_planned plan d (line.Hello from to hold) of = by (are_joined plan from.0 to.0) where
-  by : (joined : Bool) → All (IsEventOf plan) (events_in (if joined then Tells (note.Hello (length d.hellos + 1) from to (octets_of plan (next_hello d from to hold))) ∷ [] else Tells note.Idle ∷ []))
+  by : (joined : Bool) → All (IsEventOf plan) (events_in (if joined then Tells (note.Hello (length d.hellos + 1) from to (octets_of_hello plan (next_hello d from to hold))) ∷ [] else Tells note.Idle ∷ []))
   by true = All-nil (IsEventOf plan)
   by false = All-nil (IsEventOf plan)
-line_planned plan d (line.Bring number) of = by (hello_of d number) where
+line_planned plan d (line.Bring number) of = by (hello_numbered d number) where
   told : (hello : Hello) (lived : Bool) → All (IsEventOf plan) (events_in (if lived then [] else Tells (note.Up hello.to hello.from) ∷ []))
   told hello true = All-nil (IsEventOf plan)
   told hello false = All-nil (IsEventOf plan)
@@ -174,10 +174,10 @@ reads_script file script = record {
 
 -- what comes behind both files
 script_next : (file script octets : List ℕ) (scenario : Scenario) (text : List ℕ) → document text ≡ Ok scenario
-    → IsNext (Discover file script) (text ∷ octets ∷ []) (next_script (Discovery scenario.plan) (lines_in (names_of scenario.plan) octets))
+    → IsNextInput (Discover file script) (text ∷ octets ∷ []) (next_script (Discovery scenario.plan) (discovery_lines_in (names_of scenario.plan) octets))
 script_next file script octets scenario text is =
     next_after (λ s it. IsNextBehind (script_file script) (IsNextDiscovery s) (octets ∷ []) it) text (Ok scenario)
-    (next_script (Discovery scenario.plan) (lines_in (names_of scenario.plan) octets)) is refl
+    (next_script (Discovery scenario.plan) (discovery_lines_in (names_of scenario.plan) octets)) is refl
 
 -- one of the files was not had
 pub discovery_lacks : (around : Around) (file script : List ℕ) (network : Option NetLists) (outcome : Outcome)
@@ -193,7 +193,7 @@ discovery_reads files file script before after gains = two_read files (Discover 
 
 -- a run is made of its lines
 script_made : (plan : Plan) (lines : List ScriptLine) (left : NetLists) (notes : List PlacedNote) (reason : Option NetStop) → IsDiscoveryRun plan lines left notes reason
-    → IsDiscovery plan lines (discovery_text left notes reason) (Some left) (outcome_by reason)
+    → IsDiscoverRun plan lines (discovery_text left notes reason) (Some left) (outcome_by reason)
 script_made plan lines left notes None run = record { left = left; notes = notes; network_is = refl; is_run = run; text_is = refl }
 script_made plan lines left notes (Some reason) run = record { left = left; notes = notes; network_is = refl; is_run = run; text_is = refl }
 
@@ -208,31 +208,31 @@ lines_answer around file script plan lines network outcome come (inr none) = non
 
 pub discovery_answers : (around : Around) (file script octets lent : List ℕ) (scenario : Scenario) (network : Option NetLists) (outcome : Outcome) → lent ≡ octets
     → HasBoth around.files file (script_wanted script) scenario octets
-    → EndsScript (lines_in (names_of scenario.plan) lent)
+    → EndsScript (discovery_lines_in (names_of scenario.plan) lent)
     (λ lines. EndsDiscovery scenario.plan lines (written around.taken_before around.sink_before []) (written around.taken_after around.sink_after []) network outcome)
     (written around.taken_before around.sink_before []) (written around.taken_after around.sink_after []) network outcome
     → SaysOutcome around (Discover file script) network outcome
 discovery_answers around file script octets lent scenario network outcome same both ends =
-    script_ended around (Discover file script) file octets (script_wanted script) scenario (lines_in (names_of scenario.plan) octets) (Discovery scenario.plan)
+    script_ended around (Discover file script) file octets (script_wanted script) scenario (discovery_lines_in (names_of scenario.plan) octets) (Discovery scenario.plan)
     (λ lines. EndsDiscovery scenario.plan lines (old_of around) (now_of around) network outcome) network outcome (reads_script file script) both (script_next file script octets scenario)
     (λ lines come it. lines_answer around file script scenario.plan lines network outcome come it)
-    (subst (λ (o : List ℕ). EndsScript (lines_in (names_of scenario.plan) o) (λ lines. EndsDiscovery scenario.plan lines (old_of around) (now_of around) network outcome)
+    (subst (λ (o : List ℕ). EndsScript (discovery_lines_in (names_of scenario.plan) o) (λ lines. EndsDiscovery scenario.plan lines (old_of around) (now_of around) network outcome)
     (old_of around) (now_of around) network outcome) same ends)
 
 pub ruleset file_steps = (discovery_lacks, discovery_reads, discovery_answers)
 
 -- ---- on the way
 
-pub lines_end : (plan : Plan) (octets : List ℕ) (lines : List ScriptLine) (old now : Written) (network : Option NetLists) (outcome : Outcome) → lines_in (names_of plan) octets
+pub lines_end : (plan : Plan) (octets : List ℕ) (lines : List ScriptLine) (old now : Written) (network : Option NetLists) (outcome : Outcome) → discovery_lines_in (names_of plan) octets
     ≡ Ok lines → EndsDiscovery plan lines old now network outcome
-    → EndsScript (lines_in (names_of plan) octets) (λ ls. EndsDiscovery plan ls old now network outcome) old now network outcome
+    → EndsScript (discovery_lines_in (names_of plan) octets) (λ ls. EndsDiscovery plan ls old now network outcome) old now network outcome
 lines_end plan octets lines old now network outcome is ends = inl (record { lines = lines; is = is; ends = ends })
 
 pub refused_end : (plan : Plan) (octets : List ℕ) (fault : ScriptFault) (old : Written) (network : Option NetLists) (made outcome : Outcome)
-    → Fails fault (lines_in (names_of plan) octets) → made ≡ outcome_of_script fault → network ≡ None
-    → outcome ≡ made → EndsScript (lines_in (names_of plan) octets) (λ ls. EndsDiscovery plan ls old old network outcome) old old network outcome
+    → Fails fault (discovery_lines_in (names_of plan) octets) → made ≡ outcome_of_script fault → network ≡ None
+    → outcome ≡ made → EndsScript (discovery_lines_in (names_of plan) octets) (λ ls. EndsDiscovery plan ls old old network outcome) old old network outcome
 refused_end plan octets fault old network made outcome fails is none same =
-    inr (record { why = no_lines (lines_in (names_of plan) octets) fault outcome fails (same ∙ is); taken = refl; no_run = none })
+    inr (record { why = no_lines (discovery_lines_in (names_of plan) octets) fault outcome fails (same ∙ is); taken = refl; no_run = none })
 
 pub ruleset script_steps = (lines_end, refused_end)
 

@@ -11,7 +11,7 @@ use Rattle.vplsnet.specs.Answers.{IsRefused}
 use Rattle.vplsnet.specs.Around.{Files, Has}
 use Rattle.vplsnet.specs.Asked.{Asked}
 use Rattle.vplsnet.specs.Files.{IsLonger, IsNotHad}
-use Rattle.vplsnet.specs.Inputs.{AreReadNext, ComesTo, IsNext, IsNextAfter, Next, Reads, Wanted, scenario_limit}
+use Rattle.vplsnet.specs.Inputs.{AreReadNext, ComesTo, IsNextInput, IsNextAfter, Next, Reads, Wanted, scenario_limit}
 use Rattle.vplsnet.specs.PlanFile.{HasBoth, IsReadOfTwo, LacksOne, ReadsSecond}
 use Rattle.vplsnet.specs.Reads.{GainsReads, IsReadOf, IsReadOfNext}
 use Rattle.vplsnet.specs.ScenarioFile.{HasNoScenario, IsOfFile}
@@ -84,7 +84,7 @@ second_next files asked file second scenario reads of =
 -- behind both
 pub comes_behind_both : (files : Files) (asked : Asked) (file octets : List ℕ) (second : Wanted) (scenario : Scenario) (next : Next) → ReadsSecond asked file second
     → HasBoth files file second scenario octets
-    → ((text : List ℕ) → document text ≡ Ok scenario → IsNext asked (text ∷ octets ∷ []) next) → ComesTo (Has files) asked next
+    → ((text : List ℕ) → document text ≡ Ok scenario → IsNextInput asked (text ∷ octets ∷ []) next) → ComesTo (Has files) asked next
 comes_behind_both files asked file octets second scenario next reads both comes = record {
   read = both.of.octets ∷ octets ∷ [];
   are_read = (

@@ -26,7 +26,7 @@ use Rattle.address_laws.proofs.KnownLemmas.{runs_reach_known}
 use Rattle.address_laws.proofs.PointsLemmas.{runs_keep_points}
 use Rattle.move_laws.proofs.HealLemmas.{runs_heal_moves}
 use Rattle.psn_net.specs.declared.net_stop.NetStop.{NetStop}
-use Rattle.psn_net.specs.Lists.{NetLists, seen}
+use Rattle.psn_net.specs.Lists.{NetLists, network_seen}
 use Rattle.psn_net.specs.Runs.{AreDone, IsRunOf}
 use Rattle.psn_net.proofs.RunLemmas.{run_of}
 use Rattle.command_text.specs.Planned.{IsPlanned}
@@ -85,7 +85,7 @@ pub is_run_over : (plan : Plan) (events : List Event) (left : NetLists) (reason 
     → IsRunOver plan events left reason
 is_run_over plan events left reason checked planned has =
     let run : IsRunOf plan (empty_network plan) [] events left reason = run_of plan (empty_network plan) [] events left reason has.ends in
-    let done : All (IsEventOf plan) run.done = done_first plan events run.done left.trace (length (seen left).under_way) reason run.are_done planned in
+    let done : All (IsEventOf plan) run.done = done_first plan events run.done left.trace (length (network_seen left).under_way) reason run.are_done planned in
     record {
       plan_is = has.plan_is;
       going = has.going;

@@ -22,7 +22,7 @@ use Rattle.vplsnet.specs.Asked.{Asked, Replay, Tables, Capture, Rehearse}
 use Rattle.vplsnet.specs.Capture.{lacks_circuit}
 use Rattle.vplsnet.specs.Captures.{AreCaptures, FailsToPlay, HasPlayed, IsCaptureFile}
 use Rattle.vplsnet.specs.Files.{IsLonger, IsNotHad}
-use Rattle.vplsnet.specs.Inputs.{AreReadNext, ComesTo, IsNext, IsNextOf, IsNextPlayed, IsNextRead, Next, Reads, Refuses, Run, Wanted, Works, capture_file, capture_limit, played, scenario_file, scenario_limit}
+use Rattle.vplsnet.specs.Inputs.{AreReadNext, ComesTo, IsNextInput, IsNextOf, IsNextPlayed, IsNextRead, Next, Reads, Refuses, Run, Wanted, Works, capture_file, capture_limit, played, scenario_file, scenario_limit}
 use Rattle.vplsnet.specs.ScenarioFile.{HasAll, HasNoScenario, IsNoCircuit, IsNoScenario, IsOfFile, LacksSome, ReadsScenario, outcome_of_fault}
 
 -- ---- behind the captures that were read
@@ -52,7 +52,7 @@ pub record IsScenarioFile (files : Files) (asked : Asked) (file octets : List �
   pub circuit : lacks_circuit asked scenario.plan ≡ None
 
 next_of : (files : Files) (asked : Asked) (file octets : List ℕ) (scenario : Scenario) (read : List (List ℕ)) (next : Next) → IsScenarioFile files asked file octets scenario
-    → IsNextPlayed scenario [] (played scenario.commands) read next → IsNext asked (octets ∷ read) next
+    → IsNextPlayed scenario [] (played scenario.commands) read next → IsNextInput asked (octets ∷ read) next
 next_of files asked file octets scenario read next is comes =
     let circuit : IsNextOf (lacks_circuit asked scenario.plan) scenario read next = subst (λ (o : Option (List ℕ)). IsNextOf o scenario read next) (sym is.circuit) comes in
     is.reads.behind octets read next (subst (λ (r : Result Scenario ScenarioFault). IsNextRead asked r read next) (sym is.document_is) circuit)
@@ -157,8 +157,8 @@ no_scenario_by octets fault outcome fails is = subst (λ (o : Outcome). IsNoScen
   by (scenario_fault.Plan fault) fails = (fails, λ want. cc (want))
 
 -- the scenario of the file that is read first was not had
-pub refused_first : (files : Files) (before after : List ℕ → ℕ) (asked : Asked) (file : List ℕ) (outcome : Outcome) → IsNext asked [] (scenario_file file)
-    → ((octets : List ℕ) (fault : ScenarioFault) → document octets ≡ Err fault → IsNext asked (octets ∷ []) (Refuses (ScenarioRefused fault)))
+pub refused_first : (files : Files) (before after : List ℕ → ℕ) (asked : Asked) (file : List ℕ) (outcome : Outcome) → IsNextInput asked [] (scenario_file file)
+    → ((octets : List ℕ) (fault : ScenarioFault) → document octets ≡ Err fault → IsNextInput asked (octets ∷ []) (Refuses (ScenarioRefused fault)))
     → HasNoScenario files before after file outcome → IsRefused files before after asked outcome
 refused_first files before after asked file ReadFault first refuses why =
     record { wanted = record { name = file; limit = scenario_limit }; come = record { read = []; are_read = tt; is_next = first }; cause = why }

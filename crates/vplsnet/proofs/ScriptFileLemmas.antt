@@ -11,7 +11,7 @@ use Rattle.vplsnet.specs.declared.outcome.Outcome.TheVariants.{Done, Usage, Read
 use Rattle.vplsnet.specs.Answers.{IsRefused, SaysOutcome}
 use Rattle.vplsnet.specs.Around.{Around, Has}
 use Rattle.vplsnet.specs.Asked.{Asked}
-use Rattle.vplsnet.specs.Inputs.{ComesTo, IsNext, Wanted, Work, Works, next_script}
+use Rattle.vplsnet.specs.Inputs.{ComesTo, IsNextInput, Wanted, CommandWork, Works, next_script}
 use Rattle.vplsnet.specs.PlanFile.{HasBoth, ReadsSecond}
 use Rattle.vplsnet.specs.ScriptFile.{EndsScript, IsNoScript, outcome_of_script}
 use Rattle.vplsnet.proofs.AnswerLemmas.{now_of, old_of, refused_answers}
@@ -25,15 +25,15 @@ no_lines read fault outcome fails is = subst (λ (o : Outcome). IsNoScript read 
   by script_fault.NoMemory fails = tt
 
 -- A script was read behind its scenario: an answer of its lines is one of the call, and so is what refuses it.
-pub script_ended : {Lines : Type 0} (around : Around) (asked : Asked) (file octets : List ℕ) (second : Wanted) (scenario : Scenario) (read : Result Lines ScriptFault) (work : Lines → Work) (Ends : Lines → Type 0) (network : Option NetLists)
+pub script_ended : {Lines : Type 0} (around : Around) (asked : Asked) (file octets : List ℕ) (second : Wanted) (scenario : Scenario) (read : Result Lines ScriptFault) (work : Lines → CommandWork) (Ends : Lines → Type 0) (network : Option NetLists)
     (outcome : Outcome) → ReadsSecond asked file second → HasBoth around.files file second scenario octets
-    → ((text : List ℕ) → document text ≡ Ok scenario → IsNext asked (text ∷ octets ∷ []) (next_script work read))
+    → ((text : List ℕ) → document text ≡ Ok scenario → IsNextInput asked (text ∷ octets ∷ []) (next_script work read))
     → ((lines : Lines) → ComesTo (Has around.files) asked (Works (work lines)) → Ends lines → SaysOutcome around asked network outcome)
     → EndsScript read Ends (old_of around) (now_of around) network outcome → SaysOutcome around asked network outcome
 script_ended {Lines} around asked file octets second scenario read work Ends network outcome reads both next answers ends = by ends where
   comes : (result : Result Lines ScriptFault) → read ≡ result → ComesTo (Has around.files) asked (next_script work result)
   comes result is = comes_behind_both around.files asked file octets second scenario (next_script work result) reads both
-      (λ text document_is. subst (λ (r : Result Lines ScriptFault). IsNext asked (text ∷ octets ∷ []) (next_script work r)) is (next text document_is))
+      (λ text document_is. subst (λ (r : Result Lines ScriptFault). IsNextInput asked (text ∷ octets ∷ []) (next_script work r)) is (next text document_is))
 
   refused : (o : Outcome) → IsNoScript read o → IsRefused around.files around.shelf_before around.shelf_after asked o
   refused (ScriptRefused line word) why = comes (Err (script_fault.Bad line word)) why

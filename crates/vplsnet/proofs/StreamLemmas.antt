@@ -24,14 +24,14 @@ use Rattle.message_text.specs.Lent.{AddsLines}
 use Rattle.message_text.specs.Line.{decoded_lines}
 use Rattle.net_base.specs.outside.Outside.{Appends}
 use Rattle.net_values.specs.Octets.{AreOctets}
-use Rattle.text_lines.specs.Written.{Written, written, GoesOn, IsCut}
+use Rattle.text_lines.specs.Written.{Written, written, WritingGoesOn, IsCut}
 use Rattle.text_lines.proofs.WrittenLemmas.{cut_first, cut_later, cut_text, goes_none, puts_two, whole_text, writes_appends}
 use Rattle.vplsnet.specs.declared.outcome.Outcome.{Outcome}
 use Rattle.vplsnet.specs.declared.outcome.Outcome.TheVariants.{Done, DecodeRefused, NoMemory, Unfinished, WriteFault}
 use Rattle.vplsnet.specs.declared.stream_stop.StreamStop.{StreamStop}
 use Rattle.vplsnet.specs.declared.stream_stop.StreamStop.TheVariants as stop
 use Rattle.vplsnet.specs.StreamText.{largest_pdu, stream_lines, IsTextFrom, IsStreamText, outcome_of_ending}
-use Rattle.vplsnet.specs.StreamSteps.{IsGoing, AddsPdu, Flushes, IsFedTo, IsFrontStop, IsStopped, LeavesSome, PutsAll, PutsFront, PutsOne, PutsPart, PutsToFault, PutsUpTo, StopsIn, StopsText, TakesOne, TakesPdu, TextGoesOn, outcome_at}
+use Rattle.vplsnet.specs.StreamSteps.{IsStreamGoing, AddsPdu, Flushes, IsFedTo, IsFrontStop, IsStopped, LeavesSome, PutsAll, PutsFront, PutsOne, PutsPart, PutsToFault, PutsUpTo, StopsIn, StopsText, TakesOne, TakesPdu, TextGoesOn, outcome_at}
 use Rattle.vplsnet.specs.Writing.{EndsStream, EndsText, GivesUp}
 
 -- a PDU in front has some octets
@@ -50,7 +50,7 @@ place_near base count few =
 -- ---- one PDU
 
 -- the lines of what is lent of the PDU in front were added
-pub puts_front : (s : StreamState) (seen : SeenPdu) (fed base : ℕ) (before after : List ℕ) → IsGoing s fed → base ≡ fed - length s.held → IsPeeked s seen → HasNext s
+pub puts_front : (s : StreamState) (seen : SeenPdu) (fed base : ℕ) (before after : List ℕ) → IsStreamGoing s fed → base ≡ fed - length s.held → IsPeeked s seen → HasNext s
     → AddsLines base seen.spellings before after → PutsFront s before after
 puts_front s seen fed base before after going is peeked ready adds =
     let place : base ≡ s.base = omega (arith, is, going.place) in
@@ -71,7 +71,7 @@ pub adds_front : (old new : StreamState) (lines : List ℕ) → PutsFront old []
 adds_front old new lines puts passes = record { pdu = puts.pdu; passes = passes puts.pdu puts.rest puts.front; are = puts.lines }
 
 -- the lines of the PDU in front were put
-pub takes_pdu : (old new : StreamState) (lines : List ℕ) (a b : Written) → AddsPdu old new lines → GoesOn a b lines → TakesOne true old new a b
+pub takes_pdu : (old new : StreamState) (lines : List ℕ) (a b : Written) → AddsPdu old new lines → WritingGoesOn a b lines → TakesOne true old new a b
 takes_pdu old new lines a b adds goes = record { lines = lines; adds = adds; goes = goes }
 
 -- none was taken
@@ -102,17 +102,17 @@ abbrev no_part : (whole : List ℕ) (a : Written) → PutsPart whole a a
 no_part whole a = record { front = []; rest = whole; all = refl; goes = goes_none a }
 
 -- one text behind another one
-goes_both : (a b c : Written) (first second : List ℕ) → GoesOn a b first → GoesOn b c second → GoesOn a c (first ++ second)
+goes_both : (a b c : Written) (first second : List ℕ) → WritingGoesOn a b first → WritingGoesOn b c second → WritingGoesOn a c (first ++ second)
 goes_both a b c first second one two = puts_two {T = Unit {0}} {E = Unit {0}} (Ok tt) a b c first second one two
 
 -- a front of a text was put, and then more of it
-stops_behind : (reason : StreamStop) (front rest whole : List ℕ) (ending : Ending) (a b c : Written) → whole ≡ front ++ rest → GoesOn a b front → StopsText reason rest ending b c
+stops_behind : (reason : StreamStop) (front rest whole : List ℕ) (ending : Ending) (a b c : Written) → whole ≡ front ++ rest → WritingGoesOn a b front → StopsText reason rest ending b c
     → StopsText reason whole ending a c
 stops_behind (stop.Fault (fault.Refused base refusal)) front rest whole ending a b c all goes stops = record {
   fault = stops.fault;
   names = stops.names;
   ends = stops.ends;
-  goes = subst (λ (l : List ℕ). GoesOn a c l) (sym all) (goes_both a b c front rest goes stops.goes);
+  goes = subst (λ (l : List ℕ). WritingGoesOn a c l) (sym all) (goes_both a b c front rest goes stops.goes);
 }
 stops_behind (stop.Fault fault.NoMemory) front rest whole ending a b c all goes stops = record {
   front = front ++ stops.front;
@@ -127,7 +127,7 @@ stopped_short : (s : StreamState) (a : Written) → IsStopped (stop.Fault fault.
 stopped_short s a = record { on = λ more whole ending is_text. no_part whole a }
 
 -- a fault stands in front, whatever follows, and the text ends there
-stopped_at : (s : StreamState) (fed : ℕ) (refusal : StreamFault) (a : Written) → IsGoing s fed → IsRefusal s refusal → IsStopped (stop.Fault refusal) s a a
+stopped_at : (s : StreamState) (fed : ℕ) (refusal : StreamFault) (a : Written) → IsStreamGoing s fed → IsRefusal s refusal → IsStopped (stop.Fault refusal) s a a
 stopped_at s fed refusal a going refused = subst (λ (f : StreamFault). IsStopped (stop.Fault f) s a a) (sym refused.is) (record { on = at }) where
   front : IsFrontFault largest_pdu s.held refused.fault
   front = subst (λ (max : ℕ). IsFrontFault max s.held refused.fault) going.max (going_fault s refused.fault going.going refused.stands)
@@ -140,16 +140,16 @@ stopped_at s fed refusal a going refused = subst (λ (f : StreamFault). IsStoppe
         fault = refused.fault;
         names = refl;
         ends = same.ending_is;
-        goes = subst (λ (l : List ℕ). GoesOn a a l) (sym (is_text.text_is ∙ ap stream_lines same.pdus_are)) (goes_none a);
+        goes = subst (λ (l : List ℕ). WritingGoesOn a a l) (sym (is_text.text_is ∙ ap stream_lines same.pdus_are)) (goes_none a);
       }
 
 -- no lines were added
-pub stopped_front : (s : StreamState) (fed : ℕ) (refusal : StreamFault) (a : Written) → IsGoing s fed → IsFrontStop s refusal → IsStopped (stop.Fault refusal) s a a
+pub stopped_front : (s : StreamState) (fed : ℕ) (refusal : StreamFault) (a : Written) → IsStreamGoing s fed → IsFrontStop s refusal → IsStopped (stop.Fault refusal) s a a
 stopped_front s fed refusal a going (inl refused) = stopped_at s fed refusal a going refused
 stopped_front s fed refusal a going (inr short) = subst (λ (f : StreamFault). IsStopped (stop.Fault f) s a a) (sym short) (stopped_short s a)
 
 -- the sink failed at the lines of the PDU in front
-pub stopped_cut : (s : StreamState) (fed : ℕ) (lines text : List ℕ) (a b : Written) → IsGoing s fed → PutsFront s [] lines → text ≡ lines → IsCut a b text → IsStopped stop.Failed s a b
+pub stopped_cut : (s : StreamState) (fed : ℕ) (lines text : List ℕ) (a b : Written) → IsStreamGoing s fed → PutsFront s [] lines → text ≡ lines → IsCut a b text → IsStopped stop.Failed s a b
 stopped_cut s fed lines text a b going puts same cut = record { on = at } where
   at : (more whole : List ℕ) (ending : Ending) → IsTextFrom s.base (s.held ++ more) whole ending → IsCut a b whole
   at more whole ending is_text =
@@ -158,13 +158,13 @@ stopped_cut s fed lines text a b going puts same cut = record { on = at } where
       subst (λ (l : List ℕ). IsCut a b l) (sym all) (cut_first a b lines split.text (subst (λ (l : List ℕ). IsCut a b l) same cut))
 
 -- the place behind the PDU in front
-passed_base : (old new : StreamState) (fed : ℕ) (pdu : Pdu) → IsGoing old fed → fed < 2 ^ 63 → (passes : Passes old new pdu) → new.base ≡ old.base + length passes.piece
+passed_base : (old new : StreamState) (fed : ℕ) (pdu : Pdu) → IsStreamGoing old fed → fed < 2 ^ 63 → (passes : Passes old new pdu) → new.base ≡ old.base + length passes.piece
 passed_base old new fed pdu going few passes =
     let within : length old.held ≡ length passes.piece + length new.held = ap length passes.split ∙ length-append passes.piece new.held in
     let near : old.base + length passes.piece < 2 ^ 63 = omega (arith, going.place, within, few) in
     ap (λ (s : StreamState). s.base) passes.is ∙ place_near old.base (length passes.piece) near
 
-passed_going : (old new : StreamState) (fed : ℕ) (pdu : Pdu) → IsGoing old fed → fed < 2 ^ 63 → Passes old new pdu → IsGoing new fed
+passed_going : (old new : StreamState) (fed : ℕ) (pdu : Pdu) → IsStreamGoing old fed → fed < 2 ^ 63 → Passes old new pdu → IsStreamGoing new fed
 passed_going old new fed pdu going few passes =
     let within : length old.held ≡ length passes.piece + length new.held = ap length passes.split ∙ length-append passes.piece new.held in
     record {
@@ -177,7 +177,7 @@ passed_less : (old new : StreamState) (pdu : Pdu) → Passes old new pdu → len
 passed_less old new pdu passes = omega (arith, ap length passes.split, length-append passes.piece new.held, piece_some passes.piece old.max pdu passes.spelled)
 
 -- the lines of the PDU in front were put
-passed_on : (old new : StreamState) (fed : ℕ) (a b : Written) → IsGoing old fed → fed < 2 ^ 63 → TakesPdu old new a b → TextGoesOn old new a b
+passed_on : (old new : StreamState) (fed : ℕ) (a b : Written) → IsStreamGoing old fed → fed < 2 ^ 63 → TakesPdu old new a b → TextGoesOn old new a b
 passed_on old new fed a b going few takes = record { on = at } where
   passes : Passes old new takes.adds.pdu
   passes = takes.adds.passes
@@ -236,12 +236,12 @@ takes_more : (more : Bool) (old new : StreamState) (a b : Written) → more ≡ 
 takes_more true old new a b went takes = takes
 takes_more false old new a b went takes = absurd (cc (went))
 
-pub taken_going : (more : Bool) (old new : StreamState) (fed : ℕ) (a b : Written) → more ≡ true → IsGoing old fed → fed < 2 ^ 63 → TakesOne more old new a b → IsGoing new fed
+pub taken_going : (more : Bool) (old new : StreamState) (fed : ℕ) (a b : Written) → more ≡ true → IsStreamGoing old fed → fed < 2 ^ 63 → TakesOne more old new a b → IsStreamGoing new fed
 taken_going more old new fed a b went going few takes =
     let adds = (takes_more more old new a b went takes).adds in
     passed_going old new fed adds.pdu going few adds.passes
 
-pub taken_on : (more : Bool) (first old new : StreamState) (fed : ℕ) (a b c : Written) → more ≡ true → IsGoing old fed → fed < 2 ^ 63 → TextGoesOn first old a b
+pub taken_on : (more : Bool) (first old new : StreamState) (fed : ℕ) (a b c : Written) → more ≡ true → IsStreamGoing old fed → fed < 2 ^ 63 → TextGoesOn first old a b
     → TakesOne more old new b c → TextGoesOn first new a c
 taken_on more first old new fed a b c went going few goes takes = goes_on_more first old new a b c goes (passed_on old new fed b c going few (takes_more more old new b c went takes))
 
@@ -294,7 +294,7 @@ fed_less octets at piece s new n a b so_far fed =
     let counts = fed_count octets at piece s new n a b so_far fed in
     omega (arith, counts.0, fed.before)
 
-pub fed_going : (octets : List ℕ) (at : ℕ) (piece : List ℕ) (s new : StreamState) (n : ℕ) (a b : Written) → IsFedTo octets at s a b → IsFed octets at piece s new n → IsGoing new (at + n)
+pub fed_going : (octets : List ℕ) (at : ℕ) (piece : List ℕ) (s new : StreamState) (n : ℕ) (a b : Written) → IsFedTo octets at s a b → IsFed octets at piece s new n → IsStreamGoing new (at + n)
 fed_going octets at piece s new n a b so_far fed =
     let counts = fed_count octets at piece s new n a b so_far fed in
     let held : new.held ≡ s.held ++ take n piece = ap (λ (t : StreamState). t.held) fed.fed in
@@ -334,7 +334,7 @@ fed_none octets s a is =
 
 -- a piece was fed, and the PDUs that stood in front were taken
 pub fed_on : (octets : List ℕ) (at : ℕ) (piece : List ℕ) (s new last : StreamState) (n : ℕ) (a b c : Written) → IsFedTo octets at s a b → IsFed octets at piece s new n
-    → IsGoing last (at + n) → IsPending largest_pdu last.held → TextGoesOn new last b c → IsFedTo octets (at + n) last a c
+    → IsStreamGoing last (at + n) → IsPending largest_pdu last.held → TextGoesOn new last b c → IsFedTo octets (at + n) last a c
 fed_on octets at piece s new last n a b c so_far fed going pending goes =
     let counts = fed_count octets at piece s new n a b so_far fed in
     record {
@@ -381,7 +381,7 @@ fed_all octets at s a b left so_far ends held = record { within = omega (arith, 
         ends = last.1;
         left_is = held;
         place = place;
-        goes = subst (λ (l : List ℕ). GoesOn a b l) (sym (up_to.part.all ∙ (ap (λ (l : List ℕ). front ++ l) last.0 ∙ append-nil front))) up_to.part.goes;
+        goes = subst (λ (l : List ℕ). WritingGoesOn a b l) (sym (up_to.part.all ∙ (ap (λ (l : List ℕ). front ++ l) last.0 ∙ append-nil front))) up_to.part.goes;
       }
 
 -- ---- the end of the call
@@ -412,7 +412,7 @@ tells octets a c outcome are ends =
       ends = ends (stream_lines read.pdus) read.ending is_text;
     })
 
-pub cut_behind : (a b c : Written) (text : List ℕ) → GoesOn a b text → IsCut b c [] → IsCut a c text
+pub cut_behind : (a b c : Written) (text : List ℕ) → WritingGoesOn a b text → IsCut b c [] → IsCut a c text
 cut_behind a b c text goes cut = subst (λ (l : List ℕ). IsCut a c l) (append-nil text) (cut_later a b c text [] goes cut)
 
 -- the sink failed
@@ -420,7 +420,7 @@ ends_cut : (whole : List ℕ) (ending : Ending) (a c : Written) (outcome : Outco
 ends_cut whole ending a c outcome none is cut = inl (inr (inl (record { outcome_is = is; network_is = refl; taken = cut_text a c whole none cut; cause = cut.rose })))
 
 -- the whole text was put, and what waited was written
-ends_all : (whole : List ℕ) (ending : Ending) (a b c : Written) (made outcome : Outcome) → a.waiting ≡ [] → GoesOn a b whole → made ≡ outcome_of_ending ending
+ends_all : (whole : List ℕ) (ending : Ending) (a b c : Written) (made outcome : Outcome) → a.waiting ≡ [] → WritingGoesOn a b whole → made ≡ outcome_of_ending ending
     → Flushes made outcome b c → Ends whole ending a c outcome
 ends_all whole ending a b c made outcome none goes is (inl flushed) =
     inl (inl (record { outcome_is = flushed.is ∙ is; network_is = refl; taken = whole_text a b c.taken whole none goes flushed.taken }))

@@ -13,7 +13,7 @@ use Rattle.scenario_text.specs.Document.{document}
 use Rattle.script_text.specs.declared.script_fault.ScriptFault.{ScriptFault}
 use Rattle.script_text.specs.Reading.{Fails}
 use Rattle.switchover_model.specs.declared.switch_line.SwitchLine.{SwitchLine}
-use Rattle.switchover_model.specs.Laws.{HasGroups, HasTypes, IsRouter}
+use Rattle.switchover_model.specs.Laws.{HasGroups, HasSwitchTypes, IsRouter}
 use Rattle.switchover_model.proofs.AgreeLemmas.{scripts_agree}
 use Rattle.switchover_script.specs.Lines.{switch_lines_in}
 use Rattle.switchover_text.specs.Text.{switchover_report}
@@ -23,7 +23,7 @@ use Rattle.vplsnet.specs.declared.outcome.Outcome.TheVariants.{Done, WriteFault,
 use Rattle.vplsnet.specs.Answers.{SaysOutcome}
 use Rattle.vplsnet.specs.Around.{Around, Files, Has, IsUntouched}
 use Rattle.vplsnet.specs.Asked.{Switchover}
-use Rattle.vplsnet.specs.Inputs.{ComesTo, Exchange, IsNext, IsNextBehind, IsNextExchange, Refuses, Wanted, Works, next_script, script_file, script_limit}
+use Rattle.vplsnet.specs.Inputs.{ComesTo, Exchange, IsNextInput, IsNextBehind, IsNextExchange, Refuses, Wanted, Works, next_script, script_file, script_limit}
 use Rattle.vplsnet.specs.PlanFile.{HasBoth, IsReadOfTwo, LacksOne, ReadsSecond}
 use Rattle.vplsnet.specs.Reads.{GainsReads, IsReadOfNext}
 use Rattle.vplsnet.specs.ScriptFile.{EndsScript, outcome_of_script}
@@ -42,7 +42,7 @@ all_as : {A : Type 0} (P Q : A → Type 0) (xs : List A) → ((x : A) → P x �
 all_as P Q [] follows all = All-nil Q
 all_as P Q (x ∷ xs) follows all = All-cons Q x xs (follows x (All-head P x xs all)) (all_as P Q xs follows (All-tail P x xs all))
 
-pub switch_types : (plan : Plan) → HasFieldTypes plan → HasTypes plan
+pub switch_types : (plan : Plan) → HasFieldTypes plan → HasSwitchTypes plan
 switch_types plan types = record {
   routers = all_as (λ row. IsAddress row.address) IsRouter plan.edges (λ row is. record { four = is.four; octets = all_octets row.address.0 is.octets }) types.addresses;
   groups = all_as AreFieldOffers HasGroups plan.wires (λ row are. record { near = are.near.group; far = are.far.group }) types.offers;
@@ -104,7 +104,7 @@ reads_script file script = record {
 
 -- what comes behind both files
 script_next : (file script octets : List ℕ) (scenario : Scenario) (text : List ℕ) → document text ≡ Ok scenario
-    → IsNext (Switchover file script) (text ∷ octets ∷ []) (next_script (Exchange scenario.plan) (switch_lines_in scenario.plan octets))
+    → IsNextInput (Switchover file script) (text ∷ octets ∷ []) (next_script (Exchange scenario.plan) (switch_lines_in scenario.plan octets))
 script_next file script octets scenario text is =
     next_after (λ s it. IsNextBehind (script_file script) (IsNextExchange s) (octets ∷ []) it) text (Ok scenario) (next_script (Exchange scenario.plan) (switch_lines_in scenario.plan octets)) is refl
 

@@ -5,7 +5,7 @@ use Rattle.migration.specs.Law.{IsMigrated}
 use Rattle.psn_net.specs.declared.net_stop.NetStop.{NetStop}
 use Rattle.psn_net.specs.Lists.{NetLists}
 use Rattle.scenario_text.specs.declared.scenario.Scenario.{Scenario}
-use Rattle.text_lines.specs.Written.{Written, AppendsFront, GoesOn, IsCut, Writes}
+use Rattle.text_lines.specs.Written.{Written, AppendsFront, WritingGoesOn, IsCut, Writes}
 use Rattle.text_lines.proofs.WrittenLemmas.{cut_text, whole_text}
 use Rattle.vplsnet.specs.declared.outcome.Outcome.{Outcome}
 use Rattle.vplsnet.specs.declared.outcome.Outcome.TheVariants.{Done, WriteFault, NoMemory}
@@ -18,10 +18,10 @@ use Rattle.vplsnet.proofs.StreamLemmas.{cut_behind}
 
 -- ---- a text that was put, and then what waits is written
 
-pub front_flushed : (a b c : Written) (text : List ℕ) → a.waiting ≡ [] → GoesOn a b text → IsCut b c [] → AppendsFront a.taken c.taken text
+pub front_flushed : (a b c : Written) (text : List ℕ) → a.waiting ≡ [] → WritingGoesOn a b text → IsCut b c [] → AppendsFront a.taken c.taken text
 front_flushed a b c text none goes cut = cut_text a c text none (cut_behind a b c text goes cut)
 
-pub rose_flushed : (a b c : Written) (text : List ℕ) → GoesOn a b text → IsCut b c [] → Rose a.faults c.faults
+pub rose_flushed : (a b c : Written) (text : List ℕ) → WritingGoesOn a b text → IsCut b c [] → Rose a.faults c.faults
 rose_flushed a b c text goes cut = (cut_behind a b c text goes cut).rose
 
 pub rose_put : (a b : Written) (text : List ℕ) → IsCut a b text → Rose a.faults b.faults

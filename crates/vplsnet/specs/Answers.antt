@@ -14,13 +14,13 @@ use Rattle.vplsnet.specs.declared.outcome.Outcome.{Outcome}
 use Rattle.vplsnet.specs.declared.outcome.Outcome.TheVariants.{Done, Usage, ReadFault, WriteFault, TooLong, ScenarioRefused, NoCircuit, CaptureRefused, ScriptRefused, AuditRefused, Stopped, NoMemory}
 use Rattle.vplsnet.specs.Around.{Files, Around, HasReadFault, HasWriteFault, IsUntouched, Has, TellsFile}
 use Rattle.vplsnet.specs.Asked.{Asked, Replay, Tables, Capture, Decode, Rehearse, Migrate, Discover, Switchover, Audit}
-use Rattle.vplsnet.specs.Audit.{IsPassed, stop_of}
+use Rattle.vplsnet.specs.Audit.{IsReportPassed, stop_of}
 use Rattle.vplsnet.specs.Capture.{captured}
 use Rattle.vplsnet.specs.Decode.{AppendsPart, IsDecoding, IsDecodedAs}
 use Rattle.discovery_net.specs.Script.{events_made}
-use Rattle.vplsnet.specs.Discover.{IsDiscovery}
+use Rattle.vplsnet.specs.Discover.{IsDiscoverRun}
 use Rattle.vplsnet.specs.Files.{IsLonger}
-use Rattle.vplsnet.specs.Inputs.{Wanted, Next, Reads, Refuses, Works, Work, Run, Stream, Migration, Discovery, Exchange, Report, ComesTo}
+use Rattle.vplsnet.specs.Inputs.{Wanted, Next, Reads, Refuses, Works, CommandWork, Run, Stream, Migration, Discovery, Exchange, Report, ComesTo}
 use Rattle.vplsnet.specs.Migrate.{IsMigration}
 use Rattle.vplsnet.specs.Rehearse.{rehearse_text}
 use Rattle.vplsnet.specs.Replay.{replay_text}
@@ -56,16 +56,16 @@ MakesRun asked scenario captures text network Done = TellsRun asked scenario cap
 MakesRun asked scenario captures text network (Stopped reason) = TellsRun asked scenario captures text network (Some reason)
 MakesRun asked scenario captures text network outcome = ⊥
 
-abbrev pub Makes : Asked → Work → List ℕ → Option NetLists → Outcome → Type 0
-Makes asked (Run scenario captures) text network outcome = MakesRun asked scenario captures text network outcome
-Makes asked (Stream octets) text network outcome = IsDecoding octets text network outcome
-Makes asked (Migration scenario) text network outcome = IsMigration scenario text network outcome
-Makes asked (Discovery plan lines) text network outcome = IsDiscovery plan lines text network outcome
-Makes asked (Exchange plan lines) text network outcome = IsExchange plan lines text network outcome
-Makes asked (Report plan octets) text network outcome = IsPassed plan octets text network outcome
+abbrev pub MakesAnswer : Asked → CommandWork → List ℕ → Option NetLists → Outcome → Type 0
+MakesAnswer asked (Run scenario captures) text network outcome = MakesRun asked scenario captures text network outcome
+MakesAnswer asked (Stream octets) text network outcome = IsDecoding octets text network outcome
+MakesAnswer asked (Migration scenario) text network outcome = IsMigration scenario text network outcome
+MakesAnswer asked (Discovery plan lines) text network outcome = IsDiscoverRun plan lines text network outcome
+MakesAnswer asked (Exchange plan lines) text network outcome = IsExchange plan lines text network outcome
+MakesAnswer asked (Report plan octets) text network outcome = IsReportPassed plan octets text network outcome
 
 -- the outcome of this work alone
-abbrev pub IsEndOf : Work → Outcome → Type 0
+abbrev pub IsEndOf : CommandWork → Outcome → Type 0
 IsEndOf (Run scenario captures) outcome = outcome ≡ outcome_by (whole_run scenario captures).stop
 IsEndOf (Stream octets) outcome = IsDecodedAs octets outcome
 IsEndOf (Migration scenario) outcome = outcome ≡ Done
@@ -75,12 +75,12 @@ IsEndOf (Report plan octets) outcome = (outcome ≡ Done) × IsGood plan octets
 
 -- the files were read, and the command had its work, and makes this text, the network of this run and this outcome of it
 pub record IsMade (around : Around) (asked : Asked) (text : List ℕ) (network : Option NetLists) (outcome : Outcome) : Type 0 where
-  pub work : Work
+  pub work : CommandWork
   pub come : ComesTo (Has around.files) asked (Works work)
-  pub makes : Makes asked work text network outcome
+  pub makes : MakesAnswer asked work text network outcome
 
 -- the whole text was taken
-pub record IsWhole (around : Around) (asked : Asked) (network : Option NetLists) (outcome : Outcome) : Type 0 where
+pub record IsWholeTaken (around : Around) (asked : Asked) (network : Option NetLists) (outcome : Outcome) : Type 0 where
   pub text : List ℕ
   pub made : IsMade around asked text network outcome
   pub taken : Writes around.taken_before around.taken_after text
@@ -159,7 +159,7 @@ SaysOutcome around asked network (ScriptRefused line word) = SaysRefusal around 
 SaysOutcome around asked network (AuditRefused line rule) = SaysRefusal around asked network (AuditRefused line rule)
 SaysOutcome around asked network WriteFault = IsCutShort around asked network
 SaysOutcome around asked network NoMemory = SaysWant around asked network
-SaysOutcome around asked network outcome = IsWhole around asked network outcome
+SaysOutcome around asked network outcome = IsWholeTaken around asked network outcome
 
 -- the same of words that may ask for nothing
 abbrev pub Finishes : Around → Option Asked → Option NetLists → Outcome → Type 0
@@ -167,14 +167,14 @@ Finishes around None network outcome = (outcome ≡ Usage) × IsUntouched around
 Finishes around (Some asked) network outcome = SaysOutcome around asked network outcome
 
 -- the shelf tells these octets of a file, and no call with its name failed
-pub record IsSound (around : Around) (name octets : List ℕ) : Type 0 where
+pub record IsSoundFile (around : Around) (name octets : List ℕ) : Type 0 where
   pub tells : TellsFile around.files name octets
   pub read : ¬ HasReadFault around name
 
 -- a file that comes next and is too long
 pub record CallsTooLong (around : Around) (wanted : Wanted) (outcome : Outcome) : Type 0 where
   pub octets : List ℕ
-  pub sound : IsSound around wanted.name octets
+  pub sound : IsSoundFile around wanted.name octets
   pub longer : wanted.limit < length octets
   pub is : outcome ≡ TooLong wanted.name wanted.limit
 
@@ -188,7 +188,7 @@ CallsFor around (Works work) outcome = IsEndOf work outcome × (¬ HasWriteFault
 -- the shelf tells the files that are read, no call with their names failed, and what comes next behind them calls for this outcome
 pub record IsSoundOutcome (around : Around) (asked : Asked) (outcome : Outcome) : Type 0 where
   pub next : Next
-  pub come : ComesTo (IsSound around) asked next
+  pub come : ComesTo (IsSoundFile around) asked next
   pub calls : CallsFor around next outcome
 
 -- in a sound surrounding the outcome is what the files call for, or memory was refused

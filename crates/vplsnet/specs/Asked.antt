@@ -30,8 +30,8 @@ asked_by (request.Switchover file script) = Switchover file.now script.now
 asked_by (request.Audit file report) = Audit file.now report.now
 
 -- neither empty nor an option: it does not begin with `-`
-abbrev pub is_plain : List ℕ → Bool
-is_plain word = nat_lt 0 (length word) && not (slice_index word 0 == 45)
+abbrev pub is_plain_argument : List ℕ → Bool
+is_plain_argument word = nat_lt 0 (length word) && not (slice_index word 0 == 45)
 
 -- a seed is a number below 2^64, in decimal without leading zeros
 abbrev pub rehearsed : List ℕ → Option Asked
@@ -59,6 +59,6 @@ two_word_command command file word =
 abbrev pub asked : List (List ℕ) → Option Asked
 asked [] = None
 asked (command ∷ []) = None
-asked (command ∷ word ∷ []) = if is_plain word then one_word_command command word else None
-asked (command ∷ file ∷ word ∷ []) = if is_plain file && is_plain word then two_word_command command file word else None
+asked (command ∷ word ∷ []) = if is_plain_argument word then one_word_command command word else None
+asked (command ∷ file ∷ word ∷ []) = if is_plain_argument file && is_plain_argument word then two_word_command command file word else None
 asked (command ∷ file ∷ word ∷ more ∷ rest) = None

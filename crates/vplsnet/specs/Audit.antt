@@ -29,7 +29,7 @@ abbrev pub yes : List ℕ
 yes = codes "audit yes\n"
 
 -- the text that is written of a report which meets all rules; no run begins
-pub record IsPassed (plan : Plan) (octets text : List ℕ) (network : Option NetLists) (outcome : Outcome) : Type 0 where
+pub record IsReportPassed (plan : Plan) (octets text : List ℕ) (network : Option NetLists) (outcome : Outcome) : Type 0 where
   pub good : IsGood plan octets
   pub text_is : text ≡ yes
   pub ends : outcome ≡ Done

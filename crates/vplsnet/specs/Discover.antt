@@ -7,7 +7,7 @@ use Rattle.discovery_script.specs.declared.placed_note.PlacedNote.{PlacedNote}
 use Rattle.discovery_script.specs.declared.script_line.ScriptLine.{ScriptLine}
 use Rattle.discovery_text.specs.Text.{discovery_report}
 use Rattle.psn_net.specs.declared.net_stop.NetStop.{NetStop}
-use Rattle.psn_net.specs.Lists.{NetLists, seen}
+use Rattle.psn_net.specs.Lists.{NetLists, network_seen}
 use Rattle.vplsnet.specs.declared.outcome.Outcome.{Outcome}
 use Rattle.vplsnet.specs.declared.outcome.Outcome.TheVariants.{Done, Stopped}
 use Rattle.vplsnet.specs.Replay.{ending_by}
@@ -21,7 +21,7 @@ discovery_text left notes reason = discovery_report left.plan left.trace notes (
 pub record IsDiscoveryRun (plan : Plan) (lines : List ScriptLine) (left : NetLists) (notes : List PlacedNote) (reason : Option NetStop) : Type 0 where
   pub is_run : IsRunOver plan (events_made plan lines) left reason
   -- the network and the notes, each in its place, are what the lines come to
-  pub course : course_of (seen left) left.trace notes reason ≡ script_course plan lines
+  pub course : course_of (network_seen left) left.trace notes reason ≡ script_course plan lines
   -- behind each line that was done an end of a connection stands only where its edge's adjacency with the peer lives (RFC 5036 section
   -- 2.4.2)
   pub standing : HoldsBehindEach plan lines
@@ -35,7 +35,7 @@ pub record TellsDiscovery (plan : Plan) (lines : List ScriptLine) (text : List �
   pub text_is : text ≡ discovery_text left notes reason
 
 -- the text, the network after the run and the outcome that `discover` makes of lines
-abbrev pub IsDiscovery : Plan → List ScriptLine → List ℕ → Option NetLists → Outcome → Type 0
-IsDiscovery plan lines text network Done = TellsDiscovery plan lines text network None
-IsDiscovery plan lines text network (Stopped reason) = TellsDiscovery plan lines text network (Some reason)
-IsDiscovery plan lines text network outcome = ⊥
+abbrev pub IsDiscoverRun : Plan → List ScriptLine → List ℕ → Option NetLists → Outcome → Type 0
+IsDiscoverRun plan lines text network Done = TellsDiscovery plan lines text network None
+IsDiscoverRun plan lines text network (Stopped reason) = TellsDiscovery plan lines text network (Some reason)
+IsDiscoverRun plan lines text network outcome = ⊥

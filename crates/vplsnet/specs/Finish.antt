@@ -12,21 +12,21 @@ use Rattle.vplsnet.specs.declared.audit_rule.AuditRule.TheVariants as rule
 use Rattle.vplsnet.specs.declared.outcome.Outcome.{Outcome}
 use Rattle.vplsnet.specs.declared.outcome.Outcome.TheVariants.{Done, Usage, ReadFault, WriteFault, TooLong, ScenarioRefused, NoCircuit, CaptureRefused, ScriptRefused, AuditRefused, Stopped, DecodeRefused, Unfinished, NoMemory}
 
-abbrev pub status_of : Outcome → ℕ
-status_of Done = 0
-status_of Usage = 2
-status_of ReadFault = 3
-status_of WriteFault = 4
-status_of (TooLong name limit) = 5
-status_of (ScenarioRefused fault) = 5
-status_of (NoCircuit circuit) = 5
-status_of (ScriptRefused line word) = 5
-status_of (CaptureRefused file fault) = 6
-status_of (DecodeRefused fault) = 6
-status_of (Unfinished at) = 6
-status_of (AuditRefused line rule) = 6
-status_of (Stopped stop) = 7
-status_of NoMemory = 8
+abbrev pub exit_status : Outcome → ℕ
+exit_status Done = 0
+exit_status Usage = 2
+exit_status ReadFault = 3
+exit_status WriteFault = 4
+exit_status (TooLong name limit) = 5
+exit_status (ScenarioRefused fault) = 5
+exit_status (NoCircuit circuit) = 5
+exit_status (ScriptRefused line word) = 5
+exit_status (CaptureRefused file fault) = 6
+exit_status (DecodeRefused fault) = 6
+exit_status (Unfinished at) = 6
+exit_status (AuditRefused line rule) = 6
+exit_status (Stopped stop) = 7
+exit_status NoMemory = 8
 
 -- a rule of the auditor by its name
 abbrev pub rule_name : AuditRule → List ℕ

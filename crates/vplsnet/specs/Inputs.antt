@@ -6,7 +6,7 @@ use Rattle.command_text.specs.declared.command.Command.TheVariants.{One, Settle,
 use Rattle.command_text.specs.declared.scenario_fault.ScenarioFault.{ScenarioFault}
 use Rattle.command_text.specs.Planned.{names_of}
 use Rattle.discovery_script.specs.declared.script_line.ScriptLine.{ScriptLine}
-use Rattle.discovery_script.specs.Lines.{lines_in}
+use Rattle.discovery_script.specs.Lines.{discovery_lines_in}
 use Rattle.pcap_file.specs.declared.capture_fault.CaptureFault.{CaptureFault}
 use Rattle.pcap_file.specs.FirstFault.{IsFirstFault}
 use Rattle.pcap_file.specs.Records.{IsCapture}
@@ -46,19 +46,19 @@ pub record Wanted : Type 0 where
 -- what a command works on once its files are read: a scenario with the frames of the captures that it plays, in the order of its
 -- commands, the octets of a stream, a scenario that is written as a text of version 2, the lines of a script of discovery or of
 -- switchover with the plan of its scenario, or the octets of a report with the plan that it is of
-pub data Work : Type 0 where
-  Run : (scenario : Scenario) (captures : List (List (List ℕ))) → Work
-  Stream : (octets : List ℕ) → Work
-  Migration : (scenario : Scenario) → Work
-  Discovery : (plan : Plan) (lines : List ScriptLine) → Work
-  Exchange : (plan : Plan) (lines : List SwitchLine) → Work
-  Report : (plan : Plan) (octets : List ℕ) → Work
+pub data CommandWork : Type 0 where
+  Run : (scenario : Scenario) (captures : List (List (List ℕ))) → CommandWork
+  Stream : (octets : List ℕ) → CommandWork
+  Migration : (scenario : Scenario) → CommandWork
+  Discovery : (plan : Plan) (lines : List ScriptLine) → CommandWork
+  Exchange : (plan : Plan) (lines : List SwitchLine) → CommandWork
+  Report : (plan : Plan) (octets : List ℕ) → CommandWork
 
 -- what comes next where some files were read: a further file is, or an outcome before any run ends the call, or the command has its work
 pub data Next : Type 0 where
   Reads : (wanted : Wanted) → Next
   Refuses : (outcome : Outcome) → Next
-  Works : (work : Work) → Next
+  Works : (work : CommandWork) → Next
 
 abbrev pub scenario_file : List ℕ → Next
 scenario_file name = Reads (record { name = name; limit = scenario_limit })
@@ -117,13 +117,13 @@ IsNextBehind file IsNextOfIt [] next = next ≡ file
 IsNextBehind file IsNextOfIt (octets ∷ read) next = IsNextOfIt octets next
 
 -- what comes next behind a script, by the lines that its octets are; that they are some never comes to want of memory
-abbrev pub next_script : {Lines : Type 0} → (Lines → Work) → Result Lines ScriptFault → Next
+abbrev pub next_script : {Lines : Type 0} → (Lines → CommandWork) → Result Lines ScriptFault → Next
 next_script work (Err (script_fault.Bad line word)) = Refuses (ScriptRefused line word)
 next_script work (Err script_fault.NoMemory) = Refuses NoMemory
 next_script work (Ok lines) = Works (work lines)
 
 abbrev pub IsNextDiscovery : Scenario → List ℕ → Next → Type 0
-IsNextDiscovery scenario octets next = next ≡ next_script (Discovery scenario.plan) (lines_in (names_of scenario.plan) octets)
+IsNextDiscovery scenario octets next = next ≡ next_script (Discovery scenario.plan) (discovery_lines_in (names_of scenario.plan) octets)
 
 abbrev pub IsNextExchange : Scenario → List ℕ → Next → Type 0
 IsNextExchange scenario octets next = next ≡ next_script (Exchange scenario.plan) (switch_lines_in scenario.plan octets)
@@ -132,29 +132,29 @@ abbrev pub IsNextReport : Scenario → List ℕ → Next → Type 0
 IsNextReport scenario octets next = next ≡ Works (Report scenario.plan octets)
 
 -- behind the octets of the files that were read, in their order
-abbrev pub IsNext : Asked → List (List ℕ) → Next → Type 0
-IsNext (Replay file) [] next = next ≡ scenario_file file
-IsNext (Replay file) (octets ∷ read) next = IsNextRead (Replay file) (document octets) read next
-IsNext (Tables file) [] next = next ≡ scenario_file file
-IsNext (Tables file) (octets ∷ read) next = IsNextRead (Tables file) (document octets) read next
-IsNext (Capture file circuit) [] next = next ≡ scenario_file file
-IsNext (Capture file circuit) (octets ∷ read) next = IsNextRead (Capture file circuit) (document octets) read next
-IsNext (Decode file) [] next = next ≡ stream_file file
-IsNext (Decode file) (octets ∷ read) next = next ≡ Works (Stream octets)
-IsNext (Rehearse seed) read next = next ≡ Works (Run (rehearsal seed) [])
-IsNext (Migrate file) [] next = next ≡ scenario_file file
-IsNext (Migrate file) (octets ∷ read) next = IsNextAfter (λ scenario it. it ≡ Works (Migration scenario)) (document octets) next
-IsNext (Discover file script) [] next = next ≡ scenario_file file
-IsNext (Discover file script) (octets ∷ read) next = IsNextAfter (λ scenario it. IsNextBehind (script_file script) (IsNextDiscovery scenario) read it) (document octets) next
-IsNext (Switchover file script) [] next = next ≡ scenario_file file
-IsNext (Switchover file script) (octets ∷ read) next = IsNextAfter (λ scenario it. IsNextBehind (script_file script) (IsNextExchange scenario) read it) (document octets) next
-IsNext (Audit file report) [] next = next ≡ scenario_file file
-IsNext (Audit file report) (octets ∷ read) next = IsNextAfter (λ scenario it. IsNextBehind (report_file report) (IsNextReport scenario) read it) (document octets) next
+abbrev pub IsNextInput : Asked → List (List ℕ) → Next → Type 0
+IsNextInput (Replay file) [] next = next ≡ scenario_file file
+IsNextInput (Replay file) (octets ∷ read) next = IsNextRead (Replay file) (document octets) read next
+IsNextInput (Tables file) [] next = next ≡ scenario_file file
+IsNextInput (Tables file) (octets ∷ read) next = IsNextRead (Tables file) (document octets) read next
+IsNextInput (Capture file circuit) [] next = next ≡ scenario_file file
+IsNextInput (Capture file circuit) (octets ∷ read) next = IsNextRead (Capture file circuit) (document octets) read next
+IsNextInput (Decode file) [] next = next ≡ stream_file file
+IsNextInput (Decode file) (octets ∷ read) next = next ≡ Works (Stream octets)
+IsNextInput (Rehearse seed) read next = next ≡ Works (Run (rehearsal seed) [])
+IsNextInput (Migrate file) [] next = next ≡ scenario_file file
+IsNextInput (Migrate file) (octets ∷ read) next = IsNextAfter (λ scenario it. it ≡ Works (Migration scenario)) (document octets) next
+IsNextInput (Discover file script) [] next = next ≡ scenario_file file
+IsNextInput (Discover file script) (octets ∷ read) next = IsNextAfter (λ scenario it. IsNextBehind (script_file script) (IsNextDiscovery scenario) read it) (document octets) next
+IsNextInput (Switchover file script) [] next = next ≡ scenario_file file
+IsNextInput (Switchover file script) (octets ∷ read) next = IsNextAfter (λ scenario it. IsNextBehind (script_file script) (IsNextExchange scenario) read it) (document octets) next
+IsNextInput (Audit file report) [] next = next ≡ scenario_file file
+IsNextInput (Audit file report) (octets ∷ read) next = IsNextAfter (λ scenario it. IsNextBehind (report_file report) (IsNextReport scenario) read it) (document octets) next
 
 -- a file that comes next has these octets, and they are within its limit
 pub record IsReadNext (Holds : List ℕ → List ℕ → Type 0) (asked : Asked) (before : List (List ℕ)) (octets : List ℕ) : Type 0 where
   pub wanted : Wanted
-  pub next : IsNext asked before (Reads wanted)
+  pub next : IsNextInput asked before (Reads wanted)
   pub holds : Holds wanted.name octets
   pub fits : length octets ≤ wanted.limit
 
@@ -167,4 +167,4 @@ AreReadNext Holds asked before (octets ∷ rest) = IsReadNext Holds asked before
 pub record ComesTo (Holds : List ℕ → List ℕ → Type 0) (asked : Asked) (next : Next) : Type 0 where
   pub read : List (List ℕ)
   pub are_read : AreReadNext Holds asked [] read
-  pub is_next : IsNext asked read next
+  pub is_next : IsNextInput asked read next

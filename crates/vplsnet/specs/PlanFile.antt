@@ -9,15 +9,15 @@ use Rattle.vplsnet.specs.declared.outcome.Outcome.TheVariants.{ScenarioRefused}
 use Rattle.vplsnet.specs.Around.{Files, Has}
 use Rattle.vplsnet.specs.Asked.{Asked}
 use Rattle.vplsnet.specs.Files.{IsNotHad}
-use Rattle.vplsnet.specs.Inputs.{IsNext, Reads, Refuses, Wanted, scenario_file, scenario_limit}
+use Rattle.vplsnet.specs.Inputs.{IsNextInput, Reads, Refuses, Wanted, scenario_file, scenario_limit}
 use Rattle.vplsnet.specs.Reads.{IsReadOf}
 use Rattle.vplsnet.specs.ScenarioFile.{HasNoScenario, IsOfFile}
 
 -- the command reads a scenario of this file first, and where it is accepted a second file next
 pub record ReadsSecond (asked : Asked) (file : List ℕ) (second : Wanted) : Type 0 where
-  pub first : IsNext asked [] (scenario_file file)
-  pub refuses : (octets : List ℕ) (fault : ScenarioFault) → document octets ≡ Err fault → IsNext asked (octets ∷ []) (Refuses (ScenarioRefused fault))
-  pub next : (octets : List ℕ) (scenario : Scenario) → document octets ≡ Ok scenario → IsNext asked (octets ∷ []) (Reads second)
+  pub first : IsNextInput asked [] (scenario_file file)
+  pub refuses : (octets : List ℕ) (fault : ScenarioFault) → document octets ≡ Err fault → IsNextInput asked (octets ∷ []) (Refuses (ScenarioRefused fault))
+  pub next : (octets : List ℕ) (scenario : Scenario) → document octets ≡ Ok scenario → IsNextInput asked (octets ∷ []) (Reads second)
 
 -- both were had
 pub record HasBoth (files : Files) (file : List ℕ) (second : Wanted) (scenario : Scenario) (octets : List ℕ) : Type 0 where

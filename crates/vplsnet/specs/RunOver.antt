@@ -6,7 +6,7 @@ use Rattle.flight_laws.specs.Ends.{HasTypes}
 use Rattle.network_model.specs.Run.{run, state_after}
 use Rattle.network_model.specs.State.{empty_network}
 use Rattle.psn_net.specs.declared.net_stop.NetStop.{NetStop}
-use Rattle.psn_net.specs.Lists.{NetLists, seen}
+use Rattle.psn_net.specs.Lists.{NetLists, network_seen}
 use Rattle.psn_net.specs.Runs.{AreDone, Ended, ended, ran}
 use Rattle.vplsnet.specs.declared.outcome.Outcome.{Outcome}
 use Rattle.vplsnet.specs.declared.outcome.Outcome.TheVariants.{Done, Stopped}
@@ -36,7 +36,7 @@ pub record IsRunOver (plan : Plan) (events : List Event) (left : NetLists) (reas
   pub ends : ended left reason ≡ run_of plan events
   -- the events that were done: all, or those before the one that the limit stopped
   pub done : List Event
-  pub are_done : AreDone events done left.trace (length (seen left).under_way) reason
-  pub state_is : seen left ≡ state_after plan (empty_network plan) done
+  pub are_done : AreDone events done left.trace (length (network_seen left).under_way) reason
+  pub state_is : network_seen left ≡ state_after plan (empty_network plan) done
   pub trace_is : left.trace ≡ (run plan done).entries
   pub promises : KeepsPromises plan done

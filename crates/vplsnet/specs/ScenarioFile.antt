@@ -12,12 +12,12 @@ use Rattle.vplsnet.specs.Asked.{Asked}
 use Rattle.vplsnet.specs.Capture.{lacks_circuit}
 use Rattle.vplsnet.specs.Captures.{FailsToPlay, HasPlayed}
 use Rattle.vplsnet.specs.Files.{IsLonger}
-use Rattle.vplsnet.specs.Inputs.{Next, IsNext, IsNextRead, played, scenario_file, scenario_limit}
+use Rattle.vplsnet.specs.Inputs.{Next, IsNextInput, IsNextRead, played, scenario_file, scenario_limit}
 
 -- the command reads a scenario of this file first, and what comes then is told by what its octets read as
 pub record ReadsScenario (asked : Asked) (file : List ℕ) : Type 0 where
-  pub first : IsNext asked [] (scenario_file file)
-  pub behind : (octets : List ℕ) (read : List (List ℕ)) (next : Next) → IsNextRead asked (document octets) read next → IsNext asked (octets ∷ read) next
+  pub first : IsNextInput asked [] (scenario_file file)
+  pub behind : (octets : List ℕ) (read : List (List ℕ)) (next : Next) → IsNextRead asked (document octets) read next → IsNextInput asked (octets ∷ read) next
 
 -- a fault is told as it is; want of memory is no fault of the scenario
 abbrev pub outcome_of_fault : ScenarioFault → Outcome

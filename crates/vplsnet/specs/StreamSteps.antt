@@ -11,7 +11,7 @@ use Rattle.ldp_stream.specs.Parsed.{Ending, Pending, Refused}
 use Rattle.ldp_stream.specs.Seen.{HasNext, IsRefusal}
 use Rattle.ldp_stream.specs.State.{StreamState, Passes, Waits}
 use Rattle.message_text.specs.Line.{decoded_lines}
-use Rattle.text_lines.specs.Written.{Written, GoesOn, IsCut, Writes}
+use Rattle.text_lines.specs.Written.{Written, WritingGoesOn, IsCut, Writes}
 use Rattle.vplsnet.specs.declared.outcome.Outcome.{Outcome}
 use Rattle.vplsnet.specs.declared.outcome.Outcome.TheVariants.{DecodeRefused, NoMemory, WriteFault}
 use Rattle.vplsnet.specs.declared.stream_stop.StreamStop.{StreamStop}
@@ -19,7 +19,7 @@ use Rattle.vplsnet.specs.declared.stream_stop.StreamStop.TheVariants as stop
 use Rattle.vplsnet.specs.StreamText.{largest_pdu, IsTextFrom, IsStreamText}
 
 -- no fault was answered yet, and so many octets were fed
-pub record IsGoing (s : StreamState) (fed : ℕ) : Type 0 where
+pub record IsStreamGoing (s : StreamState) (fed : ℕ) : Type 0 where
   pub going : s.refused ≡ None
   pub max : s.max ≡ largest_pdu
   pub place : s.base + length s.held ≡ fed
@@ -51,7 +51,7 @@ pub record AddsPdu (old new : StreamState) (lines : List ℕ) : Type 0 where
 pub record TakesPdu (old new : StreamState) (before after : Written) : Type 0 where
   pub lines : List ℕ
   pub adds : AddsPdu old new lines
-  pub goes : GoesOn before after lines
+  pub goes : WritingGoesOn before after lines
 
 -- a PDU was taken, or none stands in front whole
 abbrev pub TakesOne : Bool → StreamState → StreamState → Written → Written → Type 0
@@ -63,7 +63,7 @@ pub record PutsPart (whole : List ℕ) (before after : Written) : Type 0 where
   pub front : List ℕ
   pub rest : List ℕ
   pub all : whole ≡ front ++ rest
-  pub goes : GoesOn before after front
+  pub goes : WritingGoesOn before after front
 
 -- a front of a text was put, and the rest is the text of what is held and of what follows it
 pub record PutsUpTo (s : StreamState) (more whole : List ℕ) (ending : Ending) (before after : Written) : Type 0 where
@@ -79,7 +79,7 @@ pub record PutsToFault (base : ℕ) (refusal : DecodeFault) (whole : List ℕ) (
   pub fault : Fault
   pub names : refusal ≡ refusal_of fault
   pub ends : ending ≡ Refused base fault
-  pub goes : GoesOn before after whole
+  pub goes : WritingGoesOn before after whole
 
 -- what was put of a text where its writing stopped
 abbrev pub StopsText : StreamStop → List ℕ → Ending → Written → Written → Type 0
@@ -94,7 +94,7 @@ pub record IsStopped (reason : StreamStop) (s : StreamState) (before after : Wri
 -- the octets before this place were fed; what is left of the text is that of the octets held and of those behind
 pub record IsFedTo (octets : List ℕ) (at : ℕ) (s : StreamState) (before after : Written) : Type 0 where
   pub within : at ≤ length octets
-  pub going : IsGoing s at
+  pub going : IsStreamGoing s at
   pub pending : IsPending largest_pdu s.held
   pub on : (whole : List ℕ) (ending : Ending) → IsStreamText octets whole ending → PutsUpTo s (drop at octets) whole ending before after
 
@@ -105,7 +105,7 @@ pub record PutsAll (octets : List ℕ) (left : ℕ) (whole : List ℕ) (ending :
   pub ends : ending ≡ Pending at rest
   pub left_is : left ≡ length rest
   pub place : at + left ≡ length octets
-  pub goes : GoesOn before after whole
+  pub goes : WritingGoesOn before after whole
 
 -- the text of these octets was put whole
 pub record LeavesSome (octets : List ℕ) (before after : Written) (left : ℕ) : Type 0 where

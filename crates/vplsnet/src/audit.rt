@@ -6,7 +6,7 @@ ghost use Rattle.vplsnet.specs.Answers.{SaysOutcome};
 ghost use Rattle.vplsnet.specs.Around.{Has, around};
 ghost use Rattle.vplsnet.specs.Asked.{Audit};
 ghost use Rattle.vplsnet.specs.Audit.{outcome_of_stop};
-ghost use Rattle.vplsnet.specs.Finish.{status_of};
+ghost use Rattle.vplsnet.specs.Finish.{exit_status};
 ghost use Rattle.vplsnet.specs.Reads.{GainsReads, IsReadOfNext};
 ghost use Rattle.vplsnet.specs.Writing.{EndsAudit};
 
@@ -32,7 +32,7 @@ pub fn audit_files<F: Shelf, K: Sink>(
     shelf: &mut F,
     sink: &mut K,
 ) -> Finish
-    ensures status { result.status ≡ status_of result.outcome }
+    ensures status { result.status ≡ exit_status result.outcome }
     ensures answers { SaysOutcome (around F.files F.faults K.taken K.faults shelf.old sink.old shelf.new sink.new) (Audit file.now report.now) result.network result.outcome }
     ensures reads { GainsReads (IsReadOfNext (Has (F.files shelf.old)) (Audit file.now report.now)) (F.reads shelf.old) (F.reads shelf.new) }
     ensures same_files { F.files shelf.new ≡ F.files shelf.old }

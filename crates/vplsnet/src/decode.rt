@@ -3,7 +3,7 @@ ghost use Rattle.std.specs.Prelude.{◌≡◌};
 ghost use Rattle.vplsnet.specs.Answers.{SaysOutcome};
 ghost use Rattle.vplsnet.specs.Around.{Has, around};
 ghost use Rattle.vplsnet.specs.Asked.{Decode};
-ghost use Rattle.vplsnet.specs.Finish.{status_of};
+ghost use Rattle.vplsnet.specs.Finish.{exit_status};
 ghost use Rattle.vplsnet.specs.Reads.{GainsReads, IsReadOfNext};
 
 use crate::decoder::Decoder;
@@ -26,7 +26,7 @@ pub fn decode_file<F: Shelf, K: Sink>(
     shelf: &mut F,
     sink: &mut K,
 ) -> Finish
-    ensures status { result.status ≡ status_of result.outcome }
+    ensures status { result.status ≡ exit_status result.outcome }
     ensures answers { SaysOutcome (around F.files F.faults K.taken K.faults shelf.old sink.old shelf.new sink.new) (Decode file.now) result.network result.outcome }
     ensures reads { GainsReads (IsReadOfNext (Has (F.files shelf.old)) (Decode file.now)) (F.reads shelf.old) (F.reads shelf.new) }
     ensures same_files { F.files shelf.new ≡ F.files shelf.old }

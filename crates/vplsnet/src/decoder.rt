@@ -3,7 +3,7 @@ ghost use Rattle.std.specs.Prelude.{◌≡◌, ◌<◌, ◌^◌, [], None, lengt
 ghost use Rattle.ldp_stream.specs.Front.{IsPending};
 ghost use Rattle.ldp_stream.specs.State.{empty};
 ghost use Rattle.text_lines.specs.Written.{written};
-ghost use Rattle.vplsnet.specs.StreamSteps.{IsGoing, IsStopped, LeavesSome, StopsIn, TakesOne, TextGoesOn};
+ghost use Rattle.vplsnet.specs.StreamSteps.{IsStreamGoing, IsStopped, LeavesSome, StopsIn, TakesOne, TextGoesOn};
 ghost use Rattle.vplsnet.specs.StreamText.{largest_pdu};
 ghost use Rattle.vplsnet.specs.Writing.{EndsStream};
 
@@ -48,7 +48,7 @@ impl Decoder {
         fed: u64,
         sink: &mut K,
     ) -> Result<bool, StreamStop>
-        requires going { IsGoing self.old.stream fed }
+        requires going { IsStreamGoing self.old.stream fed }
         ensures taken { IfOk result (λ more. TakesOne more self.old.stream self.new.stream (written (K.taken sink.old) (K.faults sink.old) self.old.page) (written (K.taken sink.new) (K.faults sink.new) self.new.page)) }
         ensures stopped { IfErr result (λ stop. IsStopped stop self.old.stream (written (K.taken sink.old) (K.faults sink.old) self.old.page) (written (K.taken sink.new) (K.faults sink.new) self.new.page)) }
     {
@@ -77,9 +77,9 @@ impl Decoder {
         fed: u64,
         sink: &mut K,
     ) -> Result<(), StreamStop>
-        requires going { IsGoing self.old.stream fed }
+        requires going { IsStreamGoing self.old.stream fed }
         requires few { fed < 2 ^ 63 }
-        ensures going { OnOk result (IsGoing self.new.stream fed) }
+        ensures going { OnOk result (IsStreamGoing self.new.stream fed) }
         ensures pending { OnOk result (IsPending largest_pdu self.new.stream.held) }
         ensures on { OnOk result (TextGoesOn self.old.stream self.new.stream (written (K.taken sink.old) (K.faults sink.old) self.old.page) (written (K.taken sink.new) (K.faults sink.new) self.new.page)) }
         ensures stopped { IfErr result (λ stop. IsStopped stop self.old.stream (written (K.taken sink.old) (K.faults sink.old) self.old.page) (written (K.taken sink.new) (K.faults sink.new) self.new.page)) }

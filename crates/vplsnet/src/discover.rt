@@ -1,7 +1,7 @@
 //! The command `discover`: the report of a script over the network of a scenario.
 ghost use Rattle.std.specs.Prelude.{◌≡◌, ◌<◌, ◌^◌, ◌-◌, [], All, length};
 ghost use Rattle.command_text.specs.Planned.{names_of};
-ghost use Rattle.discovery_script.specs.Lines.{lines_in};
+ghost use Rattle.discovery_script.specs.Lines.{discovery_lines_in};
 ghost use Rattle.discovery_script.specs.Planned.{IsLineOf};
 ghost use Rattle.net_base.specs.plan.Accepted.{IsChecked};
 ghost use Rattle.text_lines.specs.Written.{PutsOn, written};
@@ -9,7 +9,7 @@ ghost use Rattle.vplsnet.specs.Answers.{SaysOutcome};
 ghost use Rattle.vplsnet.specs.Around.{Has, around};
 ghost use Rattle.vplsnet.specs.Asked.{Discover};
 ghost use Rattle.vplsnet.specs.Discover.{discovery_text};
-ghost use Rattle.vplsnet.specs.Finish.{status_of};
+ghost use Rattle.vplsnet.specs.Finish.{exit_status};
 ghost use Rattle.vplsnet.specs.Reads.{GainsReads, IsReadOfNext};
 ghost use Rattle.vplsnet.specs.ScriptFile.{EndsScript};
 ghost use Rattle.vplsnet.specs.Writing.{EndsDiscovery};
@@ -38,7 +38,7 @@ pub fn discover_files<F: Shelf, K: Sink>(
     shelf: &mut F,
     sink: &mut K,
 ) -> Finish
-    ensures status { result.status ≡ status_of result.outcome }
+    ensures status { result.status ≡ exit_status result.outcome }
     ensures answers { SaysOutcome (around F.files F.faults K.taken K.faults shelf.old sink.old shelf.new sink.new) (Discover file.now script.now) result.network result.outcome }
     ensures reads { GainsReads (IsReadOfNext (Has (F.files shelf.old)) (Discover file.now script.now)) (F.reads shelf.old) (F.reads shelf.new) }
     ensures same_files { F.files shelf.new ≡ F.files shelf.old }
@@ -54,8 +54,8 @@ pub fn discover_files<F: Shelf, K: Sink>(
 fn discover<K: Sink>(alloc: Global, plan: &Plan, script: &[u8], sink: &mut K) -> Finish
     requires checked { IsChecked plan.now }
     requires few { length script.now < 2 ^ 32 - 2 }
-    ensures status { result.status ≡ status_of result.outcome }
-    ensures ends { EndsScript (lines_in (names_of plan.now) script.now) (λ lines. EndsDiscovery plan.now lines (written (K.taken sink.old) (K.faults sink.old) []) (written (K.taken sink.new) (K.faults sink.new) []) result.network result.outcome) (written (K.taken sink.old) (K.faults sink.old) []) (written (K.taken sink.new) (K.faults sink.new) []) result.network result.outcome }
+    ensures status { result.status ≡ exit_status result.outcome }
+    ensures ends { EndsScript (discovery_lines_in (names_of plan.now) script.now) (λ lines. EndsDiscovery plan.now lines (written (K.taken sink.old) (K.faults sink.old) []) (written (K.taken sink.new) (K.faults sink.new) []) result.network result.outcome) (written (K.taken sink.old) (K.faults sink.old) []) (written (K.taken sink.new) (K.faults sink.new) []) result.network result.outcome }
 {
     match read_script(alloc, plan, script) {
         Ok(lines) => finish_lines(alloc, plan, lines, sink),
@@ -73,7 +73,7 @@ fn finish_lines<K: Sink>(
 ) -> Finish
     requires checked { IsChecked plan.now }
     requires planned { All (IsLineOf plan.now) lines }
-    ensures status { result.status ≡ status_of result.outcome }
+    ensures status { result.status ≡ exit_status result.outcome }
     ensures ends { EndsDiscovery plan.now lines (written (K.taken sink.old) (K.faults sink.old) []) (written (K.taken sink.new) (K.faults sink.new) []) result.network result.outcome }
 {
     see_types(plan);

@@ -1,7 +1,7 @@
 //! The end of a call of the program.
 ghost use Rattle.std.specs.Prelude.{◌≡◌, None};
 ghost use Rattle.vplsnet.specs.Around.{trace_of};
-ghost use Rattle.vplsnet.specs.Finish.{status_of};
+ghost use Rattle.vplsnet.specs.Finish.{exit_status};
 
 use crate::outcome::Outcome;
 use net_base::Entry;
@@ -20,7 +20,7 @@ pub struct Finish {
 impl Finish {
     /// The end of a call in which no run began.
     pub fn without_run(outcome: Outcome) -> Finish
-        ensures status { result.status ≡ status_of outcome }
+        ensures status { result.status ≡ exit_status outcome }
         ensures outcome { result.outcome ≡ outcome }
         ensures network { result.network ≡ None }
     {
@@ -29,7 +29,7 @@ impl Finish {
 
     /// The end of a call whose run, where one began, left this network.
     pub fn after_run(outcome: Outcome, network: Option<Network>) -> Finish
-        ensures status { result.status ≡ status_of outcome }
+        ensures status { result.status ≡ exit_status outcome }
         ensures outcome { result.outcome ≡ outcome }
         ensures network { result.network ≡ network }
     {

@@ -5,7 +5,7 @@ ghost use Rattle.text_lines.specs.Written.{written};
 ghost use Rattle.vplsnet.specs.Answers.{SaysOutcome};
 ghost use Rattle.vplsnet.specs.Around.{Has, around};
 ghost use Rattle.vplsnet.specs.Asked.{Migrate};
-ghost use Rattle.vplsnet.specs.Finish.{status_of};
+ghost use Rattle.vplsnet.specs.Finish.{exit_status};
 ghost use Rattle.vplsnet.specs.Reads.{GainsReads, IsReadOfNext};
 ghost use Rattle.vplsnet.specs.Writing.{EndsMigration};
 
@@ -27,7 +27,7 @@ pub fn migrate_file<F: Shelf, K: Sink>(
     shelf: &mut F,
     sink: &mut K,
 ) -> Finish
-    ensures status { result.status ≡ status_of result.outcome }
+    ensures status { result.status ≡ exit_status result.outcome }
     ensures answers { SaysOutcome (around F.files F.faults K.taken K.faults shelf.old sink.old shelf.new sink.new) (Migrate file.now) result.network result.outcome }
     ensures reads { GainsReads (IsReadOfNext (Has (F.files shelf.old)) (Migrate file.now)) (F.reads shelf.old) (F.reads shelf.new) }
     ensures same_files { F.files shelf.new ≡ F.files shelf.old }

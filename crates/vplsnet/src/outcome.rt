@@ -1,6 +1,6 @@
 //! How a call of the program ends.
 ghost use Rattle.std.specs.Prelude.{◌≡◌};
-ghost use Rattle.vplsnet.specs.Finish.{status_of};
+ghost use Rattle.vplsnet.specs.Finish.{exit_status};
 
 use crate::audit_rule::AuditRule;
 use ldp_stream::StreamFault;
@@ -49,7 +49,7 @@ pub enum Outcome {
 impl Outcome {
     /// The status with which the program ends.
     pub fn status(&self) -> u8
-        ensures { result ≡ status_of self.now }
+        ensures { result ≡ exit_status self.now }
     {
         match self {
             Outcome::Done => 0,

@@ -1,6 +1,6 @@
 //! What the words of the command line ask for. They are read by hand: the rows are few and fixed.
 ghost use Rattle.std.specs.Prelude.{◌≡◌, map, option_map, string_bytes};
-ghost use Rattle.vplsnet.specs.Asked.{asked, asked_by, is_plain, one_word_command, two_word_command};
+ghost use Rattle.vplsnet.specs.Asked.{asked, asked_by, is_plain_argument, one_word_command, two_word_command};
 
 use command_text::decimal::decimal;
 use command_text::is_same;
@@ -89,7 +89,7 @@ fn two_word_request<'a>(command: &str, file: &'a str, word: &'a str) -> Option<R
 
 // Whether a word is neither empty nor an option.
 fn is_plain_word(word: &str) -> bool
-    ensures { result ≡ is_plain word.now }
+    ensures { result ≡ is_plain_argument word.now }
 {
     let octets = word.as_bytes();
     !octets.is_empty() && octets[0] != b'-'

@@ -7,7 +7,7 @@ ghost use Rattle.text_lines.specs.Written.{written};
 ghost use Rattle.vplsnet.specs.Answers.{Completes, Finishes, IsRefused};
 ghost use Rattle.vplsnet.specs.Around.{Has, around};
 ghost use Rattle.vplsnet.specs.Asked.{asked, asked_by};
-ghost use Rattle.vplsnet.specs.Finish.{status_of};
+ghost use Rattle.vplsnet.specs.Finish.{exit_status};
 ghost use Rattle.vplsnet.specs.Inputs.{ComesTo, Run, Works};
 ghost use Rattle.vplsnet.specs.Reads.{GainsReads, IsReadOfNext, MayRead};
 ghost use Rattle.vplsnet.specs.Writing.{EndsRun, RunsScenario};
@@ -70,7 +70,7 @@ pub fn run<F: Shelf, K: Sink>(
     sink: &mut K,
 ) -> Finish
     // The status is that of the outcome.
-    ensures status { result.status ≡ status_of result.outcome }
+    ensures status { result.status ≡ exit_status result.outcome }
     // Words that ask for nothing, and nothing else, are a usage.
     ensures usage { (result.outcome ≡ Outcome.Usage) ↔ (asked (map string_bytes words.now) ≡ None) }
     // What each outcome says, its cause among it: what was read, what was taken, and the network after the run.
@@ -144,7 +144,7 @@ fn finish_work<K: Sink>(alloc: Global, request: Request<'_>, work: Work, sink: &
     requires checked { IsChecked work.scenario.plan }
     requires planned { All (IsPlanned work.scenario.plan) work.scenario.commands }
     requires frames { All (All IsFrame) work.captures }
-    ensures status { result.status ≡ status_of result.outcome }
+    ensures status { result.status ≡ exit_status result.outcome }
     ensures ends { EndsRun work.scenario work.captures (asked_by request.entry) (written (K.taken sink.old) (K.faults sink.old) []) (written (K.taken sink.new) (K.faults sink.new) []) result.network result.outcome }
 {
     let mut page = match Page::new(alloc) {

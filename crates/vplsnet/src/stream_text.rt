@@ -1,7 +1,7 @@
 //! The steps by which the text of a stream is written.
 ghost use Rattle.std.specs.Prelude.{◌≡◌, ◌==◌, ◌≤◌, ◌-◌, [], drop, length, min, take, if◌then◌else◌, IfErr, IfOk, OnOk};
 ghost use Rattle.text_lines.specs.Written.{PutsOn, written};
-ghost use Rattle.vplsnet.specs.StreamSteps.{AddsPdu, Flushes, IsFrontStop, IsGoing, PutsFront, PutsOne, outcome_at};
+ghost use Rattle.vplsnet.specs.StreamSteps.{AddsPdu, Flushes, IsFrontStop, IsStreamGoing, PutsFront, PutsOne, outcome_at};
 
 use crate::outcome::Outcome;
 use ldp_stream::{Stream, StreamFault};
@@ -22,7 +22,7 @@ pub fn put_front(
     fed: u64,
     text: &mut Vec<u8>,
 ) -> Result<bool, StreamFault>
-    requires going { IsGoing stream.now fed }
+    requires going { IsStreamGoing stream.now fed }
     ensures put { IfOk result (λ more. PutsOne more stream.now text.old.items text.new.items) }
     ensures stopped { IfErr result (IsFrontStop stream.now) }
 {

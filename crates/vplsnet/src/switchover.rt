@@ -7,7 +7,7 @@ ghost use Rattle.text_lines.specs.Written.{written};
 ghost use Rattle.vplsnet.specs.Answers.{SaysOutcome};
 ghost use Rattle.vplsnet.specs.Around.{Has, around};
 ghost use Rattle.vplsnet.specs.Asked.{Switchover};
-ghost use Rattle.vplsnet.specs.Finish.{status_of};
+ghost use Rattle.vplsnet.specs.Finish.{exit_status};
 ghost use Rattle.vplsnet.specs.Reads.{GainsReads, IsReadOfNext};
 ghost use Rattle.vplsnet.specs.ScriptFile.{EndsScript};
 ghost use Rattle.vplsnet.specs.Writing.{EndsExchange};
@@ -34,7 +34,7 @@ pub fn switchover_files<F: Shelf, K: Sink>(
     shelf: &mut F,
     sink: &mut K,
 ) -> Finish
-    ensures status { result.status ≡ status_of result.outcome }
+    ensures status { result.status ≡ exit_status result.outcome }
     ensures answers { SaysOutcome (around F.files F.faults K.taken K.faults shelf.old sink.old shelf.new sink.new) (Switchover file.now script.now) result.network result.outcome }
     ensures reads { GainsReads (IsReadOfNext (Has (F.files shelf.old)) (Switchover file.now script.now)) (F.reads shelf.old) (F.reads shelf.new) }
     ensures same_files { F.files shelf.new ≡ F.files shelf.old }

@@ -7,7 +7,7 @@ use Rattle.std.specs.List.{filter}
 use Rattle.net_values.proofs.NumberLemmas.{same_number, equal_turned}
 use Rattle.seen_network.specs.Once.{has_seen}
 use Rattle.seen_network.specs.Seen.{Seen}
-use Rattle.seen_windows.specs.Past.{Among}
+use Rattle.seen_windows.specs.Past.{AmongWindows}
 use Rattle.seen_windows.specs.declared.window.Window.{Window}
 use Rattle.window_audit.specs.Lasting.{ClosesOne, HasClosed, is_one_of, is_over}
 use Rattle.window_audit.proofs.LastingLemmas.{among_either, among_filter, among_left, among_right, from_filter}
@@ -42,10 +42,10 @@ pub closed_one : (seen : Seen) (origin : ℕ) (flooded : Window → Bool) (old n
     → HasClosed (is_over seen (origin ∷ [])) flooded old new owed owed2
 closed_one seen origin flooded old new owed owed2 none taken owes = record {
   left = λ q. taken q ∙ ap (λ (b : Bool). cond b [] (old q)) (at_one q);
-  kept = λ w h. subst (Among w) (sym owes) (among_left w owed (filter flooded (old origin)) h);
-  closes = λ w one. subst (Among w) (sym owes) (among_right w owed (filter flooded (old origin)) (among_filter flooded w (old origin) (subst (λ (q : ℕ). Among w (old q)) (is_it one.origin
+  kept = λ w h. subst (AmongWindows w) (sym owes) (among_left w owed (filter flooded (old origin)) h);
+  closes = λ w one. subst (AmongWindows w) (sym owes) (among_right w owed (filter flooded (old origin)) (among_filter flooded w (old origin) (subst (λ (q : ℕ). AmongWindows w (old q)) (is_it one.origin
       one.over) one.was) one.flooded_is));
-  closed = λ w h. of w (among_either w owed (filter flooded (old origin)) (subst (Among w) owes h));
+  closed = λ w h. of w (among_either w owed (filter flooded (old origin)) (subst (AmongWindows w) owes h));
 } where
   at_one : (q : ℕ) → (q == origin) ≡ is_over seen (origin ∷ []) q
   at_one q = equal_turned q origin ∙ by (origin == q) refl where
@@ -59,10 +59,10 @@ closed_one seen origin flooded old new owed owed2 none taken owes = record {
   itself : is_over seen (origin ∷ []) origin ≡ true
   itself = sym (at_one origin) ∙ same_number origin
 
-  made : (w : Window) → Among w (old origin) × (flooded w ≡ true) → ClosesOne (is_over seen (origin ∷ [])) flooded old w
+  made : (w : Window) → AmongWindows w (old origin) × (flooded w ≡ true) → ClosesOne (is_over seen (origin ∷ [])) flooded old w
   made w p = record { origin = origin; over = itself; was = p.0; flooded_is = p.1 }
 
-  of : (w : Window) → Among w owed ⊎ Among w (filter flooded (old origin)) → Among w owed ⊎ ClosesOne (is_over seen (origin ∷ [])) flooded old w
+  of : (w : Window) → AmongWindows w owed ⊎ AmongWindows w (filter flooded (old origin)) → AmongWindows w owed ⊎ ClosesOne (is_over seen (origin ∷ [])) flooded old w
   of w (inl h) = inl h
   of w (inr h) = inr (made w (from_filter flooded w (old origin) h))
 
@@ -81,18 +81,18 @@ closed_on g1 g2 g flooded a b c o o1 o2 both first then = record {
   two false true xs = refl
   two false false xs = refl
 
-  of : (w : Window) (one : ClosesOne g flooded a w) (t : Bool) → g1 one.origin ≡ t → Among w o2
+  of : (w : Window) (one : ClosesOne g flooded a w) (t : Bool) → g1 one.origin ≡ t → AmongWindows w o2
   of w one true holds = then.kept w (first.closes w (record { origin = one.origin; over = holds; was = one.was; flooded_is = one.flooded_is }))
   of w one false fails = then.closes w (record {
     origin = one.origin;
     over = ap (λ (t : Bool). t || g2 one.origin) (sym fails) ∙ (sym (both one.origin) ∙ one.over);
-    was = subst (Among w) (sym (first.left one.origin ∙ ap (λ (t : Bool). cond t [] (a one.origin)) fails)) one.was;
+    was = subst (AmongWindows w) (sym (first.left one.origin ∙ ap (λ (t : Bool). cond t [] (a one.origin)) fails)) one.was;
     flooded_is = one.flooded_is;
   })
 
-  was_in : (q : ℕ) (w : Window) → Among w (b q) → Among w (a q)
-  was_in q w h = by (g1 q) (subst (Among w) (first.left q) h) where
-    by : (t : Bool) → Among w (cond t [] (a q)) → Among w (a q)
+  was_in : (q : ℕ) (w : Window) → AmongWindows w (b q) → AmongWindows w (a q)
+  was_in q w h = by (g1 q) (subst (AmongWindows w) (first.left q) h) where
+    by : (t : Bool) → AmongWindows w (cond t [] (a q)) → AmongWindows w (a q)
     by true k = absurd k
     by false k = k
 
@@ -102,11 +102,11 @@ closed_on g1 g2 g flooded a b c o o1 o2 both first then = record {
   early : (w : Window) → ClosesOne g1 flooded a w → ClosesOne g flooded a w
   early w one = record { origin = one.origin; over = both one.origin ∙ or_left (g1 one.origin) (g2 one.origin) one.over; was = one.was; flooded_is = one.flooded_is }
 
-  front : (w : Window) → Among w o ⊎ ClosesOne g1 flooded a w → Among w o ⊎ ClosesOne g flooded a w
+  front : (w : Window) → AmongWindows w o ⊎ ClosesOne g1 flooded a w → AmongWindows w o ⊎ ClosesOne g flooded a w
   front w (inl h) = inl h
   front w (inr one) = inr (early w one)
 
-  back : (w : Window) → Among w o1 ⊎ ClosesOne g2 flooded b w → Among w o ⊎ ClosesOne g flooded a w
+  back : (w : Window) → AmongWindows w o1 ⊎ ClosesOne g2 flooded b w → AmongWindows w o ⊎ ClosesOne g flooded a w
   back w (inl h) = front w (first.closed w h)
   back w (inr one) = inr (late w one)
 

@@ -9,7 +9,7 @@ use Rattle.net_base.specs.declared.trace.entry.Entry.TheVariants as entry
 use Rattle.net_base.specs.declared.trace.state_name.StateName.TheVariants as state
 use Rattle.seen_network.specs.Once.{has_seen}
 use Rattle.seen_network.specs.Seen.{Seen, SeenCopy, copy_comes, copy_goes, delivers, end_goes, origin_among, repeats, seen_from, told, with_copies, with_octets, with_on, with_rest, with_standing, with_up, without_copy, without_edge}
-use Rattle.seen_state.specs.Copies.{CopyMaps, Tells, origin_under}
+use Rattle.seen_state.specs.Copies.{CopyMaps, TellsPackets, origin_under}
 use Rattle.seen_state.specs.SeenState.{Knows}
 use Rattle.seen_state.specs.declared.seen_state.SeenState.{SeenState}
 use Rattle.seen_windows.specs.EventEntries.{HasNoEvent}
@@ -42,18 +42,18 @@ first_none origin (x ∷ xs) ys none =
     ap (λ (b : Bool). b || any_of origin xs) (first_fails (x.origin == origin) (any_of origin (xs ++ ys)) none)
     ∙ first_none origin xs ys (second_fails (x.origin == origin) (any_of origin (xs ++ ys)) none)
 
-pub went_of : (maps : CopyMaps) (number origin : ℕ) (seen : Seen) → Tells maps seen.under_way → has_seen seen origin ≡ true → has_seen (copy_goes number seen) origin ≡ false
+pub went_of : (maps : CopyMaps) (number origin : ℕ) (seen : Seen) → TellsPackets maps seen.under_way → has_seen seen origin ≡ true → has_seen (copy_goes number seen) origin ≡ false
     → origin_under maps number ≡ Some origin
 unfolding with_copies
 went_of maps number origin seen told had lost = told.origins number ∙ gone number origin seen.under_way had lost
 
-pub came_of : (maps : CopyMaps) (number of origin : ℕ) (seen : Seen) → Tells maps seen.under_way → has_seen seen origin ≡ true → has_seen (copy_comes number of seen) origin ≡ false
+pub came_of : (maps : CopyMaps) (number of origin : ℕ) (seen : Seen) → TellsPackets maps seen.under_way → has_seen seen origin ≡ true → has_seen (copy_comes number of seen) origin ≡ false
     → origin_under maps number ≡ Some origin
 unfolding with_copies
 came_of maps number of origin seen told had lost =
     told.origins number ∙ gone number origin seen.under_way had (first_none origin (without_copy number seen.under_way) (record { number = number; origin = of } ∷ []) lost)
 
-pub repeated_of : (maps : CopyMaps) (number origin : ℕ) (of : Option ℕ) (seen : Seen) → Tells maps seen.under_way → has_seen seen origin ≡ true
+pub repeated_of : (maps : CopyMaps) (number origin : ℕ) (of : Option ℕ) (seen : Seen) → TellsPackets maps seen.under_way → has_seen seen origin ≡ true
     → has_seen (repeats number of seen) origin ≡ false → origin_under maps number ≡ Some origin
 repeated_of maps number origin None seen told had lost = absurd (cc (sym had ∙ lost))
 repeated_of maps number origin (Some of) seen told had lost = came_of maps number of origin seen told had lost

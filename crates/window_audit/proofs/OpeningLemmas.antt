@@ -16,7 +16,7 @@ use Rattle.net_values.specs.Mac.{is_group_address}
 use Rattle.net_values.specs.declared.mac.Mac.{Mac}
 use Rattle.net_values.proofs.NumberLemmas.{lt_next}
 use Rattle.hvpls_spokes.specs.PortSet.{has}
-use Rattle.seen_network.specs.Once.{is_row_of}
+use Rattle.seen_network.specs.Once.{is_circuit_row_of}
 use Rattle.seen_network.specs.Seen.{Seen}
 use Rattle.seen_windows.specs.Past.{GoesTo}
 use Rattle.window_audit.specs.Opening.{is_due}
@@ -27,7 +27,7 @@ use Rattle.window_audit.specs.Opening.{is_due}
 due_is : (plan : Plan) (seen : Seen) (service : ServiceId) (sender : CircuitId) (place : ℕ) (row : CircuitPlan) → place < length plan.circuits → row ≡ get_or plan.circuits place row
     → is_due plan seen service sender place ≡ ((row.service.0 == service.0 && seen.on place) && not (place == sender.0))
 due_is plan seen service sender place row within is =
-    ap (λ (r : Option CircuitPlan). (is_row_of service r && seen.on place) && not (place == sender.0)) (slice_get_read plan.circuits (length plan.circuits) place row refl within is)
+    ap (λ (r : Option CircuitPlan). (is_circuit_row_of service r && seen.on place) && not (place == sender.0)) (slice_get_read plan.circuits (length plan.circuits) place row refl within is)
 
 -- the sites up to one more
 pub sites_more : (plan : Plan) (seen : Seen) (service : ServiceId) (sender : CircuitId) (place : ℕ) (row : CircuitPlan) (old new : List ℕ) → place < length plan.circuits

@@ -14,7 +14,7 @@ use Rattle.seen_network.proofs.ReadLemmas.{seen_on}
 use Rattle.seen_state.specs.SeenState.{Knows}
 use Rattle.seen_state.specs.declared.seen_state.SeenState.{SeenState}
 use Rattle.seen_windows.specs.EventEntries.{HasNoEvent, event_of, tells_idle}
-use Rattle.seen_windows.specs.Past.{Among, AreOwed, IsOpen, IsOpened, IsOwed}
+use Rattle.seen_windows.specs.Past.{AmongWindows, AreOwed, IsOpen, IsOpened, IsOwed}
 use Rattle.seen_windows.specs.declared.window.Window.{Window}
 use Rattle.seen_windows.proofs.EventLemmas.{idle_told, no_event_in}
 use Rattle.seen_windows.proofs.PastLemmas.{still_open, still_owed}
@@ -112,7 +112,7 @@ not_open plan trace w bare o = no_event_in o.before (Frame o.circuit o.octets) o
 not_owed : (plan : Plan) (trace : List Entry) (w : Window) → HasNoEvent trace → IsOwed plan trace w → ⊥
 not_owed plan trace w bare o = no_event_in o.before (Frame o.circuit o.octets) (o.during ++ o.after) (subst HasNoEvent o.is bare)
 
-pub lasting_none : (plan : Plan) (trace : List Entry) (f : ℕ → List Window) → HasNoEvent trace → ((origin : ℕ) (w : Window) → Among w (f origin) → ⊥) → AreLasting plan trace f
+pub lasting_none : (plan : Plan) (trace : List Entry) (f : ℕ → List Window) → HasNoEvent trace → ((origin : ℕ) (w : Window) → AmongWindows w (f origin) → ⊥) → AreLasting plan trace f
 lasting_none plan trace f bare none = record {
   windows = [];
   are_open = record {
@@ -125,7 +125,7 @@ lasting_none plan trace f bare none = record {
   under_way = λ origin w h. absurd (none origin w h);
 }
 
-pub owed_none : (plan : Plan) (trace : List Entry) (owed : List Window) → HasNoEvent trace → ((w : Window) → Among w owed → ⊥) → AreOwed plan trace owed
+pub owed_none : (plan : Plan) (trace : List Entry) (owed : List Window) → HasNoEvent trace → ((w : Window) → AmongWindows w owed → ⊥) → AreOwed plan trace owed
 owed_none plan trace owed bare none = record {
   only = λ w h. absurd (none w h);
   each = λ before circuit octets during after service origin is begins shown. absurd (no_event_in before (Frame circuit octets) (during ++ after) (subst HasNoEvent is bare));
@@ -248,6 +248,6 @@ nothing plan past place knows calm sources exits lasting owed = record {
   calm = calm;
   sources = sources;
   exits = exits;
-  lasting = lasting_none plan [] (windows_at past.lasting) tt (λ origin w h. subst (Among w) (lasting origin) h);
-  owed = owed_none plan [] past.owed.items tt (λ w h. subst (Among w) owed h);
+  lasting = lasting_none plan [] (windows_at past.lasting) tt (λ origin w h. subst (AmongWindows w) (lasting origin) h);
+  owed = owed_none plan [] past.owed.items tt (λ w h. subst (AmongWindows w) owed h);
 }

@@ -14,7 +14,7 @@ use Rattle.net_base.specs.declared.trace.entry.Entry.TheVariants.{In}
 use Rattle.net_base.specs.plan.Places.{circuit_row}
 use Rattle.net_base.specs.trace.Frame.{source_of}
 use Rattle.net_values.specs.declared.mac.Mac.{Mac}
-use Rattle.seen_network.specs.Once.{is_row_of, is_sourced_by}
+use Rattle.seen_network.specs.Once.{is_circuit_row_of, is_sourced_by}
 use Rattle.window_audit.specs.Sources.{HasEntered, HasSources, comes_from, has_source}
 use Rattle.window_audit.specs.declared.source.Source.{Source}
 
@@ -48,12 +48,12 @@ put_one old new s put other address = put (record { service = other.0; address =
 pub entered_short : (plan : Plan) (circuit : CircuitId) (octets : List ℕ) (sources : List Source) → length octets < 12 → HasEntered plan circuit octets sources sources
 entered_short plan circuit octets sources few = λ service address six.
     or_false (has_source sources service.0 address.0) (comes_from plan circuit octets service address.0)
-    (and_right (is_row_of service (circuit_row plan circuit)) (bytes_eq (source_of octets) address.0) (short_source octets address.0 few six))
+    (and_right (is_circuit_row_of service (circuit_row plan circuit)) (bytes_eq (source_of octets) address.0) (short_source octets address.0 few six))
 
 pub entered_nowhere : (plan : Plan) (circuit : CircuitId) (octets : List ℕ) (sources : List Source) → circuit_row plan circuit ≡ None → HasEntered plan circuit octets sources sources
 entered_nowhere plan circuit octets sources none = λ service address six.
     or_false (has_source sources service.0 address.0) (comes_from plan circuit octets service address.0)
-    (ap (λ (row : Option CircuitPlan). is_row_of service row && bytes_eq (source_of octets) address.0) none)
+    (ap (λ (row : Option CircuitPlan). is_circuit_row_of service row && bytes_eq (source_of octets) address.0) none)
 
 pub entered_one : (plan : Plan) (circuit : CircuitId) (octets : List ℕ) (row : CircuitPlan) (from : Mac) (old new : List Source) → circuit_row plan circuit ≡ Some row → from.0 ≡ source_of octets
     → ((other : ServiceId) (address : Mac) → has_source new other.0 address.0 ≡ cond (row.service.0 == other.0 && bytes_eq from.0 address.0) true (has_source old other.0 address.0))
@@ -62,7 +62,7 @@ entered_one plan circuit octets row from old new is same put = λ service addres
     put service address
     ∙ (ap (λ (octets : List ℕ). cond (row.service.0 == service.0 && bytes_eq octets address.0) true (has_source old service.0 address.0)) same
     ∙ (turn (row.service.0 == service.0 && bytes_eq (source_of octets) address.0) (has_source old service.0 address.0)
-    ∙ ap (λ (r : Option CircuitPlan). has_source old service.0 address.0 || (is_row_of service r && bytes_eq (source_of octets) address.0)) (sym is))) where
+    ∙ ap (λ (r : Option CircuitPlan). has_source old service.0 address.0 || (is_circuit_row_of service r && bytes_eq (source_of octets) address.0)) (sym is))) where
       turn : (a b : Bool) → cond a true b ≡ b || a
       turn true true = refl
       turn true false = refl

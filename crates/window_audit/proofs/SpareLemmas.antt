@@ -3,14 +3,14 @@ use Rattle.std.proofs.Common.{◌≡◌, ◌==◌, ◌||◌, ◌∙◌, [], ℕ,
 use Rattle.net_values.proofs.NumberLemmas.{equal_turned}
 use Rattle.seen_network.specs.Once.{names_seen}
 use Rattle.seen_network.specs.Seen.{Seen}
-use Rattle.seen_state.specs.Copies.{CopyMaps, Tells, is_number, origin_under}
+use Rattle.seen_state.specs.Copies.{CopyMaps, TellsPackets, is_number, origin_under}
 use Rattle.seen_state.proofs.CopyLemmas.{seen_named}
 use Rattle.seen_windows.specs.declared.window.Window.{Window}
 
 pub spared_idle : (seen : Seen) (origin packet : ℕ) (idle : Bool) (ws : List Window) → idle ≡ true → ws ≡ cond (idle || not (names_seen seen origin packet)) ws []
 spared_idle seen origin packet idle ws holds = ap (λ (b : Bool). cond (b || not (names_seen seen origin packet)) ws []) (sym holds)
 
-pub spoiled_none : (maps : CopyMaps) (seen : Seen) (origin packet : ℕ) (idle : Bool) (ws : List Window) → origin_under maps packet ≡ None → Tells maps seen.under_way
+pub spoiled_none : (maps : CopyMaps) (seen : Seen) (origin packet : ℕ) (idle : Bool) (ws : List Window) → origin_under maps packet ≡ None → TellsPackets maps seen.under_way
     → ws ≡ cond (idle || not (names_seen seen origin packet)) ws []
 spoiled_none maps seen origin packet idle ws none tells = by idle where
   names : names_seen seen origin packet ≡ false
@@ -20,7 +20,7 @@ spoiled_none maps seen origin packet idle ws none tells = by idle where
   by true = refl
   by false = ap (λ (n : Bool). cond (not n) ws []) (sym names)
 
-pub spoiled_one : (maps : CopyMaps) (seen : Seen) (origin packet one : ℕ) (idle : Bool) (ws left : List Window) → idle ≡ false → origin_under maps packet ≡ Some one → Tells maps seen.under_way
+pub spoiled_one : (maps : CopyMaps) (seen : Seen) (origin packet one : ℕ) (idle : Bool) (ws left : List Window) → idle ≡ false → origin_under maps packet ≡ Some one → TellsPackets maps seen.under_way
     → left ≡ cond (origin == one) [] ws → left ≡ cond (idle || not (names_seen seen origin packet)) ws []
 spoiled_one maps seen origin packet one idle ws left fails some tells is =
     is ∙ (by (origin == one) ∙ (ap (λ (n : Bool). cond (not n) ws []) (equal_turned origin one ∙ sym names) ∙ ap (λ (b : Bool). cond (b || not (names_seen seen origin packet)) ws []) (sym fails))) where

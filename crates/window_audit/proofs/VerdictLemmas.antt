@@ -11,7 +11,7 @@ use Rattle.net_base.specs.declared.trace.entry.Entry.TheVariants as entry
 use Rattle.net_base.specs.plan.Accepted.{IsWithinLimits}
 use Rattle.seen_network.specs.Once.{SeenWithin, times_seen}
 use Rattle.seen_windows.specs.Verdict.{IsFirstOwed, IsServed}
-use Rattle.seen_windows.specs.Past.{Among}
+use Rattle.seen_windows.specs.Past.{AmongWindows}
 use Rattle.seen_windows.specs.declared.window.Window.{Window}
 use Rattle.window_audit.specs.Exits.{HasExits, LeftTwice, has_left, is_again, is_far, leavings_of, left_far}
 use Rattle.window_audit.specs.Verdict.{AgreeOrDiffer, Differ, Judges, earlier, is_owed_at}
@@ -124,16 +124,16 @@ refused_far plan trace window exits known far = far_not plan trace window (sym (
 -- ---- the first
 
 -- one of the first ones, or the last one
-among_front : (w last : Window) (ws : List Window) → Among w ws → Among w (ws ++ last ∷ [])
+among_front : (w last : Window) (ws : List Window) → AmongWindows w ws → AmongWindows w (ws ++ last ∷ [])
 among_front w last [] m = absurd m
 among_front w last (v ∷ ws) (inl same) = inl same
 among_front w last (v ∷ ws) (inr m) = inr (among_front w last ws m)
 
-among_last : (last : Window) (ws : List Window) → Among last (ws ++ last ∷ [])
+among_last : (last : Window) (ws : List Window) → AmongWindows last (ws ++ last ∷ [])
 among_last last [] = inl refl
 among_last last (v ∷ ws) = inr (among_last last ws)
 
-among_either : (w last : Window) (ws : List Window) → Among w (ws ++ last ∷ []) → (w ≡ last) ⊎ Among w ws
+among_either : (w last : Window) (ws : List Window) → AmongWindows w (ws ++ last ∷ []) → (w ≡ last) ⊎ AmongWindows w ws
 among_either w last [] (inl same) = inl same
 among_either w last [] (inr m) = absurd m
 among_either w last (v ∷ ws) (inl same) = inr (inl same)

@@ -8,7 +8,7 @@ use Rattle.net_base.specs.declared.plan.Plan.{Plan}
 use Rattle.net_base.specs.declared.trace.entry.Entry.{Entry}
 use Rattle.seen_network.specs.Once.{has_seen}
 use Rattle.seen_network.specs.Seen.{Seen, seen_in}
-use Rattle.seen_windows.specs.Past.{Among, AreOpen, flooded_to}
+use Rattle.seen_windows.specs.Past.{AmongWindows, AreOpen, flooded_to}
 use Rattle.seen_windows.specs.declared.window.Window.{Window}
 
 -- those of a frame
@@ -32,15 +32,15 @@ is_over seen origins origin = is_one_of origins origin && not (has_seen seen ori
 pub record ClosesOne (gone : ℕ → Bool) (flooded : Window → Bool) (old : ℕ → List Window) (window : Window) : Type 0 where
   pub origin : ℕ
   pub over : gone origin ≡ true
-  pub was : Among window (old origin)
+  pub was : AmongWindows window (old origin)
   pub flooded_is : flooded window ≡ true
 
 -- the windows of such frames last no more, and those that were flooded are owed
 pub record HasClosed (gone : ℕ → Bool) (flooded : Window → Bool) (old new : ℕ → List Window) (owed owed2 : List Window) : Type 0 where
   pub left : (origin : ℕ) → new origin ≡ (if gone origin then [] else old origin)
-  pub kept : (window : Window) → Among window owed → Among window owed2
-  pub closes : (window : Window) → ClosesOne gone flooded old window → Among window owed2
-  pub closed : (window : Window) → Among window owed2 → Among window owed ⊎ ClosesOne gone flooded old window
+  pub kept : (window : Window) → AmongWindows window owed → AmongWindows window owed2
+  pub closes : (window : Window) → ClosesOne gone flooded old window → AmongWindows window owed2
+  pub closed : (window : Window) → AmongWindows window owed2 → AmongWindows window owed ⊎ ClosesOne gone flooded old window
 
 -- the window is of a frame that was flooded
 abbrev pub was_flooded : Plan → List Entry → Window → Bool
@@ -50,7 +50,7 @@ was_flooded plan trace window = flooded_to plan window.service window.destinatio
 pub record AreLasting (plan : Plan) (trace : List Entry) (lasting : ℕ → List Window) : Type 0 where
   pub windows : List Window
   pub are_open : AreOpen plan trace windows
-  pub listed : (window : Window) → Among window windows → Among window (lasting window.origin)
-  pub lists : (origin : ℕ) (window : Window) → Among window (lasting origin) → Among window windows
-  pub home : (origin : ℕ) (window : Window) → Among window (lasting origin) → window.origin ≡ origin
-  pub under_way : (origin : ℕ) (window : Window) → Among window (lasting origin) → has_seen (seen_in trace) origin ≡ true
+  pub listed : (window : Window) → AmongWindows window windows → AmongWindows window (lasting window.origin)
+  pub lists : (origin : ℕ) (window : Window) → AmongWindows window (lasting origin) → AmongWindows window windows
+  pub home : (origin : ℕ) (window : Window) → AmongWindows window (lasting origin) → window.origin ≡ origin
+  pub under_way : (origin : ℕ) (window : Window) → AmongWindows window (lasting origin) → has_seen (seen_in trace) origin ≡ true

@@ -9,7 +9,7 @@ use Rattle.net_base.specs.declared.trace.entry.Entry.{Entry}
 use Rattle.net_base.specs.plan.Places.{circuit_row}
 use Rattle.net_base.specs.trace.Frame.{source_of}
 use Rattle.net_values.specs.declared.mac.Mac.{Mac}
-use Rattle.seen_network.specs.Once.{is_row_of, is_sourced_by}
+use Rattle.seen_network.specs.Once.{is_circuit_row_of, is_sourced_by}
 use Rattle.window_audit.specs.declared.source.Source.{Source}
 
 abbrev pub is_source : ℕ → List ℕ → Source → Bool
@@ -24,7 +24,7 @@ HasSources plan sources trace = (service : ServiceId) (address : Mac) → length
 
 -- a frame that enters at the circuit enters the service, from the address
 abbrev pub comes_from : Plan → CircuitId → List ℕ → ServiceId → List ℕ → Bool
-comes_from plan circuit octets service address = is_row_of service (circuit_row plan circuit) && bytes_eq (source_of octets) address
+comes_from plan circuit octets service address = is_circuit_row_of service (circuit_row plan circuit) && bytes_eq (source_of octets) address
 
 -- a frame more entered
 abbrev pub HasEntered : Plan → CircuitId → List ℕ → List Source → List Source → Type 0

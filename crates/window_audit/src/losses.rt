@@ -2,7 +2,7 @@
 ghost use Rattle.std.specs.Prelude.{◌≡◌, ◌<◌, ◌≤◌, ◌+◌, ◌^◌, ℕ, Some, true, false, length, OnOk};
 ghost use Rattle.seen_network.specs.Once.{has_seen};
 ghost use Rattle.seen_network.specs.Seen.{Seen, happened, happened_or, seen_from, told};
-ghost use Rattle.seen_state.specs.Copies.{Tells};
+ghost use Rattle.seen_state.specs.Copies.{TellsPackets};
 ghost use Rattle.seen_state.specs.Placed.{IsEventWithin, IsWithin};
 ghost use Rattle.seen_state.specs.SeenState.{Knows};
 ghost use Rattle.seen_windows.specs.EventEntries.{HasNoEvent};
@@ -66,7 +66,7 @@ fn tell_one(state: &mut SeenState, entry: &Entry, losses: &mut Vec<u64>) -> Resu
 
 // The frame of which a copy goes by an event.
 fn going_by_event(copies: &Copies, event: &Event) -> Option<u64>
-    ensures { (seen : Seen) → Tells copies.now seen.under_way → (origin : ℕ) → has_seen seen origin ≡ true → has_seen (happened event.now seen) origin ≡ false → result ≡ Some origin }
+    ensures { (seen : Seen) → TellsPackets copies.now seen.under_way → (origin : ℕ) → has_seen seen origin ≡ true → has_seen (happened event.now seen) origin ≡ false → result ≡ Some origin }
 {
     match *event {
         Event::Arrive { packet } => copies.origin(packet),
@@ -88,7 +88,7 @@ fn going_by_event(copies: &Copies, event: &Event) -> Option<u64>
 
 // The frame of which a copy goes by an entry: an aged packet, or one in whose place another comes.
 fn going_by_entry(copies: &Copies, entry: &Entry) -> Option<u64>
-    ensures { (seen : Seen) → Tells copies.now seen.under_way → (origin : ℕ) → has_seen seen origin ≡ true → has_seen (told entry.now seen) origin ≡ false → result ≡ Some origin }
+    ensures { (seen : Seen) → TellsPackets copies.now seen.under_way → (origin : ℕ) → has_seen seen origin ≡ true → has_seen (told entry.now seen) origin ≡ false → result ≡ Some origin }
 {
     match *entry {
         Entry::Sent { packet, .. } => copies.origin(packet),

@@ -2,7 +2,7 @@
 ghost use Rattle.std.specs.Prelude.{◌≡◌, ◌||◌, not, ℕ, [], if◌then◌else◌};
 ghost use Rattle.seen_network.specs.Once.{names_seen, spares_seen};
 ghost use Rattle.seen_network.specs.Seen.{Seen};
-ghost use Rattle.seen_state.specs.Copies.{Tells};
+ghost use Rattle.seen_state.specs.Copies.{TellsPackets};
 ghost use Rattle.window_audit.specs.Lasting.{windows_at};
 
 use crate::lasting::Lasting;
@@ -12,7 +12,7 @@ use seen_state::Copies;
 /// The windows that the event breaks are open no more: all, where no frame enters and no packet comes or goes by it, and those of a
 /// frame of which it loses or repeats a copy. One that did not apply loses and repeats none.
 pub(crate) fn spare(lasting: &mut Lasting, copies: &Copies, event: &Event, idle: bool)
-    ensures { (seen : Seen) → Tells copies.now seen.under_way → (origin : ℕ) → windows_at lasting.new origin ≡ (if spares_seen seen origin idle event.now then windows_at lasting.old origin else []) }
+    ensures { (seen : Seen) → TellsPackets copies.now seen.under_way → (origin : ℕ) → windows_at lasting.new origin ≡ (if spares_seen seen origin idle event.now then windows_at lasting.old origin else []) }
 {
     match *event {
         Event::Frame { .. } => {}
@@ -34,7 +34,7 @@ pub(crate) fn spare(lasting: &mut Lasting, copies: &Copies, event: &Event, idle:
 
 // A packet is lost or repeated, unless it is told that the event did not apply: the windows of its frame are open no more.
 fn spoil(lasting: &mut Lasting, copies: &Copies, packet: u64, idle: bool)
-    ensures { (seen : Seen) → Tells copies.now seen.under_way → (origin : ℕ) → windows_at lasting.new origin ≡ (if idle || not (names_seen seen origin packet) then windows_at lasting.old origin else []) }
+    ensures { (seen : Seen) → TellsPackets copies.now seen.under_way → (origin : ℕ) → windows_at lasting.new origin ≡ (if idle || not (names_seen seen origin packet) then windows_at lasting.old origin else []) }
 {
     if idle {
         return;

@@ -3,8 +3,8 @@ ghost use Rattle.std.specs.Prelude.{◌≡◌, ◌∷◌, [], false, length, OnO
 ghost use Rattle.net_base.specs.plan.Paths.{are_joined};
 ghost use Rattle.net_base.specs.plan.Planned.{IsEventOf};
 ghost use Rattle.network_model.specs.Step.{step};
-ghost use Rattle.psn_net.specs.Lists.{seen};
-ghost use Rattle.command_run.specs.Going.{IsGoing};
+ghost use Rattle.psn_net.specs.Lists.{network_seen};
+ghost use Rattle.command_run.specs.Going.{IsRunGoing};
 ghost use Rattle.discovery_script.specs.Planned.{AreOfPlan};
 ghost use Rattle.discovery_net.specs.Acts.{Does};
 ghost use Rattle.discovery_net.specs.Deeds.{Discovery, adjacency_lives};
@@ -24,7 +24,7 @@ impl DiscoveryNet {
         requires planned { AreOfPlan self.old.network.plan from to }
         requires going { self.old.network.failed ≡ false }
         ensures plan { self.new.network.plan ≡ self.old.network.plan }
-        ensures going { IsGoing result self.new.network }
+        ensures going { IsRunGoing result self.new.network }
         ensures acts { (d : Discovery) → IsAt d self.old → Acts result self.old self.new (acts_of self.old.network.plan d (ScriptLine.Open from to)) }
         ensures after { (d : Discovery) → IsAt d self.old → OnOk result (IsAt (after_line self.old.network.plan d (ScriptLine.Open from to)) self.new) }
     {
@@ -68,11 +68,11 @@ impl DiscoveryNet {
         requires event { IsEventOf self.old.network.plan event.now }
         requires going { self.old.network.failed ≡ false }
         ensures plan { self.new.network.plan ≡ self.old.network.plan }
-        ensures going { IsGoing result self.new.network }
+        ensures going { IsRunGoing result self.new.network }
         ensures adjacencies { self.new.adjacencies ≡ self.old.adjacencies }
         ensures count { length self.new.adjacencies ≡ length self.old.network.plan.edges }
         ensures hellos { self.new.hellos ≡ self.old.hellos }
-        ensures state { OnOk result (seen self.new.network ≡ (step self.old.network.plan (seen self.old.network) event.now).state) }
+        ensures state { OnOk result (network_seen self.new.network ≡ (step self.old.network.plan (network_seen self.old.network) event.now).state) }
         ensures acts { Acts result self.old self.new (Does event.now ∷ []) }
     {
         self.network.apply(alloc, event)

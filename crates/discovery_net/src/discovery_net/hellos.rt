@@ -1,11 +1,11 @@
 //! Hellos are said, and heard some time later.
 ghost use Rattle.std.specs.Prelude.{◌≡◌, ◌<◌, Some, true, false, option_map, IfSome, OnOk};
 ghost use Rattle.net_base.specs.plan.Paths.{are_joined};
-ghost use Rattle.command_run.specs.Going.{IsGoing};
+ghost use Rattle.command_run.specs.Going.{IsRunGoing};
 ghost use Rattle.discovery_script.specs.Planned.{AreOfPlan};
-ghost use Rattle.discovery_net.specs.Deeds.{Discovery, Hello, hello_of};
+ghost use Rattle.discovery_net.specs.Deeds.{Discovery, Hello, hello_numbered};
 ghost use Rattle.discovery_net.specs.Lines.{acts_of, after_line, bring_acts, heard_at};
-ghost use Rattle.discovery_net.specs.Lists.{Acts, IsAt, IsHello, IsOfPlan, said_hello};
+ghost use Rattle.discovery_net.specs.Lists.{Acts, IsAt, IsHelloFit, IsOfPlan, said_hello};
 
 use crate::discovery_net::DiscoveryNet;
 use crate::said_hello::SaidHello;
@@ -21,7 +21,7 @@ impl DiscoveryNet {
         requires planned { AreOfPlan self.old.network.plan from to }
         requires going { self.old.network.failed ≡ false }
         ensures plan { self.new.network.plan ≡ self.old.network.plan }
-        ensures going { IsGoing result self.new.network }
+        ensures going { IsRunGoing result self.new.network }
         ensures acts { (d : Discovery) → IsAt d self.old → Acts result self.old self.new (acts_of self.old.network.plan d (ScriptLine.Hello from to hold)) }
         ensures after { (d : Discovery) → IsAt d self.old → OnOk result (IsAt (after_line self.old.network.plan d (ScriptLine.Hello from to hold)) self.new) }
     {
@@ -39,7 +39,7 @@ impl DiscoveryNet {
         requires joined { are_joined self.old.network.plan from.0 to.0 ≡ true }
         requires going { self.old.network.failed ≡ false }
         ensures plan { self.new.network.plan ≡ self.old.network.plan }
-        ensures going { IsGoing result self.new.network }
+        ensures going { IsRunGoing result self.new.network }
         ensures acts { (d : Discovery) → IsAt d self.old → Acts result self.old self.new (acts_of self.old.network.plan d (ScriptLine.Hello from to hold)) }
         ensures after { (d : Discovery) → IsAt d self.old → OnOk result (IsAt (after_line self.old.network.plan d (ScriptLine.Hello from to hold)) self.new) }
     {
@@ -61,7 +61,7 @@ impl DiscoveryNet {
     // The Hello of a number, counted from 1.
     #[tactic(auto, using(crate::proofs::LineLemmas::hello_none, crate::proofs::LineLemmas::hello_found))]
     fn hello_of(&self, number: u64) -> Option<SaidHello>
-        ensures hello { (d : Discovery) → IsAt d self.now → result ≡ option_map (said_hello self.now.network.plan) (hello_of d number) }
+        ensures hello { (d : Discovery) → IsAt d self.now → result ≡ option_map (said_hello self.now.network.plan) (hello_numbered d number) }
         ensures planned { IfSome result (IsOfPlan self.now.network.plan) }
     {
         if number == 0 {
@@ -78,7 +78,7 @@ impl DiscoveryNet {
     pub(crate) fn bring(&mut self, alloc: Global, number: u64) -> Result<(), NetStop>
         requires going { self.old.network.failed ≡ false }
         ensures plan { self.new.network.plan ≡ self.old.network.plan }
-        ensures going { IsGoing result self.new.network }
+        ensures going { IsRunGoing result self.new.network }
         ensures acts { (d : Discovery) → IsAt d self.old → Acts result self.old self.new (acts_of self.old.network.plan d (ScriptLine.Bring number)) }
         ensures after { (d : Discovery) → IsAt d self.old → OnOk result (IsAt (after_line self.old.network.plan d (ScriptLine.Bring number)) self.new) }
     {
@@ -94,9 +94,9 @@ impl DiscoveryNet {
         requires planned { IsOfPlan self.old.network.plan hello }
         requires going { self.old.network.failed ≡ false }
         ensures plan { self.new.network.plan ≡ self.old.network.plan }
-        ensures going { IsGoing result self.new.network }
-        ensures acts { (d : Discovery) (said : Hello) → IsAt d self.old → IsHello said → hello ≡ said_hello self.old.network.plan said → Acts result self.old self.new (bring_acts d (Some said)) }
-        ensures after { (d : Discovery) (said : Hello) → IsAt d self.old → IsHello said → hello ≡ said_hello self.old.network.plan said → OnOk result (IsAt (record d { histories = heard_at (Some said) d.histories }) self.new) }
+        ensures going { IsRunGoing result self.new.network }
+        ensures acts { (d : Discovery) (said : Hello) → IsAt d self.old → IsHelloFit said → hello ≡ said_hello self.old.network.plan said → Acts result self.old self.new (bring_acts d (Some said)) }
+        ensures after { (d : Discovery) (said : Hello) → IsAt d self.old → IsHelloFit said → hello ≡ said_hello self.old.network.plan said → OnOk result (IsAt (record d { histories = heard_at (Some said) d.histories }) self.new) }
     {
         let lived = self.lives(hello.to, hello.from);
         match self

@@ -3,8 +3,8 @@ ghost use Rattle.std.specs.Prelude.{◌≡◌, ◌<◌, ◌∷◌, ◌-◌, ℕ,
 ghost use Rattle.ldp_discovery.specs.Live.{Deed, ticked};
 ghost use Rattle.adjacency_table.specs.Histories.{AreAfter, ends_by_tick, with_deed};
 ghost use Rattle.network_model.specs.State.{stands};
-ghost use Rattle.psn_net.specs.Lists.{seen};
-ghost use Rattle.command_run.specs.Going.{IsGoing};
+ghost use Rattle.psn_net.specs.Lists.{network_seen};
+ghost use Rattle.command_run.specs.Going.{IsRunGoing};
 ghost use Rattle.discovery_script.specs.Planned.{AreOfPlan};
 ghost use Rattle.discovery_net.specs.Deeds.{Discovery};
 ghost use Rattle.discovery_net.specs.Lines.{acts_of, after_line, lapses_with};
@@ -21,7 +21,7 @@ impl DiscoveryNet {
     pub(crate) fn tick(&mut self, alloc: Global) -> Result<(), NetStop>
         requires going { self.old.network.failed ≡ false }
         ensures plan { self.new.network.plan ≡ self.old.network.plan }
-        ensures going { IsGoing result self.new.network }
+        ensures going { IsRunGoing result self.new.network }
         ensures acts { (d : Discovery) → IsAt d self.old → Acts result self.old self.new (acts_of self.old.network.plan d ScriptLine.Tick) }
         ensures after { (d : Discovery) → IsAt d self.old → OnOk result (IsAt (after_line self.old.network.plan d ScriptLine.Tick) self.new) }
     {
@@ -36,7 +36,7 @@ impl DiscoveryNet {
         requires edge { edge.0 < length self.old.network.plan.edges }
         requires going { self.old.network.failed ≡ false }
         ensures plan { self.new.network.plan ≡ self.old.network.plan }
-        ensures going { IsGoing result self.new.network }
+        ensures going { IsRunGoing result self.new.network }
         ensures hellos { self.new.hellos ≡ self.old.hellos }
         ensures histories { (histories : ℕ → List Deed) → AreAfter histories self.old.adjacencies → OnOk result (AreAfter (with_deed edge ticked histories) self.new.adjacencies) }
         ensures downs { (histories : ℕ → List Deed) → AreAfter histories self.old.adjacencies → Downs result self.old self.new (lapses_with (ends_by_tick (histories edge.0)) edge 0 (length self.old.network.plan.edges)) }
@@ -57,7 +57,7 @@ impl DiscoveryNet {
         requires planned { AreOfPlan self.old.network.plan edge peer }
         requires going { self.old.network.failed ≡ false }
         ensures plan { self.new.network.plan ≡ self.old.network.plan }
-        ensures going { IsGoing result self.new.network }
+        ensures going { IsRunGoing result self.new.network }
         ensures hellos { self.new.hellos ≡ self.old.hellos }
         ensures adjacencies { self.new.adjacencies ≡ self.old.adjacencies }
         ensures downs { Downs result self.old self.new (λ behind. record { edge = edge; peer = peer } ∷ behind) }
@@ -72,7 +72,7 @@ impl DiscoveryNet {
     // Whether an edge's end of its connection with a peer stands.
     fn stands(&self, edge: EdgeId, peer: EdgeId) -> bool
         requires { edge.0 < length self.now.network.plan.edges }
-        ensures { result ≡ stands (seen self.now.network) edge.0 peer.0 }
+        ensures { result ≡ stands (network_seen self.now.network) edge.0 peer.0 }
     {
         match self.network.edge(edge) {
             Some(found) => found.has_end(peer),

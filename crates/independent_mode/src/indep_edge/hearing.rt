@@ -5,10 +5,10 @@ ghost use Rattle.pw_messages.specs.LinkAnswers.{Agrees, Answers};
 ghost use Rattle.independent_mode.specs.Receiver.{IsTakenOut, IsWaiting, receiver_of, kept_after};
 ghost use Rattle.independent_model.specs.Hear.{hears_at, hears_message, hears_messages, hears_notice, hears_status};
 ghost use Rattle.independent_mode.specs.Heard.{HearsTo};
-ghost use Rattle.independent_mode.specs.Lists.{Keeps, seen};
+ghost use Rattle.independent_mode.specs.Lists.{KeepsIndependent, independent_seen};
 ghost use Rattle.independent_model.specs.State.{with_receiver, with_remote, without_remotes};
 ghost use Rattle.independent_model.specs.Wires.{is_between};
-ghost use Rattle.independent_model.specs.Work.{Comes, GoesOn, NeverRefused};
+ghost use Rattle.independent_model.specs.Work.{Comes, CallsGoOn, NeverRefused};
 
 use crate::connection::PeerStream;
 use crate::{IndepEdge, IndepStop};
@@ -31,10 +31,10 @@ impl IndepEdge {
     ) -> Result<(), IndepStop>
         requires wire { wire < length self.old.plan.wires }
         requires within { peer.0 < length self.old.plan.edges }
-        ensures keeps { Keeps self.old self.new }
-        ensures goes { GoesOn (L.calls link.old) (L.calls link.new) }
+        ensures keeps { KeepsIndependent self.old self.new }
+        ensures goes { CallsGoOn (L.calls link.old) (L.calls link.new) }
         ensures never { NeverRefused result }
-        ensures step { (told : Answers) → Agrees told (L.calls link.new) → Comes result (seen self.new) (L.calls link.new) (hears_status self.old.plan told self.old.me.0 peer wire status (seen self.old) (L.calls link.old)) }
+        ensures step { (told : Answers) → Agrees told (L.calls link.new) → Comes result (independent_seen self.new) (L.calls link.new) (hears_status self.old.plan told self.old.me.0 peer wire status (independent_seen self.old) (L.calls link.old)) }
     {
         let wish = self.wish(wire);
         self.set_remote(wire, Some(status));
@@ -57,10 +57,10 @@ impl IndepEdge {
         link: &mut L,
     ) -> Result<(), IndepStop>
         requires within { peer.0 < length self.old.plan.edges }
-        ensures keeps { Keeps self.old self.new }
-        ensures goes { GoesOn (L.calls link.old) (L.calls link.new) }
+        ensures keeps { KeepsIndependent self.old self.new }
+        ensures goes { CallsGoOn (L.calls link.old) (L.calls link.new) }
         ensures never { NeverRefused result }
-        ensures step { (told : Answers) → Agrees told (L.calls link.new) → Comes result (seen self.new) (L.calls link.new) (hears_notice self.old.plan told self.old.me.0 peer code status fec (seen self.old) (L.calls link.old)) }
+        ensures step { (told : Answers) → Agrees told (L.calls link.new) → Comes result (independent_seen self.new) (L.calls link.new) (hears_notice self.old.plan told self.old.me.0 peer code status fec (independent_seen self.old) (L.calls link.old)) }
     {
         let Some(status) = status else {
             return Ok(());
@@ -86,10 +86,10 @@ impl IndepEdge {
         link: &mut L,
     ) -> Result<(), IndepStop>
         requires within { peer.0 < length self.old.plan.edges }
-        ensures keeps { Keeps self.old self.new }
-        ensures goes { GoesOn (L.calls link.old) (L.calls link.new) }
+        ensures keeps { KeepsIndependent self.old self.new }
+        ensures goes { CallsGoOn (L.calls link.old) (L.calls link.new) }
         ensures never { NeverRefused result }
-        ensures step { (told : Answers) → Agrees told (L.calls link.new) → Comes result (seen self.new) (L.calls link.new) (hears_message self.old.plan told self.old.me.0 peer message.now (seen self.old) (L.calls link.old)) }
+        ensures step { (told : Answers) → Agrees told (L.calls link.new) → Comes result (independent_seen self.new) (L.calls link.new) (hears_message self.old.plan told self.old.me.0 peer message.now (independent_seen self.old) (L.calls link.old)) }
     {
         match message {
             Message::Notification {
@@ -112,10 +112,10 @@ impl IndepEdge {
         link: &mut L,
     ) -> Result<(), IndepStop>
         requires within { peer.0 < length self.old.plan.edges }
-        ensures keeps { Keeps self.old self.new }
-        ensures goes { GoesOn (L.calls link.old) (L.calls link.new) }
+        ensures keeps { KeepsIndependent self.old self.new }
+        ensures goes { CallsGoOn (L.calls link.old) (L.calls link.new) }
         ensures never { NeverRefused result }
-        ensures step { (told : Answers) → Agrees told (L.calls link.new) → Comes result (seen self.new) (L.calls link.new) (hears_messages self.old.plan told self.old.me.0 peer messages.now (seen self.old) (L.calls link.old)) }
+        ensures step { (told : Answers) → Agrees told (L.calls link.new) → Comes result (independent_seen self.new) (L.calls link.new) (hears_messages self.old.plan told self.old.me.0 peer messages.now (independent_seen self.old) (L.calls link.old)) }
     {
         for place in 0..messages.len() {
             match self.hear_message(alloc, peer, &messages[place], link) {
@@ -136,11 +136,11 @@ impl IndepEdge {
         link: &mut L,
     ) -> Result<(), IndepStop>
         requires within { peer.0 < length self.old.plan.edges }
-        ensures keeps { Keeps self.old self.new }
-        ensures goes { GoesOn (L.calls link.old) (L.calls link.new) }
+        ensures keeps { KeepsIndependent self.old self.new }
+        ensures goes { CallsGoOn (L.calls link.old) (L.calls link.new) }
         ensures waits { OnOk result (IsWaiting receiver.new) }
         ensures step { (told : Answers) (more : List ℕ) → Agrees told (L.calls link.new) → AreOctets more
-            → HearsTo self.old.plan told self.old.me.0 peer result receiver.new more (seen self.new) (L.calls link.new) (hears_at self.old.plan told self.old.me.0 peer (receiver_of receiver.old) more (seen self.old) (L.calls link.old)) }
+            → HearsTo self.old.plan told self.old.me.0 peer result receiver.new more (independent_seen self.new) (L.calls link.new) (hears_at self.old.plan told self.old.me.0 peer (receiver_of receiver.old) more (independent_seen self.old) (L.calls link.old)) }
     {
         'pdus: loop {
             match receiver.next(alloc) {
@@ -167,10 +167,10 @@ impl IndepEdge {
         link: &mut L,
     ) -> Result<(), IndepStop>
         requires within { peer.0 < length self.old.plan.edges }
-        ensures keeps { Keeps self.old self.new }
-        ensures goes { GoesOn (L.calls link.old) (L.calls link.new) }
+        ensures keeps { KeepsIndependent self.old self.new }
+        ensures goes { CallsGoOn (L.calls link.old) (L.calls link.new) }
         ensures step { (told : Answers) → Agrees told (L.calls link.new)
-            → Comes result (kept_after peer.0 receiver.new result (seen self.new)) (L.calls link.new) (hears_at self.old.plan told self.old.me.0 peer (receiver_of receiver.old) octets.now (seen self.old) (L.calls link.old)) }
+            → Comes result (kept_after peer.0 receiver.new result (independent_seen self.new)) (L.calls link.new) (hears_at self.old.plan told self.old.me.0 peer (receiver_of receiver.old) octets.now (independent_seen self.old) (L.calls link.old)) }
     {
         let mut at = 0;
         'hearing: loop {
@@ -188,8 +188,8 @@ impl IndepEdge {
     // Takes out what the edge hears a peer with; none where nothing is heard.
     pub(crate) fn take_receiver(&mut self, peer: EdgeId) -> Option<PeerStream>
         requires within { peer.0 < length self.old.plan.edges }
-        ensures keeps { Keeps self.old self.new }
-        ensures step { IsTakenOut peer.0 (seen self.old) (seen self.new) result }
+        ensures keeps { KeepsIndependent self.old self.new }
+        ensures step { IsTakenOut peer.0 (independent_seen self.old) (independent_seen self.new) result }
     {
         let Some(connection) = self.take_connection(peer) else {
             return None;
@@ -202,8 +202,8 @@ impl IndepEdge {
     // Puts it back.
     fn put_receiver(&mut self, peer: EdgeId, receiver: PeerStream)
         requires within { peer.0 < length self.old.plan.edges }
-        ensures keeps { Keeps self.old self.new }
-        ensures step { seen self.new ≡ with_receiver peer.0 (receiver_of receiver) (seen self.old) }
+        ensures keeps { KeepsIndependent self.old self.new }
+        ensures step { independent_seen self.new ≡ with_receiver peer.0 (receiver_of receiver) (independent_seen self.old) }
     {
         if let Some(connection) = self.take_connection(peer) {
             self.put_connection(peer, Some(connection.with_receiver(receiver)));
@@ -218,8 +218,8 @@ impl IndepEdge {
         heard: &Result<(), IndepStop>,
     )
         requires within { peer.0 < length self.old.plan.edges }
-        ensures keeps { Keeps self.old self.new }
-        ensures step { seen self.new ≡ kept_after peer.0 receiver heard.now (seen self.old) }
+        ensures keeps { KeepsIndependent self.old self.new }
+        ensures step { independent_seen self.new ≡ kept_after peer.0 receiver heard.now (independent_seen self.old) }
     {
         match heard {
             Ok(()) | Err(IndepStop::Refused(_)) => self.put_receiver(peer, receiver),
@@ -230,9 +230,9 @@ impl IndepEdge {
     // The last status of a wire goes, where it is one with the peer.
     fn forget_place(&mut self, wire: usize, peer: EdgeId)
         requires { wire < length self.old.plan.wires }
-        ensures keeps { Keeps self.old self.new }
-        ensures with { is_between self.old.plan wire self.old.me.0 peer.0 ≡ true → seen self.new ≡ with_remote wire None (seen self.old) }
-        ensures without { is_between self.old.plan wire self.old.me.0 peer.0 ≡ false → seen self.new ≡ seen self.old }
+        ensures keeps { KeepsIndependent self.old self.new }
+        ensures with { is_between self.old.plan wire self.old.me.0 peer.0 ≡ true → independent_seen self.new ≡ with_remote wire None (independent_seen self.old) }
+        ensures without { is_between self.old.plan wire self.old.me.0 peer.0 ≡ false → independent_seen self.new ≡ independent_seen self.old }
     {
         if self.is_with(wire, peer) {
             self.set_remote(wire, None);
@@ -241,8 +241,8 @@ impl IndepEdge {
 
     // The last statuses of the wires with a peer go.
     pub(crate) fn forget(&mut self, peer: EdgeId)
-        ensures keeps { Keeps self.old self.new }
-        ensures step { seen self.new ≡ without_remotes (λ wire. is_between self.old.plan wire self.old.me.0 peer.0) (seen self.old) }
+        ensures keeps { KeepsIndependent self.old self.new }
+        ensures step { independent_seen self.new ≡ without_remotes (λ wire. is_between self.old.plan wire self.old.me.0 peer.0) (independent_seen self.old) }
     {
         let count = self.plan.wires.len();
         for wire in 0..count {

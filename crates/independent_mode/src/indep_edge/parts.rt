@@ -3,7 +3,7 @@ ghost use Rattle.std.specs.Prelude.{◌≡◌, ◌<◌, ◌&&◌, ℕ, Some, Non
 ghost use Rattle.status_exchange.specs.Wish.{is_active};
 ghost use Rattle.status_exchange.specs.Laws.{is_known_active};
 ghost use Rattle.independent_model.specs.Calls.{is_connected, uses_with};
-ghost use Rattle.independent_mode.specs.Lists.{Keeps, seen};
+ghost use Rattle.independent_mode.specs.Lists.{KeepsIndependent, independent_seen};
 ghost use Rattle.independent_model.specs.State.{id_next, spoken, with_connection, with_local, with_remote};
 ghost use Rattle.independent_model.specs.Wires.{is_between, is_row_between, other_end, wire_named};
 
@@ -16,43 +16,43 @@ use pw_tlvs::PwStatus;
 
 impl IndepEdge {
     // What the edge calls a wire.
-    #[tactic(auto, unfolding(crate::specs::Lists::seen))]
+    #[tactic(auto, unfolding(crate::specs::Lists::independent_seen))]
     pub(crate) fn wish(&self, wire: usize) -> Wish
         requires { wire < length self.now.plan.wires }
-        ensures { result ≡ (seen self.now).local wire }
+        ensures { result ≡ (independent_seen self.now).local wire }
     {
         self.wishes[wire]
     }
 
     pub(crate) fn set_wish(&mut self, wire: usize, wish: Wish)
         requires { wire < length self.old.plan.wires }
-        ensures keeps { Keeps self.old self.new }
-        ensures step { seen self.new ≡ with_local wire wish (seen self.old) }
+        ensures keeps { KeepsIndependent self.old self.new }
+        ensures step { independent_seen self.new ≡ with_local wire wish (independent_seen self.old) }
     {
         self.wishes[wire] = wish;
     }
 
     // The last status that was heard of the other end of a wire.
-    #[tactic(auto, unfolding(crate::specs::Lists::seen))]
+    #[tactic(auto, unfolding(crate::specs::Lists::independent_seen))]
     pub(crate) fn remote(&self, wire: usize) -> Option<PwStatus>
         requires { wire < length self.now.plan.wires }
-        ensures { result ≡ (seen self.now).remote wire }
+        ensures { result ≡ (independent_seen self.now).remote wire }
     {
         self.remotes[wire]
     }
 
     pub(crate) fn set_remote(&mut self, wire: usize, status: Option<PwStatus>)
         requires { wire < length self.old.plan.wires }
-        ensures keeps { Keeps self.old self.new }
-        ensures step { seen self.new ≡ with_remote wire status (seen self.old) }
+        ensures keeps { KeepsIndependent self.old self.new }
+        ensures step { independent_seen self.new ≡ with_remote wire status (independent_seen self.old) }
     {
         self.remotes[wire] = status;
     }
 
     // The number of the next message to a peer, where the edge is connected with it.
-    #[tactic(auto, unfolding(crate::specs::Lists::seen))]
+    #[tactic(auto, unfolding(crate::specs::Lists::independent_seen))]
     pub(crate) fn next_id(&self, peer: EdgeId) -> Option<u32>
-        ensures { result ≡ option_map id_next ((seen self.now).connection peer.0) }
+        ensures { result ≡ option_map id_next ((independent_seen self.now).connection peer.0) }
     {
         match self.connections.get(peer.0 as usize) {
             Some(Some(connection)) => Some(connection.next_id()),
@@ -63,17 +63,17 @@ impl IndepEdge {
     // Takes out the connection with a peer.
     pub(crate) fn take_connection(&mut self, peer: EdgeId) -> Option<Connection>
         requires within { peer.0 < length self.old.plan.edges }
-        ensures keeps { Keeps self.old self.new }
-        ensures taken { result ≡ (seen self.old).connection peer.0 }
-        ensures step { seen self.new ≡ with_connection peer.0 None (seen self.old) }
+        ensures keeps { KeepsIndependent self.old self.new }
+        ensures taken { result ≡ (independent_seen self.old).connection peer.0 }
+        ensures step { independent_seen self.new ≡ with_connection peer.0 None (independent_seen self.old) }
     {
         self.connections[peer.0 as usize].take()
     }
 
     pub(crate) fn put_connection(&mut self, peer: EdgeId, kept: Option<Connection>)
         requires within { peer.0 < length self.old.plan.edges }
-        ensures keeps { Keeps self.old self.new }
-        ensures step { seen self.new ≡ with_connection peer.0 kept (seen self.old) }
+        ensures keeps { KeepsIndependent self.old self.new }
+        ensures step { independent_seen self.new ≡ with_connection peer.0 kept (independent_seen self.old) }
     {
         self.connections[peer.0 as usize] = kept;
     }
@@ -115,7 +115,7 @@ impl IndepEdge {
     // Whether the edge uses a wire with a peer.
     pub(crate) fn uses_with(&self, wire: usize, peer: EdgeId) -> bool
         requires { wire < length self.now.plan.wires }
-        ensures { result ≡ uses_with (seen self.now) wire (Some peer) }
+        ensures { result ≡ uses_with (independent_seen self.now) wire (Some peer) }
     {
         self.is_connected(peer) && is_active(self.wish(wire)) && is_known_active(self.remote(wire))
     }

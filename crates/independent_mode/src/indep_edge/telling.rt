@@ -3,11 +3,11 @@ ghost use Rattle.std.specs.Prelude.{◌≡◌, ◌<◌, ℕ, Some, None, Ok, Err
 ghost use Rattle.net_base.specs.declared.plan.wire_plan.WirePlan.{WirePlan};
 ghost use Rattle.pw_messages.specs.LinkAnswers.{Agrees, Answers};
 ghost use Rattle.independent_model.specs.Calls.{tells_other};
-ghost use Rattle.independent_mode.specs.Lists.{Keeps, seen};
+ghost use Rattle.independent_mode.specs.Lists.{KeepsIndependent, independent_seen};
 ghost use Rattle.independent_model.specs.State.{ConnectionState, spoken, with_connection};
 ghost use Rattle.independent_model.specs.Tell.{octets_on, tells, tells_from, tells_place};
 ghost use Rattle.independent_model.specs.Wires.{other_end};
-ghost use Rattle.independent_model.specs.Work.{Comes, GoesOn, IsPut, NeverRefused};
+ghost use Rattle.independent_model.specs.Work.{Comes, CallsGoOn, IsPutOnLink, NeverRefused};
 
 use crate::notification::notification_octets;
 use crate::{IndepEdge, IndepStop};
@@ -18,7 +18,7 @@ impl IndepEdge {
     // The octets that tell what the edge calls a wire, in a message with this number.
     fn octets_of(&self, alloc: Global, wire: usize, id: u32) -> Result<Octets, NoMemory>
         requires { wire < length self.now.plan.wires }
-        ensures { IfOk result (λ octets. (row : WirePlan) → slice_get self.now.plan.wires wire ≡ Some row → octets ≡ octets_on self.now.plan self.now.me.0 row ((seen self.now).local wire) id) }
+        ensures { IfOk result (λ octets. (row : WirePlan) → slice_get self.now.plan.wires wire ≡ Some row → octets ≡ octets_on self.now.plan self.now.me.0 row ((independent_seen self.now).local wire) id) }
     {
         let router = self.plan.edges.as_slice()[self.me.0 as usize].address;
         let row = &self.plan.wires.as_slice()[wire];
@@ -28,8 +28,8 @@ impl IndepEdge {
     // The next message to a peer has the next number.
     fn count(&mut self, peer: EdgeId)
         requires within { peer.0 < length self.old.plan.edges }
-        ensures keeps { Keeps self.old self.new }
-        ensures step { (kept : ConnectionState) → (seen self.old).connection peer.0 ≡ Some kept → seen self.new ≡ with_connection peer.0 (Some (spoken kept)) (seen self.old) }
+        ensures keeps { KeepsIndependent self.old self.new }
+        ensures step { (kept : ConnectionState) → (independent_seen self.old).connection peer.0 ≡ Some kept → independent_seen self.new ≡ with_connection peer.0 (Some (spoken kept)) (independent_seen self.old) }
     {
         if let Some(connection) = self.take_connection(peer) {
             self.put_connection(peer, Some(connection.spoken()));
@@ -47,10 +47,10 @@ impl IndepEdge {
     ) -> Result<(), IndepStop>
         requires wire { wire < length self.old.plan.wires }
         requires within { peer.0 < length self.old.plan.edges }
-        ensures keeps { Keeps self.old self.new }
-        ensures goes { GoesOn (L.calls link.old) (L.calls link.new) }
+        ensures keeps { KeepsIndependent self.old self.new }
+        ensures goes { CallsGoOn (L.calls link.old) (L.calls link.new) }
         ensures never { NeverRefused result }
-        ensures step { (told : Answers) → Agrees told (L.calls link.new) → Comes result (seen self.new) (L.calls link.new) (tells self.old.plan told self.old.me.0 peer wire (seen self.old) (L.calls link.old)) }
+        ensures step { (told : Answers) → Agrees told (L.calls link.new) → Comes result (independent_seen self.new) (L.calls link.new) (tells self.old.plan told self.old.me.0 peer wire (independent_seen self.old) (L.calls link.old)) }
     {
         let Some(id) = self.next_id(peer) else {
             return Ok(());
@@ -76,10 +76,10 @@ impl IndepEdge {
         link: &mut L,
     ) -> Result<(), IndepStop>
         requires wire { wire < length self.old.plan.wires }
-        ensures keeps { Keeps self.old self.new }
-        ensures goes { GoesOn (L.calls link.old) (L.calls link.new) }
+        ensures keeps { KeepsIndependent self.old self.new }
+        ensures goes { CallsGoOn (L.calls link.old) (L.calls link.new) }
         ensures never { NeverRefused result }
-        ensures step { (told : Answers) → Agrees told (L.calls link.new) → Comes result (seen self.new) (L.calls link.new) (tells_other self.old.plan told self.old.me.0 wire (other_end self.old.plan self.old.me.0 wire) (seen self.old) (L.calls link.old)) }
+        ensures step { (told : Answers) → Agrees told (L.calls link.new) → Comes result (independent_seen self.new) (L.calls link.new) (tells_other self.old.plan told self.old.me.0 wire (other_end self.old.plan self.old.me.0 wire) (independent_seen self.old) (L.calls link.old)) }
     {
         match self.other_end(wire) {
             Some(peer) => self.tell(alloc, peer, wire, link),
@@ -97,10 +97,10 @@ impl IndepEdge {
     ) -> Result<(), IndepStop>
         requires wire { wire < length self.old.plan.wires }
         requires within { peer.0 < length self.old.plan.edges }
-        ensures keeps { Keeps self.old self.new }
-        ensures goes { GoesOn (L.calls link.old) (L.calls link.new) }
+        ensures keeps { KeepsIndependent self.old self.new }
+        ensures goes { CallsGoOn (L.calls link.old) (L.calls link.new) }
         ensures never { NeverRefused result }
-        ensures step { (told : Answers) → Agrees told (L.calls link.new) → Comes result (seen self.new) (L.calls link.new) (tells_place self.old.plan told self.old.me.0 peer wire (seen self.old) (L.calls link.old)) }
+        ensures step { (told : Answers) → Agrees told (L.calls link.new) → Comes result (independent_seen self.new) (L.calls link.new) (tells_place self.old.plan told self.old.me.0 peer wire (independent_seen self.old) (L.calls link.old)) }
     {
         if self.is_with(wire, peer) {
             self.tell(alloc, peer, wire, link)
@@ -118,10 +118,10 @@ impl IndepEdge {
         link: &mut L,
     ) -> Result<(), IndepStop>
         requires within { peer.0 < length self.old.plan.edges }
-        ensures keeps { Keeps self.old self.new }
-        ensures goes { GoesOn (L.calls link.old) (L.calls link.new) }
+        ensures keeps { KeepsIndependent self.old self.new }
+        ensures goes { CallsGoOn (L.calls link.old) (L.calls link.new) }
         ensures never { NeverRefused result }
-        ensures step { (told : Answers) → Agrees told (L.calls link.new) → Comes result (seen self.new) (L.calls link.new) (tells_from self.old.plan told self.old.me.0 peer 0 (length self.old.plan.wires) (seen self.old) (L.calls link.old)) }
+        ensures step { (told : Answers) → Agrees told (L.calls link.new) → Comes result (independent_seen self.new) (L.calls link.new) (tells_from self.old.plan told self.old.me.0 peer 0 (length self.old.plan.wires) (independent_seen self.old) (L.calls link.old)) }
     {
         let count = self.plan.wires.len();
         for wire in 0..count {
@@ -136,8 +136,8 @@ impl IndepEdge {
 
 // Puts octets.
 fn put_bytes<L: Link>(peer: EdgeId, bytes: &[u8], link: &mut L) -> Result<(), IndepStop>
-    ensures called { IsPut peer bytes.now (L.calls link.old) (L.calls link.new) result }
-    ensures goes { GoesOn (L.calls link.old) (L.calls link.new) }
+    ensures called { IsPutOnLink peer bytes.now (L.calls link.old) (L.calls link.new) result }
+    ensures goes { CallsGoOn (L.calls link.old) (L.calls link.new) }
     ensures never { NeverRefused result }
 {
     match link.put(peer, bytes) {

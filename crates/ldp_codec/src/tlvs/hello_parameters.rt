@@ -1,6 +1,6 @@
 //! The Common Hello Parameters TLV.
 ghost use Rattle.std.specs.Prelude.{◌≡◌};
-ghost use Rattle.ldp_grammar.specs.Written.{hello_octets};
+ghost use Rattle.ldp_grammar.specs.Written.{hello_parameters_octets};
 
 use crate::numbers::two;
 use crate::tlv_value::{PlainTlv, TlvValue};
@@ -22,7 +22,7 @@ impl TlvValue for HelloParams {
     ghost use Rattle.net_values.specs.declared.field.Field.TheVariants as field;
     ghost use Rattle.ldp_grammar.specs.Rows.{hello_parameters};
     ghost use Rattle.ldp_grammar.specs.Values.{IsHello};
-    ghost use Rattle.ldp_grammar.specs.Written.{hello_octets};
+    ghost use Rattle.ldp_grammar.specs.Written.{hello_parameters_octets};
 
     ghost number = { hello_parameters };
 
@@ -34,7 +34,7 @@ impl TlvValue for HelloParams {
 
     ghost can_write = { λ _. Unit {0} };
 
-    ghost octets = { λ params. hello_octets params.hold params.targeted params.request };
+    ghost octets = { λ params. hello_parameters_octets params.hold params.targeted params.request };
 
     fn number() -> u16 {
         HELLO_PARAMETERS
@@ -66,7 +66,7 @@ impl PlainTlv for HelloParams {
 
 // The value as it is written.
 fn hello_bytes(params: HelloParams) -> [u8; 4]
-    ensures { result ≡ hello_octets params.hold params.targeted params.request }
+    ensures { result ≡ hello_parameters_octets params.hold params.targeted params.request }
 {
     let flags = bit_value(15, params.targeted) + bit_value(14, params.request);
     tlv_header(params.hold, flags as u16)

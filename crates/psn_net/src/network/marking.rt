@@ -2,7 +2,7 @@
 //! edge tells of each connection of which it changes anything, but for what a delivery takes out of its pipe and for a restart.
 ghost use Rattle.std.specs.Prelude.{◌≡◌, ◌<◌, drop, length};
 ghost use Rattle.net_base.specs.plan.Planned.{IsEventOf};
-ghost use Rattle.psn_net.specs.DeliveryIndex.{AreMarkedAnew, HasMarkedPair, IsIndexed, IsIndexedBeside, IsMarked, is_pair, is_set, is_told, is_told_by, may_change};
+ghost use Rattle.psn_net.specs.DeliveryIndex.{AreMarkedAnew, HasMarkedPair, IsIndexed, IsIndexedBeside, IsMarked, is_pair, changes_between, is_told_between, is_told_by, may_change};
 
 use crate::pair_index::PairIndex;
 use crate::parts::Parts;
@@ -28,7 +28,7 @@ fn mark_set(index: &mut PairIndex, parts: &Parts, event: &Event)
     requires event { IsEventOf parts.now.plan event.now }
     requires size { length index.old.rows ≡ length parts.now.plan.edges }
     ensures size { length index.new.rows ≡ length index.old.rows }
-    ensures marked { AreMarkedAnew parts.now (is_set event.now) index.old index.new }
+    ensures marked { AreMarkedAnew parts.now (changes_between event.now) index.old index.new }
 {
     match event {
         Event::Deliver { from, to, .. } => mark_pair(index, parts, *from, *to),
@@ -45,7 +45,7 @@ fn mark_set(index: &mut PairIndex, parts: &Parts, event: &Event)
 #[tactic(auto, using(crate::proofs::IndexLemmas::entry_steps))]
 pub(crate) fn mark_told(index: &mut PairIndex, parts: &Parts, told: usize)
     requires size { length index.old.rows ≡ length parts.now.plan.edges }
-    requires before { IsIndexedBeside parts.now index.old (is_told (drop told parts.now.trace)) }
+    requires before { IsIndexedBeside parts.now index.old (is_told_between (drop told parts.now.trace)) }
     ensures size { length index.new.rows ≡ length index.old.rows }
     ensures after { IsIndexed parts.now index.new }
 {

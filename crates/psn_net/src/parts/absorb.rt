@@ -4,7 +4,7 @@ ghost use Rattle.net_base.specs.declared.trace.entry.Entry.TheVariants as Entry;
 ghost use Rattle.network_model.specs.Absorb.{absorb_all, absorb_one, all_entries_of, entries_told, put_towards};
 ghost use Rattle.network_model.specs.State.{with_packet, with_pipe};
 ghost use Rattle.provider_edge.specs.Said.{AllFit, NamesPlaces};
-ghost use Rattle.psn_net.specs.Lists.{HasRoom, HasStepped, Keeps, seen};
+ghost use Rattle.psn_net.specs.Lists.{HasRoom, HasStepped, KeepsNetwork, network_seen};
 
 use crate::departure::Departure;
 use crate::parts::Parts;
@@ -27,11 +27,11 @@ impl Parts {
         requires fit { AllFit self.old.plan effects.items }
         requires passed { trail.hops ≤ self.old.packets.last }
         requires room { HasRoom self.old }
-        ensures keeps { Keeps self.old self.new }
+        ensures keeps { KeepsNetwork self.old self.new }
         ensures room { OnOk result (HasRoom self.new) }
         ensures step { OnOk result (HasStepped self.old self.new (record {
-          state = absorb_all me trail.origin trail.hops effects.items (seen self.old);
-          entries = all_entries_of me trail.origin trail.hops effects.items (seen self.old);
+          state = absorb_all me trail.origin trail.hops effects.items (network_seen self.old);
+          entries = all_entries_of me trail.origin trail.hops effects.items (network_seen self.old);
         })) }
     {
         for effect in effects {
@@ -41,7 +41,7 @@ impl Parts {
     }
 
     // One thing that an edge gave out.
-    #[tactic(auto, unfolding(crate::specs::Lists::seen, network_model::specs::State::with_pipe))]
+    #[tactic(auto, unfolding(crate::specs::Lists::network_seen, network_model::specs::State::with_pipe))]
     fn absorb_one(
         &mut self,
         alloc: Global,
@@ -53,12 +53,12 @@ impl Parts {
         requires fit { NamesPlaces self.old.plan effect }
         requires passed { trail.hops ≤ self.old.packets.last }
         requires room { HasRoom self.old }
-        ensures keeps { Keeps self.old self.new }
+        ensures keeps { KeepsNetwork self.old self.new }
         ensures room { OnOk result (HasRoom self.new) }
         ensures more { OnOk result (self.old.packets.last ≤ self.new.packets.last) }
         ensures step { OnOk result (HasStepped self.old self.new (record {
-          state = absorb_one me trail.origin trail.hops effect (seen self.old);
-          entries = entries_told me trail.origin trail.hops effect (seen self.old);
+          state = absorb_one me trail.origin trail.hops effect (network_seen self.old);
+          entries = entries_told me trail.origin trail.hops effect (network_seen self.old);
         })) }
     {
         match effect {
@@ -126,16 +126,16 @@ impl Parts {
     }
 
     // Octets of LDP towards a peer: they go into the pipe where its end stands.
-    #[tactic(auto, unfolding(crate::specs::Lists::seen, network_model::specs::State::with_pipe))]
+    #[tactic(auto, unfolding(crate::specs::Lists::network_seen, network_model::specs::State::with_pipe))]
     fn say(&mut self, me: EdgeId, peer: EdgeId, bytes: Octets) -> Result<(), NoMemory>
         requires me { me.0 < length self.old.plan.edges }
         requires peer { peer.0 < length self.old.plan.edges }
         requires room { HasRoom self.old }
-        ensures keeps { Keeps self.old self.new }
+        ensures keeps { KeepsNetwork self.old self.new }
         ensures room { OnOk result (HasRoom self.new) }
         ensures last { self.new.packets.last ≡ self.old.packets.last }
         ensures step { OnOk result (HasStepped self.old self.new (record {
-          state = put_towards me peer bytes (seen self.old);
+          state = put_towards me peer bytes (network_seen self.old);
           entries = Entry.Said me peer bytes ∷ [];
         })) }
     {
@@ -160,12 +160,12 @@ impl Parts {
         requires to { departure.to.0 < length self.old.plan.edges }
         requires passed { departure.trail.hops ≤ self.old.packets.last + 1 }
         requires room { HasRoom self.old }
-        ensures keeps { Keeps self.old self.new }
+        ensures keeps { KeepsNetwork self.old self.new }
         ensures room { OnOk result (HasRoom self.new) }
         ensures more { OnOk result (self.old.packets.last ≤ self.new.packets.last) }
         ensures step { OnOk result (HasStepped self.old self.new (record {
-          state = with_packet departure.wire departure.from departure.to departure.trail.origin departure.trail.hops departure.bytes (seen self.old);
-          entries = Entry.Sent departure.from departure.to departure.wire arrival ((seen self.old).sent + 1) departure.trail.origin departure.trail.hops departure.bytes ∷ [];
+          state = with_packet departure.wire departure.from departure.to departure.trail.origin departure.trail.hops departure.bytes (network_seen self.old);
+          entries = Entry.Sent departure.from departure.to departure.wire arrival ((network_seen self.old).sent + 1) departure.trail.origin departure.trail.hops departure.bytes ∷ [];
         })) }
     {
         let Departure {
@@ -195,18 +195,18 @@ impl Parts {
     }
 
     // A packet is under way, and has the next number.
-    #[tactic(auto, using(crate::proofs::UnderWayLemmas::packets_more), unfolding(crate::specs::Lists::seen, network_model::specs::State::with_packet))]
+    #[tactic(auto, using(crate::proofs::UnderWayLemmas::packets_more), unfolding(crate::specs::Lists::network_seen, network_model::specs::State::with_packet))]
     pub(crate) fn add_packet(&mut self, departure: Departure) -> Result<u64, NoMemory>
         requires from { departure.from.0 < length self.old.plan.edges }
         requires to { departure.to.0 < length self.old.plan.edges }
         requires passed { departure.trail.hops ≤ self.old.packets.last + 1 }
         requires room { HasRoom self.old }
-        ensures keeps { Keeps self.old self.new }
+        ensures keeps { KeepsNetwork self.old self.new }
         ensures trace { self.new.trace ≡ self.old.trace }
         ensures entered { self.new.entered ≡ self.old.entered }
         ensures last { OnOk result (self.new.packets.last ≡ self.old.packets.last + 1) }
-        ensures number { IfOk result (λ number. number ≡ (seen self.old).sent + 1) }
-        ensures state { OnOk result (seen self.new ≡ with_packet departure.wire departure.from departure.to departure.trail.origin departure.trail.hops departure.bytes (seen self.old)) }
+        ensures number { IfOk result (λ number. number ≡ (network_seen self.old).sent + 1) }
+        ensures state { OnOk result (network_seen self.new ≡ with_packet departure.wire departure.from departure.to departure.trail.origin departure.trail.hops departure.bytes (network_seen self.old)) }
     {
         // Asked so that what always holds of it is at hand for the proof.
         let _told = self.ledger.trace().len();

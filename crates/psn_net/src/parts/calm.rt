@@ -3,7 +3,7 @@ ghost use Rattle.std.specs.Prelude.{◌≡◌};
 ghost use Rattle.net_base.specs.plan.Roles.{is_spoke_edge};
 ghost use Rattle.network_model.specs.Calm.{has_live_spokes, is_calm};
 ghost use Rattle.psn_net.specs.Calm.{has_live_spoke};
-ghost use Rattle.psn_net.specs.Lists.{seen};
+ghost use Rattle.psn_net.specs.Lists.{network_seen};
 
 use crate::parts::Parts;
 use hvpls_spokes::{Role, role, starts_spoke};
@@ -12,7 +12,7 @@ use net_base::{EdgeId, ServiceId, WireId};
 impl Parts {
     /// The service is quiet and full, and each of its spoke edges has exactly one spoke that carries frames (RFC 4762 section 10.2).
     pub fn is_calm(&self, service: ServiceId) -> bool
-        ensures { result ≡ is_calm self.now.plan (seen self.now) service }
+        ensures { result ≡ is_calm self.now.plan (network_seen self.now) service }
     {
         (self.is_quiet(service) && self.is_full(service)) && self.has_live_spokes(service)
     }
@@ -20,7 +20,7 @@ impl Parts {
     // Each spoke edge of the service has exactly one spoke that carries frames.
     #[tactic(auto, using(crate::proofs::CalmLemmas::below_more))]
     fn has_live_spokes(&self, service: ServiceId) -> bool
-        ensures { result ≡ has_live_spokes self.now.plan (seen self.now) service }
+        ensures { result ≡ has_live_spokes self.now.plan (network_seen self.now) service }
     {
         let count = self.count();
         for edge in 0..count {
@@ -34,7 +34,7 @@ impl Parts {
     // The edge has exactly one spoke that carries frames, where it is a spoke edge of the service.
     #[tactic(auto, using(crate::proofs::CalmLemmas::wire_steps))]
     fn has_live_spoke(&self, service: ServiceId, edge: EdgeId) -> bool
-        ensures { result ≡ has_live_spoke self.now.plan (seen self.now) service edge.0 }
+        ensures { result ≡ has_live_spoke self.now.plan (network_seen self.now) service edge.0 }
     {
         if !self.is_spoke_edge(service, edge) {
             return true;

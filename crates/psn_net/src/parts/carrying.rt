@@ -8,7 +8,7 @@ ghost use Rattle.provider_edge.specs.Lists.{seen as seen_edge};
 ghost use Rattle.network_model.specs.Calm.{carries, inner_stitched, is_joined_up};
 ghost use Rattle.network_model.specs.State.{edge_at};
 ghost use Rattle.psn_net.specs.Carrying.{forwards_if};
-ghost use Rattle.psn_net.specs.Lists.{seen};
+ghost use Rattle.psn_net.specs.Lists.{network_seen};
 
 use crate::parts::Parts;
 use hvpls_spokes::is_terminal;
@@ -21,7 +21,7 @@ impl Parts {
     pub fn carries(&self, wire: WireId, row: &WirePlan) -> bool
         requires checked { IsChecked self.now.plan }
         requires row { slice_get self.now.plan.wires wire.0 ≡ Some row.now }
-        ensures { result ≡ carries self.now.plan (seen self.now) wire.0 row.now }
+        ensures { result ≡ carries self.now.plan (network_seen self.now) wire.0 row.now }
     {
         let path = row.path.as_slice();
         (self.forwards(first_of(path), wire, row) && self.forwards(last_of(path), wire, row))
@@ -33,7 +33,7 @@ impl Parts {
     fn is_joined_up(&self, wire: WireId, row: &WirePlan) -> bool
         requires checked { IsChecked self.now.plan }
         requires row { slice_get self.now.plan.wires wire.0 ≡ Some row.now }
-        ensures { result ≡ is_joined_up self.now.plan (seen self.now) wire.0 row.now.path }
+        ensures { result ≡ is_joined_up self.now.plan (network_seen self.now) wire.0 row.now.path }
     {
         match row.path.as_slice() {
             [_first, rest @ ..] => self.are_stitched(wire, rest),
@@ -45,7 +45,7 @@ impl Parts {
     #[tactic(auto, using(crate::proofs::CarryingLemmas::stitching_steps))]
     fn are_stitched(&self, wire: WireId, path: &[EdgeId]) -> bool
         requires { list_all (is_edge_of self.now.plan) path.now ≡ true }
-        ensures { result ≡ inner_stitched self.now.plan (seen self.now) wire.0 path.now }
+        ensures { result ≡ inner_stitched self.now.plan (network_seen self.now) wire.0 path.now }
     {
         let points = path.len().saturating_sub(1);
         for place in 0..points {
@@ -59,7 +59,7 @@ impl Parts {
     // Each end that an edge has of the wire advertises its label and is bound.
     fn is_stitched(&self, edge: EdgeId, wire: WireId) -> bool
         requires { edge.0 < length self.now.plan.edges }
-        ensures { result ≡ is_stitched self.now.plan (edge_at (seen self.now) edge) wire }
+        ensures { result ≡ is_stitched self.now.plan (edge_at (network_seen self.now) edge) wire }
     {
         self.edge_at(edge).is_stitched(wire)
     }
@@ -69,7 +69,7 @@ impl Parts {
         requires checked { IsChecked self.now.plan }
         requires row { slice_get self.now.plan.wires wire.0 ≡ Some row.now }
         requires within { IfSome terminal (λ edge. edge.0 < length self.now.plan.edges) }
-        ensures { result ≡ forwards_if self.now.plan (seen self.now) wire.0 terminal }
+        ensures { result ≡ forwards_if self.now.plan (network_seen self.now) wire.0 terminal }
     {
         match terminal {
             Some(edge) => end_forwards(self.edge_at(edge), wire, row),
@@ -78,11 +78,11 @@ impl Parts {
     }
 
     // The edge with this place, over the plan of the network.
-    #[tactic(auto, unfolding(crate::specs::Lists::seen))]
+    #[tactic(auto, unfolding(crate::specs::Lists::network_seen))]
     pub(crate) fn edge_at(&self, edge: EdgeId) -> &Edge
         requires { edge.0 < length self.now.plan.edges }
         ensures plan { result.now.plan ≡ self.now.plan }
-        ensures state { seen_edge result.now ≡ edge_at (seen self.now) edge }
+        ensures state { seen_edge result.now ≡ edge_at (network_seen self.now) edge }
     {
         &self.edges[edge.0 as usize]
     }

@@ -3,7 +3,7 @@ ghost use Rattle.std.specs.Prelude.{◌≡◌, ◌<◌, drop, length, take, IfOk
 ghost use Rattle.network_model.specs.Connection.{connect_event, deliver_event, delivering, hearing_work, lose_event, restart_event};
 ghost use Rattle.network_model.specs.State.{with_pipe, without_octets_to};
 ghost use Rattle.provider_edge.specs.Said.{AllFit};
-ghost use Rattle.psn_net.specs.Lists.{HasDriven, HasRoom, HasStepped, Keeps, seen};
+ghost use Rattle.psn_net.specs.Lists.{HasDriven, HasRoom, HasStepped, KeepsNetwork, network_seen};
 
 use crate::parts::Parts;
 use crate::psn_link::PsnLink;
@@ -23,8 +23,8 @@ impl Parts {
         requires from { from.0 < length self.old.plan.edges }
         requires to { to.0 < length self.old.plan.edges }
         requires room { HasRoom self.old }
-        ensures keeps { Keeps self.old self.new }
-        ensures step { OnOk result (HasStepped self.old self.new (connect_event self.old.plan from to (seen self.old))) }
+        ensures keeps { KeepsNetwork self.old self.new }
+        ensures step { OnOk result (HasStepped self.old self.new (connect_event self.old.plan from to (network_seen self.old))) }
     {
         if !self.can_connect(from, to) {
             return self.tell(Entry::Idle);
@@ -47,8 +47,8 @@ impl Parts {
         requires from { from.0 < length self.old.plan.edges }
         requires to { to.0 < length self.old.plan.edges }
         requires room { HasRoom self.old }
-        ensures keeps { Keeps self.old self.new }
-        ensures step { OnOk result (HasStepped self.old self.new (deliver_event self.old.plan from to count (seen self.old))) }
+        ensures keeps { KeepsNetwork self.old self.new }
+        ensures step { OnOk result (HasStepped self.old self.new (deliver_event self.old.plan from to count (network_seen self.old))) }
     {
         if !self.is_deliverable(from, to) {
             return self.tell(Entry::Idle);
@@ -71,8 +71,8 @@ impl Parts {
         requires from { from.0 < length self.old.plan.edges }
         requires to { to.0 < length self.old.plan.edges }
         requires room { HasRoom self.old }
-        ensures keeps { Keeps self.old self.new }
-        ensures step { OnOk result (HasStepped self.old self.new (delivering self.old.plan from to count (seen self.old))) }
+        ensures keeps { KeepsNetwork self.old self.new }
+        ensures step { OnOk result (HasStepped self.old self.new (delivering self.old.plan from to count (network_seen self.old))) }
     {
         let effects = self.hand_over(alloc, from, to, count)?;
         self.give_up(from, to, count);
@@ -89,9 +89,9 @@ impl Parts {
     ) -> Result<Effects, NoMemory>
         requires from { from.0 < length self.old.plan.edges }
         requires to { to.0 < length self.old.plan.edges }
-        ensures keeps { Keeps self.old self.new }
+        ensures keeps { KeepsNetwork self.old self.new }
         ensures room { HasRoom self.old → HasRoom self.new }
-        ensures driven { IfOk result (HasDriven to self.old self.new (hearing_work self.old.plan (seen self.old) from to (take count ((seen self.old).pipes from.0 to.0)))) }
+        ensures driven { IfOk result (HasDriven to self.old self.new (hearing_work self.old.plan (network_seen self.old) from to (take count ((network_seen self.old).pipes from.0 to.0)))) }
         ensures fit { IfOk result (λ effects. AllFit self.old.plan effects.list) }
     {
         let bytes = self.pipes.front(from, to, count as usize);
@@ -109,14 +109,14 @@ impl Parts {
     }
 
     // The pipe gives up the octets. Cut for the prover: the step is not found where the pipes are opened beside it.
-    #[tactic(auto, unfolding(crate::specs::Lists::seen, network_model::specs::State::with_pipe))]
+    #[tactic(auto, unfolding(crate::specs::Lists::network_seen, network_model::specs::State::with_pipe))]
     fn give_up(&mut self, from: EdgeId, to: EdgeId, count: u16)
         requires from { from.0 < length self.old.plan.edges }
         requires to { to.0 < length self.old.plan.edges }
-        ensures keeps { Keeps self.old self.new }
+        ensures keeps { KeepsNetwork self.old self.new }
         ensures trace { self.new.trace ≡ self.old.trace }
         ensures room { HasRoom self.old → HasRoom self.new }
-        ensures state { seen self.new ≡ with_pipe from to (drop count ((seen self.old).pipes from.0 to.0)) (seen self.old) }
+        ensures state { network_seen self.new ≡ with_pipe from to (drop count ((network_seen self.old).pipes from.0 to.0)) (network_seen self.old) }
     {
         self.pipes.skip(from, to, count as usize);
     }
@@ -125,8 +125,8 @@ impl Parts {
     pub(crate) fn lose(&mut self, alloc: Global, me: EdgeId, peer: EdgeId) -> Result<(), NoMemory>
         requires me { me.0 < length self.old.plan.edges }
         requires room { HasRoom self.old }
-        ensures keeps { Keeps self.old self.new }
-        ensures step { OnOk result (HasStepped self.old self.new (lose_event self.old.plan me peer (seen self.old))) }
+        ensures keeps { KeepsNetwork self.old self.new }
+        ensures step { OnOk result (HasStepped self.old self.new (lose_event self.old.plan me peer (network_seen self.old))) }
     {
         if !self.stands(me, peer) {
             return self.tell(Entry::Idle);
@@ -139,8 +139,8 @@ impl Parts {
     pub(crate) fn restart(&mut self, alloc: Global, me: EdgeId) -> Result<(), NoMemory>
         requires me { me.0 < length self.old.plan.edges }
         requires room { HasRoom self.old }
-        ensures keeps { Keeps self.old self.new }
-        ensures step { OnOk result (HasStepped self.old self.new (restart_event me (seen self.old))) }
+        ensures keeps { KeepsNetwork self.old self.new }
+        ensures step { OnOk result (HasStepped self.old self.new (restart_event me (network_seen self.old))) }
     {
         let effects = self.drive(alloc, me, Input::Restart)?;
         self.empty_pipes_to(me);
@@ -148,13 +148,13 @@ impl Parts {
     }
 
     // Nothing is on the way to an edge any more. Cut for the prover, as above.
-    #[tactic(auto, unfolding(crate::specs::Lists::seen, network_model::specs::State::without_octets_to))]
+    #[tactic(auto, unfolding(crate::specs::Lists::network_seen, network_model::specs::State::without_octets_to))]
     fn empty_pipes_to(&mut self, me: EdgeId)
         requires me { me.0 < length self.old.plan.edges }
-        ensures keeps { Keeps self.old self.new }
+        ensures keeps { KeepsNetwork self.old self.new }
         ensures trace { self.new.trace ≡ self.old.trace }
         ensures room { HasRoom self.old → HasRoom self.new }
-        ensures state { seen self.new ≡ without_octets_to me (seen self.old) }
+        ensures state { network_seen self.new ≡ without_octets_to me (network_seen self.old) }
     {
         self.pipes.clear_to(me);
     }

@@ -7,7 +7,7 @@ ghost use Rattle.network_model.specs.Frame.{frame_event};
 ghost use Rattle.network_model.specs.State.{with_frame};
 ghost use Rattle.network_model.specs.Tick.{tick_event, ticks_from};
 ghost use Rattle.provider_edge.specs.Taking.{IsInRange};
-ghost use Rattle.psn_net.specs.Lists.{HasAnswered, HasEntered, HasRoom, HasStepped, Keeps, edge_of, seen};
+ghost use Rattle.psn_net.specs.Lists.{HasAnswered, HasEntered, HasRoom, HasStepped, KeepsNetwork, edge_of, network_seen};
 
 use crate::parts::Parts;
 use crate::trail::{NO_TRAIL, Trail};
@@ -21,8 +21,8 @@ impl Parts {
     pub(crate) fn tick(&mut self, alloc: Global) -> Result<(), NoMemory>
         requires room { HasRoom self.old }
         requires time { self.old.packets.ticks < length self.old.trace }
-        ensures keeps { Keeps self.old self.new }
-        ensures step { OnOk result (HasStepped self.old self.new (tick_event self.old.plan (seen self.old))) }
+        ensures keeps { KeepsNetwork self.old self.new }
+        ensures step { OnOk result (HasStepped self.old self.new (tick_event self.old.plan (network_seen self.old))) }
     {
         match self.age() {
             Ok(()) => self.tick_edges(alloc),
@@ -34,8 +34,8 @@ impl Parts {
     #[tactic(auto, using(crate::proofs::TickLemmas::tick_steps))]
     fn tick_edges(&mut self, alloc: Global) -> Result<(), NoMemory>
         requires room { HasRoom self.old }
-        ensures keeps { Keeps self.old self.new }
-        ensures step { OnOk result (HasStepped self.old self.new (ticks_from self.old.plan 0 (length self.old.plan.edges) (seen self.old))) }
+        ensures keeps { KeepsNetwork self.old self.new }
+        ensures step { OnOk result (HasStepped self.old self.new (ticks_from self.old.plan 0 (length self.old.plan.edges) (network_seen self.old))) }
     {
         let count = self.plan.edges.len();
         for place in 0..count {
@@ -57,9 +57,9 @@ impl Parts {
         requires range { IsInRange input }
         requires passed { trail.hops ≤ self.old.packets.last }
         requires room { HasRoom self.old }
-        ensures keeps { Keeps self.old self.new }
+        ensures keeps { KeepsNetwork self.old self.new }
         ensures room { OnOk result (HasRoom self.new) }
-        ensures step { OnOk result (HasStepped self.old self.new (absorb me trail.origin trail.hops (edge_step self.old.plan taken_all input.entry (begin_at (seen self.old) me)) (seen self.old))) }
+        ensures step { OnOk result (HasStepped self.old self.new (absorb me trail.origin trail.hops (edge_step self.old.plan taken_all input.entry (begin_at (network_seen self.old) me)) (network_seen self.old))) }
     {
         match self.drive(alloc, me, input) {
             Ok(effects) => self.absorb(alloc, me, trail, effects.list.into_items()),
@@ -77,8 +77,8 @@ impl Parts {
         requires me { me.0 < length self.old.plan.edges }
         requires range { IsInRange input }
         requires room { HasRoom self.old }
-        ensures keeps { Keeps self.old self.new }
-        ensures step { OnOk result (HasAnswered me self.old self.new (edge_step self.old.plan taken_all input.entry (begin_at (seen self.old) me))) }
+        ensures keeps { KeepsNetwork self.old self.new }
+        ensures step { OnOk result (HasAnswered me self.old self.new (edge_step self.old.plan taken_all input.entry (begin_at (network_seen self.old) me))) }
     {
         let effects = self.drive(alloc, me, input)?;
         if effects.idle {
@@ -97,8 +97,8 @@ impl Parts {
     ) -> Result<(), NoMemory>
         requires circuit { circuit.0 < length self.old.plan.circuits }
         requires room { HasRoom self.old }
-        ensures keeps { Keeps self.old self.new }
-        ensures step { OnOk result (HasStepped self.old self.new (frame_event self.old.plan circuit bytes (circuit_row self.old.plan circuit) (seen self.old))) }
+        ensures keeps { KeepsNetwork self.old self.new }
+        ensures step { OnOk result (HasStepped self.old self.new (frame_event self.old.plan circuit bytes (circuit_row self.old.plan circuit) (network_seen self.old))) }
     {
         let me = self.edge_of(circuit);
         let frame = Input::Frame {
@@ -132,10 +132,10 @@ impl Parts {
     }
 
     // The frame has the next number, and is told as it enters.
-    #[tactic(auto, unfolding(crate::specs::Lists::seen, network_model::specs::State::with_frame))]
+    #[tactic(auto, unfolding(crate::specs::Lists::network_seen, network_model::specs::State::with_frame))]
     fn enter(&mut self, circuit: CircuitId, bytes: Octets) -> Result<u64, NoMemory>
         requires room { HasRoom self.old }
-        ensures keeps { Keeps self.old self.new }
+        ensures keeps { KeepsNetwork self.old self.new }
         ensures room { OnOk result (HasRoom self.new) }
         ensures entered { IfOk result (HasEntered self.old self.new circuit bytes) }
     {

@@ -4,7 +4,7 @@ ghost use Rattle.net_base.specs.plan.Accepted.{IsChecked};
 ghost use Rattle.network_model.specs.Connection.{can_connect, is_deliverable, is_drained_pipe};
 ghost use Rattle.network_model.specs.Delivery.{first_from, first_pair};
 ghost use Rattle.network_model.specs.State.{stands};
-ghost use Rattle.psn_net.specs.Lists.{seen};
+ghost use Rattle.psn_net.specs.Lists.{network_seen};
 
 use crate::parts::Parts;
 use net_base::{EdgeId, WirePlan};
@@ -29,10 +29,10 @@ impl Parts {
     }
 
     /// An edge's end of its connection with a peer stands.
-    #[tactic(auto, unfolding(crate::specs::Lists::seen))]
+    #[tactic(auto, unfolding(crate::specs::Lists::network_seen))]
     pub fn stands(&self, edge: EdgeId, peer: EdgeId) -> bool
         requires edge { edge.0 < length self.now.plan.edges }
-        ensures { result ≡ stands (seen self.now) edge.0 peer.0 }
+        ensures { result ≡ stands (network_seen self.now) edge.0 peer.0 }
     {
         self.edges[edge.0 as usize].has_end(peer)
     }
@@ -41,18 +41,18 @@ impl Parts {
     pub fn can_connect(&self, a: EdgeId, b: EdgeId) -> bool
         requires a { a.0 < length self.now.plan.edges }
         requires b { b.0 < length self.now.plan.edges }
-        ensures can { result ≡ can_connect self.now.plan (seen self.now) a.0 b.0 }
+        ensures can { result ≡ can_connect self.now.plan (network_seen self.now) a.0 b.0 }
         ensures apart { result ≡ true → (b.0 == a.0) ≡ false }
     {
         self.plan.joined(a, b) && (!self.stands(a, b) && !self.stands(b, a))
     }
 
     /// Nothing is on its way from an edge to another one.
-    #[tactic(auto, unfolding(crate::specs::Lists::seen))]
+    #[tactic(auto, unfolding(crate::specs::Lists::network_seen))]
     pub fn is_drained(&self, from: EdgeId, to: EdgeId) -> bool
         requires from { from.0 < length self.now.plan.edges }
         requires to { to.0 < length self.now.plan.edges }
-        ensures { result ≡ is_drained_pipe (seen self.now) from.0 to.0 }
+        ensures { result ≡ is_drained_pipe (network_seen self.now) from.0 to.0 }
     {
         self.pipes.len(from, to) == 0
     }
@@ -61,7 +61,7 @@ impl Parts {
     pub fn is_deliverable(&self, from: EdgeId, to: EdgeId) -> bool
         requires from { from.0 < length self.now.plan.edges }
         requires to { to.0 < length self.now.plan.edges }
-        ensures { result ≡ is_deliverable (seen self.now) from.0 to.0 }
+        ensures { result ≡ is_deliverable (network_seen self.now) from.0 to.0 }
     {
         self.stands(to, from) && (!self.is_drained(from, to) || !self.stands(from, to))
     }
@@ -70,8 +70,8 @@ impl Parts {
     pub fn deliverable_between(&self, one: EdgeId, other: EdgeId) -> (bool, bool)
         requires one { one.0 < length self.now.plan.edges }
         requires other { other.0 < length self.now.plan.edges }
-        ensures there { result.0 ≡ is_deliverable (seen self.now) one.0 other.0 }
-        ensures back { result.1 ≡ is_deliverable (seen self.now) other.0 one.0 }
+        ensures there { result.0 ≡ is_deliverable (network_seen self.now) one.0 other.0 }
+        ensures back { result.1 ≡ is_deliverable (network_seen self.now) other.0 one.0 }
     {
         let near = self.stands(one, other);
         let far = self.stands(other, one);
@@ -85,7 +85,7 @@ impl Parts {
     fn is_ready(&self, from: EdgeId, to: EdgeId, sender: bool, receiver: bool) -> bool
         requires from { from.0 < length self.now.plan.edges }
         requires to { to.0 < length self.now.plan.edges }
-        ensures { result ≡ (receiver && (not (is_drained_pipe (seen self.now) from.0 to.0) || not sender)) }
+        ensures { result ≡ (receiver && (not (is_drained_pipe (network_seen self.now) from.0 to.0) || not sender)) }
     {
         receiver && (!self.is_drained(from, to) || !sender)
     }
@@ -94,7 +94,7 @@ impl Parts {
     /// looks at them all.
     #[tactic(auto, using(crate::proofs::PairLemmas::pair_steps))]
     pub fn first_deliverable(&self) -> Option<(usize, usize)>
-        ensures first { result ≡ first_pair (is_deliverable (seen self.now)) (length self.now.plan.edges) 0 (length self.now.plan.edges) }
+        ensures first { result ≡ first_pair (is_deliverable (network_seen self.now)) (length self.now.plan.edges) 0 (length self.now.plan.edges) }
         ensures within { IfSome result (λ pair. (pair.0 < length self.now.plan.edges) × (pair.1 < length self.now.plan.edges)) }
     {
         let count = self.count();
@@ -110,7 +110,7 @@ impl Parts {
     #[tactic(auto, using(crate::proofs::PairLemmas::place_steps))]
     fn first_deliverable_from(&self, from: usize) -> Option<usize>
         requires { from < length self.now.plan.edges }
-        ensures first { result ≡ first_from (is_deliverable (seen self.now) from) 0 (length self.now.plan.edges) }
+        ensures first { result ≡ first_from (is_deliverable (network_seen self.now) from) 0 (length self.now.plan.edges) }
         ensures within { IfSome result (λ to. to < length self.now.plan.edges) }
     {
         let count = self.count();

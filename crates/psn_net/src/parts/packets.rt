@@ -5,7 +5,7 @@ ghost use Rattle.net_base.specs.plan.Planned.{IsEventOf};
 ghost use Rattle.network_model.specs.Age.{ageing};
 ghost use Rattle.network_model.specs.Packet.{again_event, arrive_event, discard_event, next_arrival, packet_at};
 ghost use Rattle.network_model.specs.State.{with_older, without_number, without_packet};
-ghost use Rattle.psn_net.specs.Lists.{HasRoom, HasStepped, Keeps, copied, seen};
+ghost use Rattle.psn_net.specs.Lists.{HasRoom, HasStepped, KeepsNetwork, copied, network_seen};
 ghost use Rattle.psn_net.specs.Packets.{IsPacketOf, is_aged, number_of, without_aged};
 
 use crate::parts::Parts;
@@ -20,8 +20,8 @@ impl Parts {
     #[tactic(auto, using(crate::proofs::UnderWayLemmas::arrive_steps))]
     pub(crate) fn arrive(&mut self, alloc: Global, number: u64) -> Result<(), NoMemory>
         requires room { HasRoom self.old }
-        ensures keeps { Keeps self.old self.new }
-        ensures step { OnOk result (HasStepped self.old self.new (arrive_event self.old.plan (packet_at (seen self.old) number) (seen self.old))) }
+        ensures keeps { KeepsNetwork self.old self.new }
+        ensures step { OnOk result (HasStepped self.old self.new (arrive_event self.old.plan (packet_at (network_seen self.old) number) (network_seen self.old))) }
     {
         let Some(packet) = self.take_packet(number) else {
             return self.tell(Entry::Idle);
@@ -38,8 +38,8 @@ impl Parts {
     #[tactic(auto, using(crate::proofs::UnderWayLemmas::discard_steps))]
     pub(crate) fn discard(&mut self, number: u64) -> Result<(), NoMemory>
         requires room { HasRoom self.old }
-        ensures keeps { Keeps self.old self.new }
-        ensures step { OnOk result (HasStepped self.old self.new (discard_event (packet_at (seen self.old) number) (seen self.old))) }
+        ensures keeps { KeepsNetwork self.old self.new }
+        ensures step { OnOk result (HasStepped self.old self.new (discard_event (packet_at (network_seen self.old) number) (network_seen self.old))) }
     {
         match self.take_packet(number) {
             Some(_) => Ok(()),
@@ -48,15 +48,15 @@ impl Parts {
     }
 
     // Takes the packet with a number off its way, where it is under way.
-    #[tactic(auto, using(crate::proofs::UnderWayLemmas::taken_steps), unfolding(crate::specs::Lists::seen, network_model::specs::State::without_packet))]
+    #[tactic(auto, using(crate::proofs::UnderWayLemmas::taken_steps), unfolding(crate::specs::Lists::network_seen, network_model::specs::State::without_packet))]
     fn take_packet(&mut self, number: u64) -> Option<Packet>
-        ensures keeps { Keeps self.old self.new }
+        ensures keeps { KeepsNetwork self.old self.new }
         ensures trace { self.new.trace ≡ self.old.trace }
         ensures room { HasRoom self.old → HasRoom self.new }
         ensures ticks { self.new.packets.ticks ≡ self.old.packets.ticks }
-        ensures packet { result ≡ packet_at (seen self.old) number }
+        ensures packet { result ≡ packet_at (network_seen self.old) number }
         ensures planned { IfSome result (IsPacketOf self.new.plan self.new.packets.last) }
-        ensures state { seen self.new ≡ without_packet number (seen self.old) }
+        ensures state { network_seen self.new ≡ without_packet number (network_seen self.old) }
     {
         self.packets.take(number)
     }
@@ -65,8 +65,8 @@ impl Parts {
     #[tactic(auto, using(crate::proofs::UnderWayLemmas::again_steps))]
     pub(crate) fn again(&mut self, alloc: Global, number: u64) -> Result<(), NoMemory>
         requires room { HasRoom self.old }
-        ensures keeps { Keeps self.old self.new }
-        ensures step { OnOk result (HasStepped self.old self.new (again_event (packet_at (seen self.old) number) (seen self.old))) }
+        ensures keeps { KeepsNetwork self.old self.new }
+        ensures step { OnOk result (HasStepped self.old self.new (again_event (packet_at (network_seen self.old) number) (network_seen self.old))) }
     {
         match self.repeat_packet(alloc, number) {
             Ok(Some(packet)) => self.tell(Entry::Copied { packet, of: number }),
@@ -79,10 +79,10 @@ impl Parts {
     #[tactic(auto, using(crate::proofs::UnderWayLemmas::repeated_steps))]
     fn repeat_packet(&mut self, alloc: Global, number: u64) -> Result<Option<u64>, NoMemory>
         requires room { HasRoom self.old }
-        ensures keeps { Keeps self.old self.new }
+        ensures keeps { KeepsNetwork self.old self.new }
         ensures trace { self.new.trace ≡ self.old.trace }
-        ensures number { IfOk result (λ copy. copy ≡ option_map (λ packet. (seen self.old).sent + 1) (packet_at (seen self.old) number)) }
-        ensures state { OnOk result (seen self.new ≡ copied (packet_at (seen self.old) number) (seen self.old)) }
+        ensures number { IfOk result (λ copy. copy ≡ option_map (λ packet. (network_seen self.old).sent + 1) (packet_at (network_seen self.old) number)) }
+        ensures state { OnOk result (network_seen self.new ≡ copied (packet_at (network_seen self.old) number) (network_seen self.old)) }
     {
         // Asked so that what always holds of it is at hand for the proof.
         let _told = self.ledger.trace().len();
@@ -94,9 +94,9 @@ impl Parts {
     pub(crate) fn age(&mut self) -> Result<(), NoMemory>
         requires room { HasRoom self.old }
         requires time { self.old.packets.ticks < length self.old.trace }
-        ensures keeps { Keeps self.old self.new }
+        ensures keeps { KeepsNetwork self.old self.new }
         ensures room { OnOk result (HasRoom self.new) }
-        ensures step { OnOk result (HasStepped self.old self.new (ageing (seen self.old))) }
+        ensures step { OnOk result (HasStepped self.old self.new (ageing (network_seen self.old))) }
     {
         'ageing: while let Some(packet) = self.first_aged() {
             self.take_packet(packet);
@@ -107,23 +107,23 @@ impl Parts {
     }
 
     // The number of the first packet that a further tick makes too old.
-    #[tactic(auto, unfolding(crate::specs::Lists::seen))]
+    #[tactic(auto, unfolding(crate::specs::Lists::network_seen))]
     fn first_aged(&self) -> Option<u64>
-        ensures number { result ≡ option_map number_of (find is_aged (seen self.now).under_way) }
-        ensures left { IfSome result (λ number. without_number number (seen self.now).under_way ≡ without_aged (seen self.now).under_way) }
+        ensures number { result ≡ option_map number_of (find is_aged (network_seen self.now).under_way) }
+        ensures left { IfSome result (λ number. without_number number (network_seen self.now).under_way ≡ without_aged (network_seen self.now).under_way) }
     {
         self.packets.first_aged()
     }
 
     // Each packet under way is a tick older.
-    #[tactic(auto, using(crate::proofs::AgeLemmas::planned_older), unfolding(crate::specs::Lists::seen, network_model::specs::State::with_older))]
+    #[tactic(auto, using(crate::proofs::AgeLemmas::planned_older), unfolding(crate::specs::Lists::network_seen, network_model::specs::State::with_older))]
     fn count_tick(&mut self)
-        requires young { find is_aged (seen self.old).under_way ≡ None }
+        requires young { find is_aged (network_seen self.old).under_way ≡ None }
         requires time { self.old.packets.ticks < length self.old.trace }
-        ensures keeps { Keeps self.old self.new }
+        ensures keeps { KeepsNetwork self.old self.new }
         ensures trace { self.new.trace ≡ self.old.trace }
         ensures room { HasRoom self.old → HasRoom self.new }
-        ensures state { seen self.new ≡ with_older (seen self.old) }
+        ensures state { network_seen self.new ≡ with_older (network_seen self.old) }
     {
         // Asked so that what always holds of it is at hand for the proof.
         let _told = self.ledger.trace().len();
@@ -131,9 +131,9 @@ impl Parts {
     }
 
     /// The next arrival: the packet under way with the lowest number. `None` exactly where none is under way.
-    #[tactic(auto, unfolding(crate::specs::Lists::seen))]
+    #[tactic(auto, unfolding(crate::specs::Lists::network_seen))]
     pub fn next_arrival(&self) -> Option<Event>
-        ensures next { result ≡ next_arrival (seen self.now) }
+        ensures next { result ≡ next_arrival (network_seen self.now) }
         ensures planned { IfSome result (IsEventOf self.now.plan) }
     {
         let packet = self.packets.first()?;

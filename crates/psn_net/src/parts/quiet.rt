@@ -5,7 +5,7 @@ ghost use Rattle.net_base.specs.plan.Paths.{joins};
 ghost use Rattle.net_base.specs.plan.Roles.{all_below, is_wire_of};
 ghost use Rattle.network_model.specs.Calm.{is_drained, is_quiet};
 ghost use Rattle.psn_net.specs.Calm.{is_quiet_between};
-ghost use Rattle.psn_net.specs.Lists.{seen};
+ghost use Rattle.psn_net.specs.Lists.{network_seen};
 
 use crate::parts::Parts;
 use net_base::{EdgeId, ServiceId, WirePlan};
@@ -14,7 +14,7 @@ impl Parts {
     /// Nothing is on its way between two edges that the service joins.
     #[tactic(auto, using(crate::proofs::CalmLemmas::below_more))]
     pub fn is_quiet(&self, service: ServiceId) -> bool
-        ensures { result ≡ is_quiet self.now.plan (seen self.now) service }
+        ensures { result ≡ is_quiet self.now.plan (network_seen self.now) service }
     {
         let count = self.count();
         for a in 0..count {
@@ -29,7 +29,7 @@ impl Parts {
     #[tactic(auto, using(crate::proofs::CalmLemmas::below_more))]
     fn is_quiet_beside(&self, service: ServiceId, a: usize) -> bool
         requires { a < length self.now.plan.edges }
-        ensures { result ≡ all_below (length self.now.plan.edges) (is_quiet_between self.now.plan (seen self.now) service a) }
+        ensures { result ≡ all_below (length self.now.plan.edges) (is_quiet_between self.now.plan (network_seen self.now) service a) }
     {
         let count = self.count();
         for b in 0..count {
@@ -45,7 +45,7 @@ impl Parts {
     fn is_quiet_between(&self, service: ServiceId, a: EdgeId, b: EdgeId) -> bool
         requires a { a.0 < length self.now.plan.edges }
         requires b { b.0 < length self.now.plan.edges }
-        ensures { result ≡ is_quiet_between self.now.plan (seen self.now) service a.0 b.0 }
+        ensures { result ≡ is_quiet_between self.now.plan (network_seen self.now) service a.0 b.0 }
     {
         if !are_joined_by(self.plan.wires.as_slice(), service, a, b) {
             return true;
@@ -55,11 +55,11 @@ impl Parts {
     }
 
     // Nothing is on its way from an edge to another one, and the other one holds no rest.
-    #[tactic(auto, using(crate::proofs::CalmLemmas::held_is), unfolding(crate::specs::Lists::seen))]
+    #[tactic(auto, using(crate::proofs::CalmLemmas::held_is), unfolding(crate::specs::Lists::network_seen))]
     fn has_drained(&self, from: EdgeId, to: EdgeId) -> bool
         requires from { from.0 < length self.now.plan.edges }
         requires to { to.0 < length self.now.plan.edges }
-        ensures { result ≡ is_drained (seen self.now) from.0 to.0 }
+        ensures { result ≡ is_drained (network_seen self.now) from.0 to.0 }
     {
         self.is_drained(from, to) && self.edges[to.0 as usize].held(from) == 0
     }

@@ -4,7 +4,7 @@ ghost use Rattle.independent_model.specs.Wires.{is_between, other_end};
 ghost use Rattle.switchover_model.specs.Network.{connecting, cutting, delivers, does, done, is_idle, settling, some_between, SwitchState};
 ghost use Rattle.switchover_model.specs.Text.{deliver_entries, entries, line_entries, settle_entries};
 ghost use Rattle.switchover_model.specs.Planned.{IsLineOf};
-ghost use Rattle.switchover_net.specs.Net.{IsReached, Makes, Shows, cut_entries, pair_entries};
+ghost use Rattle.switchover_net.specs.Net.{IsReached, Makes, ShowsSwitchState, cut_entries, pair_entries};
 
 use crate::SwitchNet;
 use crate::two_edges::{joins_two, other_of_two};
@@ -24,8 +24,8 @@ impl SwitchNet {
         requires reached { IsReached self.old }
         ensures plan { self.new.row.plan ≡ self.old.row.plan }
         ensures reached { OnOk result (IsReached self.new) }
-        ensures state { (x : SwitchState) → Shows self.old x → OnOk result (Shows self.new (done self.old.row.plan line x)) }
-        ensures entries { (x : SwitchState) → Shows self.old x → IfOk result (λ out. out ≡ line_entries self.old.row.plan line x) }
+        ensures state { (x : SwitchState) → ShowsSwitchState self.old x → OnOk result (ShowsSwitchState self.new (done self.old.row.plan line x)) }
+        ensures entries { (x : SwitchState) → ShowsSwitchState self.old x → IfOk result (λ out. out ≡ line_entries self.old.row.plan line x) }
     {
         let mut out = List::new(alloc);
         if self.is_idle(line) {
@@ -40,7 +40,7 @@ impl SwitchNet {
     #[tactic(auto, using(crate::proofs::LineLemmas::idle_steps))]
     fn is_idle(&self, line: SwitchLine) -> bool
         requires known { IsLineOf self.now.row.plan line }
-        ensures { (x : SwitchState) → Shows self.now x → result ≡ is_idle self.now.row.plan x line }
+        ensures { (x : SwitchState) → ShowsSwitchState self.now x → result ≡ is_idle self.now.row.plan x line }
     {
         match line {
             SwitchLine::Connect { edge, peer } => {
@@ -69,7 +69,7 @@ impl SwitchNet {
     ) -> Result<(), NoMemory>
         requires known { IsLineOf self.old.row.plan line }
         requires reached { IsReached self.old }
-        requires runs { (x : SwitchState) → Shows self.old x → is_idle self.old.row.plan x line ≡ false }
+        requires runs { (x : SwitchState) → ShowsSwitchState self.old x → is_idle self.old.row.plan x line ≡ false }
         ensures plan { self.new.row.plan ≡ self.old.row.plan }
         ensures step { OnOk result (Makes self.old self.new out.old out.new (does self.old.row.plan line) (entries self.old.row.plan line)) }
     {

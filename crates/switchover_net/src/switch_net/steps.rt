@@ -1,6 +1,6 @@
 //! The steps of a line.
 ghost use Rattle.std.specs.Prelude.{◌≡◌, ◌<◌, ◌++◌, [], Some, true, length, drop, take, IfOk, OnOk};
-ghost use Rattle.independent_model.specs.Calls.{hears};
+ghost use Rattle.independent_model.specs.Calls.{independent_hears};
 ghost use Rattle.independent_model.specs.Wires.{other_end};
 ghost use Rattle.status_exchange.specs.Exchange.{at_two};
 ghost use Rattle.switchover_model.specs.Network.{IsGoing, connects_one, delivers_one, is_waiting, loses_one, setting, taken_all};
@@ -129,8 +129,8 @@ impl SwitchNet {
         requires waits { is_waiting (pipes_of self.old.pipes from.0 to.0) ≡ true }
         requires reached { IsReached self.old }
         ensures plan { self.new.row.plan ≡ self.old.row.plan }
-        ensures going { IsGoing (hears self.old.row.plan taken_all to.0 from (take 1 (pipes_of self.old.pipes from.0 to.0)) (seen_row self.old.row to.0) []) }
-        ensures row { IfOk result (λ calls. HasDone to.0 self.old.row self.new.row calls (hears self.old.row.plan taken_all to.0 from (take 1 (pipes_of self.old.pipes from.0 to.0)) (seen_row self.old.row to.0) [])) }
+        ensures going { IsGoing (independent_hears self.old.row.plan taken_all to.0 from (take 1 (pipes_of self.old.pipes from.0 to.0)) (seen_row self.old.row to.0) []) }
+        ensures row { IfOk result (λ calls. HasDone to.0 self.old.row self.new.row calls (independent_hears self.old.row.plan taken_all to.0 from (take 1 (pipes_of self.old.pipes from.0 to.0)) (seen_row self.old.row to.0) [])) }
         ensures pipes { pipes_of self.new.pipes ≡ at_two from.0 to.0 (drop 1 (pipes_of self.old.pipes from.0 to.0)) (pipes_of self.old.pipes) }
     {
         let heard = self

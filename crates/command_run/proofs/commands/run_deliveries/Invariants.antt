@@ -1,5 +1,5 @@
 use Rattle.std.proofs.Common.{◌≡◌, ◌-◌, false}
-use Rattle.psn_net.specs.Lists.{seen}
+use Rattle.psn_net.specs.Lists.{network_seen}
 use Rattle.psn_net.specs.Runs.{ran}
 use Rattle.command_run.specs.Made.{deliveries}
 use Rattle.command_run.proofs.commands.run_deliveries.Given as goal
@@ -8,6 +8,6 @@ abbrev pub invariant-loop-turn : goal.invariant-loop-turn
 invariant-loop-turn l = record {
   plan : l.network.plan ≡ l.fn.network.plan;
   going : l.network.failed ≡ false;
-  ran : ran l.fn.network.plan (seen l.network) l.network.trace (deliveries l.fn.network.plan (l.count - l._turn) (seen l.network))
-      ≡ ran l.fn.network.plan (seen l.fn.network) l.fn.network.trace (deliveries l.fn.network.plan l.count (seen l.fn.network));
+  ran : ran l.fn.network.plan (network_seen l.network) l.network.trace (deliveries l.fn.network.plan (l.count - l._turn) (network_seen l.network))
+      ≡ ran l.fn.network.plan (network_seen l.fn.network) l.fn.network.trace (deliveries l.fn.network.plan l.count (network_seen l.fn.network));
 }

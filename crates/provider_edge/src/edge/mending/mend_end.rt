@@ -6,7 +6,7 @@ ghost use Rattle.pw_messages.specs.LinkAnswers.{Agrees, Answers};
 ghost use Rattle.edge_model.specs.declared.end_place.EndPlace.{EndPlace};
 ghost use Rattle.pw_signalling.specs.AnyEnd.{end_of};
 ghost use Rattle.pw_ends.specs.Ends.{HasKind, Holds, IsIdle, end_in, place_of};
-ghost use Rattle.edge_model.specs.Mend.{advertises_wish, forgetting_wire, is_new_choice, mends_choice, mends_end, mends_status, stands, tells_down, wish};
+ghost use Rattle.edge_model.specs.Mend.{advertises_wish, forgetting_wire, is_new_choice, mends_choice, mends_end, mends_status, offer_stands, tells_down, wish};
 ghost use Rattle.edge_model.specs.Role.{down_at, is_chosen_wire, role_at};
 ghost use Rattle.edge_model.specs.State.{with_told_down};
 ghost use Rattle.provider_edge.specs.Mending.{forgotten_down, mended_down};
@@ -100,7 +100,7 @@ impl Edge {
     // more than its status has changed (RFC 6073 section 10).
     fn still_stands(&self, slot: usize, content: &Told) -> bool
         requires { slot < length self.now.ends.places }
-        ensures { result ≡ stands (place_of self.now.ends slot) content.now (wish self.now.plan (seen self.now) (place_of self.now.ends slot)) }
+        ensures { result ≡ offer_stands (place_of self.now.ends slot) content.now (wish self.now.plan (seen self.now) (place_of self.now.ends slot)) }
     {
         if self.place_at(slot).terminal {
             return self.has_wish(slot);

@@ -1,13 +1,13 @@
 -- The lines so far were read, and what they name stands in the plan.
 use Rattle.std.proofs.Common.{◌≡◌, ◌+◌, drop}
 use Rattle.std.specs.List.{All}
-use Rattle.script_text.specs.Reading.{with_front}
+use Rattle.script_text.specs.Reading.{with_front_lines}
 use Rattle.switchover_model.specs.Planned.{IsLineOf}
 use Rattle.switchover_script.specs.Lines.{switch_lines_of}
 use Rattle.switchover_script.proofs.script.lines.Given as goal
 
 abbrev pub invariant-loop-place : goal.invariant-loop-place
 invariant-loop-place l = record {
-  read : with_front l.lines (switch_lines_of l.plan (l.place + 1) (drop l.place l.texts)) ≡ switch_lines_of l.plan 1 l.texts;
+  read : with_front_lines l.lines (switch_lines_of l.plan (l.place + 1) (drop l.place l.texts)) ≡ switch_lines_of l.plan 1 l.texts;
   planned : All (IsLineOf l.plan) l.lines;
 }

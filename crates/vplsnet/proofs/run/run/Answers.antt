@@ -4,7 +4,7 @@ use Rattle.vplsnet.specs.declared.outcome.Outcome.{Outcome}
 use Rattle.vplsnet.specs.Answers.{SaysOutcome}
 use Rattle.vplsnet.specs.Around.{Around, around}
 use Rattle.vplsnet.specs.Asked.{Audit, Decode, Discover, Migrate, Switchover, asked, asked_by}
-use Rattle.vplsnet.specs.Finish.{status_of}
+use Rattle.vplsnet.specs.Finish.{exit_status}
 use Rattle.vplsnet.proofs.AnswerLemmas.{completes_by, finishes_by, refused_answers, run_answers, usage_by}
 use Rattle.vplsnet.proofs.ReadLemmas.{asked_reads}
 use Rattle.vplsnet.proofs.run.run.Goals as goal
@@ -72,7 +72,7 @@ returns-in-Err g c =
     (refused_answers here (asked_by c.in-Some.request) c.without_run-in-Err.result.network c.in-Err.outcome c.in-Err.ensures.refused
     (record { taken = refl; no_run = c.without_run-in-Err.ensures.network })) in
     record {
-      status = c.without_run-in-Err.ensures.status ∙ ap status_of (sym c.without_run-in-Err.ensures.outcome);
+      status = c.without_run-in-Err.ensures.status ∙ ap exit_status (sym c.without_run-in-Err.ensures.outcome);
       usage = usage_by here _ _ c.without_run-in-Err.result.network _ c.in-Some.ensures says;
       answers = finishes_by here _ _ _ _ c.in-Some.ensures says;
       complete = completes_by here _ _ c.without_run-in-Err.result.network _ c.in-Some.ensures says;

@@ -1,7 +1,7 @@
 use Rattle.std.proofs.Common.{◌≡◌, ◌∙◌, false, subst}
 use Rattle.net_base.specs.declared.trace.entry.Entry.{Entry}
 use Rattle.seen_network.specs.Once.{has_seen}
-use Rattle.seen_network.specs.Seen.{is_up, origin_among, said_towards, session_told, told, with_up}
+use Rattle.seen_network.specs.Seen.{is_shown_up, origin_among, said_towards, session_told, told, with_up}
 use Rattle.seen_network.proofs.CommonLemmas.{session_way, said_way}
 use Rattle.window_audit.proofs.LossLemmas.{came_of, none_by, repeated_of, up_same, went_of}
 use Rattle.window_audit.proofs.losses.going_by_entry.Goals as goal
@@ -31,5 +31,5 @@ returns-in-Session c = λ seen tells origin had lost.
 
 pub returns-in-Wire : goal.returns-in-Wire
 returns-in-Wire c = λ seen tells origin had lost.
-    absurd (none_by seen (with_up c.in-Wire.edge.0 c.in-Wire.wire.0 (is_up c.in-Wire.down) seen) origin (up_same c.in-Wire.edge.0 c.in-Wire.wire.0 (is_up c.in-Wire.down) seen) had (subst (λ (e :
+    absurd (none_by seen (with_up c.in-Wire.edge.0 c.in-Wire.wire.0 (is_shown_up c.in-Wire.down) seen) origin (up_same c.in-Wire.edge.0 c.in-Wire.wire.0 (is_shown_up c.in-Wire.down) seen) had (subst (λ (e :
     Entry). has_seen (told e seen) origin ≡ false) c.in-Wire.is lost))

@@ -5,7 +5,7 @@ use Rattle.ldp_grammar.specs.declared.message.Message.{Message}
 use Rattle.independent_model.specs.Hear.{hears_messages}
 use Rattle.independent_model.specs.Work.{Comes, NeverRefused}
 use Rattle.independent_mode.specs.Receiver.{IsNext}
-use Rattle.independent_mode.specs.Lists.{seen}
+use Rattle.independent_mode.specs.Lists.{independent_seen}
 use Rattle.independent_mode.proofs.HearLemmas.{hears_stopped, next_stopped}
 use Rattle.independent_mode.proofs.TellLemmas.{agrees_before}
 use Rattle.independent_mode.proofs.indep_edge.IndepEdge.hear_held.Goals as goal
@@ -16,22 +16,22 @@ returns-in-Err-hear_messages-clause-step g c = λ told more agrees octets.
     let calls = g.L.Link.calls c.pdus.link in
     let after = g.L.Link.calls c.hear_messages.new.link in
     hears_stopped c.args.self.now.plan told c.args.self.now.me.0 c.args.peer (Unit {0}) (Unit {0}) c.in-Err-hear_messages.stop c.pdus.receiver c.next.new.self c.in-Ok-Some.pdu more _
-    (seen c.pdus.self) (seen c.hear_messages.new.self) calls after
+    (independent_seen c.pdus.self) (independent_seen c.hear_messages.new.self) calls after
     (subst (IsNext c.pdus.receiver c.next.new.self) next_is c.next.ensures.next) octets
     (c.pdus.invariant.step told more (agrees_before told calls after c.hear_messages.ensures.goes agrees) octets)
     (subst (λ r. NeverRefused r) c.in-Err-hear_messages.is c.hear_messages.ensures.never)
-    (subst (λ r. Comes r (seen c.hear_messages.new.self) after
-    (hears_messages c.args.self.now.plan told c.args.self.now.me.0 c.args.peer c.in-Ok-Some.pdu.messages (seen c.pdus.self) calls)) c.in-Err-hear_messages.is
-    (subst (λ (p : Plan). Comes c.hear_messages.result (seen c.hear_messages.new.self) after
-    (hears_messages p told c.args.self.now.me.0 c.args.peer c.in-Ok-Some.pdu.messages (seen c.pdus.self) calls)) c.pdus.invariant.keeps.plan
-    (subst (λ (m : EdgeId). Comes c.hear_messages.result (seen c.hear_messages.new.self) after
-    (hears_messages c.pdus.self.plan told m.0 c.args.peer c.in-Ok-Some.pdu.messages (seen c.pdus.self) calls)) c.pdus.invariant.keeps.me
-    (subst (λ (ms : List Message). Comes c.hear_messages.result (seen c.hear_messages.new.self) after
-    (hears_messages c.pdus.self.plan told c.pdus.self.me.0 c.args.peer ms (seen c.pdus.self) calls)) c.as_slice.ensures
+    (subst (λ r. Comes r (independent_seen c.hear_messages.new.self) after
+    (hears_messages c.args.self.now.plan told c.args.self.now.me.0 c.args.peer c.in-Ok-Some.pdu.messages (independent_seen c.pdus.self) calls)) c.in-Err-hear_messages.is
+    (subst (λ (p : Plan). Comes c.hear_messages.result (independent_seen c.hear_messages.new.self) after
+    (hears_messages p told c.args.self.now.me.0 c.args.peer c.in-Ok-Some.pdu.messages (independent_seen c.pdus.self) calls)) c.pdus.invariant.keeps.plan
+    (subst (λ (m : EdgeId). Comes c.hear_messages.result (independent_seen c.hear_messages.new.self) after
+    (hears_messages c.pdus.self.plan told m.0 c.args.peer c.in-Ok-Some.pdu.messages (independent_seen c.pdus.self) calls)) c.pdus.invariant.keeps.me
+    (subst (λ (ms : List Message). Comes c.hear_messages.result (independent_seen c.hear_messages.new.self) after
+    (hears_messages c.pdus.self.plan told c.pdus.self.me.0 c.args.peer ms (independent_seen c.pdus.self) calls)) c.as_slice.ensures
     (c.hear_messages.ensures.step told agrees)))))
 
 pub returns-in-Err-clause-step : goal.returns-in-Err-clause-step
 returns-in-Err-clause-step g c = λ told more agrees octets.
     let next_is : c.next.result ≡ Err c.in-Err.stop = c.in-Err.is in
-    next_stopped c.args.self.now.plan told c.args.self.now.me.0 c.args.peer (Unit {0}) c.in-Err.stop c.pdus.receiver c.next.new.self more _ (seen c.pdus.self) (g.L.Link.calls c.pdus.link)
+    next_stopped c.args.self.now.plan told c.args.self.now.me.0 c.args.peer (Unit {0}) c.in-Err.stop c.pdus.receiver c.next.new.self more _ (independent_seen c.pdus.self) (g.L.Link.calls c.pdus.link)
     (subst (IsNext c.pdus.receiver c.next.new.self) next_is c.next.ensures.next) octets (c.pdus.invariant.step told more agrees octets)

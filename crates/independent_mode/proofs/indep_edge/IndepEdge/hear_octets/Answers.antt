@@ -5,7 +5,7 @@ use Rattle.net_values.specs.Octets.{AreOctets}
 use Rattle.ldp_grammar.proofs.OctetLemmas.{octets_drop}
 use Rattle.independent_model.specs.Hear.{hears_at}
 use Rattle.independent_mode.specs.Receiver.{receiver_of}
-use Rattle.independent_mode.specs.Lists.{seen}
+use Rattle.independent_mode.specs.Lists.{independent_seen}
 use Rattle.independent_mode.proofs.HearLemmas.{fed_at, on_ok}
 use Rattle.independent_mode.proofs.TellLemmas.{agrees_before, goes_both, keeps_both}
 use Rattle.independent_mode.proofs.indep_edge.IndepEdge.hear_octets.Goals as goal
@@ -24,12 +24,12 @@ hearing-preserved g c =
       within = c.feed_from-at.ensures.within;
       step = λ told agrees.
           c.hearing.invariant.step told (agrees_before told calls after c.hear_held.ensures.goes agrees)
-          ∙ (subst (λ (p : Plan). hears_at p told me c.args.peer (receiver_of c.hearing.receiver) left (seen c.hearing.self) calls
-          ≡ hears_at p told me c.args.peer (receiver_of c.hear_held.new.receiver) left (seen c.hear_held.new.self) after) c.hearing.invariant.keeps.plan
-          (subst (λ (m : EdgeId). hears_at c.hearing.self.plan told m.0 c.args.peer (receiver_of c.hearing.receiver) left (seen c.hearing.self) calls
-          ≡ hears_at c.hearing.self.plan told m.0 c.args.peer (receiver_of c.hear_held.new.receiver) left (seen c.hear_held.new.self) after) c.hearing.invariant.keeps.me
+          ∙ (subst (λ (p : Plan). hears_at p told me c.args.peer (receiver_of c.hearing.receiver) left (independent_seen c.hearing.self) calls
+          ≡ hears_at p told me c.args.peer (receiver_of c.hear_held.new.receiver) left (independent_seen c.hear_held.new.self) after) c.hearing.invariant.keeps.plan
+          (subst (λ (m : EdgeId). hears_at c.hearing.self.plan told m.0 c.args.peer (receiver_of c.hearing.receiver) left (independent_seen c.hearing.self) calls
+          ≡ hears_at c.hearing.self.plan told m.0 c.args.peer (receiver_of c.hear_held.new.receiver) left (independent_seen c.hear_held.new.self) after) c.hearing.invariant.keeps.me
           (on_ok c.hearing.self.plan told c.hearing.self.me.0 c.args.peer c.hear_held.result c.in-Ok.field-0 c.hear_held.new.receiver left
-          (seen c.hear_held.new.self) after _ c.in-Ok.is (c.hear_held.ensures.step told left agrees (octets_drop c.hearing.at c.args.octets.now octets))))
+          (independent_seen c.hear_held.new.self) after _ c.in-Ok.is (c.hear_held.ensures.step told left agrees (octets_drop c.hearing.at c.args.octets.now octets))))
           ∙ fed_at plan told me c.args.peer c.hear_held.new.receiver c.feed_from-at.new.self c.args.octets.now c.hearing.at c.feed_from-at.result
-          (seen c.hear_held.new.self) after c.in-Ok.ensures.waits c.feed_from-at.ensures.held);
+          (independent_seen c.hear_held.new.self) after c.in-Ok.ensures.waits c.feed_from-at.ensures.held);
     }

@@ -1,7 +1,7 @@
 use Rattle.std.proofs.Common.{◌∙◌, ℕ, Option, ap, refl, sym}
 use Rattle.pw_messages.specs.Content.{withdrawal}
 use Rattle.edge_model.specs.declared.end_place.EndPlace.{EndPlace}
-use Rattle.edge_model.specs.Mend.{stands, wish}
+use Rattle.edge_model.specs.Mend.{offer_stands, wish}
 use Rattle.edge_model.specs.Put.{Spoken}
 use Rattle.edge_model.specs.Session.{says}
 use Rattle.pw_ends.specs.Ends.{place_of}
@@ -57,7 +57,7 @@ returns-else-still_stands-clause-step g c =
     ∙ (ap (λ (n : ℕ). Advertised n c.in-Advertised.end.told) (sym c.label-label.ensures.label) ∙ ap (λ (t : Told). Advertised c.label-label.result t) (sym c.told-content.ensures.told)))
     (unless_stands_not told (place_of c.args.self.now.ends c.args.slot)
     (place_of c.args.self.now.ends c.args.slot) c.label-label.result c.told-content.result.now wished wished c.still_stands.result (at_work g.L.Link.calls c.args.self.now c.args.work.now) put
-    refl refl (c.still_stands.ensures ∙ ap (λ (t : Told). stands (place_of c.args.self.now.ends c.args.slot) t wished) (c.told.ensures.told ∙ sym c.told-content.ensures.told)) c.if-still_stands.false
+    refl refl (c.still_stands.ensures ∙ ap (λ (t : Told). offer_stands (place_of c.args.self.now.ends c.args.slot) t wished) (c.told.ensures.told ∙ sym c.told-content.ensures.told)) c.if-still_stands.false
     (withdraws_at told (place_of c.args.self.now.ends c.args.slot) c.label-label.result c.told-content.result.now (seen c.args.self.now) (seen c.change.new.self)
     (g.L.Link.calls c.args.work.now.link.now) c.args.work.now.effects.now.list put
     (c.change.ensures.step ∙ changing_keeps withdrawn (place_of c.args.self.now.ends c.args.slot) (seen c.args.self.now) keeps_withdrawn)

@@ -4,14 +4,14 @@ use Rattle.network_model.specs.Absorb.{idle}
 use Rattle.network_model.specs.Connection.{can_connect, connected_work, connecting}
 use Rattle.network_model.specs.State.{NetworkState}
 use Rattle.net_base.specs.declared.plan.Plan.{Plan}
-use Rattle.psn_net.specs.Lists.{HasStepped, seen}
+use Rattle.psn_net.specs.Lists.{HasStepped, network_seen}
 use Rattle.psn_net.proofs.ConnectionLemmas.{connect_stepped}
 use Rattle.psn_net.proofs.parts.Parts.connect.Goals as goal
 
 pub returns-clause-step : goal.returns-clause-step
 returns-clause-step c =
     let plan : Plan = c.args.self.now.plan in
-    let network : NetworkState = seen c.args.self.now in
+    let network : NetworkState = network_seen c.args.self.now in
     let can : can_connect plan network c.args.from.0 c.args.to.0 ≡ true = search rules in
     let apart : nat_eq c.args.to.0 c.args.from.0 ≡ false = search rules in
     subst (λ (b : Bool). OnOk c.absorb-2.result (HasStepped c.args.self.now c.absorb-2.new.self

@@ -2,7 +2,7 @@ use Rattle.std.proofs.Common.{◌<◌, length, slice_set, ap, subst, arith}
 use Rattle.edge_model.specs.Step.{edge_step}
 use Rattle.network_model.specs.Absorb.{begin_at, taken_all}
 use Rattle.provider_edge.specs.Said.{AllFit}
-use Rattle.psn_net.specs.Lists.{HasDriven, NetLists, seen}
+use Rattle.psn_net.specs.Lists.{HasDriven, NetLists, network_seen}
 use Rattle.psn_net.proofs.NetworkLemmas.{driving_at, edge_kept, fitting_at}
 use Rattle.psn_net.proofs.parts.Parts.drive.Goals as goal
 
@@ -23,7 +23,7 @@ returns-clause-driven c =
     let done = driving_at before c.args.me c.index_mut.result.now c.take.new.self c.new-link.result c.take.new.link c.in-Ok.effects c.args.input below
     (c.self.invariant.planned c.args.me.0 below) c.index_mut.ensures.value c.new-link.ensures (c.in-Ok.ensures.step taken_all c.close.ensures) in
     subst (λ (n : NetLists). HasDriven c.args.me n (record before { edges = slice_set before.edges c.args.me.0 c.take.new.self })
-    (edge_step n.plan taken_all c.args.input (begin_at (seen n) c.args.me)) c.in-Ok.effects) c.self.view_is done
+    (edge_step n.plan taken_all c.args.input (begin_at (network_seen n) c.args.me)) c.in-Ok.effects) c.self.view_is done
 
 -- src/parts.rt:182:5
 pub returns-clause-fit : goal.returns-clause-fit

@@ -3,7 +3,7 @@ use Rattle.edge_model.specs.declared.input.Input.TheVariants.{Octets}
 use Rattle.network_model.specs.Absorb.{taken_all}
 use Rattle.network_model.specs.Connection.{hearing_work}
 use Rattle.provider_edge.specs.Said.{AllFit}
-use Rattle.psn_net.specs.Lists.{HasDriven, NetLists, seen}
+use Rattle.psn_net.specs.Lists.{HasDriven, NetLists, network_seen}
 use Rattle.psn_net.proofs.ConnectionLemmas.{hearing}
 use Rattle.psn_net.proofs.NetworkLemmas.{driving_at, edge_kept, fitting_at}
 use Rattle.psn_net.proofs.parts.Parts.hand_over.Goals as goal
@@ -25,7 +25,7 @@ returns-clause-driven c =
     let done = driving_at before c.args.to c.index_mut.result.now c.take.new.self c.new-link.result c.take.new.link c.in-Ok.effects (Octets c.args.from c.front-bytes.result) below
     (c.self.invariant.planned c.args.to.0 below) c.index_mut.ensures.value c.new-link.ensures (c.in-Ok.ensures.step taken_all c.close.ensures) in
     subst (λ (n : NetLists). HasDriven c.args.to n now
-    (hearing_work n.plan (seen n) c.args.from c.args.to (take c.args.count ((seen n).pipes c.args.from.0 c.args.to.0))) c.in-Ok.effects) c.self.view_is
+    (hearing_work n.plan (network_seen n) c.args.from c.args.to (take c.args.count ((network_seen n).pipes c.args.from.0 c.args.to.0))) c.in-Ok.effects) c.self.view_is
     (hearing before now c.args.from c.args.to c.args.count c.front-bytes.result.now c.in-Ok.effects c.front-bytes.ensures done)
 
 pub returns-clause-fit : goal.returns-clause-fit

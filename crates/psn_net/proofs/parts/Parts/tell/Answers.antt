@@ -1,5 +1,5 @@
 use Rattle.std.proofs.Common.{ap}
-use Rattle.psn_net.specs.Lists.{seen}
+use Rattle.psn_net.specs.Lists.{network_seen}
 use Rattle.psn_net.proofs.NetworkLemmas.{told_network}
 use Rattle.psn_net.proofs.parts.Parts.tell.Goals as goal
 
@@ -15,5 +15,5 @@ invariant_of-self c = told_network (record {
 }) c.add.new.self c.args.entry c.add.result c.self.invariant c.add.ensures.ok c.add.ensures.err
 
 pub returns-clause-state : goal.returns-clause-state
-unfolding seen
-returns-clause-state c = ap seen c.self.view_is
+unfolding network_seen
+returns-clause-state c = ap network_seen c.self.view_is

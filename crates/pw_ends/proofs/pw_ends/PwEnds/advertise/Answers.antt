@@ -7,7 +7,7 @@ use Rattle.edge_model.specs.declared.end_place.EndPlace.{EndPlace}
 use Rattle.pw_ends.specs.contracts.pw_ends.PwEnds.{the_view}
 use Rattle.pw_ends.specs.Ends.{EndLists, IsIdle, changed_at, end_in, place_of, seen_ends}
 use Rattle.pw_ends.specs.Kept.{segment_of}
-use Rattle.pw_ends.specs.Marks.{has_mark}
+use Rattle.pw_ends.specs.Marks.{is_marked}
 use Rattle.pw_ends.proofs.KeptLemmas.{kept_advertised}
 use Rattle.pw_ends.proofs.MarkLemmas.{untold_changed}
 use Rattle.pw_ends.proofs.SlotLemmas.{seen_at, seen_changed}
@@ -25,7 +25,7 @@ invariant_of-self-2 c =
           (map end_of c.advertise_at.new.ends.items) c.self.inside.labels c.issue.new.self c.self.inside.owned c.add.new.self c.args.slot c.in-Ok.label
           c.self.invariant.kept within idle c.requires.kind c.in-Ok.ensures.label c.advertise_at.ensures c.issue.ensures.space c.add.ensures
           (ap segment_of c.place-place.ensures) (ap (λ (place : EndPlace). place.side) c.place-place.ensures) (ap (λ (place : EndPlace). place.peer) c.place-place.ensures);
-      untold = untold_changed (has_mark c.self.inside.marks) (has_mark c.with-self-inside.result) c.self.inside.places (map end_of c.self.inside.ends.items)
+      untold = untold_changed (is_marked c.self.inside.marks) (is_marked c.with-self-inside.result) c.self.inside.places (map end_of c.self.inside.ends.items)
           (map end_of c.advertise_at.new.ends.items) c.args.slot c.place-place.result.peer.0
           (advertised c.in-Ok.label c.args.told.now (get_or (map end_of c.self.inside.ends.items) c.args.slot fresh)) c.self.invariant.untold c.advertise_at.ensures
           (ap (λ (place : EndPlace). place.peer.0) c.place-place.ensures) c.with-self-inside.ensures;

@@ -9,7 +9,7 @@ use Rattle.pw_ends.specs.contracts.pw_ends.PwEnds.{the_view}
 use Rattle.pw_ends.specs.Changes.{changed}
 use Rattle.pw_ends.specs.Ends.{EndLists, changed_at, place_of, seen_ends}
 use Rattle.pw_ends.specs.Kept.{own_of}
-use Rattle.pw_ends.specs.Marks.{has_mark}
+use Rattle.pw_ends.specs.Marks.{is_marked}
 use Rattle.pw_ends.proofs.KeptLemmas.{kept_moved}
 use Rattle.pw_ends.proofs.MarkLemmas.{untold_changed}
 use Rattle.pw_ends.proofs.SlotLemmas.{seen_changed}
@@ -26,7 +26,7 @@ invariant_of-self c =
           (map end_of c.change_at.new.ends.items) c.self.inside.labels c.free_left.new.labels c.self.inside.owned c.free_left.new.owned c.args.slot c.own_label_at-before.result c.own_label_at-after.result
           c.self.invariant.kept within c.change_at.ensures (c.own_label_at-before.ensures ∙ ap own c.deref.ensures.value)
           (c.own_label_at-after.ensures ∙ ap own c.deref-2.ensures.value) c.free_left.ensures.labels c.free_left.ensures.owned;
-      untold = untold_changed (has_mark c.self.inside.marks) (has_mark c.with-self-inside.result) c.self.inside.places (map end_of c.self.inside.ends.items)
+      untold = untold_changed (is_marked c.self.inside.marks) (is_marked c.with-self-inside.result) c.self.inside.places (map end_of c.self.inside.ends.items)
           (map end_of c.change_at.new.ends.items) c.args.slot c.place.result.peer.0
           (changed c.args.change.now (get_or (map end_of c.self.inside.ends.items) c.args.slot fresh)) c.self.invariant.untold c.change_at.ensures
           (ap (λ (place : EndPlace). place.peer.0) c.place.ensures) c.with-self-inside.ensures;

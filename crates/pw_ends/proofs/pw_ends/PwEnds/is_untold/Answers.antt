@@ -6,7 +6,7 @@ use Rattle.pw_signalling.specs.Rows.{lost}
 use Rattle.edge_model.specs.Labels.{keeps_lost}
 use Rattle.pw_ends.specs.contracts.pw_ends.PwEnds.{the_view}
 use Rattle.pw_ends.specs.Ends.{EndLists, changed_beside, seen_ends}
-use Rattle.pw_ends.specs.Marks.{has_mark}
+use Rattle.pw_ends.specs.Marks.{is_marked}
 use Rattle.pw_ends.proofs.MarkLemmas.{seen_untold}
 use Rattle.pw_ends.proofs.WaitLemmas.{seen_stays}
 use Rattle.pw_ends.proofs.pw_ends.PwEnds.is_untold.Goals as goal
@@ -15,9 +15,9 @@ pub returns : goal.returns
 returns c = record {
   untold = λ is.
       subst (λ (l : EndLists). changed_beside c.args.peer lost (seen_ends l) ≡ seen_ends l) c.self.view_is
-      (seen_untold (has_mark c.self.inside.marks) c.args.peer (the_view c.self.inside) c.self.invariant.untold c.self.invariant.kept.count (sym c.has.ensures ∙ not-true c.has.result is));
+      (seen_untold (is_marked c.self.inside.marks) c.args.peer (the_view c.self.inside) c.self.invariant.untold c.self.invariant.kept.count (sym c.has.ensures ∙ not-true c.has.result is));
   kept = λ is.
       subst (λ (l : EndLists). (kept : List Kept) → keeps_lost c.args.peer (seen_ends l) l.places kept ≡ kept) c.self.view_is
-      (seen_stays (has_mark c.self.inside.marks) c.args.peer (the_view c.self.inside) c.self.invariant.kept.apart c.self.invariant.untold c.self.invariant.kept.count
+      (seen_stays (is_marked c.self.inside.marks) c.args.peer (the_view c.self.inside) c.self.invariant.kept.apart c.self.invariant.untold c.self.invariant.kept.count
       (sym c.has.ensures ∙ not-true c.has.result is));
 }

@@ -6,7 +6,7 @@ use Rattle.pw_signalling.specs.Rows.{bound}
 use Rattle.edge_model.specs.declared.end_place.EndPlace.{EndPlace}
 use Rattle.pw_ends.specs.contracts.pw_ends.PwEnds.{the_view}
 use Rattle.pw_ends.specs.Ends.{CanHold, EndLists, changed_at, place_of, seen_ends}
-use Rattle.pw_ends.specs.Marks.{has_mark}
+use Rattle.pw_ends.specs.Marks.{is_marked}
 use Rattle.pw_ends.proofs.KeptLemmas.{kept_bound}
 use Rattle.pw_ends.proofs.MarkLemmas.{untold_changed}
 use Rattle.pw_ends.proofs.SlotLemmas.{seen_changed}
@@ -19,7 +19,7 @@ invariant_of-self c =
       kept =
           kept_bound c.args.binding.now c.self.inside.places (map end_of c.self.inside.ends.items) (map end_of c.bind_at.new.ends.items) c.self.inside.labels c.self.inside.owned c.args.slot
           c.self.invariant.kept within c.bind_at.ensures (subst (λ (l : EndLists). CanHold (place_of l c.args.slot) c.args.binding.now.told) (sym c.self.view_is) c.requires.holds);
-      untold = untold_changed (has_mark c.self.inside.marks) (has_mark c.with-self-inside.result) c.self.inside.places (map end_of c.self.inside.ends.items)
+      untold = untold_changed (is_marked c.self.inside.marks) (is_marked c.with-self-inside.result) c.self.inside.places (map end_of c.self.inside.ends.items)
           (map end_of c.bind_at.new.ends.items) c.args.slot c.place.result.peer.0
           (bound c.args.binding.now (get_or (map end_of c.self.inside.ends.items) c.args.slot fresh)) c.self.invariant.untold c.bind_at.ensures
           (ap (λ (place : EndPlace). place.peer.0) c.place.ensures) c.with-self-inside.ensures;

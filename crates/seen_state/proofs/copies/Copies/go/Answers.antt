@@ -3,7 +3,7 @@ use Rattle.std.specs.BTreeMap.{is_at}
 use Rattle.std.specs.Map.{lookup}
 use Rattle.std.specs.Ordering.{nat_cmp}
 use Rattle.seen_network.specs.Seen.{without_copy}
-use Rattle.seen_state.specs.Copies.{CopyMaps, Tells}
+use Rattle.seen_state.specs.Copies.{CopyMaps, TellsPackets as Tells}
 use Rattle.seen_state.proofs.CopyLemmas.{went_none, went_one}
 use Rattle.seen_state.proofs.copies.Copies.go.Goals as goal
 

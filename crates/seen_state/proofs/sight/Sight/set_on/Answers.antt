@@ -1,5 +1,5 @@
 use Rattle.std.proofs.Common.{◌<◌, arith, length, subst, sym}
-use Rattle.seen_state.specs.Sight.{Shows, SightLists}
+use Rattle.seen_state.specs.Sight.{ShowsSight, SightLists}
 use Rattle.seen_state.proofs.SightLemmas.{circuit_set}
 use Rattle.seen_state.proofs.sight.Sight.set_on.Goals as goal
 
@@ -7,4 +7,4 @@ pub returns-clause-shows : goal.returns-clause-shows
 returns-clause-shows c =
     λ seen shows. circuit_set (record { sizes = c.self.inside.sizes; edges = c.self.inside.edges.items; on = c.self.inside.on.items }) seen c.args.circuit.0 c.args.on
     (omega (arith, subst (λ (x : SightLists). c.args.circuit.0 < x.sizes.circuits) (sym c.self.view_is) c.requires.circuit, c.self.invariant.circuits))
-    (subst (λ (x : SightLists). Shows x seen) (sym c.self.view_is) shows)
+    (subst (λ (x : SightLists). ShowsSight x seen) (sym c.self.view_is) shows)

@@ -1,13 +1,13 @@
 use Rattle.std.proofs.Common.{[], ◌≡◌, ◌<◌, ◌∙◌, Err, List, length, slice_set, ap, sym, subst, arith}
 use Rattle.net_base.specs.declared.plan.Plan.{Plan}
-use Rattle.independent_model.specs.Calls.{hears}
+use Rattle.independent_model.specs.Calls.{independent_hears as hears}
 use Rattle.net_base.specs.declared.outside.link_call.LinkCall.{LinkCall}
 use Rattle.independent_model.specs.Work.{NeverRefused}
 use Rattle.switchover_model.specs.Network.{IsGoing, taken_all}
 use Rattle.switchover_net.specs.contracts.edge_row.EdgeRow.{the_view}
 use Rattle.switchover_net.specs.Rows.{HasDone, RowLists, seen_row}
 use Rattle.switchover_net.proofs.RowLemmas.{as_of_row, found_plan, never_link, never_refused, row_does}
-use Rattle.independent_mode.specs.Lists.{seen}
+use Rattle.independent_mode.specs.Lists.{independent_seen}
 use Rattle.independent_model.proofs.StopLemmas.{calls_end}
 use Rattle.switchover_net.proofs.edge_row.EdgeRow.hear.Goals as goal
 
@@ -30,18 +30,18 @@ returns-clause-step c =
 
 pub returns-in-Err-clause-link : goal.returns-in-Err-clause-link
 returns-in-Err-clause-link c =
-    never_link (Unit {0}) (Unit {0}) c.in-Err.stop (seen c.hear-done.new.self) c.hear-done.new.link
-    (hears c.index_mut.result.now.plan taken_all c.index_mut.result.now.me.0 c.args.peer c.args.bytes.now (seen c.index_mut.result.now) c.new-link.result) (length c.new-link.result)
-    (calls_end.heard c.index_mut.result.now.plan taken_all c.index_mut.result.now.me.0 c.args.peer c.args.bytes.now (seen c.index_mut.result.now) c.new-link.result)
+    never_link (Unit {0}) (Unit {0}) c.in-Err.stop (independent_seen c.hear-done.new.self) c.hear-done.new.link
+    (hears c.index_mut.result.now.plan taken_all c.index_mut.result.now.me.0 c.args.peer c.args.bytes.now (independent_seen c.index_mut.result.now) c.new-link.result) (length c.new-link.result)
+    (calls_end.heard c.index_mut.result.now.plan taken_all c.index_mut.result.now.me.0 c.args.peer c.args.bytes.now (independent_seen c.index_mut.result.now) c.new-link.result)
     (c.in-Err.ensures.step taken_all c.into_calls-calls.ensures.taken)
 
 pub returns-in-Err-clause-refused : goal.returns-in-Err-clause-refused
 returns-in-Err-clause-refused c =
     let below : c.args.me.0 < length (the_view c.self.inside).edges = omega (arith, c.requires.me, ap (λ (n : RowLists). length n.plan.edges) c.self.view_is, c.self.invariant.count) in
     subst (λ (n : RowLists). IsGoing (hears n.plan taken_all c.args.me.0 c.args.peer c.args.bytes.now (seen_row n c.args.me.0) []) → NeverRefused {T = Unit {0}} (Err c.in-Err.stop)) c.self.view_is
-    (never_refused (Unit {0}) (Unit {0}) c.in-Err.stop (seen c.hear-done.new.self) c.hear-done.new.link
-    (hears c.index_mut.result.now.plan taken_all c.index_mut.result.now.me.0 c.args.peer c.args.bytes.now (seen c.index_mut.result.now) c.new-link.result)
+    (never_refused (Unit {0}) (Unit {0}) c.in-Err.stop (independent_seen c.hear-done.new.self) c.hear-done.new.link
+    (hears c.index_mut.result.now.plan taken_all c.index_mut.result.now.me.0 c.args.peer c.args.bytes.now (independent_seen c.index_mut.result.now) c.new-link.result)
     (hears (the_view c.self.inside).plan taken_all c.args.me.0 c.args.peer c.args.bytes.now (seen_row (the_view c.self.inside) c.args.me.0) [])
     (c.in-Err.ensures.step taken_all c.into_calls-calls.ensures.taken)
-    (ap (λ (calls : List LinkCall). hears c.index_mut.result.now.plan taken_all c.index_mut.result.now.me.0 c.args.peer c.args.bytes.now (seen c.index_mut.result.now) calls) c.new-link.ensures
+    (ap (λ (calls : List LinkCall). hears c.index_mut.result.now.plan taken_all c.index_mut.result.now.me.0 c.args.peer c.args.bytes.now (independent_seen c.index_mut.result.now) calls) c.new-link.ensures
     ∙ as_of_row (the_view c.self.inside) c.args.me.0 c.index_mut.result.now (λ p m e. hears p taken_all m c.args.peer c.args.bytes.now e []) c.self.invariant below c.index_mut.ensures.value))

@@ -7,7 +7,7 @@ use Rattle.switchover_model.specs.Network.{taken_all}
 use Rattle.switchover_net.specs.contracts.edge_row.EdgeRow.{the_view}
 use Rattle.switchover_net.specs.Rows.{HasDone, RowLists, seen_row}
 use Rattle.switchover_net.proofs.RowLemmas.{found_place, found_plan, never_link, row_does}
-use Rattle.independent_mode.specs.Lists.{seen}
+use Rattle.independent_mode.specs.Lists.{independent_seen}
 use Rattle.independent_model.proofs.StopLemmas.{calls_end}
 use Rattle.switchover_net.proofs.edge_row.EdgeRow.set.Goals as goal
 
@@ -34,7 +34,7 @@ returns-clause-step c =
 
 pub returns-in-Err-clause-link : goal.returns-in-Err-clause-link
 returns-in-Err-clause-link c =
-    never_link (Unit {0}) (Unit {0}) c.in-Err.stop (seen c.set-done.new.self) c.set-done.new.link
-    (sets c.index_mut.result.now.plan taken_all c.index_mut.result.now.me.0 c.args.wire.0 c.args.to (seen c.index_mut.result.now) c.new-link.result) (length c.new-link.result)
-    (calls_end.set c.index_mut.result.now.plan taken_all c.index_mut.result.now.me.0 c.args.wire.0 c.args.to (seen c.index_mut.result.now) c.new-link.result)
+    never_link (Unit {0}) (Unit {0}) c.in-Err.stop (independent_seen c.set-done.new.self) c.set-done.new.link
+    (sets c.index_mut.result.now.plan taken_all c.index_mut.result.now.me.0 c.args.wire.0 c.args.to (independent_seen c.index_mut.result.now) c.new-link.result) (length c.new-link.result)
+    (calls_end.set c.index_mut.result.now.plan taken_all c.index_mut.result.now.me.0 c.args.wire.0 c.args.to (independent_seen c.index_mut.result.now) c.new-link.result)
     (c.in-Err.ensures.step taken_all c.into_calls-calls.ensures.taken)

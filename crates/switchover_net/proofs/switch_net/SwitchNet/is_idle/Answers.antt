@@ -2,7 +2,7 @@ use Rattle.std.proofs.Common.{◌∙◌, ℕ, Option, not, is_some, ap, sym, sub
 use Rattle.switchover_model.specs.declared.switch_line.SwitchLine.{SwitchLine}
 use Rattle.switchover_model.specs.Network.{is_idle, next_pair}
 use Rattle.switchover_net.specs.contracts.switch_net.SwitchNet.{the_view}
-use Rattle.switchover_net.specs.Net.{NetLists, Shows}
+use Rattle.switchover_net.specs.Net.{NetLists, ShowsSwitchState as Shows}
 use Rattle.switchover_net.proofs.LineLemmas.{shown_pair, turned_test}
 use Rattle.switchover_net.proofs.switch_net.SwitchNet.is_idle.Goals as goal
 

@@ -1,11 +1,11 @@
 use Rattle.std.proofs.Common.{length}
 use Rattle.text_lines.specs.Written.{written}
-use Rattle.vplsnet.specs.StreamSteps.{IsGoing, TextGoesOn}
+use Rattle.vplsnet.specs.StreamSteps.{IsStreamGoing, TextGoesOn}
 use Rattle.vplsnet.proofs.decoder.Decoder.take_pdus.Given as goal
 
 abbrev pub invariant-taking : goal.invariant-taking
 invariant-taking g l = record {
-  going : IsGoing l.self.stream l.fed;
+  going : IsStreamGoing l.self.stream l.fed;
   on : TextGoesOn l.fn.self.stream l.self.stream (written (g.K.Sink.taken l.fn.sink) (g.K.Sink.faults l.fn.sink) l.fn.self.page) (written (g.K.Sink.taken l.sink) (g.K.Sink.faults l.sink) l.self.page);
 }
 
