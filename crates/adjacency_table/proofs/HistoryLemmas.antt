@@ -14,9 +14,9 @@ use Rattle.ldp_discovery.specs.declared.heard.Heard.{Heard}
 use Rattle.ldp_discovery.specs.declared.heard.Heard.TheVariants.{Fresh, Ignored}
 use Rattle.ldp_discovery.specs.declared.heard.HelloFault.{HelloFault}
 use Rattle.ldp_discovery.specs.declared.neighbour.Neighbour.{Neighbour}
-use Rattle.ldp_discovery.specs.Adjacencies.{AdjacencyLists, Hears, IsAfter, after, id_behind, is_joined_to, known_of, lapses, neighbours_from}
+use Rattle.ldp_discovery.specs.Adjacencies.{AdjacencyLists, Hears, IsAfter, adjacencies_after, id_behind, is_joined_to, known_of, lapses, neighbours_from}
 use Rattle.ldp_discovery.specs.Hellos.{Says, hello_octets, hello_of, identifier}
-use Rattle.ldp_discovery.specs.Live.{Deed, said, heard, ticked, AreHolds, is_live, live}
+use Rattle.ldp_discovery.specs.Live.{Deed, said, heard, ticked, AreHolds, is_adjacency_live, live}
 use Rattle.ldp_discovery.proofs.AdjacencyLemmas.{deeds_kept, lives_is}
 use Rattle.ldp_discovery.proofs.HearLemmas.{hellos_heard}
 use Rattle.ldp_discovery.proofs.LiveLemmas.{stands}
@@ -85,12 +85,12 @@ sized plan all are k = by (slice_get all k) (are.each k)
     by None is = tt
     by (Some a) is = is.known ∙ sym are.count
 
-length_after : (deed : Deed) (a : AdjacencyLists) → length (after deed a).known ≡ length a.known
+length_after : (deed : Deed) (a : AdjacencyLists) → length (adjacencies_after deed a).known ≡ length a.known
 length_after (said peer hold) a = length-set a.known peer _
 length_after (heard peer hold) a = length-set a.known peer _
 length_after ticked a = length-map a.known _
 
-pub sized_after : (deed : Deed) (all : List AdjacencyLists) (me : ℕ) (x d : AdjacencyLists) → me < length all → x ≡ after deed (get_or all me d) → AreSized all → AreSized (set all me x)
+pub sized_after : (deed : Deed) (all : List AdjacencyLists) (me : ℕ) (x d : AdjacencyLists) → me < length all → x ≡ adjacencies_after deed (get_or all me d) → AreSized all → AreSized (set all me x)
 sized_after deed all me x d within is sized =
     let same : length (set all me x) ≡ length all = length-set all me x in
     each_set (λ k a. length a.known ≡ length all) (λ k a. length a.known ≡ length (set all me x)) all me x within sized (λ k a away has. has ∙ sym same)
@@ -98,12 +98,12 @@ sized_after deed all me x d within is sized =
 
 -- ---- what the plan says of them
 
-fixed_after : (plan : Plan) (me : ℕ) (deed : Deed) (a : AdjacencyLists) → IsOfEdge plan me a → IsOfEdge plan me (after deed a)
+fixed_after : (plan : Plan) (me : ℕ) (deed : Deed) (a : AdjacencyLists) → IsOfEdge plan me a → IsOfEdge plan me (adjacencies_after deed a)
 fixed_after plan me (said peer hold) a is = record { address = is.address; neighbours = is.neighbours; known = length-set a.known peer _ ∙ is.known }
 fixed_after plan me (heard peer hold) a is = record { address = is.address; neighbours = is.neighbours; known = length-set a.known peer _ ∙ is.known }
 fixed_after plan me ticked a is = record { address = is.address; neighbours = is.neighbours; known = length-map a.known _ ∙ is.known }
 
-pub plan_after : (deed : Deed) (plan : Plan) (all : List AdjacencyLists) (me : ℕ) (x d : AdjacencyLists) → me < length all → x ≡ after deed (get_or all me d) → AreEdgesOf plan all
+pub plan_after : (deed : Deed) (plan : Plan) (all : List AdjacencyLists) (me : ℕ) (x d : AdjacencyLists) → me < length all → x ≡ adjacencies_after deed (get_or all me d) → AreEdgesOf plan all
     → AreEdgesOf plan (set all me x)
 plan_after deed plan all me x d within is are = record {
   count = length-set all me x ∙ are.count;
@@ -132,7 +132,7 @@ holds_one (heard peer hold) history fit are = (fit, are)
 holds_one ticked history fit are = are
 
 deed_after : (deed : Deed) (histories : ℕ → List Deed) (all : List AdjacencyLists) (me : EdgeId) (x d : AdjacencyLists) → Fits deed → me.0 < length all → x
-    ≡ after deed (get_or all me.0 d) → AreAfter histories all
+    ≡ adjacencies_after deed (get_or all me.0 d) → AreAfter histories all
     → AreAfter (with_deed me deed histories) (set all me.0 x)
 deed_after deed histories all me x d fit within is are = record {
   each = each_set (λ k. IsAfter (histories k)) (λ k. IsAfter (with_deed me deed histories k)) all me.0 x within are.each
@@ -148,11 +148,11 @@ deed_after deed histories all me x d fit within is are = record {
     by k false = are.holds k
 
 pub said_after : (histories : ℕ → List Deed) (all : List AdjacencyLists) (me : EdgeId) (peer hold : ℕ) (x d : AdjacencyLists) → hold ≤ 65535 → me.0 < length all → x
-    ≡ after (said peer hold) (get_or all me.0 d) → AreAfter histories all
+    ≡ adjacencies_after (said peer hold) (get_or all me.0 d) → AreAfter histories all
     → AreAfter (with_deed me (said peer hold) histories) (set all me.0 x)
 said_after histories all me peer hold x d fit within is are = deed_after (said peer hold) histories all me x d fit within is are
 
-pub ticked_after : (histories : ℕ → List Deed) (all : List AdjacencyLists) (me : EdgeId) (x d : AdjacencyLists) → me.0 < length all → x ≡ after ticked (get_or all me.0 d) → AreAfter histories all
+pub ticked_after : (histories : ℕ → List Deed) (all : List AdjacencyLists) (me : EdgeId) (x d : AdjacencyLists) → me.0 < length all → x ≡ adjacencies_after ticked (get_or all me.0 d) → AreAfter histories all
     → AreAfter (with_deed me ticked histories) (set all me.0 x)
 ticked_after histories all me x d within is are = deed_after ticked histories all me x d tt within is are
 
@@ -217,7 +217,7 @@ address_known plan me from a is = ap (λ (l : List Neighbour). slice_get l from.
 -- what is heard of a Hello that the network carries
 heard_is : (plan : Plan) (me : ℕ) (from : EdgeId) (a now : AdjacencyLists) (octets : List ℕ) (answer : Heard) (address : Addr) (id hold : ℕ) → IsOfEdge plan me a
     → edge_address plan from ≡ Some address → length address.0 ≡ 4
-    → id < 2 ^ 32 → hold < 2 ^ 16 → octets ≡ hello_octets address id hold → Hears a from.0 octets answer now → now ≡ after (heard from.0 hold) a
+    → id < 2 ^ 32 → hold < 2 ^ 16 → octets ≡ hello_octets address id hold → Hears a from.0 octets answer now → now ≡ adjacencies_after (heard from.0 hold) a
 unfolding neighbour_of
 heard_is plan me from a now octets answer address id hold edge at four few short is hears = by_row (slice_get plan.edges from.0) refl
   where
@@ -226,16 +226,16 @@ heard_is plan me from a now octets answer address id hold edge at four few short
         (subst (λ (a : Addr). Says a (hello_octets address id hold) verdict) same (subst (λ (l : List ℕ). Says neighbour.address l verdict) is says))
 
     by_answer : (neighbour : Neighbour) → slice_get a.neighbours from.0 ≡ Some neighbour → neighbour.address ≡ address → (answer : Heard) → Hears a from.0 octets answer now → now
-        ≡ after (heard from.0 hold) a
+        ≡ adjacencies_after (heard from.0 hold) a
     by_answer neighbour there same Fresh hears =
         let says : Says neighbour.address octets (Ok hears.hold) = subst (λ (o : Option Neighbour). IfSome o (λ n. Says n.address octets (Ok hears.hold))) there hears.says in
         let held : hears.hold ≡ hold = cc (said_by neighbour (Ok hears.hold) same says) in
-        hears.kept ∙ ap (λ (h : ℕ). after (heard from.0 h) a) held
+        hears.kept ∙ ap (λ (h : ℕ). adjacencies_after (heard from.0 h) a) held
     by_answer neighbour there same (Ignored fault) hears =
         let says : Says neighbour.address octets (Err fault) = subst (λ (o : Option Neighbour). IfSome o (λ n. Says n.address octets (Err fault))) there hears.0 in
         absurd (cc (said_by neighbour (Err fault) same says))
 
-    by_row : (row : Option EdgePlan) → slice_get plan.edges from.0 ≡ row → now ≡ after (heard from.0 hold) a
+    by_row : (row : Option EdgePlan) → slice_get plan.edges from.0 ≡ row → now ≡ adjacencies_after (heard from.0 hold) a
     by_row None none = absurd (cc (sym (ap (λ (o : Option EdgePlan). option_map (λ r. r.address) o) none) ∙ at))
     by_row (Some row) some =
         let there : slice_get a.neighbours from.0 ≡ Some (neighbour_of plan me (0 + from.0) row) = address_known plan me from a edge ∙ ap (option_map (neighbour_of plan me (0 + from.0))) some in
@@ -278,7 +278,7 @@ heard_sized all me from x d octets answer within hears sized =
 -- ---- what lives
 
 pub lives_at : (histories : ℕ → List Deed) (all : List AdjacencyLists) (edge peer : EdgeId) (d : AdjacencyLists) (result : Bool) → AreSized all → edge.0 < length all → peer.0 < length all
-    → result ≡ is_live (known_of (get_or all edge.0 d) peer.0) → AreAfter histories all → result ≡ live peer.0 (histories edge.0)
+    → result ≡ is_adjacency_live (known_of (get_or all edge.0 d) peer.0) → AreAfter histories all → result ≡ live peer.0 (histories edge.0)
 lives_at histories all edge peer d result sized within there is are =
     is ∙ lives_is (histories edge.0) (get_or all edge.0 d) peer.0 (are.holds edge.0) (item_is (λ k. IsAfter (histories k)) all edge.0 d are.each within)
     (omega (arith, there, size_at all edge.0 d sized within))

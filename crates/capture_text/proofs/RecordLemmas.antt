@@ -7,7 +7,7 @@ use Rattle.byteorder.specs.Endian.{little_bytes}
 use Rattle.net_base.specs.declared.plan.places.CircuitId.{CircuitId}
 use Rattle.net_base.specs.declared.trace.entry.Entry.{Entry}
 use Rattle.pcap_file.specs.Written.{written_frame, written_header, written_record}
-use Rattle.capture_text.specs.Capture.{frame_of, frames_left, ticks_after, timed}
+use Rattle.capture_text.specs.Capture.{timed_frame_of, frames_left, ticks_after, timed}
 use Rattle.text_lines.specs.Written.{Written, WritingGoesOn, IsCut, Puts}
 use Rattle.text_lines.proofs.WrittenLemmas.{cut_first, goes_none, puts_two}
 
@@ -68,11 +68,11 @@ puts_none w ticks f found left told is =
 -- the record of the next entry's frame, and those behind it
 pub frames_from : (circuit : CircuitId) (ticks after : ℕ) (trace : List Entry) (index : ℕ) (entry : Entry) → index < length trace → entry ≡ get_or trace index entry → after ≡ ticks_after entry ticks
     → flat_map written_frame (frames_left circuit ticks (drop index trace))
-    ≡ flat_map written_frame (frame_of circuit ticks entry) ++ flat_map written_frame (frames_left circuit after (drop (index + 1) trace))
+    ≡ flat_map written_frame (timed_frame_of circuit ticks entry) ++ flat_map written_frame (frames_left circuit after (drop (index + 1) trace))
 frames_from circuit ticks after trace index entry within is told =
     let rest = drop (index + 1) trace in
-    let front = flat_map written_frame (frame_of circuit ticks entry) in
+    let front = flat_map written_frame (timed_frame_of circuit ticks entry) in
     at_drop_more (λ (l : List Entry). flat_map written_frame (frames_left circuit ticks l)) trace index entry within
     ∙ (ap (λ (e : Entry). flat_map written_frame (frames_left circuit ticks (e ∷ rest))) (sym is)
-    ∙ (flat_map-append written_frame (frame_of circuit ticks entry) (frames_left circuit (ticks_after entry ticks) rest)
+    ∙ (flat_map-append written_frame (timed_frame_of circuit ticks entry) (frames_left circuit (ticks_after entry ticks) rest)
     ∙ ap (λ (n : ℕ). front ++ flat_map written_frame (frames_left circuit n rest)) (sym told)))

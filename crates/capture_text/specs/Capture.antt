@@ -22,13 +22,13 @@ timed ticks None = []
 timed ticks (Some octets) = record { seconds = ticks; frame = octets } ∷ []
 
 -- the frame of an entry that tells that it left this circuit, at this time in seconds
-abbrev pub frame_of : CircuitId → ℕ → Entry → List TimedFrame
-frame_of circuit ticks entry = timed ticks (octets_left circuit entry)
+abbrev pub timed_frame_of : CircuitId → ℕ → Entry → List TimedFrame
+timed_frame_of circuit ticks entry = timed ticks (octets_left circuit entry)
 
 -- the frames that left this circuit, in order, where so many ticks have passed before
 abbrev pub frames_left : CircuitId → ℕ → List Entry → List TimedFrame
 frames_left circuit ticks [] = []
-frames_left circuit ticks (entry ∷ entries) = frame_of circuit ticks entry ++ frames_left circuit (ticks_after entry ticks) entries
+frames_left circuit ticks (entry ∷ entries) = timed_frame_of circuit ticks entry ++ frames_left circuit (ticks_after entry ticks) entries
 
 -- the whole capture: its times are the ticks before each frame
 unfoldable pub capture_text : List Entry → CircuitId → List ℕ

@@ -1,6 +1,6 @@
 //! Captures of a circuit.
 ghost use Rattle.std.specs.Prelude.{◌≡◌, ◌<◌, ◌≤◌, ◌+◌, ◌^◌, flat_map, option_map};
-ghost use Rattle.capture_text.specs.Capture.{capture_text, frame_of, frames_left, octets_left, ticks_after};
+ghost use Rattle.capture_text.specs.Capture.{capture_text, timed_frame_of, frames_left, octets_left, ticks_after};
 ghost use Rattle.pcap_file.specs.Written.{written_frame, written_header};
 ghost use Rattle.text_lines.specs.Written.{PutsOn};
 
@@ -45,7 +45,7 @@ fn put_entry<K: Sink>(
     ticks: u64,
     entry: &Entry,
 ) -> Result<(), Failed>
-    ensures { PutsOn K.taken K.faults page.old page.new sink.old sink.new result (flat_map written_frame (frame_of circuit ticks entry.now)) }
+    ensures { PutsOn K.taken K.faults page.old page.new sink.old sink.new result (flat_map written_frame (timed_frame_of circuit ticks entry.now)) }
 {
     match octets_left(circuit, entry) {
         Some(octets) => put_record(page, sink, ticks, octets),

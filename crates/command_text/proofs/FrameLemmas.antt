@@ -5,7 +5,7 @@ use Rattle.std.proofs.lemmas.Bool.Decides.{nat_tests}
 use Rattle.std.specs.List.{position_or_len}
 use Rattle.command_text.specs.declared.plan_names.PlanNames.{PlanNames}
 use Rattle.command_text.specs.declared.scenario_fault.ScenarioFault.TheVariants.{BadWord}
-use Rattle.command_text.specs.Events.{frame_behind, frame_event_in, packet_command, command_of, command_in, one}
+use Rattle.command_text.specs.Events.{frame_command_behind, frame_event_in, packet_command, command_of, command_in, one}
 use Rattle.command_text.specs.Hex.{digit_value, pair_value, unhex, of_frame_size, frame_of}
 use Rattle.command_text.specs.Words.{is_space, after_word, first_word, word_after, word_at}
 use Rattle.command_text.proofs.WordLemmas.{no_space_before, place_le, space_after}
@@ -70,8 +70,8 @@ more_behind text octets e =
     ap (λ n. nat_lt n (length text)) (sym size ∙ front) ∙ some_behind (nat_lt (position_or_len is_space text) (length text)) _
 
 -- a frame by what follows its first word
-pub frame_is : (names : PlanNames) (event : ℕ) (text rest : List ℕ) → Some rest ≡ after_word text → frame_behind names event rest ≡ frame_event_in names event text
-unfolding frame_behind frame_event_in word_at
+pub frame_is : (names : PlanNames) (event : ℕ) (text rest : List ℕ) → Some rest ≡ after_word text → frame_command_behind names event rest ≡ frame_event_in names event text
+unfolding frame_command_behind frame_event_in word_at
 frame_is names event text rest e = rw (sym e) refl
 
 pub no_frame : (names : PlanNames) (event : ℕ) (text : List ℕ) → None ≡ after_word text → frame_event_in names event text ≡ Err (BadWord event 2)
@@ -79,7 +79,7 @@ unfolding frame_event_in word_at
 no_frame names event text e = rw (sym e) refl
 
 -- a text that begins so is a frame
-pub frame_command : (names : PlanNames) (event plays : ℕ) (text rest : List ℕ) → text ≡ codes "frame " ++ rest → command_in names event plays text ≡ one (frame_behind names event rest)
+pub frame_command : (names : PlanNames) (event plays : ℕ) (text rest : List ℕ) → text ≡ codes "frame " ++ rest → command_in names event plays text ≡ one (frame_command_behind names event rest)
 unfolding command_of packet_command
 frame_command names event plays text rest same =
     ap (λ (t : List ℕ). command_in names event plays t) same

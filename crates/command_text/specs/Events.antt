@@ -10,7 +10,7 @@ use Rattle.command_text.specs.declared.plan_names.PlanNames.{PlanNames}
 use Rattle.command_text.specs.declared.scenario_fault.ScenarioFault.{ScenarioFault}
 use Rattle.command_text.specs.declared.scenario_fault.ScenarioFault.TheVariants.{WrongKind, BadWord}
 use Rattle.command_text.specs.Reading.{◌>>=◌, checked, found}
-use Rattle.command_text.specs.Places.{place_at, top_row}
+use Rattle.command_text.specs.Places.{place_of_key, top_row}
 use Rattle.command_text.specs.Names.{place_in}
 use Rattle.command_text.specs.Words.{word_at, word_after, after_word, first_word, said_word, ends_before, decimal_from, switch_of, some_word}
 use Rattle.command_text.specs.Hex.{frame_of}
@@ -60,8 +60,8 @@ frame_event_in names event text = do
   Ok (Frame (record { 0 = circuit }) octets)
 
 -- the same by what follows its first word
-unfoldable pub frame_behind : PlanNames → ℕ → List ℕ → Result Event ScenarioFault
-frame_behind names event rest = do
+unfoldable pub frame_command_behind : PlanNames → ℕ → List ℕ → Result Event ScenarioFault
+frame_command_behind names event rest = do
   circuit ← found (BadWord event 2) (place_in names.circuits (first_word rest))
   octets ← found (BadWord event 3) (option_and_then frame_of (option_and_then (word_after 0) (after_word rest)))
   end ← checked (BadWord event 4) (not (is_some (option_and_then (word_after 1) (after_word rest))))
@@ -184,7 +184,7 @@ command_in names event plays text = command_of names event plays (first_word tex
 
 -- the command that an item is, which is a string
 abbrev pub event_in : PlanNames → ℕ → ℕ → Data → Result Command ScenarioFault
-event_in names event plays value = found (WrongKind (place_at top_row (codes "events"))) (as_str value) >>= command_in names event plays
+event_in names event plays value = found (WrongKind (place_of_key top_row (codes "events"))) (as_str value) >>= command_in names event plays
 
 -- one more where the command is `play`
 abbrev pub plays_after : ℕ → Command → ℕ

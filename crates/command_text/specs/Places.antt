@@ -13,8 +13,8 @@ unfoldable pub shown : List ℕ → List ℕ
 shown key = map masked (take (min (length key) 32) key)
 
 -- the place of a key of a row
-abbrev pub place_at : RowPlace → List ℕ → Place
-place_at row key = record { table = row.table; index = row.index; key = shown key }
+abbrev pub place_of_key : RowPlace → List ℕ → Place
+place_of_key row key = record { table = row.table; index = row.index; key = shown key }
 
 -- the top of the document
 abbrev pub top_row : RowPlace

@@ -3,7 +3,7 @@ ghost use Rattle.std.specs.Prelude.{◌≡◌, ◌≤◌, ◌++◌, codes, lengt
 ghost use Rattle.std.specs.List.{All};
 ghost use Rattle.toml.specs.View.{view, items_view};
 ghost use Rattle.command_text.specs.declared.plan_names.PlanNames.{PlanNames};
-ghost use Rattle.command_text.specs.Events.{most_events, repeats_in, tick_in, play_in, one, many_of, part_command, packet_command, command_of, command_in, event_in, frame_behind, commands_in};
+ghost use Rattle.command_text.specs.Events.{most_events, repeats_in, tick_in, play_in, one, many_of, part_command, packet_command, command_of, command_in, event_in, frame_command_behind, commands_in};
 ghost use Rattle.command_text.specs.Reading.{Gives};
 ghost use Rattle.command_text.specs.Planned.{IsCount, IsAmong, IsInPlanNames};
 
@@ -126,7 +126,7 @@ fn framed(
     capacity: usize,
     rest: &[u8],
 ) -> Result<Command, ScenarioFault>
-    ensures exact { Gives result (one (frame_behind names.now event rest.now)) }
+    ensures exact { Gives result (one (frame_command_behind names.now event rest.now)) }
     ensures named { IfOk result (IsInPlanNames names.now) }
 {
     Ok(Command::One(frame(alloc, names, event, capacity, rest)?))

@@ -1,6 +1,6 @@
 //! The events of a document.
 ghost use Rattle.std.specs.Prelude.{◌≡◌, IfOk};
-ghost use Rattle.command_text.specs.Events.{connect_in, deliver_in, lose_in, restart_in, frame_behind, packet_in, wire_switch_in, circuit_switch_in, status_in, priority_event_in, ping_in};
+ghost use Rattle.command_text.specs.Events.{connect_in, deliver_in, lose_in, restart_in, frame_command_behind, packet_in, wire_switch_in, circuit_switch_in, status_in, priority_event_in, ping_in};
 ghost use Rattle.command_text.specs.Reading.{Gives};
 ghost use Rattle.command_text.specs.Planned.{IsAmong};
 
@@ -73,7 +73,7 @@ pub fn restart(names: &PlanNames<'_>, event: u32, text: &str) -> Result<Event, S
 
 /// `frame C HEX`, with 1 to 9216 octets, by what follows the first word. These are long, so the digits are walked once. The octets are
 /// in a list of this capacity or what they need.
-#[tactic(auto, unfolding(crate::specs::Events::frame_behind))]
+#[tactic(auto, unfolding(crate::specs::Events::frame_command_behind))]
 pub fn frame(
     alloc: Global,
     names: &PlanNames<'_>,
@@ -81,7 +81,7 @@ pub fn frame(
     capacity: usize,
     rest: &[u8],
 ) -> Result<Event, ScenarioFault>
-    ensures exact { Gives result (frame_behind names.now event rest.now) }
+    ensures exact { Gives result (frame_command_behind names.now event rest.now) }
     ensures among { IfOk result (IsAmong names.now) }
 {
     let (name, rest) = cut_octets(rest);

@@ -1,7 +1,7 @@
 //! Places of rows, and the faults that have one.
 ghost use Rattle.std.specs.Prelude.{◌≡◌};
 ghost use Rattle.net_base.specs.declared.plan.plan_fault.PlanFault.{PlanFault};
-ghost use Rattle.command_text.specs.Places.{place_at, top_row};
+ghost use Rattle.command_text.specs.Places.{place_of_key, top_row};
 
 use crate::ScenarioFault;
 use crate::key::key_text;
@@ -28,7 +28,7 @@ impl RowPlace {
 
     /// The place of a key of this row.
     pub fn place(self, key: &str) -> Place
-        ensures { result ≡ place_at self key.now }
+        ensures { result ≡ place_of_key self key.now }
     {
         Place {
             table: self.table,
@@ -39,42 +39,42 @@ impl RowPlace {
 
     /// The fault that the key is absent.
     pub fn missing(self, key: &str) -> ScenarioFault
-        ensures { result ≡ ScenarioFault.Missing (place_at self key.now) }
+        ensures { result ≡ ScenarioFault.Missing (place_of_key self key.now) }
     {
         ScenarioFault::Missing(self.place(key))
     }
 
     /// The fault that the value at the key is of another kind.
     pub fn wrong_kind(self, key: &str) -> ScenarioFault
-        ensures { result ≡ ScenarioFault.WrongKind (place_at self key.now) }
+        ensures { result ≡ ScenarioFault.WrongKind (place_of_key self key.now) }
     {
         ScenarioFault::WrongKind(self.place(key))
     }
 
     /// The fault that no row of the table has such a key.
     pub fn unknown_key(self, key: &str) -> ScenarioFault
-        ensures { result ≡ ScenarioFault.UnknownKey (place_at self key.now) }
+        ensures { result ≡ ScenarioFault.UnknownKey (place_of_key self key.now) }
     {
         ScenarioFault::UnknownKey(self.place(key))
     }
 
     /// The fault that the value at the key is outside its range.
     pub fn out_of_range(self, key: &str) -> ScenarioFault
-        ensures { result ≡ ScenarioFault.Plan (PlanFault.OutOfRange (place_at self key.now)) }
+        ensures { result ≡ ScenarioFault.Plan (PlanFault.OutOfRange (place_of_key self key.now)) }
     {
         ScenarioFault::Plan(PlanFault::OutOfRange(self.place(key)))
     }
 
     /// The fault that the value at the key names a row that is not there.
     pub fn unknown_name(self, key: &str) -> ScenarioFault
-        ensures { result ≡ ScenarioFault.Plan (PlanFault.UnknownName (place_at self key.now)) }
+        ensures { result ≡ ScenarioFault.Plan (PlanFault.UnknownName (place_of_key self key.now)) }
     {
         ScenarioFault::Plan(PlanFault::UnknownName(self.place(key)))
     }
 
     /// The fault that the name at the key stood before.
     pub fn repeated_name(self, key: &str) -> ScenarioFault
-        ensures { result ≡ ScenarioFault.Plan (PlanFault.RepeatedName (place_at self key.now)) }
+        ensures { result ≡ ScenarioFault.Plan (PlanFault.RepeatedName (place_of_key self key.now)) }
     {
         ScenarioFault::Plan(PlanFault::RepeatedName(self.place(key)))
     }

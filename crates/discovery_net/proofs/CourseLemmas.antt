@@ -17,7 +17,7 @@ use Rattle.psn_net.proofs.RunLemmas.{ran_state}
 use Rattle.discovery_script.specs.declared.note.Note.{Note}
 use Rattle.discovery_script.specs.declared.placed_note.PlacedNote.{PlacedNote}
 use Rattle.discovery_net.specs.Acts.{Act, Does, Tells, Course, all_done, course, course_of, events_in, noted, unless_stopped}
-use Rattle.discovery_net.specs.Lists.{Acts, DiscoveryLists, HaltsAt, HaltsIn, HasDone, course_on, ended_at}
+use Rattle.discovery_net.specs.Lists.{Acts, DiscoveryLists, HaltsAt, HaltsIn, HasDoneActs, course_on, ended_at}
 
 -- a course without its notes
 abbrev pub network_of : Course → Ended
@@ -37,7 +37,7 @@ course_ran plan s t notes (Does event ∷ acts) =
     by (Some stop) c e same = refl
 
 -- the state behind acts
-pub state_done : (old now : DiscoveryLists) (acts : List Act) → HasDone old now acts → seen now.network ≡ state_after old.network.plan (seen old.network) (events_in acts)
+pub state_done : (old now : DiscoveryLists) (acts : List Act) → HasDoneActs old now acts → seen now.network ≡ state_after old.network.plan (seen old.network) (events_in acts)
 state_done old now acts done =
     let events : List Event = events_in (acts ++ []) in
     let end : network_of (course_on now []) ≡ ran old.network.plan (seen old.network) old.network.trace events =
@@ -51,7 +51,7 @@ state_done old now acts done =
 pub does_one : (old now : DiscoveryLists) (event : Event) → now.network.plan ≡ old.network.plan → stop_at old.network.trace (length (seen old.network).under_way) event ≡ None
     → seen now.network ≡ (step old.network.plan (seen old.network) event).state → now.network.trace ≡ old.network.trace ++ (step old.network.plan (seen old.network) event).entries
     → now.notes ≡ old.notes
-    → HasDone old now (Does event ∷ [])
+    → HasDoneActs old now (Does event ∷ [])
 does_one old now event kept none state trace same rest =
     let behind : Course = course old.network.plan (step old.network.plan (seen old.network) event).state
     (old.network.trace ++ (step old.network.plan (seen old.network) event).entries) old.notes rest in
@@ -72,7 +72,7 @@ does_none old now event (Crowded count number) stops same rest = refused_one old
 does_none old now event (TooMuch weight number) stops same rest = refused_one old now event (TooMuch weight number) stops.0 stops.1 same rest
 does_none old now event NoMemory stops same rest = tt
 
-pub tells_one : (old now : DiscoveryLists) (note : Note) → now.network ≡ old.network → now.notes ≡ noted old.network.trace old.notes note → HasDone old now (Tells note ∷ [])
+pub tells_one : (old now : DiscoveryLists) (note : Note) → now.network ≡ old.network → now.notes ≡ noted old.network.trace old.notes note → HasDoneActs old now (Tells note ∷ [])
 tells_one old now note kept more rest = λ i. course (kept i).plan (seen (kept i)) (kept i).trace (more i) rest
 
 -- ---- events in turn
@@ -100,7 +100,7 @@ course_events plan s t notes (e ∷ es) rest =
 
 pub events_done : (old now : DiscoveryLists) (es : List Event) → now.network.plan ≡ old.network.plan → now.notes ≡ old.notes → ended now.network None
     ≡ ran old.network.plan (seen old.network) old.network.trace es
-    → HasDone old now (all_done es)
+    → HasDoneActs old now (all_done es)
 events_done old now es kept same is rest =
     (λ i. course (kept i) (seen now.network) now.network.trace (same i) rest)
     ∙ ap (goes_on old.network.plan old.notes rest) is

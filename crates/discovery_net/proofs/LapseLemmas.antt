@@ -20,7 +20,7 @@ use Rattle.discovery_script.specs.declared.script_line.ScriptLine.TheVariants as
 use Rattle.discovery_net.specs.Acts.{Act, Does, Tells, Course, course, events_in}
 use Rattle.discovery_net.specs.Deeds.{Discovery}
 use Rattle.discovery_net.specs.Lines.{Lapse, acts_of, after_line, downs, lapses_from, lapses_with}
-use Rattle.discovery_net.specs.Lists.{Acts, DiscoveryLists, HaltsAt, HaltsIn, HasDone, IsAt, course_on, downs_on, said_hello}
+use Rattle.discovery_net.specs.Lists.{Acts, DiscoveryLists, HaltsAt, HaltsIn, HasDoneActs, IsAt, course_on, downs_on, said_hello}
 use Rattle.discovery_net.proofs.CourseLemmas.{state_done}
 
 -- the next peer
@@ -67,7 +67,7 @@ halted_told old now edge peer stop halts behind rest =
     else downs old.network.plan (network_seen old.network) behind) ++ rest)
 
 -- where the end does not stand
-pub told_down : (old mid : DiscoveryLists) (edge peer : EdgeId) → mid.network ≡ old.network → HasDone old mid (Tells (note.Down edge peer) ∷ [])
+pub told_down : (old mid : DiscoveryLists) (edge peer : EdgeId) → mid.network ≡ old.network → HasDoneActs old mid (Tells (note.Down edge peer) ∷ [])
     → network.stands (network_seen old.network) edge.0 peer.0 ≡ false
     → (behind : List Lapse) (rest : List Act) → downs_on mid behind rest ≡ downs_on old (one_behind edge peer behind) rest
 told_down old mid edge peer kept done none behind rest =
@@ -79,9 +79,9 @@ told_down old mid edge peer kept done none behind rest =
         (network_seen old.network) behind
 
 -- where it stands, and was lost
-pub taken_down : (old mid now : DiscoveryLists) (edge peer : EdgeId) → mid.network ≡ old.network → HasDone old mid (Tells (note.Down edge peer) ∷ [])
+pub taken_down : (old mid now : DiscoveryLists) (edge peer : EdgeId) → mid.network ≡ old.network → HasDoneActs old mid (Tells (note.Down edge peer) ∷ [])
     → network.stands (network_seen old.network) edge.0 peer.0 ≡ true
-    → now.network.plan ≡ mid.network.plan → network_seen now.network ≡ (step mid.network.plan (network_seen mid.network) (event.Lose edge peer)).state → HasDone mid now (Does (event.Lose edge peer) ∷ [])
+    → now.network.plan ≡ mid.network.plan → network_seen now.network ≡ (step mid.network.plan (network_seen mid.network) (event.Lose edge peer)).state → HasDoneActs mid now (Does (event.Lose edge peer) ∷ [])
     → (behind : List Lapse) (rest : List Act) → downs_on now behind rest ≡ downs_on old (one_behind edge peer behind) rest
 taken_down old mid now edge peer kept done is plan state lost behind rest =
     (λ i. course_on now (downs (plan i) (state i) behind ++ rest))
@@ -95,7 +95,7 @@ taken_down old mid now edge peer kept done is plan state lost behind rest =
         (network_seen old.network) behind
 
 -- where a limit stopped that
-pub halted_down : (old mid now : DiscoveryLists) (edge peer : EdgeId) (stop : NetStop) → mid.network ≡ old.network → HasDone old mid (Tells (note.Down edge peer) ∷ [])
+pub halted_down : (old mid now : DiscoveryLists) (edge peer : EdgeId) (stop : NetStop) → mid.network ≡ old.network → HasDoneActs old mid (Tells (note.Down edge peer) ∷ [])
     → network.stands (network_seen old.network) edge.0 peer.0 ≡ true
     → HaltsIn stop mid now (Does (event.Lose edge peer) ∷ []) → (behind : List Lapse) (rest : List Act) → HaltsAt stop now (downs_on old (one_behind edge peer behind) rest)
 halted_down old mid now edge peer stop kept done is halts behind rest =

@@ -32,9 +32,9 @@ use Rattle.discovery_script.specs.declared.placed_note.PlacedNote.{PlacedNote}
 use Rattle.discovery_script.specs.declared.script_line.ScriptLine.TheVariants as line
 use Rattle.discovery_net.specs.declared.said_hello.SaidHello.{SaidHello}
 use Rattle.discovery_net.specs.Acts.{Act, Course, Does, Tells, all_done, course, events_in}
-use Rattle.discovery_net.specs.Deeds.{Discovery, Hello, adjacency_lives, hello_numbered, octets_by, octets_of_hello as octets_of, discovery_opened}
+use Rattle.discovery_net.specs.Deeds.{Discovery, Hello, adjacency_lives, hello_numbered, hello_octets_by, octets_of_hello as octets_of, discovery_opened}
 use Rattle.discovery_net.specs.Lines.{acts_of, after_line, bring_acts, heard_at, may_open, next_hello}
-use Rattle.discovery_net.specs.Lists.{Acts, DiscoveryLists, HaltsAt, HaltsIn, HasDone, IsAt, IsDiscovery, IsHelloFit as IsHello, IsOfPlan, said_hello}
+use Rattle.discovery_net.specs.Lists.{Acts, DiscoveryLists, HaltsAt, HaltsIn, HasDoneActs, IsAt, IsDiscovery, IsHelloFit as IsHello, IsOfPlan, said_hello}
 use Rattle.discovery_net.proofs.CourseLemmas.{done_alone, events_come}
 
 -- ---- before the first line
@@ -109,7 +109,7 @@ said_is : (plan : Plan) (d : Discovery) (from to : EdgeId) (hold : ℕ) (octets 
     → ((address : Addr) → edge_address plan from ≡ Some address → octets ≡ hello_octets address (id_behind (d.histories from.0)) hold) → octets ≡ octets_of plan (next_hello d from to hold)
 said_is plan d from to hold octets within said_so =
     let there = address_of plan from within in
-    said_so there.0 there.1 ∙ sym (ap (λ (o : Option Addr). octets_by o (next_hello d from to hold)) there.1)
+    said_so there.0 there.1 ∙ sym (ap (λ (o : Option Addr). hello_octets_by o (next_hello d from to hold)) there.1)
 
 id_small : (history : List Deed) → id_behind history < 2 ^ 32
 id_small [] = omega arith
@@ -316,7 +316,7 @@ heard_at_is d old table hello said_so at edges of_plan fit same hears =
     let from_is : hello.from ≡ said_so.from = ap (λ (h : SaidHello). h.from) same in
     let there = address_of plan hello.from of_plan.0 in
     let address_is : edge_address plan said_so.from ≡ Some there.0 = ap (edge_address plan) (sym from_is) ∙ there.1 in
-    let octets_are : hello.bytes ≡ hello_octets there.0 said_so.id said_so.hold = ap (λ (h : SaidHello). h.bytes) same ∙ ap (λ (o : Option Addr). octets_by o said_so) address_is in
+    let octets_are : hello.bytes ≡ hello_octets there.0 said_so.id said_so.hold = ap (λ (h : SaidHello). h.bytes) same ∙ ap (λ (o : Option Addr). hello_octets_by o said_so) address_is in
     subst (λ (h : SaidHello). AreAfter (with_deed h.to (heard h.from.0 said_so.hold) d.histories) table) same
     (hears d.histories plan there.0 said_so.id said_so.hold at.histories edges there.1 fit.id fit.hold octets_are)
 
@@ -337,7 +337,7 @@ lived_is d plan hello said_so lived same is = sym (is ∙ ap (λ (h : SaidHello)
 
 pub heard_lived : {A : Type 0} (done : A) (old now : DiscoveryLists) (d : Discovery) (plan : Plan) (hello : SaidHello) (said_so : Hello) (lived : Bool) → hello
     ≡ said_hello plan said_so → lived ≡ live hello.from.0 (d.histories hello.to.0) → lived ≡ true
-    → now.network ≡ old.network → now.notes ≡ old.notes → HasDone old now (bring_acts d (Some said_so))
+    → now.network ≡ old.network → now.notes ≡ old.notes → HasDoneActs old now (bring_acts d (Some said_so))
 heard_lived done old now d plan hello said_so lived same is yes_lived net notes =
     let so : adjacency_lives d said_so.to.0 said_so.from.0 ≡ true = lived_is d plan hello said_so lived same is ∙ yes_lived in
     rw so (λ rest i. course_from (net i) (notes i) rest)

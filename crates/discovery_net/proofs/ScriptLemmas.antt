@@ -8,11 +8,11 @@ use Rattle.psn_net.specs.declared.net_stop.NetStop.{NetStop}
 use Rattle.psn_net.specs.declared.net_stop.NetStop.TheVariants.{NoMemory}
 use Rattle.psn_net.specs.Runs.{ended, ran}
 use Rattle.discovery_script.specs.declared.script_line.ScriptLine.{ScriptLine}
-use Rattle.discovery_script.specs.Planned.{IsLineOf}
+use Rattle.discovery_script.specs.Planned.{IsDiscoveryLineOf}
 use Rattle.discovery_net.specs.Acts.{course}
 use Rattle.discovery_net.specs.Deeds.{Discovery, discovery_opened}
 use Rattle.discovery_net.specs.Lines.{acts_of, after_line}
-use Rattle.discovery_net.specs.Lists.{DiscoveryLists, HaltsIn, HasDone, IsAt, course_on, ended_at}
+use Rattle.discovery_net.specs.Lists.{DiscoveryLists, HaltsIn, HasDoneActs, IsAt, course_on, ended_at}
 use Rattle.discovery_net.specs.Script.{events_made, script_acts, script_course}
 use Rattle.discovery_net.proofs.CourseLemmas.{course_ran, halted_at, network_of}
 
@@ -30,14 +30,14 @@ way_first plan all now same trace notes at = record {
 }
 
 pub way_next : (plan : Plan) (all items left : List ScriptLine) (line : ScriptLine) (old now : DiscoveryLists) → items ≡ line ∷ left → old.network.plan ≡ plan
-    → ((d : Discovery) → IsAt d old → HasDone old now (acts_of old.network.plan d line))
+    → ((d : Discovery) → IsAt d old → HasDoneActs old now (acts_of old.network.plan d line))
     → ((d : Discovery) → IsAt d old → IsAt (after_line old.network.plan d line) now) → IsUnderWay plan all items old → IsUnderWay plan all left now
 way_next plan all items left line old now split same acts after begun =
     let way : IsUnderWay plan all (line ∷ left) old = subst (λ (ls : List ScriptLine). IsUnderWay plan all ls old) split begun in
     record {
       discovery = after_line plan way.discovery line;
       at = subst (λ (p : Plan). IsAt (after_line p way.discovery line) now) same (after way.discovery way.at);
-      comes = subst (λ (p : Plan). HasDone old now (acts_of p way.discovery line)) same (acts way.discovery way.at) (script_acts plan (after_line plan way.discovery line) left) ∙ way.comes;
+      comes = subst (λ (p : Plan). HasDoneActs old now (acts_of p way.discovery line)) same (acts way.discovery way.at) (script_acts plan (after_line plan way.discovery line) left) ∙ way.comes;
     }
 
 pub way_stopped : (plan : Plan) (all items left : List ScriptLine) (line : ScriptLine) (old now : DiscoveryLists) (stop : NetStop) → items ≡ line ∷ left → old.network.plan ≡ plan → stop ≢ NoMemory
@@ -60,6 +60,6 @@ pub events_ran : (plan : Plan) (lines : List ScriptLine) (n : DiscoveryLists) (s
 events_ran plan lines n stop is = ap network_of is ∙ course_ran plan (empty_network plan) [] [] (script_acts plan (discovery_opened plan) lines)
 
 -- the next line names places of the plan
-pub line_first : (plan other : Plan) (items left : List ScriptLine) (line : ScriptLine) → items ≡ line ∷ left → other ≡ plan → All (IsLineOf plan) items → IsLineOf other line
+pub line_first : (plan other : Plan) (items left : List ScriptLine) (line : ScriptLine) → items ≡ line ∷ left → other ≡ plan → All (IsDiscoveryLineOf plan) items → IsDiscoveryLineOf other line
 line_first plan other items left line split same are =
-    subst (λ (p : Plan). IsLineOf p line) (sym same) (All-head (IsLineOf plan) line left (subst (All (IsLineOf plan)) split are))
+    subst (λ (p : Plan). IsDiscoveryLineOf p line) (sym same) (All-head (IsDiscoveryLineOf plan) line left (subst (All (IsDiscoveryLineOf plan)) split are))

@@ -26,7 +26,7 @@ use Rattle.command_run.specs.Made.{event_and, made_by, turns}
 use Rattle.discovery_script.specs.declared.script_line.ScriptLine.{ScriptLine}
 use Rattle.discovery_script.specs.declared.script_line.ScriptLine.TheVariants as line
 use Rattle.discovery_script.specs.declared.note.Note.TheVariants as note
-use Rattle.discovery_script.specs.Planned.{AreOfPlan, IsLineOf, IsScripted}
+use Rattle.discovery_script.specs.Planned.{AreOfPlan, IsDiscoveryLineOf as IsLineOf, IsScripted}
 use Rattle.discovery_net.specs.Acts.{Does, Tells, events_in}
 use Rattle.adjacency_table.specs.Histories.{ends_by_tick, with_deed}
 use Rattle.discovery_net.specs.Deeds.{Discovery, Hello, adjacency_lives, hello_numbered, octets_of_hello, discovery_opened}

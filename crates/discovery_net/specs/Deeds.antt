@@ -30,12 +30,12 @@ abbrev pub adjacency_lives : Discovery → ℕ → ℕ → Bool
 adjacency_lives d edge peer = live peer (d.histories edge)
 
 -- the octets of a Hello
-abbrev pub octets_by : Option Addr → Hello → List ℕ
-octets_by None hello = []
-octets_by (Some address) hello = hello_octets address hello.id hello.hold
+abbrev pub hello_octets_by : Option Addr → Hello → List ℕ
+hello_octets_by None hello = []
+hello_octets_by (Some address) hello = hello_octets address hello.id hello.hold
 
 abbrev pub octets_of_hello : Plan → Hello → List ℕ
-octets_of_hello plan hello = octets_by (edge_address plan hello.from) hello
+octets_of_hello plan hello = hello_octets_by (edge_address plan hello.from) hello
 
 -- the Hello of this number, counted from 1
 abbrev pub hello_numbered : Discovery → ℕ → Option Hello

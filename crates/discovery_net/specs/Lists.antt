@@ -50,8 +50,8 @@ abbrev pub course_on : DiscoveryLists → List Act → Course
 course_on n acts = course n.network.plan (network_seen n.network) n.network.trace n.notes acts
 
 -- it has done these acts
-abbrev pub HasDone : DiscoveryLists → DiscoveryLists → List Act → Type 0
-HasDone old now acts = (rest : List Act) → course_on now rest ≡ course_on old (acts ++ rest)
+abbrev pub HasDoneActs : DiscoveryLists → DiscoveryLists → List Act → Type 0
+HasDoneActs old now acts = (rest : List Act) → course_on now rest ≡ course_on old (acts ++ rest)
 
 -- as the end of a course
 abbrev pub ended_at : DiscoveryLists → Option NetStop → Course
@@ -69,7 +69,7 @@ HaltsIn stop old now acts = (rest : List Act) → HaltsAt stop now (course_on ol
 
 -- what comes of acts
 abbrev pub Acts : {A : Type 0} → Result A NetStop → DiscoveryLists → DiscoveryLists → List Act → Type 0
-Acts (Ok done) old now acts = HasDone old now acts
+Acts (Ok done) old now acts = HasDoneActs old now acts
 Acts (Err stop) old now acts = HaltsIn stop old now acts
 
 -- ---- adjacencies that end by a tick

@@ -3,7 +3,7 @@ ghost use Rattle.std.specs.Prelude.{◌≡◌, ◌∷◌, [], false, IfOk, OnOk}
 ghost use Rattle.net_base.specs.plan.Accepted.{IsChecked};
 ghost use Rattle.command_run.specs.Going.{IsRunGoing};
 ghost use Rattle.command_text.specs.Planned.{IsPlanned};
-ghost use Rattle.discovery_script.specs.Planned.{IsLineOf};
+ghost use Rattle.discovery_script.specs.Planned.{IsDiscoveryLineOf};
 ghost use Rattle.discovery_net.specs.Acts.{Tells};
 ghost use Rattle.discovery_net.specs.Deeds.{Discovery, discovery_opened};
 ghost use Rattle.discovery_net.specs.Lines.{acts_of, after_line};
@@ -71,7 +71,7 @@ impl DiscoveryNet {
     /// `TooMuch` and `Crowded` where a limit of the network stops one of its events; what was done before that event stands. `NoMemory`
     /// where memory was refused; the network is then given up.
     pub fn take(&mut self, alloc: Global, line: ScriptLine) -> Result<(), NetStop>
-        requires planned { IsLineOf self.old.network.plan line }
+        requires planned { IsDiscoveryLineOf self.old.network.plan line }
         requires going { self.old.network.failed ≡ false }
         ensures plan { self.new.network.plan ≡ self.old.network.plan }
         ensures going { IsRunGoing result self.new.network }

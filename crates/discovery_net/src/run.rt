@@ -3,7 +3,7 @@ ghost use Rattle.std.specs.Prelude.{◌≡◌, All, IfOk, [], false};
 ghost use Rattle.net_base.specs.plan.Accepted.{IsChecked};
 ghost use Rattle.network_model.specs.State.{empty_network};
 ghost use Rattle.psn_net.specs.Runs.{ended, ran};
-ghost use Rattle.discovery_script.specs.Planned.{IsLineOf};
+ghost use Rattle.discovery_script.specs.Planned.{IsDiscoveryLineOf};
 ghost use Rattle.discovery_net.specs.Lists.{ended_at};
 ghost use Rattle.discovery_net.specs.Script.{HoldsBehindEach, events_made, script_course};
 
@@ -29,7 +29,7 @@ pub fn run_script(
     lines: List<ScriptLine>,
 ) -> Result<DiscoveryRun, NoMemory>
     requires checked { IsChecked plan.now }
-    requires lines { All (IsLineOf plan.now) lines }
+    requires lines { All (IsDiscoveryLineOf plan.now) lines }
     ensures plan { IfOk result (λ run. run.net.network.plan ≡ plan.now) }
     ensures going { IfOk result (λ run. run.net.network.failed ≡ false) }
     ensures course { IfOk result (λ run. ended_at run.net run.stop ≡ script_course plan.now lines) }

@@ -10,7 +10,7 @@ use Rattle.command_text.specs.Names.{place_in}
 use Rattle.command_text.specs.Words.{decimal_from, first_word}
 use Rattle.script_text.specs.declared.script_fault.ScriptFault.{ScriptFault}
 use Rattle.script_text.specs.declared.script_fault.ScriptFault.TheVariants.{Bad}
-use Rattle.script_text.specs.Script.{script, spaced}
+use Rattle.script_text.specs.Script.{script, spaced_words}
 use Rattle.discovery_script.specs.declared.script_line.ScriptLine.{ScriptLine}
 use Rattle.discovery_script.specs.declared.script_line.ScriptLine.TheVariants as line
 use Rattle.script_text.specs.Reading.{◌>>=◌}
@@ -62,7 +62,7 @@ abbrev pub said_behind : PlanNames → ℕ → List ℕ → Result ScriptLine Sc
 said_behind names number text = if is_barred (first_word text) then Err (Bad number 2) else command_at number (command_in names 1 0 text)
 
 unfoldable pub do_in : PlanNames → ℕ → List (List ℕ) → Result ScriptLine ScriptFault
-do_in names number words = said_behind names number (spaced (drop 1 words))
+do_in names number words = said_behind names number (spaced_words (drop 1 words))
 
 -- ---- any line, by its first word
 
@@ -75,13 +75,13 @@ discovery_line_by names number word words =
     else if bytes_eq word (codes "do") then do_in names number words
     else Err (Bad number 1)
 
-unfoldable pub line_of : PlanNames → ℕ → List (List ℕ) → Result ScriptLine ScriptFault
-line_of names number words = discovery_line_by names number (first_of words) words
+unfoldable pub discovery_line_of : PlanNames → ℕ → List (List ℕ) → Result ScriptLine ScriptFault
+discovery_line_of names number words = discovery_line_by names number (first_of words) words
 
 -- the lines, the first of which has this number
 abbrev pub lines_of : PlanNames → ℕ → List (List (List ℕ)) → Result (List ScriptLine) ScriptFault
 lines_of names number [] = Ok []
-lines_of names number (words ∷ rest) = line_of names number words >>= (λ line. lines_of names (number + 1) rest >>= (λ lines. Ok (line ∷ lines)))
+lines_of names number (words ∷ rest) = discovery_line_of names number words >>= (λ line. lines_of names (number + 1) rest >>= (λ lines. Ok (line ∷ lines)))
 
 -- the lines that octets are, or the first place that is wrong: what is no word comes before a word that fits no line
 unfoldable pub discovery_lines_in : PlanNames → List ℕ → Result (List ScriptLine) ScriptFault

@@ -21,9 +21,9 @@ abbrev pub AreOfPlan : Plan → EdgeId → EdgeId → Type 0
 AreOfPlan plan a b = (a.0 < length plan.edges) × (b.0 < length plan.edges)
 
 -- what a line names stands in the plan
-abbrev pub IsLineOf : Plan → ScriptLine → Type 0
-IsLineOf plan (line.Hello from to hold) = AreOfPlan plan from to
-IsLineOf plan (line.Bring number) = Unit {0}
-IsLineOf plan (line.Open from to) = AreOfPlan plan from to
-IsLineOf plan line.Tick = Unit {0}
-IsLineOf plan (line.Do command) = IsPlanned plan command × IsScripted command
+abbrev pub IsDiscoveryLineOf : Plan → ScriptLine → Type 0
+IsDiscoveryLineOf plan (line.Hello from to hold) = AreOfPlan plan from to
+IsDiscoveryLineOf plan (line.Bring number) = Unit {0}
+IsDiscoveryLineOf plan (line.Open from to) = AreOfPlan plan from to
+IsDiscoveryLineOf plan line.Tick = Unit {0}
+IsDiscoveryLineOf plan (line.Do command) = IsPlanned plan command × IsScripted command

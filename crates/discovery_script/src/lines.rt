@@ -3,9 +3,9 @@ ghost use Rattle.std.specs.Prelude.{◌≡◌, IfOk};
 ghost use Rattle.command_text.specs.Words.{first_word};
 ghost use Rattle.net_base.specs.declared.plan.Plan.{Plan};
 ghost use Rattle.command_text.specs.Planned.{names_of};
-ghost use Rattle.discovery_script.specs.Planned.{IsLineOf};
-ghost use Rattle.discovery_script.specs.Lines.{bring_in, do_in, hello_in, is_barred, line_of, open_in, said_behind, tick_line};
-ghost use Rattle.script_text.specs.Reading.{Gives};
+ghost use Rattle.discovery_script.specs.Planned.{IsDiscoveryLineOf};
+ghost use Rattle.discovery_script.specs.Lines.{bring_in, do_in, hello_in, is_barred, discovery_line_of, open_in, said_behind, tick_line};
+ghost use Rattle.script_text.specs.Reading.{GivesScript};
 
 use crate::script_line::ScriptLine;
 use command_text::{PlanNames, is_same};
@@ -19,7 +19,7 @@ use std::alloc::Global;
 #[tactic(auto, unfolding(crate::specs::Lines::hello_in))]
 fn hello(names: &PlanNames<'_>, number: u32, line: &Line) -> Result<ScriptLine, ScriptFault>
     ensures exact { result ≡ hello_in names.now number line.now }
-    ensures planned { (plan : Plan) → names.now ≡ names_of plan → IfOk result (IsLineOf plan) }
+    ensures planned { (plan : Plan) → names.now ≡ names_of plan → IfOk result (IsDiscoveryLineOf plan) }
 {
     let from = place_at(&names.edges, number, 2, line)?;
     let to = place_at(&names.edges, number, 3, line)?;
@@ -36,7 +36,7 @@ fn hello(names: &PlanNames<'_>, number: u32, line: &Line) -> Result<ScriptLine, 
 #[tactic(auto, unfolding(crate::specs::Lines::bring_in))]
 fn bring(number: u32, line: &Line) -> Result<ScriptLine, ScriptFault>
     ensures exact { result ≡ bring_in number line.now }
-    ensures planned { (plan : Plan) → IfOk result (IsLineOf plan) }
+    ensures planned { (plan : Plan) → IfOk result (IsDiscoveryLineOf plan) }
 {
     let hello = number_at(1, u64::MAX, number, 2, line)?;
     ends_at(number, 2, line)?;
@@ -47,7 +47,7 @@ fn bring(number: u32, line: &Line) -> Result<ScriptLine, ScriptFault>
 #[tactic(auto, unfolding(crate::specs::Lines::open_in))]
 fn open(names: &PlanNames<'_>, number: u32, line: &Line) -> Result<ScriptLine, ScriptFault>
     ensures exact { result ≡ open_in names.now number line.now }
-    ensures planned { (plan : Plan) → names.now ≡ names_of plan → IfOk result (IsLineOf plan) }
+    ensures planned { (plan : Plan) → names.now ≡ names_of plan → IfOk result (IsDiscoveryLineOf plan) }
 {
     let from = place_at(&names.edges, number, 2, line)?;
     let to = place_at(&names.edges, number, 3, line)?;
@@ -62,7 +62,7 @@ fn open(names: &PlanNames<'_>, number: u32, line: &Line) -> Result<ScriptLine, S
 #[tactic(auto, unfolding(crate::specs::Lines::tick_line))]
 fn tick(number: u32, line: &Line) -> Result<ScriptLine, ScriptFault>
     ensures exact { result ≡ tick_line number line.now }
-    ensures planned { (plan : Plan) → IfOk result (IsLineOf plan) }
+    ensures planned { (plan : Plan) → IfOk result (IsDiscoveryLineOf plan) }
 {
     ends_at(number, 1, line)?;
     Ok(ScriptLine::Tick)
@@ -94,8 +94,8 @@ fn said_command(
     number: u32,
     text: &str,
 ) -> Result<ScriptLine, ScriptFault>
-    ensures exact { Gives result (said_behind names.now number text.now) }
-    ensures planned { (plan : Plan) → names.now ≡ names_of plan → IfOk result (IsLineOf plan) }
+    ensures exact { GivesScript result (said_behind names.now number text.now) }
+    ensures planned { (plan : Plan) → names.now ≡ names_of plan → IfOk result (IsDiscoveryLineOf plan) }
 {
     if is_barred_word(name_of(text)) {
         return Err(ScriptFault::Bad {
@@ -121,23 +121,23 @@ fn command(
     number: u32,
     line: &Line,
 ) -> Result<ScriptLine, ScriptFault>
-    ensures exact { Gives result (do_in names.now number line.now) }
-    ensures planned { (plan : Plan) → names.now ≡ names_of plan → IfOk result (IsLineOf plan) }
+    ensures exact { GivesScript result (do_in names.now number line.now) }
+    ensures planned { (plan : Plan) → names.now ≡ names_of plan → IfOk result (IsDiscoveryLineOf plan) }
 {
     said_command(alloc, names, number, line.rest())
 }
 
 /// The line that words are. `Bad` comes exactly at the first word that fits no line: one that is missing stands at its number, one too
 /// many at its own.
-#[tactic(auto, unfolding(crate::specs::Lines::line_of))]
+#[tactic(auto, unfolding(crate::specs::Lines::discovery_line_of))]
 pub fn read_line(
     alloc: Global,
     names: &PlanNames<'_>,
     number: u32,
     line: &Line,
 ) -> Result<ScriptLine, ScriptFault>
-    ensures exact { Gives result (line_of names.now number line.now) }
-    ensures planned { (plan : Plan) → names.now ≡ names_of plan → IfOk result (IsLineOf plan) }
+    ensures exact { GivesScript result (discovery_line_of names.now number line.now) }
+    ensures planned { (plan : Plan) → names.now ≡ names_of plan → IfOk result (IsDiscoveryLineOf plan) }
 {
     let word = first_word(line);
     if is_same(word, "hello") {

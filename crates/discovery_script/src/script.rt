@@ -3,9 +3,9 @@ ghost use Rattle.std.specs.Prelude.{◌≡◌, ◌<◌, ◌^◌, ◌-◌, All, I
 ghost use Rattle.net_base.specs.declared.plan.Plan.{Plan};
 ghost use Rattle.net_base.specs.plan.Accepted.{IsChecked};
 ghost use Rattle.command_text.specs.Planned.{names_of};
-ghost use Rattle.discovery_script.specs.Planned.{IsLineOf};
+ghost use Rattle.discovery_script.specs.Planned.{IsDiscoveryLineOf};
 ghost use Rattle.discovery_script.specs.Lines.{discovery_lines_in, lines_of};
-ghost use Rattle.script_text.specs.Reading.{Gives};
+ghost use Rattle.script_text.specs.Reading.{GivesScript};
 
 use crate::lines::read_line;
 use crate::script_line::ScriptLine;
@@ -22,8 +22,8 @@ fn lines(
     texts: &[Line],
 ) -> Result<List<ScriptLine>, ScriptFault>
     requires { length texts.now < 2 ^ 32 - 1 }
-    ensures exact { Gives result (lines_of names.now 1 texts.now) }
-    ensures planned { (plan : Plan) → names.now ≡ names_of plan → IfOk result (All (IsLineOf plan)) }
+    ensures exact { GivesScript result (lines_of names.now 1 texts.now) }
+    ensures planned { (plan : Plan) → names.now ≡ names_of plan → IfOk result (All (IsDiscoveryLineOf plan)) }
 {
     let mut lines = List::new(alloc);
     for (place, text) in texts.iter().enumerate() {
@@ -41,8 +41,8 @@ fn read_with(
     octets: &[u8],
 ) -> Result<List<ScriptLine>, ScriptFault>
     requires { length octets.now < 2 ^ 32 - 2 }
-    ensures exact { Gives result (discovery_lines_in names.now octets.now) }
-    ensures planned { (plan : Plan) → names.now ≡ names_of plan → IfOk result (All (IsLineOf plan)) }
+    ensures exact { GivesScript result (discovery_lines_in names.now octets.now) }
+    ensures planned { (plan : Plan) → names.now ≡ names_of plan → IfOk result (All (IsDiscoveryLineOf plan)) }
 {
     match read_lines(alloc, octets) {
         Ok(texts) => lines(alloc, names, texts.as_slice()),
@@ -60,8 +60,8 @@ pub fn read_script(
 ) -> Result<List<ScriptLine>, ScriptFault>
     requires checked { IsChecked plan.now }
     requires few { length octets.now < 2 ^ 32 - 2 }
-    ensures exact { Gives result (discovery_lines_in (names_of plan.now) octets.now) }
-    ensures planned { IfOk result (All (IsLineOf plan.now)) }
+    ensures exact { GivesScript result (discovery_lines_in (names_of plan.now) octets.now) }
+    ensures planned { IfOk result (All (IsDiscoveryLineOf plan.now)) }
 {
     let Ok(lists) = NameLists::of(alloc, plan) else {
         return Err(ScriptFault::NoMemory);

@@ -20,7 +20,7 @@ use Rattle.net_base.specs.plan.Accepted.{IsChecked, IsCircuitOf, IsWireOf}
 use Rattle.net_base.specs.plan.Places.{circuit_row, service_row, wire_row}
 use Rattle.hvpls_spokes.specs.declared.port.Port.{Port}
 use Rattle.hvpls_spokes.specs.Port.{is_circuit_port, is_wire_port, ports_of, is_wire}
-use Rattle.hvpls_spokes.specs.PortSet.{has}
+use Rattle.hvpls_spokes.specs.PortSet.{holds_port}
 use Rattle.mac_table.specs.Addresses.{NoneAfter, entry_stays, is_young}
 use Rattle.mac_table.specs.declared.mac_entry.MacEntry.{MacEntry}
 use Rattle.mac_table.proofs.AddressLemmas.{none_after_filtered, none_after_later}
@@ -84,12 +84,12 @@ ticks_at f service kept domain was some = (the_domain f service kept domain was 
 pub few_at : (f : ForwardingLists) (service : ServiceId) (kept : Option Domain) (domain : Domain) → WasRead f service kept → kept ≡ Some domain → length domain.bridge.entries ≤ most_addresses
 few_at f service kept domain was some = (the_domain f service kept domain was some).few
 
-pub within_at : (f : ForwardingLists) (service : ServiceId) (kept : Option Domain) (domain : Domain) → WasRead f service kept → kept ≡ Some domain → (p : ℕ) → has domain.forwarding p
+pub within_at : (f : ForwardingLists) (service : ServiceId) (kept : Option Domain) (domain : Domain) → WasRead f service kept → kept ≡ Some domain → (p : ℕ) → holds_port domain.forwarding p
     ≡ true → p < length domain.bridge.ports
 within_at f service kept domain was some p on = opens_within (circuits_in f) (told_in f) domain.bridge.ports p (sym ((the_domain f service kept domain was some).forwarding p) ∙ on)
 
 pub on_at : (f : ForwardingLists) (service : ServiceId) (kept : Option Domain) (domain : Domain) (arrival : ℕ) → WasRead f service kept → kept ≡ Some domain
-    → open_ports f service arrival ≡ true → has domain.forwarding arrival ≡ true
+    → open_ports f service arrival ≡ true → holds_port domain.forwarding arrival ≡ true
 on_at f service kept domain arrival was some on =
     (the_domain f service kept domain was some).forwarding arrival ∙ (ap (λ (ports : List Port). port_opens (circuits_in f) (told_in f) ports arrival) (the_ports f service kept domain was some) ∙ on)
 
@@ -154,7 +154,7 @@ heard_kept f service kept domain after entries was some is none few =
       ports = ap (λ (d : Domain). d.bridge.ports) is ∙ here.ports;
       some = here.some;
       age = λ row found. ap (λ (d : Domain). d.bridge.age) is ∙ here.age row found;
-      forwarding = λ p. ap (λ (d : Domain). has d.forwarding p) is ∙ (here.forwarding p ∙ ap (λ (d : Domain). port_opens (circuits_in f) (told_in f) d.bridge.ports p) (sym is));
+      forwarding = λ p. ap (λ (d : Domain). holds_port d.forwarding p) is ∙ (here.forwarding p ∙ ap (λ (d : Domain). port_opens (circuits_in f) (told_in f) d.bridge.ports p) (sym is));
       ticks = none;
       few = subst (λ (d : Domain). length d.bridge.entries ≤ most_addresses) (sym is) few;
     })
@@ -172,20 +172,20 @@ heard_seen f service kept domain after frame arrival edge was some is =
 
 pub heard_targets : (f : ForwardingLists) (service : ServiceId) (kept : Option Domain) (domain after : Domain) (frame : List ℕ) (arrival : ℕ) (targets : List ℕ)
     → WasRead f service kept → kept ≡ Some domain
-    → ((p : ℕ) → has targets p ≡ is_target domain.bridge.ports (has domain.forwarding) arrival (known_port after.bridge.entries (destination frame)) p)
-    → has targets ≡ is_target (ports_of f.plan service f.me) (open_ports f service) arrival (known_port (entries_of (domain_of (put_kept f service (Some after)) service.0)) (destination frame))
+    → ((p : ℕ) → holds_port targets p ≡ is_target domain.bridge.ports (holds_port domain.forwarding) arrival (known_port after.bridge.entries (destination frame)) p)
+    → holds_port targets ≡ is_target (ports_of f.plan service f.me) (open_ports f service) arrival (known_port (entries_of (domain_of (put_kept f service (Some after)) service.0)) (destination frame))
 heard_targets f service kept domain after frame arrival targets was some decided =
     let ports : domain.bridge.ports ≡ ports_of f.plan service f.me = the_ports f service kept domain was some in
-    let forward : has domain.forwarding ≡ open_ports f service =
-    same_tests (has domain.forwarding) (open_ports f service)
+    let forward : holds_port domain.forwarding ≡ open_ports f service =
+    same_tests (holds_port domain.forwarding) (open_ports f service)
     (λ p. (the_domain f service kept domain was some).forwarding p ∙ ap (λ (ps : List Port). port_opens (circuits_in f) (told_in f) ps p) ports) in
     let learned : after.bridge.entries ≡ entries_of (domain_of (put_kept f service (Some after)) service.0) =
     sym (ap entries_of (view_at None f.domains service.0 (Some after) service.0 (place_of f service was.is was.within)
     ∙ ap (λ (b : Bool). cond b (Some after) (view None f.domains service.0)) (eq-eqb service.0 service.0 refl))) in
-    same_tests (has targets) (is_target (ports_of f.plan service f.me) (open_ports f service) arrival
+    same_tests (holds_port targets) (is_target (ports_of f.plan service f.me) (open_ports f service) arrival
     (known_port (entries_of (domain_of (put_kept f service (Some after)) service.0)) (destination frame)))
     (λ p. decided p
-    ∙ (ap (λ (ps : List Port). is_target ps (has domain.forwarding) arrival (known_port after.bridge.entries (destination frame)) p) ports
+    ∙ (ap (λ (ps : List Port). is_target ps (holds_port domain.forwarding) arrival (known_port after.bridge.entries (destination frame)) p) ports
     ∙ (ap (λ (t : ℕ → Bool). is_target (ports_of f.plan service f.me) t arrival (known_port after.bridge.entries (destination frame)) p) forward
     ∙ ap (λ (es : List MacEntry). is_target (ports_of f.plan service f.me) (open_ports f service) arrival (known_port es (destination frame)) p) learned)))
 

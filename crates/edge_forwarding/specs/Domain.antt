@@ -11,7 +11,7 @@ use Rattle.net_base.specs.plan.Places.{service_row}
 use Rattle.hvpls_spokes.specs.declared.port.Port.{Port}
 use Rattle.hvpls_spokes.specs.declared.port.Port.TheVariants as port
 use Rattle.hvpls_spokes.specs.Port.{is_wire, ports_of}
-use Rattle.hvpls_spokes.specs.PortSet.{has}
+use Rattle.hvpls_spokes.specs.PortSet.{holds_port}
 use Rattle.mac_table.specs.Addresses.{NoneAfter, entry_stays, is_young}
 use Rattle.vsi_bridge.specs.BridgeState.{most_addresses}
 use Rattle.edge_model.specs.Ends.{is_up}
@@ -45,7 +45,7 @@ pub record IsDomain (plan : Plan) (me : EdgeId) (on : ℕ → Bool) (told : ℕ 
   pub ports : domain.bridge.ports ≡ ports_of plan service me
   pub some : ports_of plan service me ≡ [] → ⊥
   pub age : (row : ServicePlan) → service_row plan service ≡ Some row → domain.bridge.age ≡ row.age
-  pub forwarding : (p : ℕ) → has domain.forwarding p ≡ port_opens on told domain.bridge.ports p
+  pub forwarding : (p : ℕ) → holds_port domain.forwarding p ≡ port_opens on told domain.bridge.ports p
   pub ticks : NoneAfter now domain.bridge.entries
   pub few : length domain.bridge.entries ≤ most_addresses
 
@@ -85,7 +85,7 @@ is_found (Some port) p = p == port
 -- the port that is found forwards, or forwards no more
 pub record IsTurned (test : Port → Bool) (on : Bool) (old new : Domain) : Type 0 where
   pub bridge : new.bridge ≡ old.bridge
-  pub forwarding : (p : ℕ) → has new.forwarding p ≡ (if is_found (position test old.bridge.ports) p then on else has old.forwarding p)
+  pub forwarding : (p : ℕ) → holds_port new.forwarding p ≡ (if is_found (position test old.bridge.ports) p then on else holds_port old.forwarding p)
 
 abbrev pub IsKeptTurned : (Port → Bool) → Bool → Option Domain → Option Domain → Type 0
 IsKeptTurned test on None None = Unit {0}
@@ -112,7 +112,7 @@ withdrawn_kept from addresses kept = option_map (withdrawn_domain from addresses
 -- the domain with no wire's port open
 pub record IsClosed (old new : Domain) : Type 0 where
   pub bridge : new.bridge ≡ old.bridge
-  pub forwarding : (p : ℕ) → has new.forwarding p ≡ (has old.forwarding p && not (is_wire (slice_get old.bridge.ports p)))
+  pub forwarding : (p : ℕ) → holds_port new.forwarding p ≡ (holds_port old.forwarding p && not (is_wire (slice_get old.bridge.ports p)))
 
 abbrev pub IsKeptClosed : Option Domain → Option Domain → Type 0
 IsKeptClosed None None = Unit {0}
@@ -126,7 +126,7 @@ IsKeptClosed (Some old) (Some new) = IsClosed old new
 pub record IsNewDomain (plan : Plan) (me : EdgeId) (service : ServiceId) (years : ℕ) (domain : Domain) : Type 0 where
   pub some : ports_of plan service me ≡ [] → ⊥
   pub bridge : domain.bridge ≡ record { ports = ports_of plan service me; age = years; entries = [] }
-  pub forwarding : (p : ℕ) → has domain.forwarding p ≡ port_opens all_on nothing_told (ports_of plan service me) p
+  pub forwarding : (p : ℕ) → holds_port domain.forwarding p ≡ port_opens all_on nothing_told (ports_of plan service me) p
 
 abbrev pub IsNew : Plan → EdgeId → ServiceId → ℕ → Option Domain → Type 0
 IsNew plan me service age None = ports_of plan service me ≡ []

@@ -2,7 +2,7 @@
 ghost use Rattle.std.specs.Prelude.{◌≡◌, ◌≤◌, ◌<◌, ◌+◌, ◌==◌, ◌&&◌, not, ℕ, true, length, take, drop, slice_get, All, IfOk};
 ghost use Rattle.net_base.specs.plan.Accepted.{IsChecked};
 ghost use Rattle.hvpls_spokes.specs.Port.{is_named_port, is_wire};
-ghost use Rattle.hvpls_spokes.specs.PortSet.{has};
+ghost use Rattle.hvpls_spokes.specs.PortSet.{holds_port};
 ghost use Rattle.mac_table.specs.Addresses.{NoneAfter};
 ghost use Rattle.vsi_bridge.specs.Targets.{heard, is_target, known_port};
 ghost use Rattle.edge_model.specs.Frame.{destination, source};
@@ -61,7 +61,7 @@ fn open_domain(
 
 // The ports that forward: every circuit is on, and of no wire anything was told.
 fn forwarding_of(ports: &Ports) -> PortSet
-    ensures { (p : ℕ) → has result p ≡ port_opens all_on nothing_told ports.now p }
+    ensures { (p : ℕ) → holds_port result p ≡ port_opens all_on nothing_told ports.now p }
 {
     let mut forwarding = PortSet::empty();
     for port in 0..ports.len() {
@@ -122,7 +122,7 @@ impl Domain {
     fn close(&mut self, port: u16)
         requires { port < 512 }
         ensures bridge { self.new.bridge ≡ self.old.bridge }
-        ensures forwarding { (p : ℕ) → has self.new.forwarding p ≡ (has self.old.forwarding p && not (p == port && is_wire (slice_get self.old.bridge.ports port))) }
+        ensures forwarding { (p : ℕ) → holds_port self.new.forwarding p ≡ (holds_port self.old.forwarding p && not (p == port && is_wire (slice_get self.old.bridge.ports port))) }
     {
         match self.bridge.ports().get(port) {
             Some(Port::Mesh(_) | Port::Spoke(_)) => self.forwarding.remove(port),
@@ -150,12 +150,12 @@ impl Domain {
 
     /// The bridge hears an inner frame by a port that forwards, at the tick `now`, and answers the ports to which it goes.
     pub fn hear(&mut self, arrival: u16, frame: &[u8], now: u64) -> PortSet
-        requires ports { (p : ℕ) → has self.old.forwarding p ≡ true → p < length self.old.bridge.ports }
-        requires on { has self.old.forwarding arrival ≡ true }
+        requires ports { (p : ℕ) → holds_port self.old.forwarding p ≡ true → p < length self.old.bridge.ports }
+        requires on { holds_port self.old.forwarding arrival ≡ true }
         requires ticks { NoneAfter now self.old.bridge.entries }
         requires header { 14 ≤ length frame.now }
         ensures learns { self.new ≡ record self.old { bridge = record self.old.bridge { entries = heard self.old.bridge.entries (source frame.now) arrival now } } }
-        ensures targets { (p : ℕ) → has result p ≡ is_target self.old.bridge.ports (has self.old.forwarding) arrival (known_port self.new.bridge.entries (destination frame.now)) p }
+        ensures targets { (p : ℕ) → holds_port result p ≡ is_target self.old.bridge.ports (holds_port self.old.forwarding) arrival (known_port self.new.bridge.entries (destination frame.now)) p }
         ensures ticks { NoneAfter now self.new.bridge.entries }
     {
         let source = address_at(frame, 6);

@@ -4,7 +4,7 @@ ghost use Rattle.net_base.specs.declared.trace.down.Down.TheVariants.{NoLocal};
 ghost use Rattle.net_base.specs.plan.Accepted.{IsChecked};
 ghost use Rattle.net_base.specs.plan.Places.{circuit_row, service_row, wire_row};
 ghost use Rattle.hvpls_spokes.specs.Port.{is_circuit_port, is_named_port, ports_of};
-ghost use Rattle.hvpls_spokes.specs.PortSet.{has};
+ghost use Rattle.hvpls_spokes.specs.PortSet.{holds_port};
 ghost use Rattle.vsi_bridge.specs.BridgeState.{most_addresses};
 ghost use Rattle.vsi_bridge.specs.Targets.{is_target, known_port};
 ghost use Rattle.edge_model.specs.Clear.{withdrawing_at};
@@ -217,7 +217,7 @@ impl Forwarding {
         requires header { 14 ≤ length frame.now }
         ensures keeps { KeepsForwarding self.old self.new }
         ensures step { (edge : EdgeState) → with_forwarding self.new edge ≡ hearing service frame.now arrival (with_forwarding self.old edge) }
-        ensures targets { has result ≡ is_target (ports_of self.old.plan service self.old.me) (open_ports self.old service) arrival (known_port (entries_of (domain_of self.new service.0)) (destination frame.now)) }
+        ensures targets { holds_port result ≡ is_target (ports_of self.old.plan service self.old.me) (open_ports self.old service) arrival (known_port (entries_of (domain_of self.new service.0)) (destination frame.now)) }
     {
         let Some(domain) = &mut self.domains[service.0 as usize] else {
             return PortSet::empty();

@@ -31,7 +31,7 @@ use Rattle.network_model.proofs.GoalLemmas.{has_mate}
 use Rattle.network_model.proofs.PointLemmas.{passes_offer, passes_points, point_at, points_heard}
 use Rattle.network_model.proofs.ReversedLemmas.{follows_reversed, once_reversed}
 use Rattle.network_model.proofs.WayLemmas.{Homeward, Onward, Passes, behind_first, later_stands, mate_passes, once_behind, one_way}
-use Rattle.flight_laws.specs.Rules.{TellsExpected, TellsOfWire, point_of, told_of}
+use Rattle.flight_laws.specs.Rules.{TellsExpected, TellsOfWire, point_of, expected_told}
 use Rattle.flight_laws.proofs.PlaceLemmas.{IsEndOf, NamedEnd, end_of, named_is}
 use Rattle.flight_laws.proofs.PlanLemmas.{addresses_apart, both_in}
 
@@ -55,7 +55,7 @@ wanted_tells plan row me from to content once is tells = record {
     points : map point_of (expected plan row me.0 to.0).points ≡ map point_of (expected plan row from.0 me.0).points ++ point ∷ []
     points = ap (map point_of) (passes_points plan row me from to once is) ∙ map-append point_of (expected plan row from.0 me.0).points (point_at plan row me from ∷ [])
 
-    same : past_point point content ≡ told_of (expected plan row me.0 to.0) content.status
+    same : past_point point content ≡ expected_told (expected plan row me.0 to.0) content.status
     same = ap (λ (t : Told). record t { points = t.points ++ point ∷ [] }) tells.content ∙ sym (λ i. record (content_of (offer i) content.status) { points = points i })
 
 -- ---- what is accepted

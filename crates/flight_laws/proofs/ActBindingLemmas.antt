@@ -28,7 +28,7 @@ use Rattle.flight_laws.specs.Bound.{AreBound, HasSaid, LeavesBound, is_withdrawa
 use Rattle.flight_laws.specs.Coming.{and_more}
 use Rattle.flight_laws.specs.Ends.{ends_at}
 use Rattle.flight_laws.specs.Meeting.{Spares}
-use Rattle.flight_laws.specs.Messages.{IsSaid, IsSound}
+use Rattle.flight_laws.specs.Messages.{IsSaidAcross, IsSound}
 use Rattle.flight_laws.specs.Pair.{IsStanding}
 use Rattle.flight_laws.specs.Rules.{TellsOfWire, TellsPlan}
 use Rattle.flight_laws.proofs.AcceptLemmas.{takes_told}
@@ -147,7 +147,7 @@ module _ (plan : Plan) (peer : EdgeId) (checked : IsChecked plan) (far : EdgeSta
     by_code false wrong = unchanged_leaves plan work.edge.me peer far out (Notification id code (Some status) (Some fec)) messages work (λ pw_id own. refl)
         (other_code plan peer id code status fec work.edge wrong) leaves
 
-  pub acts_leaves : (m : Message) (other : Peers) → IsSaid other m → withdraws_addresses m ≡ false → TellsPlan plan peer.0 work.edge.me.0 m
+  pub acts_leaves : (m : Message) (other : Peers) → IsSaidAcross other m → withdraws_addresses m ≡ false → TellsPlan plan peer.0 work.edge.me.0 m
       → LeavesBound plan work.edge.me peer.0 far out (m ∷ messages) work → LeavesBound plan work.edge.me peer.0 far out messages (acts_on plan taken_all peer m work)
   acts_leaves (Initialization id params) other said plain tells leaves =
       unchanged_leaves plan work.edge.me peer far out (Initialization id params) messages work (λ pw_id own. refl)
@@ -255,7 +255,7 @@ module _ (plan : Plan) (peer : EdgeId) (place : ℕ) (apart : nat_eq place peer.
         (all_same fec (stated status) (group_stated fec.group status) fec.pw_id work.edge)
     by_code false = wires_same place work
 
-  pub acts_spare : (m : Message) (other : Peers) (work : Work) → IsSaid other m → withdraws_addresses m ≡ false → SparesWires place work (acts_on plan taken_all peer m work)
+  pub acts_spare : (m : Message) (other : Peers) (work : Work) → IsSaidAcross other m → withdraws_addresses m ≡ false → SparesWires place work (acts_on plan taken_all peer m work)
   acts_spare (Initialization id params) other work said plain = wires_same place work
   acts_spare (KeepAlive id) other work said plain = wires_same place work
   acts_spare (Notification id code status fec) other work said plain = states_spare code status fec work

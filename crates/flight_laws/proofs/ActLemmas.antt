@@ -34,7 +34,7 @@ use Rattle.edge_model.specs.State.{EdgeState, end_at, with_end, with_ends_beside
 use Rattle.edge_model.specs.Work.{Work, changes}
 use Rattle.edge_model.proofs.FollowLemmas.{end_named_beside}
 use Rattle.network_model.specs.Absorb.{taken_all}
-use Rattle.flight_laws.specs.Messages.{IsSaid, IsSound}
+use Rattle.flight_laws.specs.Messages.{IsSaidAcross, IsSound}
 use Rattle.flight_laws.specs.Sound.{IsSoundEnd, IsSoundHeld, IsSoundPart, IsSoundTold, TellsSoundly, limit_of, point_limit}
 use Rattle.flight_laws.proofs.HearingLemmas.{withdraws_addresses}
 use Rattle.flight_laws.proofs.OfferLemmas.{IsOfWires, heard_sound, release_is, status_sound}
@@ -264,7 +264,7 @@ module _ (plan : Plan) (me peer : EdgeId) (other : Peers) (I : Work → Type 0) 
         (group_stated_keeps fec.group status small) up) i
     by_code false = i
 
-  pub steady_acts : (m : Message) (work : Work) → IsSaid other m → withdraws_addresses m ≡ false → is_up_with (work.edge.peering peer.0) ≡ true → I work → I (acts_on plan taken_all peer m work)
+  pub steady_acts : (m : Message) (work : Work) → IsSaidAcross other m → withdraws_addresses m ≡ false → is_up_with (work.edge.peering peer.0) ≡ true → I work → I (acts_on plan taken_all peer m work)
   steady_acts (Initialization id params) work said plain up i = i
   steady_acts (KeepAlive id) work said plain up i = i
   steady_acts (Notification id code status fec) work said plain up i = states code status fec work up said.0.0.3 i

@@ -33,7 +33,7 @@ use Rattle.flight_laws.specs.Binding.{heard_of, where_named}
 use Rattle.flight_laws.specs.Bound.{AreBound, HasSaid, LeavesBound, is_withdrawal_of}
 use Rattle.flight_laws.specs.Ends.{HasTypes, ends_at}
 use Rattle.flight_laws.specs.Facts.{flight}
-use Rattle.flight_laws.specs.Messages.{IsSaid}
+use Rattle.flight_laws.specs.Messages.{IsSaidAcross}
 use Rattle.flight_laws.specs.Pair.{AreTalking, StayInStep}
 use Rattle.flight_laws.specs.Rules.{AllMessages, TellsPlan}
 use Rattle.flight_laws.specs.Sound.{IsSoundEnd, point_limit}
@@ -58,7 +58,7 @@ is_session (Notification id code status fec) = true
 is_session m = false
 
 -- it is no message of labels
-pub session_goes : (s : SessionState) (other : Peers) (m : Message) → is_up_phase s.phase ≡ false → IsSaid other m → goes_on (outcome_of s (Received m)) ≡ true → is_session m ≡ true
+pub session_goes : (s : SessionState) (other : Peers) (m : Message) → is_up_phase s.phase ≡ false → IsSaidAcross other m → goes_on (outcome_of s (Received m)) ≡ true → is_session m ≡ true
 session_goes s other (Initialization id params) up said goes = refl
 session_goes s other (KeepAlive id) up said goes = refl
 session_goes s other (Notification id code status fec) up said goes = refl
@@ -206,7 +206,7 @@ module _ (plan : Plan) (network : NetworkState) (me peer : EdgeId) (apart : nat_
   none_held limit true e is sound = clash (sym is)
   none_held limit false e is sound = sound.1
 
-  received_leaves : (m : Message) (messages : List Message) (kept : Peering) (work : Work) → work.edge.peering peer.0 ≡ Some kept → IsSaid (ends_at plan peer.0 me.0) m
+  received_leaves : (m : Message) (messages : List Message) (kept : Peering) (work : Work) → work.edge.peering peer.0 ≡ Some kept → IsSaidAcross (ends_at plan peer.0 me.0) m
       → (is_up_phase kept.session.phase ≡ false) ⊎ (is_fatal m ≡ true)
       → HearsLeaving (m ∷ messages) work → LeavesFor messages (happens_with_ends taken_all peer (Received m) work)
   received_leaves m messages kept work at said ends hears =
@@ -230,7 +230,7 @@ module _ (plan : Plan) (network : NetworkState) (me peer : EdgeId) (apart : nat_
           (λ wire. none_held (point_limit plan me.0 wire) (is_up_with (work.edge.peering peer.0)) (work.edge.ends wire peer.0) (ap is_up_with at ∙ not_up kept.session.phase up)
           (hears.0.sound.ends wire peer.0))) bound
 
-  acting_leaves : (m : Message) (messages : List Message) (kept : Peering) (work : Work) → work.edge.peering peer.0 ≡ Some kept → IsSaid (ends_at plan peer.0 me.0) m → withdraws_addresses m ≡ false
+  acting_leaves : (m : Message) (messages : List Message) (kept : Peering) (work : Work) → work.edge.peering peer.0 ≡ Some kept → IsSaidAcross (ends_at plan peer.0 me.0) m → withdraws_addresses m ≡ false
       → TellsPlan plan peer.0 me.0 m → HearsLeaving (m ∷ messages) work → LeavesFor messages (acts_on plan taken_all peer m work)
   unfolding Bound
   acting_leaves m messages kept work at said plain tells hears =

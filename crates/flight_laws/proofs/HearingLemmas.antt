@@ -22,7 +22,7 @@ use Rattle.edge_model.specs.State.{Peering, has_end, is_there, with_ends_beside,
 use Rattle.edge_model.specs.Work.{Work, changes}
 use Rattle.edge_model.proofs.HeldLemmas.{ended_gone}
 use Rattle.network_model.specs.Absorb.{taken_all}
-use Rattle.flight_laws.specs.Messages.{AreSaid, IsSaid, octets_of_all}
+use Rattle.flight_laws.specs.Messages.{AreSaid, IsSaidAcross, octets_of_all}
 use Rattle.flight_laws.specs.Pair.{AreFit}
 use Rattle.flight_laws.proofs.FrontLemmas.{HasNext, front_is}
 use Rattle.flight_laws.proofs.MendingLemmas.{KeptByRows, mends_keep}
@@ -38,7 +38,7 @@ pub record KeptByMessages (plan : Plan) (peer : EdgeId) (other : Peers) (J : Lis
   pub window : (messages : List Message) (kept : Peering) (work : Work) → work.edge.peering peer.0 ≡ Some kept → J messages work → (256 ≤ kept.session.max_pdu) × (kept.session.max_pdu ≤ 4096)
   -- the sender of a PDU
   pub sender : (messages : List Message) (work : Work) → J messages work → J messages (happens_with_ends taken_all peer (Heard (platform_of other.me)) work)
-  pub message : (m : Message) (messages : List Message) (work : Work) → IsSaid other m → AreSaid other messages → J (m ∷ messages) work → J messages (hears_message plan taken_all peer m work)
+  pub message : (m : Message) (messages : List Message) (work : Work) → IsSaidAcross other m → AreSaid other messages → J (m ∷ messages) work → J messages (hears_message plan taken_all peer m work)
 
 -- some of the messages were heard, and the first octets of the others are held, where the session still stands
 pub record HasHeard (peer : EdgeId) (other : Peers) (J : List Message → Work → Type 0) (more : List ℕ) (result : Work) : Type 0 where
@@ -89,15 +89,15 @@ pub record KeptByHearing (plan : Plan) (me peer : EdgeId) (other : Peers) (J : L
   -- nothing is heard any more where the end is gone
   pub gone : (m : Message) (messages : List Message) (work : Work) → work.edge.peering peer.0 ≡ None → J (m ∷ messages) work → J messages work
   -- a session that is not up has it, or one that ends by it
-  pub event : (m : Message) (messages : List Message) (kept : Peering) (work : Work) → work.edge.peering peer.0 ≡ Some kept → IsSaid other m → (is_up_phase kept.session.phase ≡ false)
+  pub event : (m : Message) (messages : List Message) (kept : Peering) (work : Work) → work.edge.peering peer.0 ≡ Some kept → IsSaidAcross other m → (is_up_phase kept.session.phase ≡ false)
       ⊎ (is_fatal m ≡ true) → J (m ∷ messages) work
       → J messages (happens_with_ends taken_all peer (Received m) work)
   -- a session that is up, and stays so
-  pub acts : (m : Message) (messages : List Message) (kept : Peering) (work : Work) → work.edge.peering peer.0 ≡ Some kept → kept.session.phase ≡ phase.Operational → IsSaid other m
+  pub acts : (m : Message) (messages : List Message) (kept : Peering) (work : Work) → work.edge.peering peer.0 ≡ Some kept → kept.session.phase ≡ phase.Operational → IsSaidAcross other m
       → is_fatal m ≡ false → withdraws_addresses m ≡ false
       → J (m ∷ messages) work → J messages (acts_on plan taken_all peer m work)
   -- a MAC withdraw alone makes nothing of what is kept
-  pub goes_by : (m : Message) (messages : List Message) (kept : Peering) (work : Work) → work.edge.peering peer.0 ≡ Some kept → kept.session.phase ≡ phase.Operational → IsSaid other m
+  pub goes_by : (m : Message) (messages : List Message) (kept : Peering) (work : Work) → work.edge.peering peer.0 ≡ Some kept → kept.session.phase ≡ phase.Operational → IsSaidAcross other m
       → withdraws_addresses m ≡ true
       → J (m ∷ messages) work → J messages work
   pub mends : (messages : List Message) → KeptByRows plan me (J messages)
@@ -111,19 +111,19 @@ unfolding changes with_ends_beside with_kept
 cleared_none peer work at = rw (at, at) refl
 
 -- a fatal message ends the session
-pub fatal_gone : (other : Peers) (peer : EdgeId) (m : Message) (kept : Peering) (work : Work) → work.edge.peering peer.0 ≡ Some kept → IsSaid other m → is_fatal m ≡ true
+pub fatal_gone : (other : Peers) (peer : EdgeId) (m : Message) (kept : Peering) (work : Work) → work.edge.peering peer.0 ≡ Some kept → IsSaidAcross other m → is_fatal m ≡ true
     → (happens_with_ends taken_all peer (Received m) work).edge.peering peer.0 ≡ None
 fatal_gone other peer m kept work at said fatal = rw (at, fatal_ends kept.session other m said fatal) (cleared_none peer (ends peer reason.PeerFatal work) (ended_gone peer reason.PeerFatal work))
 
 -- a session that is up goes on as it is
 pub stays_same : (other : Peers) (peer : EdgeId) (m : Message) (kept : Peering) (work : Work) → work.edge.peering peer.0 ≡ Some kept → kept.session.phase ≡ phase.Operational
-    → IsSaid other m → is_fatal m ≡ false
+    → IsSaidAcross other m → is_fatal m ≡ false
     → happens_with_ends taken_all peer (Received m) work ≡ work
 stays_same other peer m kept work at up said plain = rw (at, stays_up kept.session other m up said plain, at) refl
 
 -- it acts on what it hears
 pub up_heard : (plan : Plan) (other : Peers) (peer : EdgeId) (m : Message) (kept : Peering) (work : Work) → work.edge.peering peer.0 ≡ Some kept → kept.session.phase
-    ≡ phase.Operational → IsSaid other m → is_fatal m ≡ false
+    ≡ phase.Operational → IsSaidAcross other m → is_fatal m ≡ false
     → hears_one plan taken_all peer m work ≡ acts_on plan taken_all peer m work
 up_heard plan other peer m kept work at up said plain =
     ap (acts plan taken_all peer m (was_up (work.edge.peering peer.0))) (stays_same other peer m kept work at up said plain)
@@ -145,14 +145,14 @@ session_heard plan peer m kept work at up = no_act (happens_with_ends taken_all 
   no_act next true e = clash (sym e)
   no_act next false e = refl
 
-pub fatal_heard : (plan : Plan) (other : Peers) (peer : EdgeId) (m : Message) (kept : Peering) (work : Work) → work.edge.peering peer.0 ≡ Some kept → IsSaid other m → is_fatal m ≡ true
+pub fatal_heard : (plan : Plan) (other : Peers) (peer : EdgeId) (m : Message) (kept : Peering) (work : Work) → work.edge.peering peer.0 ≡ Some kept → IsSaidAcross other m → is_fatal m ≡ true
     → hears_one plan taken_all peer m work ≡ happens_with_ends taken_all peer (Received m) work
 fatal_heard plan other peer m kept work at said fatal =
     none_acts plan taken_all peer m (was_up (work.edge.peering peer.0)) (happens_with_ends taken_all peer (Received m) work) (fatal_gone other peer m kept work at said fatal)
 
 -- what a session that is up acts on: a MAC withdraw is passed on as rows are mended
 acts_kept : (plan : Plan) (me peer : EdgeId) (other : Peers) (J : List Message → Work → Type 0) → KeptByHearing plan me peer other J
-    → (m : Message) (messages : List Message) (kept : Peering) (work : Work) → work.edge.peering peer.0 ≡ Some kept → kept.session.phase ≡ phase.Operational → IsSaid other m → is_fatal m ≡ false
+    → (m : Message) (messages : List Message) (kept : Peering) (work : Work) → work.edge.peering peer.0 ≡ Some kept → kept.session.phase ≡ phase.Operational → IsSaidAcross other m → is_fatal m ≡ false
     → J (m ∷ messages) work → J messages (acts_on plan taken_all peer m work)
 acts_kept plan me peer other J keeps (AddressWithdraw id None (Some fec) (Some macs)) messages kept work at up said plain j =
     withdraw_keeps plan me (J messages) (keeps.mends messages) peer fec macs (heard_are id fec macs said.0) work
@@ -161,7 +161,7 @@ acts_kept plan me peer other J keeps (AddressWithdraw id addresses fec macs) mes
 acts_kept plan me peer other J keeps m messages kept work at up said plain j = keeps.acts m messages kept work at up said plain refl j
 
 pub one_heard : (plan : Plan) (me peer : EdgeId) (other : Peers) (J : List Message → Work → Type 0) → KeptByHearing plan me peer other J
-    → (m : Message) (messages : List Message) (kept : Peering) (work : Work) → work.edge.peering peer.0 ≡ Some kept → IsSaid other m → J (m ∷ messages) work
+    → (m : Message) (messages : List Message) (kept : Peering) (work : Work) → work.edge.peering peer.0 ≡ Some kept → IsSaidAcross other m → J (m ∷ messages) work
     → J messages (hears_one plan taken_all peer m work)
 one_heard plan me peer other J keeps m messages kept work at said j = elim (cases_Bool (is_fatal m)) [
   | inl fatal ↦ subst (J messages) (sym (fatal_heard plan other peer m kept work at said fatal)) (keeps.event m messages kept work at said (inr fatal) j)
@@ -185,7 +185,7 @@ message_heard plan me peer other J keeps = record {
   message = λ m messages work said others j. by_end m messages work said j (work.edge.peering peer.0) refl;
 }
   where
-    by_end : (m : Message) (messages : List Message) (work : Work) → IsSaid other m → J (m ∷ messages) work → (near : Option Peering) → work.edge.peering peer.0 ≡ near
+    by_end : (m : Message) (messages : List Message) (work : Work) → IsSaidAcross other m → J (m ∷ messages) work → (near : Option Peering) → work.edge.peering peer.0 ≡ near
         → J messages (hears_message plan taken_all peer m work)
     by_end m messages work said j None at = where_gone (has_end work.edge peer) (ap is_there at) where
       where_gone : (b : Bool) → b ≡ false → J messages (cond b (mends plan taken_all (hears_one plan taken_all peer m work)) work)

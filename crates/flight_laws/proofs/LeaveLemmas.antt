@@ -14,7 +14,7 @@ use Rattle.flight_laws.specs.Bound.{AreBound, HasSaid, LeavesBound}
 use Rattle.flight_laws.specs.Coming.{and_more}
 use Rattle.flight_laws.specs.Ends.{ends_at}
 use Rattle.flight_laws.specs.Meeting.{said_to}
-use Rattle.flight_laws.specs.Messages.{AreSaid, IsSaid, octets_of_all}
+use Rattle.flight_laws.specs.Messages.{AreSaid, IsSaidAcross, octets_of_all}
 use Rattle.flight_laws.specs.Pair.{AreFit, IsStanding}
 use Rattle.flight_laws.specs.Bound.{given_of}
 use Rattle.flight_laws.proofs.BindingLemmas.{StaysGiven}
@@ -75,7 +75,7 @@ leaves_more plan me place far out more before after old new has messages fit sai
 
 -- one message is said to the place
 pub leaves_spoken : (plan : Plan) (me peer : EdgeId) (far : EdgeState) (out : List ℕ) (before after : List Message) (kept : Peering) (message : ℕ → Message) (old changed new : Work) (has : HasSaid plan me peer.0 far out old)
-    → old.edge.peering peer.0 ≡ Some kept → IsSaid (ends_at plan me.0 peer.0) (message kept.next_id) → said_to peer.0 changed.effects ≡ said_to peer.0 old.effects
+    → old.edge.peering peer.0 ≡ Some kept → IsSaidAcross (ends_at plan me.0 peer.0) (message kept.next_id) → said_to peer.0 changed.effects ≡ said_to peer.0 old.effects
     → HasSpoken peer kept message changed new
     → (AreBound plan me.0 peer.0 old.edge far has.messages before → AreBound plan me.0 peer.0 changed.edge far (has.messages ++ message kept.next_id ∷ []) after)
     → LeavesBound plan me peer.0 far out before old → LeavesBound plan me peer.0 far out after new

@@ -35,13 +35,13 @@ use Rattle.ldp_grammar.proofs.ReadingLemmas.{octets_behind}
 use Rattle.ldp_grammar.proofs.ShortLemmas.{parameters_short}
 use Rattle.flight_laws.specs.Ends.{IsFieldOffer}
 use Rattle.flight_laws.specs.Flight.{is_initialization}
-use Rattle.flight_laws.specs.Messages.{HaveOctets, IsSaid, IsSound}
-use Rattle.flight_laws.specs.Sound.{CanBeTold, IsSoundTold}
+use Rattle.flight_laws.specs.Messages.{HaveOctets, IsSaidAcross, IsSound}
+use Rattle.flight_laws.specs.Sound.{CanBeMapped, IsSoundTold}
 use Rattle.flight_laws.proofs.PieceLemmas.{IsPiece, macs_octets}
 
 -- a message of pseudowires, by its Message ID: any ends may say it, and it is no Initialization
 pub record IsOfWires (message : ℕ → Message) : Type 0 where
-  pub said : (ends : Peers) (id : ℕ) → id < 2 ^ 32 → IsSaid ends (message id)
+  pub said : (ends : Peers) (id : ℕ) → id < 2 ^ 32 → IsSaidAcross ends (message id)
   pub plain : (id : ℕ) → not (is_initialization (message id)) ≡ true
 
 -- ---- octets of parameters
@@ -141,7 +141,7 @@ release_is fec label kind group pw_id fits = record {
     labels None = tt
     labels (Some n) = (four_octets n, tt)
 
-pub withdrawal_is : (pw_id label : ℕ) (told : Told) → pw_id < 2 ^ 32 → CanBeTold label told → IsOfWires (withdrawal pw_id label told)
+pub withdrawal_is : (pw_id label : ℕ) (told : Told) → pw_id < 2 ^ 32 → CanBeMapped label told → IsOfWires (withdrawal pw_id label told)
 withdrawal_is pw_id label told small can = record {
   said = λ ends id few. (
     (few, bare_in_range (bare_fec_of pw_id told) refl can.group small, can.is_label),
@@ -151,7 +151,7 @@ withdrawal_is pw_id label told small can = record {
   plain = λ id. refl;
 }
 
-pub status_is : (pw_id label : ℕ) (status : PwStatus) (told : Told) → pw_id < 2 ^ 32 → status.0 < 2 ^ 32 → CanBeTold label told → IsOfWires (status_notification pw_id status told)
+pub status_is : (pw_id label : ℕ) (status : PwStatus) (told : Told) → pw_id < 2 ^ 32 → status.0 < 2 ^ 32 → CanBeMapped label told → IsOfWires (status_notification pw_id status told)
 status_is pw_id label status told small fits can = record {
   said = λ ends id few. (
     (
@@ -165,7 +165,7 @@ status_is pw_id label status told small fits can = record {
 }
 
 -- a MAC withdraw of few addresses
-pub clearance_is : (pw_id label : ℕ) (macs : List Mac) (told : Told) → pw_id < 2 ^ 32 → IsPiece macs → CanBeTold label told → IsOfWires (mac_withdrawal pw_id macs told)
+pub clearance_is : (pw_id label : ℕ) (macs : List Mac) (told : Told) → pw_id < 2 ^ 32 → IsPiece macs → CanBeMapped label told → IsOfWires (mac_withdrawal pw_id macs told)
 clearance_is pw_id label macs told small piece can = record {
   said = λ ends id few. (
     (
@@ -185,7 +185,7 @@ content_kind offer status = by_mode offer.tagged where
   by_mode false = omega arith
 
 -- an offer can be told
-pub content_can : (label : ℕ) (offer : Offer) (status : Option PwStatus) → IsLabel label → IsFieldOffer offer → CanBeTold label (content_of offer status)
+pub content_can : (label : ℕ) (offer : Offer) (status : Option PwStatus) → IsLabel label → IsFieldOffer offer → CanBeMapped label (content_of offer status)
 content_can label offer status is field = record { is_label = is; kind = content_kind offer status; group = field.group }
 
 small_kind : (n : ℕ) → n ≤ 0x7FFF → nat_le n 0x7FFF ≡ true
@@ -215,7 +215,7 @@ offer_sound limit offer status state field fit = record {
 }
 
 -- a label can be told with it
-pub sound_can : (limit label : ℕ) (content : Told) → IsLabel label → IsSoundTold limit content → CanBeTold label content
+pub sound_can : (limit label : ℕ) (content : Told) → IsLabel label → IsSoundTold limit content → CanBeMapped label content
 sound_can limit label content is sound = record { is_label = is; kind = sound.kind; group = sound.group }
 
 -- another status of it

@@ -27,7 +27,7 @@ use Rattle.edge_model.specs.Session.{with_session}
 use Rattle.edge_model.specs.State.{Peering}
 use Rattle.flight_laws.specs.Coming.{and_more, is_talk}
 use Rattle.flight_laws.specs.Flight.{is_initialization}
-use Rattle.flight_laws.specs.Messages.{AreSaid, IsSaid, expiry, octets_of_all}
+use Rattle.flight_laws.specs.Messages.{AreSaid, IsSaidAcross, expiry, octets_of_all}
 use Rattle.flight_laws.specs.Pair.{AreTalking, IsStanding, StayInStep, messages_put, octets_put, phase_of}
 use Rattle.flight_laws.proofs.SaidLemmas.{active_init, fatal_ends, keep_alive, keeping_form, opening_form, passive_init, said-append, said_sender, stays_up}
 use Rattle.flight_laws.proofs.TalkLemmas.{goes, goes_on, keeps_rec, keeps_up, opens_initialized, opens_sent, rises, says_up, tells_end}
@@ -199,7 +199,7 @@ received_in_step own other kept far out back m t = elim (cases_Bool (is_fatal m)
 
 -- ---- a message about pseudowires is said
 
-pub says_in_step : (own other : Peers) (kept : Peering) (far : Option Peering) (out back : List Message) (m : Message) → kept.session.phase ≡ phase.Operational → IsSaid own m
+pub says_in_step : (own other : Peers) (kept : Peering) (far : Option Peering) (out back : List Message) (m : Message) → kept.session.phase ≡ phase.Operational → IsSaidAcross own m
     → not (is_initialization m) ≡ true
     → AreTalking own other (Some kept) far out back → AreTalking own other (Some (having_spoken kept)) far (and_more far out (m ∷ [])) back
 says_in_step own other kept far out back m at said plain t = record {
@@ -228,7 +228,7 @@ later_stands : (own other : Peers) (kept : Peering) → IsStanding own other kep
 later_stands own other kept is = record { peers = is.peers; between = is.between; least = is.least; most = is.most; numbered = is.numbered; passive = is.passive }
 
 -- the Notification of an end that leaves
-expiry_said : (ends : Peers) (id : ℕ) → id < 2 ^ 32 → IsSaid ends (Notification id expiry None None)
+expiry_said : (ends : Peers) (id : ℕ) → id < 2 ^ 32 → IsSaidAcross ends (Notification id expiry None None)
 expiry_said ends id small = (((small, omega arith, omega arith, tt, tt), refl, (status_are expiry, tt)), inl (refl, refl, refl))
 
 -- nothing was heard for the hold time

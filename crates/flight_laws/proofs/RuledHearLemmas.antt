@@ -35,8 +35,8 @@ use Rattle.edge_model.specs.State.{EdgeState, Peering, end_at, with_end, with_ke
 use Rattle.edge_model.specs.Work.{Work, changes}
 use Rattle.network_model.specs.Absorb.{taken_all}
 use Rattle.flight_laws.specs.Ends.{HasTypes, ends_at}
-use Rattle.flight_laws.specs.Messages.{IsSaid}
-use Rattle.flight_laws.specs.Rules.{AllMessages, BindsGiven, MayName, MayNameAt, NamesTold, TellsExpected, TellsOfWire, told_of}
+use Rattle.flight_laws.specs.Messages.{IsSaidAcross}
+use Rattle.flight_laws.specs.Rules.{AllMessages, BindsGiven, MayName, MayNameAt, NamesTold, TellsExpected, TellsOfWire, expected_told}
 use Rattle.flight_laws.proofs.AcceptLemmas.{takes_told}
 use Rattle.flight_laws.proofs.HearingLemmas.{KeptByHearing, withdraws_addresses}
 use Rattle.flight_laws.proofs.MendingLemmas.{KeptByRows}
@@ -171,7 +171,7 @@ module _ (plan : Plan) (checked : IsChecked plan) (types : HasTypes plan) (other
         far = release_of_withdrawal plan (others peer.0) me.0 id fec label number ruled.own;
         tells = release_of_withdrawal_tells plan peer.0 me.0 number fec label ruled.tells;
       })
-      (unbinds fec label names.row.pw_id work (bare_named names.row fec (told_of (expected plan names.row peer.0 me.0) None) names.bare) works)
+      (unbinds fec label names.row.pw_id work (bare_named names.row fec (expected_told (expected plan names.row peer.0 me.0) None) names.bare) works)
 
   -- ---- mappings
 
@@ -216,7 +216,7 @@ module _ (plan : Plan) (checked : IsChecked plan) (types : HasTypes plan) (other
       let near : NamedEnd plan me peer names.wire names.row = end_of plan me peer names.wire names.row checked names.is (turned names.row names.joined) in
       let named : end_named plan work.edge.me peer names.row.pw_id ≡ Some near.place = ap (λ (k : EdgeId). end_named plan k peer names.row.pw_id) works.edge.place ∙ near.named in
       subst (λ (o : Option ℕ). At (changes (with_named plan peer fec (stated status) (group_stated fec.group status) o) work))
-      (sym (bare_named names.row fec (told_of (expected plan names.row peer.0 me.0) None) names.bare))
+      (sym (bare_named names.row fec (expected_told (expected plan names.row peer.0 me.0) None) names.bare))
       (changes_keep plan others me.0 first held (with_named plan peer fec (stated status) (group_stated fec.group status) (Some names.row.pw_id)) work
       (subst (λ (o : Option EndPlace). ChangesEnds plan others me.0 work.edge (with_end_changed (stated status) o work.edge)) (sym named)
       (end_changes near.place (stated status (end_at work.edge near.place)) work (λ l owned. owned)
@@ -239,7 +239,7 @@ module _ (plan : Plan) (checked : IsChecked plan) (types : HasTypes plan) (other
 
   -- ---- one message
 
-  acts_ruled : (other : Peers) (m : Message) (work : Work) → IsSaid other m → withdraws_addresses m ≡ false → Ruled m → At work → At (acts_on plan taken_all peer m work)
+  acts_ruled : (other : Peers) (m : Message) (work : Work) → IsSaidAcross other m → withdraws_addresses m ≡ false → Ruled m → At work → At (acts_on plan taken_all peer m work)
   acts_ruled other (Initialization id params) work said plain ruled works = works
   acts_ruled other (KeepAlive id) work said plain ruled works = works
   acts_ruled other (Notification id code status fec) work said plain ruled works = status_heard id code status fec work ruled works

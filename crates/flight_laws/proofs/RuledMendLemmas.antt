@@ -44,7 +44,7 @@ use Rattle.network_model.specs.Absorb.{taken_all}
 use Rattle.flight_laws.specs.Ends.{AreFieldOffers, HasTypes, IsFieldOffer, ends_at}
 use Rattle.flight_laws.specs.Messages.{HaveOctets}
 use Rattle.flight_laws.specs.Rules.{BindsGiven, FarTells, MayName, NearTells, TellsExpected, part_owns, point_of}
-use Rattle.flight_laws.specs.Sound.{CanBeTold, IsSoundTold}
+use Rattle.flight_laws.specs.Sound.{CanBeMapped as CanBeTold, IsSoundTold}
 use Rattle.network_model.proofs.PointLemmas.{points_three}
 use Rattle.network_model.proofs.WayLemmas.{joins_is}
 use Rattle.flight_laws.proofs.AcceptLemmas.{wanted_tells}

@@ -30,7 +30,7 @@ use Rattle.session_core.specs.Table.{Heard, Received, Stay, Goes, Ends, enters_p
 use Rattle.session_core.proofs.PutLemmas.{replies_are_put}
 use Rattle.pw_tlvs.specs.Fec.{no_params}
 use Rattle.flight_laws.specs.Flight.{is_initialization}
-use Rattle.flight_laws.specs.Messages.{IsLeaving, IsSaid, IsSound, IsStatusNotice, AreSaid, expiry, octets_of_all}
+use Rattle.flight_laws.specs.Messages.{IsLeaving, IsSaidAcross, IsSound, IsStatusNotice, AreSaid, expiry, octets_of_all}
 use Rattle.flight_laws.specs.Pair.{AreFit}
 use Rattle.flight_laws.proofs.PieceLemmas.{withdraw_is_short}
 
@@ -57,7 +57,7 @@ leaving s id = by_phase s.phase refl where
   by_phase phase.Operational at = rw at refl
 
 -- a session that is up stays so
-pub stays_up : (s : SessionState) (ends : Peers) (m : Message) → s.phase ≡ phase.Operational → IsSaid ends m → is_fatal m ≡ false → outcome_of s (Received m) ≡ Stay
+pub stays_up : (s : SessionState) (ends : Peers) (m : Message) → s.phase ≡ phase.Operational → IsSaidAcross ends m → is_fatal m ≡ false → outcome_of s (Received m) ≡ Stay
 stays_up s ends (Initialization id params) at said fatal = rw at refl
 stays_up s ends (KeepAlive id) at said fatal = rw at refl
 stays_up s ends (Notification id status pw fec) at said fatal = rw (at, fatal) refl
@@ -80,7 +80,7 @@ pub record HasLeft (m : Message) : Type 0 where
   pub id : ℕ
   pub is : m ≡ Notification id expiry None None
 
-pub leaving_form : (ends : Peers) (m : Message) → IsSaid ends m → is_fatal m ≡ true → HasLeft m
+pub leaving_form : (ends : Peers) (m : Message) → IsSaidAcross ends m → is_fatal m ≡ true → HasLeft m
 leaving_form ends (Initialization id params) said fatal = clash fatal
 leaving_form ends (KeepAlive id) said fatal = clash fatal
 leaving_form ends (Notification id status pw fec) said fatal = ⊎_elim
@@ -97,7 +97,7 @@ pub record IsOpening (ends : Peers) (m : Message) : Type 0 where
   pub id : ℕ
   pub is : m ≡ Initialization id (proposal ends)
 
-pub opening_form : (ends : Peers) (m : Message) → IsSaid ends m → is_initialization m ≡ true → IsOpening ends m
+pub opening_form : (ends : Peers) (m : Message) → IsSaidAcross ends m → is_initialization m ≡ true → IsOpening ends m
 opening_form ends (Initialization id params) said is = record { id = id; is = rw said.1 refl }
 opening_form ends m said is = clash is
 
@@ -109,7 +109,7 @@ pub keeping_form : (m : Message) → is_keep_alive m ≡ true → IsKeeping m
 keeping_form (KeepAlive id) is = record { id = id; is = refl }
 keeping_form m is = clash is
 
-pub fatal_ends : (s : SessionState) (ends : Peers) (m : Message) → IsSaid ends m → is_fatal m ≡ true → outcome_of s (Received m) ≡ Ends reason.PeerFatal []
+pub fatal_ends : (s : SessionState) (ends : Peers) (m : Message) → IsSaidAcross ends m → is_fatal m ≡ true → outcome_of s (Received m) ≡ Ends reason.PeerFatal []
 fatal_ends s ends m said fatal = let form = leaving_form ends m said fatal in rw form.is (leaving s form.id)
 
 -- ---- octets
@@ -152,7 +152,7 @@ ready_withdraw ends id pw macs fit bare few sound = record {
   octets = written_are (AddressWithdraw id None (Some pw) (Some macs)) (platform_of ends.me) sound.2 (address_octets ends.me.0 fit.me.octets);
 }
 
-pub ready : (ends : Peers) (m : Message) → AreFit ends → IsSaid ends m → IsReady m ends.me
+pub ready : (ends : Peers) (m : Message) → AreFit ends → IsSaidAcross ends m → IsReady m ends.me
 ready ends (Initialization id params) fit said =
     subst (λ (p : SessionParams). IsReady (Initialization id p) ends.me) (sym said.1)
     (ready_reply ends reply.Init id fit tt (

@@ -54,7 +54,7 @@ use Rattle.pw_status.specs.Status.{method_by}
 use Rattle.network_model.specs.Absorb.{taken_all}
 use Rattle.flight_laws.specs.Ends.{AreFieldOffers, HasTypes, IsFieldOffer}
 use Rattle.flight_laws.specs.Meeting.{TellsWell, closes, said_to}
-use Rattle.flight_laws.specs.Sound.{CanBeTold, IsSoundEnd, IsSoundHeld, IsSoundPart, IsSoundTold, TellsSoundly, limit_of, point_limit}
+use Rattle.flight_laws.specs.Sound.{CanBeMapped, IsSoundEnd, IsSoundHeld, IsSoundPart, IsSoundTold, TellsSoundly, limit_of, point_limit}
 use Rattle.flight_laws.proofs.MendingLemmas.{KeptByRows}
 use Rattle.flight_laws.proofs.OfferLemmas.{IsOfWires, IsPointAddress, clearance_is, mapping_sound, offer_sound, own_in_range, own_octets, past_sound, sound_can, status_is, withdrawal_is}
 use Rattle.flight_laws.proofs.PieceLemmas.{IsPiece}
@@ -206,7 +206,7 @@ module _ (plan : Plan) (me : EdgeId) (checked : IsChecked plan) (types : HasType
 
 -- ---- an end that advertises
 
-pub advertised_up : (limit : ℕ) (up : Bool) (e : EndState) (label : ℕ) (told : Told) → IsSoundEnd limit up e → e.local ≡ Advertised label told → (up ≡ true) × CanBeTold label told
+pub advertised_up : (limit : ℕ) (up : Bool) (e : EndState) (label : ℕ) (told : Told) → IsSoundEnd limit up e → e.local ≡ Advertised label told → (up ≡ true) × CanBeMapped label told
 advertised_up limit true e label told sound at = (refl, subst IsSoundPart at sound.0)
 advertised_up limit false e label told sound at = clash (sym (ap Rattle.flight_laws.specs.Binding.is_idle at) ∙ sound.0)
 
@@ -250,7 +250,7 @@ local_sound limit true e local is part sound = (part, sound.1)
 local_sound limit false e local is part sound = clash is
 
 advertising_sound : {limit : ℕ → ℕ} → (place : EndPlace) (label : ℕ) (content : Told) (edge : EdgeState) → is_up_with (edge.peering place.peer.0) ≡ true → (end_at edge place).local
-    ≡ Idle false → CanBeTold label content
+    ≡ Idle false → CanBeMapped label content
     → TellsSoundly limit edge → TellsSoundly limit (advertising place label content edge)
 unfolding with_end with_kept
 advertising_sound {limit} place label content edge up at can sound =

@@ -25,7 +25,7 @@ use Rattle.session_core.specs.declared.reply.Reply.TheVariants as reply
 use Rattle.session_core.specs.Messages.{message_of}
 use Rattle.pw_messages.specs.Content.{bare, bare_fec_of, content_of, mac_withdrawal, mapping, release, status_notification, told_with, withdrawal}
 use Rattle.edge_model.specs.State.{EdgeState}
-use Rattle.flight_laws.specs.Rules.{FarTells, NamesTold, NearTells, TellsExpected, TellsOfWire, TellsPlan, told_of}
+use Rattle.flight_laws.specs.Rules.{FarTells, NamesTold, NearTells, TellsExpected, TellsOfWire, TellsPlan, expected_told}
 use Rattle.flight_laws.proofs.NameLemmas.{split}
 use Rattle.flight_laws.proofs.TellLemmas.{TellsOwnOffer}
 
@@ -37,7 +37,7 @@ pub record NamesStatus (plan : Plan) (from to : ℕ) (fec : PwFec) : Type 0 wher
   pub row : WirePlan
   pub is : wire_row plan wire ≡ Some row
   pub joined : joins from to row.path ≡ true
-  pub bare : fec ≡ bare_fec_of row.pw_id (told_of (expected plan row from to) None)
+  pub bare : fec ≡ bare_fec_of row.pw_id (expected_told (expected plan row from to) None)
   pub carries : (expected plan row from to).offer.status ≡ true
 
 pub names_told : (plan : Plan) (from to : ℕ) (fec : PwFec) → NamesStatus plan from to fec → NamesTold plan from to fec
@@ -70,7 +70,7 @@ reply_tells plan from to (reply.Notice status) id ends = tt
 
 -- ---- a terminal edge's offer
 
-offer_told : (e : Expected) (offer : Offer) (status : Option PwStatus) → e.offer ≡ offer → e.points ≡ [] → content_of offer status ≡ told_of e status
+offer_told : (e : Expected) (offer : Offer) (status : Option PwStatus) → e.offer ≡ offer → e.points ≡ [] → content_of offer status ≡ expected_told e status
 offer_told e offer status is none = rw (is, none) refl
 
 pub offer_tells : (plan : Plan) (row : WirePlan) (from to : ℕ) (status : Option PwStatus) → TellsOwnOffer plan row from to → is_some status ≡ (offer_of row from).status
@@ -81,7 +81,7 @@ offer_tells plan row from to status own carries = record {
 }
 
 -- another status where there is one
-with_status_told : (e : Expected) (status : PwStatus) (told : Told) → told ≡ told_of e told.status → with_status status told ≡ told_of e (Some status)
+with_status_told : (e : Expected) (status : PwStatus) (told : Told) → told ≡ expected_told e told.status → with_status status told ≡ expected_told e (Some status)
 with_status_told e status told is = ap (λ (t : Told). with_status status t) is
 
 pub status_tells : (plan : Plan) (row : WirePlan) (from to : ℕ) (status : PwStatus) (told : Told) → TellsExpected plan row from to told → (expected plan row from to).offer.status ≡ true
@@ -97,7 +97,7 @@ has_status plan row from to told status tells is = sym tells.carries ∙ ap (λ 
 
 -- ---- what is said
 
-bare_of : (e : Expected) (pw_id : ℕ) (told : Told) → told ≡ told_of e told.status → bare_fec_of pw_id told ≡ bare_fec_of pw_id (told_of e None)
+bare_of : (e : Expected) (pw_id : ℕ) (told : Told) → told ≡ expected_told e told.status → bare_fec_of pw_id told ≡ bare_fec_of pw_id (expected_told e None)
 bare_of e pw_id told is = ap (λ (t : Told). bare_fec_of pw_id t) is
 
 pub mapping_tells : (plan : Plan) (wire : WireId) (row : WirePlan) (from to pw_id label id : ℕ) (told : Told) → wire_row plan wire ≡ Some row → joins from to row.path ≡ true → pw_id ≡ row.pw_id
@@ -105,7 +105,7 @@ pub mapping_tells : (plan : Plan) (wire : WireId) (row : WirePlan) (from to pw_i
 mapping_tells plan wire row from to pw_id label id told is joined same tells = record { wire = wire; row = row; is = is; joined = joined; named = ap (λ (n : ℕ). Some n) same; tells = tells }
 
 bare_named : (plan : Plan) (row : WirePlan) (from to pw_id : ℕ) (told : Told) → pw_id ≡ row.pw_id → TellsExpected plan row from to told → bare_fec_of pw_id told
-    ≡ bare_fec_of row.pw_id (told_of (expected plan row from to) None)
+    ≡ bare_fec_of row.pw_id (expected_told (expected plan row from to) None)
 bare_named plan row from to pw_id told same tells = ap (λ (n : ℕ). bare_fec_of n told) same ∙ bare_of (expected plan row from to) row.pw_id told tells.content
 
 pub withdrawal_tells : (plan : Plan) (wire : WireId) (row : WirePlan) (from to pw_id label id : ℕ) (told : Told) → wire_row plan wire ≡ Some row → joins from to row.path ≡ true → pw_id ≡ row.pw_id
@@ -125,8 +125,8 @@ clearance_tells plan wire row from to pw_id id addresses told is joined same tel
     record { wire = wire; row = row; is = is; joined = joined; bare = bare_named plan row from to pw_id told same tells }
 
 -- a release tells what the message told that it answers
-bare_in : (e : Expected) (fec : PwFec) (status : Option PwStatus) (points : List Point) (pw_id : ℕ) → fec.pw_id ≡ Some pw_id → told_with fec status points ≡ told_of e status → bare fec
-    ≡ bare_fec_of pw_id (told_of e None)
+bare_in : (e : Expected) (fec : PwFec) (status : Option PwStatus) (points : List Point) (pw_id : ℕ) → fec.pw_id ≡ Some pw_id → told_with fec status points ≡ expected_told e status → bare fec
+    ≡ bare_fec_of pw_id (expected_told e None)
 bare_in e fec status points pw_id named is = bare_again fec status points pw_id named ∙ ap (λ (t : Told). bare_fec_of pw_id t) is
   where
     bare_again : (fec : PwFec) (status : Option PwStatus) (points : List Point) (pw_id : ℕ) → fec.pw_id ≡ Some pw_id → bare fec ≡ bare_fec_of pw_id (told_with fec status points)

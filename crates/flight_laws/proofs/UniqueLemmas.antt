@@ -8,13 +8,13 @@ use Rattle.ldp_stream.proofs.FrontOfLemmas.{front_is_read}
 use Rattle.ldp_stream.proofs.CommonLemmas.{none_front}
 use Rattle.session_core.specs.declared.peers.Peers.{Peers}
 use Rattle.pw_messages.specs.Sender.{platform_of}
-use Rattle.flight_laws.specs.Messages.{AreSaid, IsSaid, octets_of_all}
+use Rattle.flight_laws.specs.Messages.{AreSaid, IsSaidAcross, octets_of_all}
 use Rattle.flight_laws.specs.Pair.{AreFit}
 use Rattle.flight_laws.proofs.SaidLemmas.{IsReady, all_octets, ready}
 use Rattle.flight_laws.proofs.ReadyLemmas.{joined_same}
 
 -- the first of some messages stands in front of their octets
-front_said : (ends : Peers) (m : Message) (ms : List Message) → AreFit ends → IsSaid ends m → AreSaid ends ms
+front_said : (ends : Peers) (m : Message) (ms : List Message) → AreFit ends → IsSaidAcross ends m → AreSaid ends ms
     → front_of 4096 (octets_of_all ends.me (m ∷ ms)) ≡ Got (record { id = platform_of ends.me; messages = m ∷ [] }) (octets_of_all ends.me ms)
 front_said ends m ms fit said others =
     front_is_read.written_first 4096 m (platform_of ends.me) (octets_of_all ends.me ms) (all_octets ends (m ∷ ms) fit (said, others)) (omega arith) is_ready.can is_ready.fits

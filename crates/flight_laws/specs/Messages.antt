@@ -52,16 +52,16 @@ IsSound message = Fits message × (writable message ≡ true) × HaveOctets (wri
 
 -- an end says its proposal, KeepAlives, what it has to say of pseudowires and of addresses that have moved, and the Notification with
 -- which it leaves
-abbrev pub IsSaid : Peers → Message → Type 0
-IsSaid ends (Initialization id params) = (id < 2 ^ 32) × (params ≡ proposal ends)
-IsSaid ends (KeepAlive id) = id < 2 ^ 32
-IsSaid ends (Notification id code status fec) = IsSound (Notification id code status fec) × (IsLeaving code status fec ⊎ IsStatusNotice code status fec)
-IsSaid ends (AddressWithdraw id addresses fec macs) = IsSound (AddressWithdraw id addresses fec macs) × IsMacWithdraw addresses fec macs
-IsSaid ends (LabelMapping id fec label status points) = IsSound (LabelMapping id fec label status points)
-IsSaid ends (LabelWithdraw id fec label) = IsSound (LabelWithdraw id fec label)
-IsSaid ends (LabelRelease id fec label) = IsSound (LabelRelease id fec label)
-IsSaid ends message = ⊥
+abbrev pub IsSaidAcross : Peers → Message → Type 0
+IsSaidAcross ends (Initialization id params) = (id < 2 ^ 32) × (params ≡ proposal ends)
+IsSaidAcross ends (KeepAlive id) = id < 2 ^ 32
+IsSaidAcross ends (Notification id code status fec) = IsSound (Notification id code status fec) × (IsLeaving code status fec ⊎ IsStatusNotice code status fec)
+IsSaidAcross ends (AddressWithdraw id addresses fec macs) = IsSound (AddressWithdraw id addresses fec macs) × IsMacWithdraw addresses fec macs
+IsSaidAcross ends (LabelMapping id fec label status points) = IsSound (LabelMapping id fec label status points)
+IsSaidAcross ends (LabelWithdraw id fec label) = IsSound (LabelWithdraw id fec label)
+IsSaidAcross ends (LabelRelease id fec label) = IsSound (LabelRelease id fec label)
+IsSaidAcross ends message = ⊥
 
 abbrev pub AreSaid : Peers → List Message → Type 0
 AreSaid ends [] = Unit {0}
-AreSaid ends (message ∷ messages) = IsSaid ends message × AreSaid ends messages
+AreSaid ends (message ∷ messages) = IsSaidAcross ends message × AreSaid ends messages

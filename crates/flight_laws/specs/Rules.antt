@@ -99,12 +99,12 @@ abbrev pub point_of : PassedPoint → Point
 point_of passed = record { pw_id = Some passed.pw_id; local = passed.local; remote = passed.remote }
 
 -- what is expected to be told, with a status or without one
-abbrev pub told_of : Expected → Option PwStatus → Told
-told_of e status = record (content_of e.offer status) { points = map point_of e.points }
+abbrev pub expected_told : Expected → Option PwStatus → Told
+expected_told e status = record (content_of e.offer status) { points = map point_of e.points }
 
 -- it tells what the plan has one edge tell another one of a wire, and a status where the offer has one
 pub record TellsExpected (plan : Plan) (row : WirePlan) (from to : ℕ) (told : Told) : Type 0 where
-  pub content : told ≡ told_of (expected plan row from to) told.status
+  pub content : told ≡ expected_told (expected plan row from to) told.status
   pub carries : is_some told.status ≡ (expected plan row from to).offer.status
 
 -- of the wire that a FEC names, whose segment joins the two edges
@@ -122,7 +122,7 @@ pub record NamesTold (plan : Plan) (from to : ℕ) (fec : PwFec) : Type 0 where
   pub row : WirePlan
   pub is : wire_row plan wire ≡ Some row
   pub joined : joins from to row.path ≡ true
-  pub bare : fec ≡ bare_fec_of row.pw_id (told_of (expected plan row from to) None)
+  pub bare : fec ≡ bare_fec_of row.pw_id (expected_told (expected plan row from to) None)
 
 -- a message tells, on its way from an edge to a peer, what the plan has them tell
 abbrev pub TellsPlan : Plan → ℕ → ℕ → Message → Type 0

@@ -22,7 +22,7 @@ use Rattle.flight_laws.specs.Binding.{is_idle}
 use Rattle.flight_laws.specs.Messages.{HaveOctets}
 
 -- a label, and a content whose FEC can be written without its parameters
-pub record CanBeTold (label : ℕ) (told : Told) : Type 0 where
+pub record CanBeMapped (label : ℕ) (told : Told) : Type 0 where
   pub is_label : IsLabel label
   pub kind : told.kind ≤ 0x7FFF
   pub group : told.group < 2 ^ 32
@@ -43,7 +43,7 @@ pub record IsSoundTold (limit : ℕ) (told : Told) : Type 0 where
 
 abbrev pub IsSoundPart : LocalPart → Type 0
 IsSoundPart (Idle declined) = Unit {0}
-IsSoundPart (Advertised label told) = CanBeTold label told
+IsSoundPart (Advertised label told) = CanBeMapped label told
 IsSoundPart (Withdrawing label) = IsLabel label
 
 abbrev pub IsSoundHeld : ℕ → Option Binding → Type 0

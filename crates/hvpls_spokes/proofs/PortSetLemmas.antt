@@ -3,12 +3,12 @@ use Rattle.std.proofs.Common.{◌≡◌, ◌≢◌, ◌<◌, ◌≤◌, ◌/◌,
 use Rattle.std.proofs.lemmas.Bool.{cases_eq}
 use Rattle.std.proofs.lemmas.Nat.Bits.{bit_at_set_same, bit_at_set_other, bit_at_clear_same, bit_at_clear_other}
 use Rattle.std.specs.Int.{bit_at, bit_not}
-use Rattle.hvpls_spokes.specs.PortSet.{has}
+use Rattle.hvpls_spokes.specs.PortSet.{holds_port}
 
 -- a word is replaced by one that has the same bits but for that of a port
 other_bits : (words : List ℕ) (port p word : ℕ) → port < 512 → length words ≡ 8 → p ≢ port
     → ((bit : ℕ) → bit < 64 → bit ≢ port % 64 → bit_at word bit ≡ bit_at (get_or words (port / 64) 0) bit)
-    → has (set words (port / 64) word) p ≡ has words p
+    → holds_port (set words (port / 64) word) p ≡ holds_port words p
 other_bits words port p word fits len ne same = elim (cases_eq (p / 64) (port / 64)) [
   | inl together ↦
       let within : port / 64 < length words = omega arith in
@@ -18,27 +18,27 @@ other_bits words port p word fits len ne same = elim (cases_eq (p / 64) (port / 
   | inr apart ↦ rw get_or-set_other
 ]
 
-pub set_same : (words : List ℕ) (port : ℕ) → port < 512 → length words ≡ 8 → has (set words (port / 64) (bit_or (get_or words (port / 64) 0) (1 * 2 ^ (port % 64) % 2 ^ 64))) port ≡ true
+pub set_same : (words : List ℕ) (port : ℕ) → port < 512 → length words ≡ 8 → holds_port (set words (port / 64) (bit_or (get_or words (port / 64) 0) (1 * 2 ^ (port % 64) % 2 ^ 64))) port ≡ true
 set_same words port fits len =
     let within : port / 64 < length words = omega arith in
     let low : port % 64 < 64 = omega arith in
     rw get_or-set_same (eq-eqb _ _ (bit_at_set_same w64 (get_or words (port / 64) 0) (port % 64) low))
 
 pub set_other : (words : List ℕ) (port p : ℕ) → port < 512 → length words ≡ 8 → p ≢ port
-    → has (set words (port / 64) (bit_or (get_or words (port / 64) 0) (1 * 2 ^ (port % 64) % 2 ^ 64))) p ≡ has words p
+    → holds_port (set words (port / 64) (bit_or (get_or words (port / 64) 0) (1 * 2 ^ (port % 64) % 2 ^ 64))) p ≡ holds_port words p
 set_other words port p fits len ne =
     let low : port % 64 < 64 = omega arith in
     other_bits words port p _ fits len ne (λ bit within other. bit_at_set_other w64 (get_or words (port / 64) 0) (port % 64) low bit other)
 
 pub clear_same : (words : List ℕ) (port : ℕ) → port < 512 → length words ≡ 8
-    → has (set words (port / 64) (bit_and (get_or words (port / 64) 0) (bit_not w64 (1 * 2 ^ (port % 64) % 2 ^ 64)))) port ≡ false
+    → holds_port (set words (port / 64) (bit_and (get_or words (port / 64) 0) (bit_not w64 (1 * 2 ^ (port % 64) % 2 ^ 64)))) port ≡ false
 clear_same words port fits len =
     let within : port / 64 < length words = omega arith in
     let low : port % 64 < 64 = omega arith in
     rw get_or-set_same (ap (λ (bit : ℕ). nat_eq bit 1) (bit_at_clear_same w64 (get_or words (port / 64) 0) (port % 64) low))
 
 pub clear_other : (words : List ℕ) (port p : ℕ) → port < 512 → length words ≡ 8 → p ≢ port
-    → has (set words (port / 64) (bit_and (get_or words (port / 64) 0) (bit_not w64 (1 * 2 ^ (port % 64) % 2 ^ 64)))) p ≡ has words p
+    → holds_port (set words (port / 64) (bit_and (get_or words (port / 64) 0) (bit_not w64 (1 * 2 ^ (port % 64) % 2 ^ 64)))) p ≡ holds_port words p
 clear_other words port p fits len ne =
     let low : port % 64 < 64 = omega arith in
     other_bits words port p _ fits len ne (λ bit within other. bit_at_clear_other w64 (get_or words (port / 64) 0) (port % 64) low bit within other)

@@ -3,5 +3,5 @@ use Rattle.std.specs.Prelude.{◌/◌, ◌%◌, ◌==◌, ℕ, Bool, List, slice
 use Rattle.std.specs.Int.{bit_at}
 
 -- the port is in the set
-abbrev pub has : List ℕ → ℕ → Bool
-has words port = bit_at (slice_index words (port / 64)) (port % 64) == 1
+abbrev pub holds_port : List ℕ → ℕ → Bool
+holds_port words port = bit_at (slice_index words (port / 64)) (port % 64) == 1

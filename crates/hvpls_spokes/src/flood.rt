@@ -1,6 +1,6 @@
 //! The flood set.
 ghost use Rattle.std.specs.Prelude.{◌≡◌, ◌<◌, ◌≤◌, ◌&&◌, not, true, ℕ, length};
-ghost use Rattle.hvpls_spokes.specs.PortSet.{has};
+ghost use Rattle.hvpls_spokes.specs.PortSet.{holds_port};
 ghost use Rattle.hvpls_spokes.specs.Port.{is_mesh_port};
 ghost use Rattle.hvpls_spokes.specs.Flood.{is_in_flood};
 
@@ -10,7 +10,7 @@ use crate::{PortSet, Ports};
 /// and to no mesh wire where it came by one (RFC 4762 sections 4.1 and 4.4).
 pub fn flood_set(ports: &Ports, forwarding: &PortSet, arrival: u16) -> PortSet
     requires { arrival < length ports.now }
-    ensures { (p : ℕ) → has result p ≡ is_in_flood ports.now (has forwarding.now) arrival p }
+    ensures { (p : ℕ) → holds_port result p ≡ is_in_flood ports.now (holds_port forwarding.now) arrival p }
 {
     let len = ports.len();
     let mut others = *forwarding;
@@ -26,8 +26,8 @@ pub fn flood_set(ports: &Ports, forwarding: &PortSet, arrival: u16) -> PortSet
 /// is made to answer that (RFC 4762 sections 4.1 and 4.4).
 #[tactic(auto, using(crate::proofs::PortSetLemmas::beyond))]
 pub fn is_in_flood_set(ports: &Ports, forwarding: &PortSet, arrival: u16, port: u16) -> bool
-    requires { (p : ℕ) → has forwarding.now p ≡ true → p < length ports.now }
-    ensures flood { result ≡ is_in_flood ports.now (has forwarding.now) arrival port }
+    requires { (p : ℕ) → holds_port forwarding.now p ≡ true → p < length ports.now }
+    ensures flood { result ≡ is_in_flood ports.now (holds_port forwarding.now) arrival port }
     ensures within { result ≡ true → port < 512 }
 {
     if port == arrival || port >= ports.len() || !forwarding.contains(port) {
@@ -40,7 +40,7 @@ pub fn is_in_flood_set(ports: &Ports, forwarding: &PortSet, arrival: u16, port: 
 fn without_mesh(ports: &Ports, set: PortSet, len: u16) -> PortSet
     requires len { len ≡ length ports.now }
     requires within { len ≤ 512 }
-    ensures { (p : ℕ) → has result p ≡ (has set p && not (is_mesh_port ports.now p)) }
+    ensures { (p : ℕ) → holds_port result p ≡ (holds_port set p && not (is_mesh_port ports.now p)) }
 {
     let mut rest = set;
     for port in 0..len {

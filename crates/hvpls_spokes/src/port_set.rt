@@ -1,6 +1,6 @@
 //! Sets of ports.
 ghost use Rattle.std.specs.Prelude.{◌≡◌, ◌≢◌, ◌<◌, ℕ, true, false};
-ghost use Rattle.hvpls_spokes.specs.PortSet.{has};
+ghost use Rattle.hvpls_spokes.specs.PortSet.{holds_port};
 
 use std::marker::Model;
 
@@ -23,7 +23,7 @@ impl Model for PortSet {
 impl PortSet {
     /// The set without a port.
     pub fn empty() -> PortSet
-        ensures { (p : ℕ) → has result p ≡ false }
+        ensures { (p : ℕ) → holds_port result p ≡ false }
     {
         PortSet { words: [0; 8] }
     }
@@ -31,8 +31,8 @@ impl PortSet {
     /// Puts a port into the set.
     pub fn insert(&mut self, port: u16)
         requires { port < 512 }
-        ensures it { has self.new port ≡ true }
-        ensures others { (p : ℕ) → p ≢ port → has self.new p ≡ has self.old p }
+        ensures it { holds_port self.new port ≡ true }
+        ensures others { (p : ℕ) → p ≢ port → holds_port self.new p ≡ holds_port self.old p }
     {
         let word = port as usize / 64;
         self.words[word] |= 1 << (port % 64);
@@ -41,8 +41,8 @@ impl PortSet {
     /// Takes a port out of the set.
     pub fn remove(&mut self, port: u16)
         requires { port < 512 }
-        ensures it { has self.new port ≡ false }
-        ensures others { (p : ℕ) → p ≢ port → has self.new p ≡ has self.old p }
+        ensures it { holds_port self.new port ≡ false }
+        ensures others { (p : ℕ) → p ≢ port → holds_port self.new p ≡ holds_port self.old p }
     {
         let word = port as usize / 64;
         self.words[word] &= !(1 << (port % 64));
@@ -51,7 +51,7 @@ impl PortSet {
     /// Whether the port is in the set.
     pub fn contains(&self, port: u16) -> bool
         requires { port < 512 }
-        ensures { result ≡ has self.now port }
+        ensures { result ≡ holds_port self.now port }
     {
         (self.words[port as usize / 64] >> (port % 64)) & 1 == 1
     }

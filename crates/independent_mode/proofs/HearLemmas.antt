@@ -22,30 +22,30 @@ use Rattle.ldp_stream.proofs.FrontOfLemmas.{front_is_read}
 use Rattle.pw_messages.specs.LinkAnswers.{Answers}
 use Rattle.independent_model.specs.declared.indep_stop.IndepStop.{IndepStop}
 use Rattle.independent_model.specs.declared.indep_stop.IndepStop.TheVariants as stop
-use Rattle.independent_mode.specs.Receiver.{HasReceiver, HasNoReceiver, IsGot, IsHearing, IsNext, IsReceiverRefused, IsTakenOut, IsWaiting, receiver_of, heard_by, kept_after}
-use Rattle.independent_model.specs.Hear.{hears_all, hears_at, hears_by, hears_few, hears_front, hears_message, hears_messages}
-use Rattle.independent_model.specs.Calls.{independent_hears, hears_on}
+use Rattle.independent_mode.specs.Receiver.{HasReceiver, HasNoReceiver, IsGot, IsHearing, IsNext, IsReceiverRefused, IsTakenOut, IsReceiverWaiting, receiver_of, heard_by, kept_after}
+use Rattle.independent_model.specs.Hear.{hears_all, hears_at, hears_by, independent_hears_few, independent_hears_front, independent_hears_message, independent_hears_messages}
+use Rattle.independent_model.specs.Calls.{independent_hears, independent_hears_on}
 use Rattle.independent_mode.specs.Heard.{HearsTo}
 use Rattle.independent_model.specs.State.{ConnectionState, Stopped, Receiver, IndepState, Receiving, Broken, receiver_set, with_connection, with_receiver, with_remote, without_remotes}
 use Rattle.independent_model.specs.Wires.{is_between, is_row_between}
-use Rattle.independent_model.specs.Work.{Comes, Goes, NeverRefused, Outcome, Stops, and_then}
+use Rattle.independent_model.specs.Work.{Comes, Goes, NeverRefused, IndepOutcome as Outcome, Stops, and_works}
 use Rattle.independent_model.proofs.CommonLemmas.{then_same}
 
 -- ---- messages in order
 
 pub messages_more : (plan : Plan) (told : Answers) (me : ℕ) (peer : EdgeId) (messages : List Message) (place : ℕ) (message : Message) (edge : IndepState) (calls : List LinkCall)
     → place < length messages → message ≡ slice_index_or messages place message
-    → hears_messages plan told me peer (drop place messages) edge calls
-    ≡ and_then (hears_message plan told me peer message edge calls) (λ e c. hears_messages plan told me peer (drop (place + 1) messages) e c)
+    → independent_hears_messages plan told me peer (drop place messages) edge calls
+    ≡ and_works (independent_hears_message plan told me peer message edge calls) (λ e c. independent_hears_messages plan told me peer (drop (place + 1) messages) e c)
 messages_more plan told me peer [] place message edge calls within at = absurd (omega (arith, within))
 messages_more plan told me peer (x ∷ messages) zero message edge calls within at =
-    ap (λ (m : Message). and_then (hears_message plan told me peer m edge calls) (λ e c. hears_messages plan told me peer messages e c)) (sym at)
+    ap (λ (m : Message). and_works (independent_hears_message plan told me peer m edge calls) (λ e c. independent_hears_messages plan told me peer messages e c)) (sym at)
 messages_more plan told me peer (x ∷ messages) (suc place) message edge calls within at =
     let behind : suc place + 1 ≡ suc (place + 1) = omega arith in
     rw behind (messages_more plan told me peer messages place message edge calls (omega (arith, within)) at)
 
 pub messages_end : (plan : Plan) (told : Answers) (me : ℕ) (peer : EdgeId) (messages : List Message) (place : ℕ) (edge : IndepState) (calls : List LinkCall) → length messages ≤ place
-    → hears_messages plan told me peer (drop place messages) edge calls ≡ Goes edge calls
+    → independent_hears_messages plan told me peer (drop place messages) edge calls ≡ Goes edge calls
 messages_end plan told me peer [] zero edge calls past = refl
 messages_end plan told me peer [] (suc place) edge calls past = refl
 messages_end plan told me peer (x ∷ messages) zero edge calls past = absurd (omega (arith, past))
@@ -55,35 +55,35 @@ messages_end plan told me peer (x ∷ messages) (suc place) edge calls past = me
 
 module _ (plan : Plan) (told : Answers) (me : ℕ) (peer : EdgeId) where
   few_at : (n base : ℕ) (held : List ℕ) (front : Front) (edge : IndepState) (calls : List LinkCall) → front_of 4096 held ≡ front
-      → hears_few plan told me peer (suc n) base held edge calls ≡ hears_front plan told me peer (hears_few plan told me peer n) base held front edge calls
-  few_at n base held front edge calls is = ap (λ (f : Front). hears_front plan told me peer (hears_few plan told me peer n) base held f edge calls) is
+      → independent_hears_few plan told me peer (suc n) base held edge calls ≡ independent_hears_front plan told me peer (independent_hears_few plan told me peer n) base held front edge calls
+  few_at n base held front edge calls is = ap (λ (f : Front). independent_hears_front plan told me peer (independent_hears_few plan told me peer n) base held f edge calls) is
 
   -- more turns than octets change nothing
   enough : (n m base : ℕ) (held : List ℕ) (edge : IndepState) (calls : List LinkCall) → AreOctets held → length held < n → length held < m
-      → hears_few plan told me peer n base held edge calls ≡ hears_few plan told me peer m base held edge calls
+      → independent_hears_few plan told me peer n base held edge calls ≡ independent_hears_few plan told me peer m base held edge calls
   enough zero m base held edge calls octets few many = absurd (omega (arith, few))
   enough (suc n) zero base held edge calls octets few many = absurd (omega (arith, many))
   enough (suc n) (suc m) base held edge calls octets few many = by (λ b rest e c are one two. enough n m b rest e c are one two) (front_of 4096 held) refl
     where
-      by : ((b : ℕ) (rest : List ℕ) (e : IndepState) (c : List LinkCall) → AreOctets rest → length rest < n → length rest < m → hears_few plan told me peer n b rest e c
-          ≡ hears_few plan told me peer m b rest e c)
-          → (front : Front) → front_of 4096 held ≡ front → hears_few plan told me peer (suc n) base held edge calls ≡ hears_few plan told me peer (suc m) base held edge calls
+      by : ((b : ℕ) (rest : List ℕ) (e : IndepState) (c : List LinkCall) → AreOctets rest → length rest < n → length rest < m → independent_hears_few plan told me peer n b rest e c
+          ≡ independent_hears_few plan told me peer m b rest e c)
+          → (front : Front) → front_of 4096 held ≡ front → independent_hears_few plan told me peer (suc n) base held edge calls ≡ independent_hears_few plan told me peer (suc m) base held edge calls
       by again More is = few_at n base held More edge calls is ∙ sym (few_at m base held More edge calls is)
       by again (Bad wrong) is = few_at n base held (Bad wrong) edge calls is ∙ sym (few_at m base held (Bad wrong) edge calls is)
       by again (Got pdu rest) is =
           let less : length rest < length held = front_is_read.shorter 4096 held rest pdu octets (omega arith) is in
           let behind : AreOctets rest = front_is_read.behind 4096 held rest pdu octets (omega arith) is in
           few_at n base held (Got pdu rest) edge calls is
-          ∙ (then_same (hears_messages plan told me peer pdu.messages edge calls)
-          (λ e c. hears_few plan told me peer n (place_behind base (length held - length rest)) rest e c)
-          (λ e c. hears_few plan told me peer m (place_behind base (length held - length rest)) rest e c)
+          ∙ (then_same (independent_hears_messages plan told me peer pdu.messages edge calls)
+          (λ e c. independent_hears_few plan told me peer n (place_behind base (length held - length rest)) rest e c)
+          (λ e c. independent_hears_few plan told me peer m (place_behind base (length held - length rest)) rest e c)
           (λ e c. again (place_behind base (length held - length rest)) rest e c behind (omega (arith, less, few)) (omega (arith, less, many)))
           ∙ sym (few_at m base held (Got pdu rest) edge calls is))
 
   -- a PDU in front
   all_got : (base : ℕ) (held rest more : List ℕ) (pdu : Pdu) (edge : IndepState) (calls : List LinkCall) → AreOctets held → AreOctets more → front_of 4096 held ≡ Got pdu rest
       → hears_all plan told me peer base (held ++ more) edge calls
-      ≡ and_then (hears_messages plan told me peer pdu.messages edge calls) (λ e c. hears_all plan told me peer (place_behind base (length held - length rest)) (rest ++ more) e c)
+      ≡ and_works (independent_hears_messages plan told me peer pdu.messages edge calls) (λ e c. hears_all plan told me peer (place_behind base (length held - length rest)) (rest ++ more) e c)
   all_got base held rest more pdu edge calls octets others is =
       let all : AreOctets (held ++ more) = octets_append held more octets others in
       let front : front_of 4096 (held ++ more) ≡ Got pdu (rest ++ more) = front_is_read.got_more 4096 held more rest pdu all (omega arith) is in
@@ -91,10 +91,10 @@ module _ (plan : Plan) (told : Answers) (me : ℕ) (peer : EdgeId) where
       let behind : AreOctets (rest ++ more) = front_is_read.behind 4096 (held ++ more) (rest ++ more) pdu all (omega arith) front in
       let size : length (held ++ more) - length (rest ++ more) ≡ length held - length rest = omega (arith, length-append held more, length-append rest more) in
       few_at (length (held ++ more)) base (held ++ more) (Got pdu (rest ++ more)) edge calls front
-      ∙ then_same (hears_messages plan told me peer pdu.messages edge calls)
-      (λ e c. hears_few plan told me peer (length (held ++ more)) (place_behind base (length (held ++ more) - length (rest ++ more))) (rest ++ more) e c)
+      ∙ then_same (independent_hears_messages plan told me peer pdu.messages edge calls)
+      (λ e c. independent_hears_few plan told me peer (length (held ++ more)) (place_behind base (length (held ++ more) - length (rest ++ more))) (rest ++ more) e c)
       (λ e c. hears_all plan told me peer (place_behind base (length held - length rest)) (rest ++ more) e c)
-      (λ e c. ap (λ (n : ℕ). hears_few plan told me peer (length (held ++ more)) (place_behind base n) (rest ++ more) e c) size
+      (λ e c. ap (λ (n : ℕ). independent_hears_few plan told me peer (length (held ++ more)) (place_behind base n) (rest ++ more) e c) size
       ∙ enough (length (held ++ more)) (suc (length (rest ++ more))) (place_behind base (length held - length rest)) (rest ++ more) e c behind less (omega arith))
 
   going_is : (s : StreamState) → s.refused ≡ None → receiver_of s ≡ Receiving s.base s.held
@@ -105,11 +105,11 @@ module _ (plan : Plan) (told : Answers) (me : ℕ) (peer : EdgeId) where
 
   got_at : (old new : StreamState) (pdu : Pdu) (more : List ℕ) (edge : IndepState) (calls : List LinkCall) → IsGot old new pdu → AreOctets more
       → hears_at plan told me peer (receiver_of old) more edge calls
-      ≡ and_then (hears_messages plan told me peer pdu.messages edge calls) (λ e c. hears_at plan told me peer (receiver_of new) more e c)
+      ≡ and_works (independent_hears_messages plan told me peer pdu.messages edge calls) (λ e c. hears_at plan told me peer (receiver_of new) more e c)
   got_at old new pdu more edge calls got octets =
       ap (λ (receiver : Receiver). hears_at plan told me peer receiver more edge calls) (going_is old got.was)
       ∙ (all_got old.base old.held new.held more pdu edge calls got.octets octets got.front
-      ∙ then_same (hears_messages plan told me peer pdu.messages edge calls)
+      ∙ then_same (independent_hears_messages plan told me peer pdu.messages edge calls)
       (λ e c. hears_all plan told me peer (place_behind old.base (length old.held - length new.held)) (new.held ++ more) e c)
       (λ e c. hears_at plan told me peer (receiver_of new) more e c)
       (λ e c. ap (λ (n : ℕ). hears_all plan told me peer n (new.held ++ more) e c) (sym got.base)
@@ -117,13 +117,13 @@ module _ (plan : Plan) (told : Answers) (me : ℕ) (peer : EdgeId) where
 
   -- one PDU was heard
   pub at_got : (old new : StreamState) (pdu : Pdu) (more : List ℕ) (whole : Outcome) (edge next : IndepState) (calls after : List LinkCall) → IsGot old new pdu → AreOctets more
-      → whole ≡ hears_at plan told me peer (receiver_of old) more edge calls → hears_messages plan told me peer pdu.messages edge calls ≡ Goes next after
+      → whole ≡ hears_at plan told me peer (receiver_of old) more edge calls → independent_hears_messages plan told me peer pdu.messages edge calls ≡ Goes next after
       → whole ≡ hears_at plan told me peer (receiver_of new) more next after
   at_got old new pdu more whole edge next calls after got octets was heard =
-      was ∙ (got_at old new pdu more edge calls got octets ∙ ap (λ (o : Outcome). and_then o (λ e c. hears_at plan told me peer (receiver_of new) more e c)) heard)
+      was ∙ (got_at old new pdu more edge calls got octets ∙ ap (λ (o : Outcome). and_works o (λ e c. hears_at plan told me peer (receiver_of new) more e c)) heard)
 
   -- more octets are wanted
-  pub at_waits : (s : StreamState) (edge : IndepState) (calls : List LinkCall) → IsWaiting s → hears_at plan told me peer (receiver_of s) [] edge calls
+  pub at_waits : (s : StreamState) (edge : IndepState) (calls : List LinkCall) → IsReceiverWaiting s → hears_at plan told me peer (receiver_of s) [] edge calls
       ≡ Goes (with_receiver peer.0 (receiver_of s) edge) calls
   at_waits s edge calls waits = ap (λ (receiver : Receiver). hears_at plan told me peer receiver [] edge calls) is
       ∙ (ap (λ (l : List ℕ). hears_all plan told me peer s.base l edge calls) (append-nil s.held)
@@ -154,7 +154,7 @@ module _ (plan : Plan) (told : Answers) (me : ℕ) (peer : EdgeId) where
   drop_both (suc count) (suc at) [] = let same : suc at + suc count ≡ suc (at + suc count) = omega arith in rw same refl
   drop_both count (suc at) (x ∷ octets) = let same : suc at + count ≡ suc (at + count) = omega arith in rw same (drop_both count at octets)
 
-  pub fed_at : (old new : StreamState) (octets : List ℕ) (at count : ℕ) (edge : IndepState) (calls : List LinkCall) → IsWaiting old → new
+  pub fed_at : (old new : StreamState) (octets : List ℕ) (at count : ℕ) (edge : IndepState) (calls : List LinkCall) → IsReceiverWaiting old → new
       ≡ record old { held = old.held ++ take count (drop at octets) }
       → hears_at plan told me peer (receiver_of old) (drop at octets) edge calls ≡ hears_at plan told me peer (receiver_of new) (drop (at + count) octets) edge calls
   fed_at old new octets at count edge calls waits is =
@@ -175,10 +175,10 @@ module _ (plan : Plan) (told : Answers) (me : ℕ) (peer : EdgeId) where
   pub hears_stopped : (T U : Type 0) (why : IndepStop) (old new : StreamState) (pdu : Pdu) (more : List ℕ) (whole : Outcome) (edge next : IndepState) (calls after : List LinkCall)
       → IsGot old new pdu → AreOctets more
       → whole ≡ hears_at plan told me peer (receiver_of old) more edge calls → NeverRefused {T = T} (Err why)
-      → Comes {T = T} (Err why) next after (hears_messages plan told me peer pdu.messages edge calls)
+      → Comes {T = T} (Err why) next after (independent_hears_messages plan told me peer pdu.messages edge calls)
       → HearsTo {T = U} plan told me peer (Err why) new more next after whole
   hears_stopped T U stop.Link old new pdu more whole edge next calls after got octets was never comes =
-      was ∙ (got_at old new pdu more edge calls got octets ∙ ap (λ (o : Outcome). and_then o (λ e c. hears_at plan told me peer (receiver_of new) more e c)) comes)
+      was ∙ (got_at old new pdu more edge calls got octets ∙ ap (λ (o : Outcome). and_works o (λ e c. hears_at plan told me peer (receiver_of new) more e c)) comes)
   hears_stopped T U (stop.Refused answer) old new pdu more whole edge next calls after got octets was never comes = absurd never
   hears_stopped T U stop.NoMemory old new pdu more whole edge next calls after got octets was never comes = tt
 
@@ -190,7 +190,7 @@ module _ (plan : Plan) (told : Answers) (me : ℕ) (peer : EdgeId) where
   next_stopped U stop.NoMemory old new more whole edge calls next octets was = tt
 
   -- nothing was left to hear
-  pub all_heard : (s : StreamState) (octets : List ℕ) (at : ℕ) (whole : Outcome) (edge : IndepState) (calls : List LinkCall) → IsWaiting s → at ≡ length octets → whole
+  pub all_heard : (s : StreamState) (octets : List ℕ) (at : ℕ) (whole : Outcome) (edge : IndepState) (calls : List LinkCall) → IsReceiverWaiting s → at ≡ length octets → whole
       ≡ hears_at plan told me peer (receiver_of s) (drop at octets) edge calls
       → whole ≡ Goes (with_receiver peer.0 (receiver_of s) edge) calls
   all_heard s octets at whole edge calls waits end was =
@@ -216,7 +216,7 @@ pub hears_none : (plan : Plan) (told : Answers) (me : ℕ) (peer : EdgeId) (octe
     → independent_hears plan told me peer octets edge calls ≡ Goes edge calls
 hears_none plan told me peer octets edge calls none = by (edge.connection peer.0) none
   where
-    by : (o : Option ConnectionState) → HasNoReceiver o → hears_on plan told me peer octets o edge calls ≡ Goes edge calls
+    by : (o : Option ConnectionState) → HasNoReceiver o → independent_hears_on plan told me peer octets o edge calls ≡ Goes edge calls
     by None none = refl
     by (Some kept) none = ap (λ (receiver : Receiver). hears_by plan told me peer octets receiver edge calls) none
 
@@ -258,7 +258,7 @@ hears_stream plan told me peer octets s edge calls has = by (edge.connection pee
     hearing None = tt
     hearing (Some wrong) = tt
 
-    by : (o : Option ConnectionState) → edge.connection peer.0 ≡ o → HasReceiver (receiver_of s) o → hears_on plan told me peer octets o edge calls
+    by : (o : Option ConnectionState) → edge.connection peer.0 ≡ o → HasReceiver (receiver_of s) o → independent_hears_on plan told me peer octets o edge calls
         ≡ hears_at plan told me peer (receiver_of s) octets (with_receiver peer.0 Stopped edge) calls
     by None is none = absurd none
     by (Some kept) is at = ap (λ (receiver : Receiver). hears_by plan told me peer octets receiver edge calls) at ∙ same (receiver_of s) kept is at (hearing s.refused)

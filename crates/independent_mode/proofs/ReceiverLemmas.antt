@@ -11,7 +11,7 @@ use Rattle.ldp_stream.specs.FrontOf.{More, Got, Bad, front_of}
 use Rattle.ldp_stream.specs.State.{IsFaultOf, IsStreamRefused, Passes, StreamState, Waits, empty, place_behind}
 use Rattle.ldp_stream.specs.declared.stream_fault.StreamFault.TheVariants as fault
 use Rattle.ldp_stream.proofs.FrontOfLemmas.{front_is_read}
-use Rattle.independent_mode.specs.Receiver.{IsReceiver, IsGot, IsReceiverRefused, IsWaiting, receiver_of}
+use Rattle.independent_mode.specs.Receiver.{IsReceiver, IsGot, IsReceiverRefused, IsReceiverWaiting, receiver_of}
 
 pub empty_receiver : (s : StreamState) → s ≡ empty → IsReceiver s
 empty_receiver s is = subst IsReceiver (sym is) (record { octets = λ at. grind (arith); max = refl })
@@ -44,13 +44,13 @@ passed_receiver old new pdu receiver passes = record {
   max = ap (λ (s : StreamState). s.max) passes.is ∙ receiver.max;
 }
 
-pub next_waits : (old new : StreamState) → IsReceiver old → Waits old new → IsWaiting new × (new ≡ old)
-next_waits old new receiver waits = (subst IsWaiting (sym waits.unchanged) here, waits.unchanged)
+pub next_waits : (old new : StreamState) → IsReceiver old → Waits old new → IsReceiverWaiting new × (new ≡ old)
+next_waits old new receiver waits = (subst IsReceiverWaiting (sym waits.unchanged) here, waits.unchanged)
   where
     pending : IsPending 4096 old.held
     pending = subst (λ (n : ℕ). IsPending n old.held) receiver.max waits.pending
 
-    here : IsWaiting old
+    here : IsReceiverWaiting old
     here = record { front = front_is_read.only 4096 old.held More receiver.octets (omega arith) pending; going = waits.going; octets = receiver.octets; room = pending_room old.held pending }
 
 pub waited_receiver : (old new : StreamState) → IsReceiver old → Waits old new → IsReceiver new

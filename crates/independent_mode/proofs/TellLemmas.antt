@@ -9,12 +9,12 @@ use Rattle.net_base.specs.declared.plan.wire_plan.WirePlan.{WirePlan}
 use Rattle.net_base.specs.outside.Link.{call_of}
 use Rattle.pw_messages.specs.LinkAnswers.{Agrees, Answers}
 use Rattle.independent_model.specs.declared.indep_stop.IndepStop.TheVariants as stop
-use Rattle.independent_model.specs.State.{ConnectionState, Stopped, Receiver, IndepState, receiver_set, id_next, spoken, with_connection, with_receiver}
+use Rattle.independent_model.specs.State.{ConnectionState, Stopped, Receiver, IndepState, receiver_set, id_next, spoken_once, with_connection, with_receiver}
 use Rattle.ldp_stream.specs.State.{StreamState}
 use Rattle.independent_mode.specs.Lists.{IndepLists, KeepsIndependent}
 use Rattle.independent_mode.specs.Receiver.{HasReceiver, HasNoReceiver, IsTakenOut, receiver_in, receiver_of}
-use Rattle.independent_model.specs.Tell.{octets_on, puts, tells, tells_by, tells_from, tells_in, tells_place}
-use Rattle.independent_model.specs.Work.{Goes, CallsGoOn, Outcome, Stops, and_then}
+use Rattle.independent_model.specs.Tell.{octets_on, independent_puts, tells, independent_tells_by, tells_from, tells_in, tells_place}
+use Rattle.independent_model.specs.Work.{Goes, CallsGoOn, IndepOutcome as Outcome, Stops, and_works}
 
 -- ---- calls that go on
 
@@ -50,13 +50,13 @@ put_twice peer first next edge = λ i. record edge { connection = λ k. over (k 
   over true other = refl
   over false other = refl
 
-pub counted : (peer : ℕ) (kept now said : ConnectionState) (first next last : IndepState) → Some kept ≡ first.connection peer → first.connection peer ≡ Some now → said ≡ spoken kept
+pub counted : (peer : ℕ) (kept now said : ConnectionState) (first next last : IndepState) → Some kept ≡ first.connection peer → first.connection peer ≡ Some now → said ≡ spoken_once kept
     → next ≡ with_connection peer None first
-    → last ≡ with_connection peer (Some said) next → last ≡ with_connection peer (Some (spoken now)) first
+    → last ≡ with_connection peer (Some said) next → last ≡ with_connection peer (Some (spoken_once now)) first
 counted peer kept now said first next last was is spoke taken put =
     let same : kept ≡ now = cc (was ∙ is) in
     put ∙ (ap (λ (e : IndepState). with_connection peer (Some said) e) taken
-    ∙ (put_twice peer None (Some said) first ∙ ap (λ (k : ConnectionState). with_connection peer (Some k) first) (spoke ∙ ap spoken same)))
+    ∙ (put_twice peer None (Some said) first ∙ ap (λ (k : ConnectionState). with_connection peer (Some k) first) (spoke ∙ ap spoken_once same)))
 
 -- the connection that was taken out is as it was put back
 pub put_same : (peer : ℕ) (kept : Option ConnectionState) (edge : IndepState) → edge.connection peer ≡ kept → with_connection peer kept edge ≡ edge
@@ -110,7 +110,7 @@ told_none plan told me peer wire edge calls none = by_row (slice_get plan.wires 
 
     by_row : (o : Option WirePlan) → tells_in plan told me peer wire o edge calls ≡ Goes edge calls
     by_row None = refl
-    by_row (Some row) = ap (λ (o : Option ConnectionState). tells_by plan told me peer wire row o edge calls) (gone (edge.connection peer.0) none)
+    by_row (Some row) = ap (λ (o : Option ConnectionState). independent_tells_by plan told me peer wire row o edge calls) (gone (edge.connection peer.0) none)
 
 -- a connection stands: the octets are put, with the number of the next message
 pub record HasKept (id : ℕ) (o : Option ConnectionState) : Type 0 where
@@ -125,23 +125,23 @@ kept_of id (Some kept) is = record { kept = kept; is = refl; number = cc (sym is
 module _ (plan : Plan) (told : Answers) (me : ℕ) (peer : EdgeId) (wire : ℕ) (edge : IndepState) (calls : List LinkCall) (id : ℕ) (octets : List ℕ) where
   put_is : (kept : ConnectionState) → edge.connection peer.0 ≡ Some kept → kept.next_id ≡ id → wire < length plan.wires
       → ((row : WirePlan) → slice_get plan.wires wire ≡ Some row → octets ≡ octets_on plan me row (edge.local wire) id)
-      → tells plan told me peer wire edge calls ≡ puts peer kept octets (told (length calls)) edge calls
+      → tells plan told me peer wire edge calls ≡ independent_puts peer kept octets (told (length calls)) edge calls
   put_is kept is number within are = by_row (slice_get plan.wires wire) refl
     where
-      by_row : (o : Option WirePlan) → slice_get plan.wires wire ≡ o → tells_in plan told me peer wire o edge calls ≡ puts peer kept octets (told (length calls)) edge calls
+      by_row : (o : Option WirePlan) → slice_get plan.wires wire ≡ o → tells_in plan told me peer wire o edge calls ≡ independent_puts peer kept octets (told (length calls)) edge calls
       by_row None none = absurd (row_there plan.wires wire within None none refl)
-      by_row (Some row) there = ap (λ (o : Option ConnectionState). tells_by plan told me peer wire row o edge calls) is
-          ∙ ap (λ (os : List ℕ). puts peer kept os (told (length calls)) edge calls) (ap (octets_on plan me row (edge.local wire)) number ∙ sym (are row there))
+      by_row (Some row) there = ap (λ (o : Option ConnectionState). independent_tells_by plan told me peer wire row o edge calls) is
+          ∙ ap (λ (os : List ℕ). independent_puts peer kept os (told (length calls)) edge calls) (ap (octets_on plan me row (edge.local wire)) number ∙ sym (are row there))
 
   pub told_ok : (new : IndepState) (after : List LinkCall) → Some id ≡ option_map id_next (edge.connection peer.0) → wire < length plan.wires
       → ((row : WirePlan) → slice_get plan.wires wire ≡ Some row → octets ≡ octets_on plan me row (edge.local wire) id)
       → after ≡ calls ++ call_of peer false octets true ∷ [] → Agrees told after
-      → ((kept : ConnectionState) → edge.connection peer.0 ≡ Some kept → new ≡ with_connection peer.0 (Some (spoken kept)) edge)
+      → ((kept : ConnectionState) → edge.connection peer.0 ≡ Some kept → new ≡ with_connection peer.0 (Some (spoken_once kept)) edge)
       → tells plan told me peer wire edge calls ≡ Goes new after
   told_ok new after there within are called agrees counts =
       let k = kept_of id (edge.connection peer.0) there in
       put_is k.kept k.is k.number within are
-      ∙ (ap (λ (b : Bool). puts peer k.kept octets b edge calls) (told_last told calls after (call_of peer false octets true) called agrees)
+      ∙ (ap (λ (b : Bool). independent_puts peer k.kept octets b edge calls) (told_last told calls after (call_of peer false octets true) called agrees)
       ∙ rw (counts k.kept k.is, called) refl)
 
   pub told_err : (after : List LinkCall) → Some id ≡ option_map id_next (edge.connection peer.0) → wire < length plan.wires
@@ -151,17 +151,17 @@ module _ (plan : Plan) (told : Answers) (me : ℕ) (peer : EdgeId) (wire : ℕ) 
   told_err after there within are called agrees =
       let k = kept_of id (edge.connection peer.0) there in
       put_is k.kept k.is k.number within are
-      ∙ (ap (λ (b : Bool). puts peer k.kept octets b edge calls) (told_last told calls after (call_of peer false octets false) called agrees)
+      ∙ (ap (λ (b : Bool). independent_puts peer k.kept octets b edge calls) (told_last told calls after (call_of peer false octets false) called agrees)
       ∙ rw called refl)
 
 -- ---- one after another
 
 -- it goes on from what it came to
-pub goes_then : (o whole : Outcome) (edge : IndepState) (calls : List LinkCall) (f : IndepState → List LinkCall → Outcome) → whole ≡ and_then o f → o ≡ Goes edge calls → whole ≡ f edge calls
-goes_then o whole edge calls f is goes = is ∙ ap (λ (p : Outcome). and_then p f) goes
+pub goes_then : (o whole : Outcome) (edge : IndepState) (calls : List LinkCall) (f : IndepState → List LinkCall → Outcome) → whole ≡ and_works o f → o ≡ Goes edge calls → whole ≡ f edge calls
+goes_then o whole edge calls f is goes = is ∙ ap (λ (p : Outcome). and_works p f) goes
 
 pub from_more : (plan : Plan) (told : Answers) (me : ℕ) (peer : EdgeId) (i n : ℕ) (edge : IndepState) (calls : List LinkCall) → i < n
-    → tells_from plan told me peer i (n - i) edge calls ≡ and_then (tells_place plan told me peer i edge calls) (λ e c. tells_from plan told me peer (i + 1) (n - (i + 1)) e c)
+    → tells_from plan told me peer i (n - i) edge calls ≡ and_works (tells_place plan told me peer i edge calls) (λ e c. tells_from plan told me peer (i + 1) (n - (i + 1)) e c)
 from_more plan told me peer i n edge calls less = let e : n - i ≡ suc (n - (i + 1)) = omega (arith, less) in rw e refl
 
 pub from_end : (plan : Plan) (told : Answers) (me : ℕ) (peer : EdgeId) (i n : ℕ) (edge : IndepState) (calls : List LinkCall) → n ≤ i → tells_from plan told me peer i (n - i) edge calls

@@ -10,9 +10,9 @@ use Rattle.independent_model.specs.declared.indep_stop.IndepStop.TheVariants as 
 use Rattle.independent_mode.specs.Receiver.{receiver_of}
 use Rattle.independent_model.specs.Hear.{hears_at}
 use Rattle.independent_model.specs.State.{IndepState, with_receiver}
-use Rattle.independent_model.specs.Work.{Outcome, Stops}
+use Rattle.independent_model.specs.Work.{IndepOutcome, Stops}
 
-abbrev pub HearsTo : {T : Type 0} → Plan → Answers → ℕ → EdgeId → Result T IndepStop → StreamState → List ℕ → IndepState → List LinkCall → Outcome → Type 0
+abbrev pub HearsTo : {T : Type 0} → Plan → Answers → ℕ → EdgeId → Result T IndepStop → StreamState → List ℕ → IndepState → List LinkCall → IndepOutcome → Type 0
 HearsTo plan told me peer (Ok done) s more edge calls whole = whole ≡ hears_at plan told me peer (receiver_of s) more edge calls
 HearsTo plan told me peer (Err stop.Link) s more edge calls whole = whole ≡ Stops stop.Link edge calls
 HearsTo plan told me peer (Err (stop.Refused answer)) s more edge calls whole = whole ≡ Stops (stop.Refused answer) (with_receiver peer.0 (receiver_of s) edge) calls

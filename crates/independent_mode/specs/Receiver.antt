@@ -43,7 +43,7 @@ pub record IsGot (old new : StreamState) (pdu : Pdu) : Type 0 where
   pub shorter : length new.held < length old.held
 
 -- more octets are wanted
-pub record IsWaiting (s : StreamState) : Type 0 where
+pub record IsReceiverWaiting (s : StreamState) : Type 0 where
   pub front : front_of 4096 s.held ≡ More
   pub going : s.refused ≡ None
   pub octets : AreOctets s.held
@@ -59,7 +59,7 @@ pub record IsReceiverRefused (old new : StreamState) (answer : StreamFault) : Ty
 
 abbrev pub IsNext : StreamState → StreamState → Result (Option Pdu) IndepStop → Type 0
 IsNext old new (Ok (Some pdu)) = IsGot old new pdu
-IsNext old new (Ok None) = IsWaiting new × (new ≡ old)
+IsNext old new (Ok None) = IsReceiverWaiting new × (new ≡ old)
 IsNext old new (Err stop.Link) = ⊥
 IsNext old new (Err (stop.Refused answer)) = IsReceiverRefused old new answer
 IsNext old new (Err stop.NoMemory) = Unit {0}
@@ -95,11 +95,11 @@ IsHearing Stopped = ⊥
 -- ---- what is held
 
 -- so many octets are held that are no whole PDU yet; of octets that were refused nothing is said
-abbrev pub Holds : ℕ → Receiver → Type 0
-Holds count (Receiving base held) = count ≡ length held
-Holds count (Broken base wrong) = Unit {0}
-Holds count Stopped = count ≡ 0
+abbrev pub HoldsSoMany : ℕ → Receiver → Type 0
+HoldsSoMany count (Receiving base held) = count ≡ length held
+HoldsSoMany count (Broken base wrong) = Unit {0}
+HoldsSoMany count Stopped = count ≡ 0
 
 abbrev pub HoldsBy : ℕ → Option ConnectionState → Type 0
 HoldsBy count None = count ≡ 0
-HoldsBy count (Some kept) = Holds count kept.receiver
+HoldsBy count (Some kept) = HoldsSoMany count kept.receiver

@@ -1,8 +1,8 @@
 //! A connection with a peer.
 ghost use Rattle.std.specs.Prelude.{◌≡◌, ◌≤◌, ◌<◌, ◌+◌, ◌++◌, ℕ, List, None, Some, IfOk, length, take, drop};
 ghost use Rattle.ldp_stream.specs.State.{empty};
-ghost use Rattle.independent_mode.specs.Receiver.{Holds, IsNext, receiver_in, receiver_of};
-ghost use Rattle.independent_model.specs.State.{Stopped, receiver_set, fresh_connection, spoken};
+ghost use Rattle.independent_mode.specs.Receiver.{HoldsSoMany, IsNext, receiver_in, receiver_of};
+ghost use Rattle.independent_model.specs.State.{Stopped, receiver_set, fresh_connection, spoken_once};
 
 use crate::IndepStop;
 use ldp_grammar::Pdu;
@@ -112,7 +112,7 @@ impl Connection {
 
     /// How many octets of the peer are held that are no whole PDU yet. Of octets that were refused nothing is said.
     pub fn held(&self) -> usize
-        ensures { Holds result self.now.receiver }
+        ensures { HoldsSoMany result self.now.receiver }
     {
         match &self.stream {
             Some(stream) => stream.held(),
@@ -122,7 +122,7 @@ impl Connection {
 
     /// The same connection once a message was put.
     pub fn spoken(self) -> Connection
-        ensures { result ≡ spoken self }
+        ensures { result ≡ spoken_once self }
     {
         Connection {
             stream: self.stream,

@@ -21,34 +21,34 @@ use Rattle.pw_messages.specs.Content.{pw_status_code}
 use Rattle.pw_messages.specs.LinkAnswers.{Answers}
 use Rattle.status_exchange.specs.Wish.{is_status_told}
 use Rattle.independent_model.specs.declared.indep_stop.IndepStop.TheVariants as stop
-use Rattle.independent_model.specs.Hear.{hears_few, hears_front, hears_message, hears_messages, hears_notice, hears_of, hears_status, learns}
+use Rattle.independent_model.specs.Hear.{independent_hears_few, independent_hears_front, independent_hears_message, independent_hears_messages, hears_notice, hears_of, independent_hears_status, learns}
 use Rattle.independent_model.specs.State.{ConnectionState, Stopped, IndepState, with_receiver}
-use Rattle.independent_model.specs.Tell.{octets_on, puts, tells, tells_by, tells_in}
+use Rattle.independent_model.specs.Tell.{octets_on, independent_puts, tells, independent_tells_by, tells_in}
 use Rattle.independent_model.specs.Wires.{wire_named}
-use Rattle.independent_model.specs.Work.{Goes, Outcome, Stops, and_then}
+use Rattle.independent_model.specs.Work.{Goes, IndepOutcome, Stops, and_works}
 use Rattle.independent_model.specs.Stops.{HearsParsed, ParsesAs}
 
 -- ---- what is told refuses nothing
 
-abbrev NoneRefused : Outcome → Type 0
+abbrev NoneRefused : IndepOutcome → Type 0
 NoneRefused (Goes e c) = Unit {0}
 NoneRefused (Stops stop.Link e c) = Unit {0}
 NoneRefused (Stops (stop.Refused f) e c) = ⊥
 NoneRefused (Stops stop.NoMemory e c) = ⊥
 
-then_none : (o : Outcome) (f : IndepState → List LinkCall → Outcome) → NoneRefused o → ((e : IndepState) (c : List LinkCall) → NoneRefused (f e c)) → NoneRefused (and_then o f)
+then_none : (o : IndepOutcome) (f : IndepState → List LinkCall → IndepOutcome) → NoneRefused o → ((e : IndepState) (c : List LinkCall) → NoneRefused (f e c)) → NoneRefused (and_works o f)
 then_none (Goes e c) f is more = more e c
 then_none (Stops why e c) f is more = is
 
 module _ (plan : Plan) (told : Answers) (me : ℕ) (peer : EdgeId) where
-  puts_none : (kept : ConnectionState) (octets : List ℕ) (b : Bool) (e : IndepState) (c : List LinkCall) → NoneRefused (puts peer kept octets b e c)
+  puts_none : (kept : ConnectionState) (octets : List ℕ) (b : Bool) (e : IndepState) (c : List LinkCall) → NoneRefused (independent_puts peer kept octets b e c)
   puts_none kept octets true e c = tt
   puts_none kept octets false e c = tt
 
   tells_none : (k : ℕ) (e : IndepState) (c : List LinkCall) → NoneRefused (tells plan told me peer k e c)
   tells_none k e c = by_row (slice_get plan.wires k)
     where
-      by_peer : (row : WirePlan) (o : Option ConnectionState) → NoneRefused (tells_by plan told me peer k row o e c)
+      by_peer : (row : WirePlan) (o : Option ConnectionState) → NoneRefused (independent_tells_by plan told me peer k row o e c)
       by_peer row None = tt
       by_peer row (Some kept) = puts_none kept (octets_on plan me row (e.local k) kept.next_id) (told (length c)) e c
 
@@ -56,7 +56,7 @@ module _ (plan : Plan) (told : Answers) (me : ℕ) (peer : EdgeId) where
       by_row None = tt
       by_row (Some row) = by_peer row (e.connection peer.0)
 
-  status_none : (k : ℕ) (s : PwStatus) (e : IndepState) (c : List LinkCall) → NoneRefused (hears_status plan told me peer k s e c)
+  status_none : (k : ℕ) (s : PwStatus) (e : IndepState) (c : List LinkCall) → NoneRefused (independent_hears_status plan told me peer k s e c)
   status_none k s e c = by (is_status_told s (e.local k))
     where
       by : (b : Bool) → NoneRefused (if b then tells plan told me peer k (learns k s e) c else Goes (learns k s e) c)
@@ -76,17 +76,17 @@ module _ (plan : Plan) (told : Answers) (me : ℕ) (peer : EdgeId) where
       by true = of_none s (wire_named plan me peer.0 fec.pw_id) e c
       by false = tt
 
-  message_none : (m : Message) (e : IndepState) (c : List LinkCall) → NoneRefused (hears_message plan told me peer m e c)
+  message_none : (m : Message) (e : IndepState) (c : List LinkCall) → NoneRefused (independent_hears_message plan told me peer m e c)
   message_none (Notification id code s fec) e c = notice_none code.code s fec e c
   message_none m e c = tt
 
-  messages_none : (ms : List Message) (e : IndepState) (c : List LinkCall) → NoneRefused (hears_messages plan told me peer ms e c)
+  messages_none : (ms : List Message) (e : IndepState) (c : List LinkCall) → NoneRefused (independent_hears_messages plan told me peer ms e c)
   messages_none [] e c = tt
-  messages_none (m ∷ ms) e c = then_none (hears_message plan told me peer m e c) (λ e c. hears_messages plan told me peer ms e c) (message_none m e c) (λ e c. messages_none ms e c)
+  messages_none (m ∷ ms) e c = then_none (independent_hears_message plan told me peer m e c) (λ e c. independent_hears_messages plan told me peer ms e c) (message_none m e c) (λ e c. messages_none ms e c)
 
   -- ---- one PDU after another
 
-  pdu_first : (base at : ℕ) (octets rest : List ℕ) (pdu : Pdu) (o : Outcome) → HasFront 4096 octets pdu rest → at ≡ base + (length octets - length rest) → ParsesAs at rest o → ParsesAs base octets o
+  pdu_first : (base at : ℕ) (octets rest : List ℕ) (pdu : Pdu) (o : IndepOutcome) → HasFront 4096 octets pdu rest → at ≡ base + (length octets - length rest) → ParsesAs at rest o → ParsesAs base octets o
   pdu_first base at octets rest pdu (Goes e c) front place is = record {
     pdus = record { base = base; pdu = pdu } ∷ is.pdus;
     at = is.at;
@@ -107,21 +107,21 @@ module _ (plan : Plan) (told : Answers) (me : ℕ) (peer : EdgeId) where
   }
   pdu_first base at octets rest pdu (Stops stop.NoMemory e c) front place is = is
 
-  then_parses : (base : ℕ) (octets : List ℕ) (o : Outcome) (f : IndepState → List LinkCall → Outcome) → NoneRefused o
-      → ((e : IndepState) (c : List LinkCall) → ParsesAs base octets (f e c)) → ParsesAs base octets (and_then o f)
+  then_parses : (base : ℕ) (octets : List ℕ) (o : IndepOutcome) (f : IndepState → List LinkCall → IndepOutcome) → NoneRefused o
+      → ((e : IndepState) (c : List LinkCall) → ParsesAs base octets (f e c)) → ParsesAs base octets (and_works o f)
   then_parses base octets (Goes e c) f none more = more e c
   then_parses base octets (Stops stop.Link e c) f none more = tt
   then_parses base octets (Stops (stop.Refused answer) e c) f none more = absurd none
   then_parses base octets (Stops stop.NoMemory e c) f none more = none
 
   few_parse : (n base : ℕ) (octets : List ℕ) (e : IndepState) (c : List LinkCall) → AreOctets octets → length octets < n → base + length octets < 2 ^ 64
-      → ParsesAs base octets (hears_few plan told me peer n base octets e c)
+      → ParsesAs base octets (independent_hears_few plan told me peer n base octets e c)
   few_parse zero base octets e c are few places = absurd (omega (arith, few))
   few_parse (suc n) base octets e c are few places = by (front_of 4096 octets) refl (λ b r e c a l p. few_parse n b r e c a l p)
     where
       by : (front : Front) → front_of 4096 octets ≡ front
-          → ((b : ℕ) (r : List ℕ) (e : IndepState) (c : List LinkCall) → AreOctets r → length r < n → b + length r < 2 ^ 64 → ParsesAs b r (hears_few plan told me peer n b r e c))
-          → ParsesAs base octets (hears_front plan told me peer (hears_few plan told me peer n) base octets front e c)
+          → ((b : ℕ) (r : List ℕ) (e : IndepState) (c : List LinkCall) → AreOctets r → length r < n → b + length r < 2 ^ 64 → ParsesAs b r (independent_hears_few plan told me peer n b r e c))
+          → ParsesAs base octets (independent_hears_front plan told me peer (independent_hears_few plan told me peer n) base octets front e c)
       by More is again = record {
         pdus = [];
         at = base;
@@ -142,8 +142,8 @@ module _ (plan : Plan) (told : Answers) (me : ℕ) (peer : EdgeId) where
           let behind : AreOctets rest = front_is_read.behind 4096 octets rest pdu are (omega arith) is in
           let place : place_behind base (length octets - length rest) ≡ base + (length octets - length rest) = within_places base (length octets - length rest) (omega (arith, places, less)) in
           let at = place_behind base (length octets - length rest) in
-          then_parses base octets (hears_messages plan told me peer pdu.messages e c) (λ e c. hears_few plan told me peer n at rest e c) (messages_none pdu.messages e c)
-          (λ e c. pdu_first base at octets rest pdu (hears_few plan told me peer n at rest e c) front place (again at rest e c behind (omega (arith, less, few)) (omega (arith, places, less, place))))
+          then_parses base octets (independent_hears_messages plan told me peer pdu.messages e c) (λ e c. independent_hears_few plan told me peer n at rest e c) (messages_none pdu.messages e c)
+          (λ e c. pdu_first base at octets rest pdu (independent_hears_few plan told me peer n at rest e c) front place (again at rest e c behind (omega (arith, less, few)) (omega (arith, places, less, place))))
 
 pub hears_parsed : HearsParsed
 hears_parsed plan told me peer base held octets e c are places =

@@ -18,12 +18,12 @@ use Rattle.status_exchange.specs.declared.wish.Wish.{Wish}
 use Rattle.status_exchange.specs.Wish.{is_same_wish, is_status_told}
 use Rattle.independent_model.specs.declared.indep_stop.IndepStop.{IndepStop}
 use Rattle.independent_model.specs.declared.indep_stop.IndepStop.TheVariants as stop
-use Rattle.independent_model.specs.Calls.{independent_hears, hears_on, sets, tells_other}
-use Rattle.independent_model.specs.Hear.{hears_at, hears_by, hears_few, hears_front, hears_message, hears_messages, hears_notice, hears_of, hears_status, learns}
+use Rattle.independent_model.specs.Calls.{independent_hears, independent_hears_on, sets, tells_other}
+use Rattle.independent_model.specs.Hear.{hears_at, hears_by, independent_hears_few, independent_hears_front, independent_hears_message, independent_hears_messages, hears_notice, hears_of, independent_hears_status, learns}
 use Rattle.independent_model.specs.State.{ConnectionState, Stopped, Receiver, IndepState, Receiving, Broken, fresh_connection, with_connection, with_receiver, with_local}
-use Rattle.independent_model.specs.Tell.{octets_on, puts, tells, tells_by, tells_from, tells_in, tells_place}
+use Rattle.independent_model.specs.Tell.{octets_on, independent_puts, tells, independent_tells_by, tells_from, tells_in, tells_place}
 use Rattle.independent_model.specs.Wires.{is_between, other_end, wire_named}
-use Rattle.independent_model.specs.Work.{Comes, Goes, NeverRefused, Outcome, Stops, and_then}
+use Rattle.independent_model.specs.Work.{Comes, Goes, NeverRefused, IndepOutcome as Outcome, Stops, and_works}
 use Rattle.independent_model.specs.Stops.{AllTaken, CallsEnd, EndsAs, EndsBy, answers_of}
 
 module _ (told : Answers) where
@@ -44,7 +44,7 @@ module _ (told : Answers) where
   done_ends e c = (omega arith, none_taken (length c))
 
   then_ends : (from : ℕ) (o : Outcome) (f : IndepState → List LinkCall → Outcome) → EndsAs told from o → ((e : IndepState) (c : List LinkCall) → EndsAs told (length c) (f e c))
-      → EndsAs told from (and_then o f)
+      → EndsAs told from (and_works o f)
   then_ends from (Goes e c) f is more = earlier from (length c) (f e c) is.0 is.1 (more e c)
   then_ends from (Stops why e c) f is more = is
 
@@ -54,10 +54,10 @@ module _ (told : Answers) where
   one_taken : (n m : ℕ) → m ≡ n + 1 → told n ≡ true → AllTaken told n m
   one_taken n m is taken k least less = let same : k ≡ n = omega (arith, is, least, less) in ap told same ∙ taken
 
-  puts_end : (peer : EdgeId) (kept : ConnectionState) (octets : List ℕ) (e : IndepState) (c : List LinkCall) → EndsAs told (length c) (puts peer kept octets (told (length c)) e c)
+  puts_end : (peer : EdgeId) (kept : ConnectionState) (octets : List ℕ) (e : IndepState) (c : List LinkCall) → EndsAs told (length c) (independent_puts peer kept octets (told (length c)) e c)
   puts_end peer kept octets e c = by (told (length c)) refl
     where
-      by : (b : Bool) → told (length c) ≡ b → EndsAs told (length c) (puts peer kept octets b e c)
+      by : (b : Bool) → told (length c) ≡ b → EndsAs told (length c) (independent_puts peer kept octets b e c)
       by true is =
           let long : length (c ++ call_of peer false octets true ∷ []) ≡ length c + 1 = one_more c (call_of peer false octets true) in
           (omega (arith, long), one_taken (length c) (length (c ++ call_of peer false octets true ∷ [])) long is)
@@ -67,7 +67,7 @@ module _ (told : Answers) where
     tells_end : (k : ℕ) (e : IndepState) (c : List LinkCall) → EndsAs told (length c) (tells plan told me peer k e c)
     tells_end k e c = by_row (slice_get plan.wires k)
       where
-        by_peer : (row : WirePlan) (o : Option ConnectionState) → EndsAs told (length c) (tells_by plan told me peer k row o e c)
+        by_peer : (row : WirePlan) (o : Option ConnectionState) → EndsAs told (length c) (independent_tells_by plan told me peer k row o e c)
         by_peer row None = done_ends e c
         by_peer row (Some kept) = puts_end peer kept (octets_on plan me row (e.local k) kept.next_id) e c
 
@@ -86,7 +86,7 @@ module _ (told : Answers) where
     from_ends k zero e c = done_ends e c
     from_ends k (suc n) e c = then_ends (length c) (tells_place plan told me peer k e c) (λ e c. tells_from plan told me peer (k + 1) n e c) (place_ends k e c) (λ e c. from_ends (k + 1) n e c)
 
-    status_ends : (k : ℕ) (s : PwStatus) (e : IndepState) (c : List LinkCall) → EndsAs told (length c) (hears_status plan told me peer k s e c)
+    status_ends : (k : ℕ) (s : PwStatus) (e : IndepState) (c : List LinkCall) → EndsAs told (length c) (independent_hears_status plan told me peer k s e c)
     status_ends k s e c = by (is_status_told s (e.local k))
       where
         by : (b : Bool) → EndsAs told (length c) (if b then tells plan told me peer k (learns k s e) c else Goes (learns k s e) c)
@@ -106,23 +106,23 @@ module _ (told : Answers) where
         by true = of_ends s (wire_named plan me peer.0 fec.pw_id) e c
         by false = done_ends e c
 
-    message_ends : (m : Message) (e : IndepState) (c : List LinkCall) → EndsAs told (length c) (hears_message plan told me peer m e c)
+    message_ends : (m : Message) (e : IndepState) (c : List LinkCall) → EndsAs told (length c) (independent_hears_message plan told me peer m e c)
     message_ends (Notification id code s fec) e c = notice_ends code.code s fec e c
     message_ends m e c = done_ends e c
 
-    messages_end : (ms : List Message) (e : IndepState) (c : List LinkCall) → EndsAs told (length c) (hears_messages plan told me peer ms e c)
+    messages_end : (ms : List Message) (e : IndepState) (c : List LinkCall) → EndsAs told (length c) (independent_hears_messages plan told me peer ms e c)
     messages_end [] e c = done_ends e c
-    messages_end (m ∷ ms) e c = then_ends (length c) (hears_message plan told me peer m e c) (λ e c. hears_messages plan told me peer ms e c) (message_ends m e c) (λ e c. messages_end ms e c)
+    messages_end (m ∷ ms) e c = then_ends (length c) (independent_hears_message plan told me peer m e c) (λ e c. independent_hears_messages plan told me peer ms e c) (message_ends m e c) (λ e c. messages_end ms e c)
 
-    few_end : (n base : ℕ) (held : List ℕ) (e : IndepState) (c : List LinkCall) → EndsAs told (length c) (hears_few plan told me peer n base held e c)
+    few_end : (n base : ℕ) (held : List ℕ) (e : IndepState) (c : List LinkCall) → EndsAs told (length c) (independent_hears_few plan told me peer n base held e c)
     few_end zero base held e c = done_ends (with_receiver peer.0 (Receiving base held) e) c
     few_end (suc n) base held e c = by (front_of 4096 held) (λ b r e c. few_end n b r e c)
       where
-        by : (front : Front) → ((b : ℕ) (r : List ℕ) (e : IndepState) (c : List LinkCall) → EndsAs told (length c) (hears_few plan told me peer n b r e c))
-            → EndsAs told (length c) (hears_front plan told me peer (hears_few plan told me peer n) base held front e c)
+        by : (front : Front) → ((b : ℕ) (r : List ℕ) (e : IndepState) (c : List LinkCall) → EndsAs told (length c) (independent_hears_few plan told me peer n b r e c))
+            → EndsAs told (length c) (independent_hears_front plan told me peer (independent_hears_few plan told me peer n) base held front e c)
         by More again = done_ends (with_receiver peer.0 (Receiving base held) e) c
-        by (Got pdu rest) again = then_ends (length c) (hears_messages plan told me peer pdu.messages e c)
-            (λ e c. hears_few plan told me peer n (place_behind base (length held - length rest)) rest e c)
+        by (Got pdu rest) again = then_ends (length c) (independent_hears_messages plan told me peer pdu.messages e c)
+            (λ e c. independent_hears_few plan told me peer n (place_behind base (length held - length rest)) rest e c)
             (messages_end pdu.messages e c) (λ e c. again (place_behind base (length held - length rest)) rest e c)
         by (Bad wrong) again = (omega arith, none_taken (length c))
 
@@ -134,7 +134,7 @@ module _ (told : Answers) where
         by_receiver (Broken base wrong) = (omega arith, none_taken (length c))
         by_receiver Stopped = done_ends e c
 
-        by : (o : Option ConnectionState) → EndsAs told (length c) (hears_on plan told me peer octets o e c)
+        by : (o : Option ConnectionState) → EndsAs told (length c) (independent_hears_on plan told me peer octets o e c)
         by None = done_ends e c
         by (Some kept) = by_receiver kept.receiver
 

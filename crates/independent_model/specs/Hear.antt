@@ -19,7 +19,7 @@ use Rattle.independent_model.specs.declared.indep_stop.IndepStop.TheVariants as 
 use Rattle.independent_model.specs.State.{Stopped, Receiver, IndepState, Receiving, Broken, with_receiver, with_local, with_remote}
 use Rattle.independent_model.specs.Tell.{tells}
 use Rattle.independent_model.specs.Wires.{wire_named}
-use Rattle.independent_model.specs.Work.{Goes, Outcome, Stops, and_then}
+use Rattle.independent_model.specs.Work.{Goes, IndepOutcome, Stops, and_works}
 
 -- ---- a message
 
@@ -32,50 +32,50 @@ learns wire status edge = with_local wire (becomes status (edge.local wire)) (wi
 -- 2. where the other end asks for a switchover, an end that stands by is active (`yields`);
 -- 3. where the other end does not stand by, an end that asks is active, and asks no more (`rests`, both by `becomes`);
 -- 4. where the end was asked, or was changed by 2 or 3, what it calls the wire is told once (`is_told`).
-abbrev pub hears_status : Plan → Answers → ℕ → EdgeId → ℕ → PwStatus → IndepState → List LinkCall → Outcome
-hears_status plan told me peer wire status edge calls =
+abbrev pub independent_hears_status : Plan → Answers → ℕ → EdgeId → ℕ → PwStatus → IndepState → List LinkCall → IndepOutcome
+independent_hears_status plan told me peer wire status edge calls =
     if is_status_told status (edge.local wire) then tells plan told me peer wire (learns wire status edge) calls else Goes (learns wire status edge) calls
 
-abbrev pub hears_of : Plan → Answers → ℕ → EdgeId → PwStatus → Option ℕ → IndepState → List LinkCall → Outcome
+abbrev pub hears_of : Plan → Answers → ℕ → EdgeId → PwStatus → Option ℕ → IndepState → List LinkCall → IndepOutcome
 hears_of plan told me peer status None edge calls = Goes edge calls
-hears_of plan told me peer status (Some wire) edge calls = hears_status plan told me peer wire status edge calls
+hears_of plan told me peer status (Some wire) edge calls = independent_hears_status plan told me peer wire status edge calls
 
 -- a status Notification: of these status data, with a status, and with a FEC that names a wire with the peer
-abbrev pub hears_notice : Plan → Answers → ℕ → EdgeId → ℕ → Option PwStatus → Option PwFec → IndepState → List LinkCall → Outcome
+abbrev pub hears_notice : Plan → Answers → ℕ → EdgeId → ℕ → Option PwStatus → Option PwFec → IndepState → List LinkCall → IndepOutcome
 hears_notice plan told me peer code None fec edge calls = Goes edge calls
 hears_notice plan told me peer code (Some status) None edge calls = Goes edge calls
 hears_notice plan told me peer code (Some status) (Some fec) edge calls =
     if code == pw_status_code then hears_of plan told me peer status (wire_named plan me peer.0 fec.pw_id) edge calls else Goes edge calls
 
 -- all other messages are ignored
-abbrev pub hears_message : Plan → Answers → ℕ → EdgeId → Message → IndepState → List LinkCall → Outcome
-hears_message plan told me peer (Notification id code status fec) edge calls = hears_notice plan told me peer code.code status fec edge calls
-hears_message plan told me peer message edge calls = Goes edge calls
+abbrev pub independent_hears_message : Plan → Answers → ℕ → EdgeId → Message → IndepState → List LinkCall → IndepOutcome
+independent_hears_message plan told me peer (Notification id code status fec) edge calls = hears_notice plan told me peer code.code status fec edge calls
+independent_hears_message plan told me peer message edge calls = Goes edge calls
 
-abbrev pub hears_messages : Plan → Answers → ℕ → EdgeId → List Message → IndepState → List LinkCall → Outcome
-hears_messages plan told me peer [] edge calls = Goes edge calls
-hears_messages plan told me peer (message ∷ messages) edge calls = and_then (hears_message plan told me peer message edge calls) (λ e c. hears_messages plan told me peer messages e c)
+abbrev pub independent_hears_messages : Plan → Answers → ℕ → EdgeId → List Message → IndepState → List LinkCall → IndepOutcome
+independent_hears_messages plan told me peer [] edge calls = Goes edge calls
+independent_hears_messages plan told me peer (message ∷ messages) edge calls = and_works (independent_hears_message plan told me peer message edge calls) (λ e c. independent_hears_messages plan told me peer messages e c)
 
 -- ---- octets
 
 -- what stands in front of octets is heard, and the octets behind a PDU go on
-abbrev pub hears_front : Plan → Answers → ℕ → EdgeId → (ℕ → List ℕ → IndepState → List LinkCall → Outcome) → ℕ → List ℕ → Front → IndepState → List LinkCall → Outcome
-hears_front plan told me peer on base held More edge calls = Goes (with_receiver peer.0 (Receiving base held) edge) calls
-hears_front plan told me peer on base held (Got pdu rest) edge calls =
-    and_then (hears_messages plan told me peer pdu.messages edge calls) (λ e c. on (place_behind base (length held - length rest)) rest e c)
-hears_front plan told me peer on base held (Bad wrong) edge calls = Stops (stop.Refused (fault.Refused base (refusal_of wrong))) (with_receiver peer.0 (Broken base wrong) edge) calls
+abbrev pub independent_hears_front : Plan → Answers → ℕ → EdgeId → (ℕ → List ℕ → IndepState → List LinkCall → IndepOutcome) → ℕ → List ℕ → Front → IndepState → List LinkCall → IndepOutcome
+independent_hears_front plan told me peer on base held More edge calls = Goes (with_receiver peer.0 (Receiving base held) edge) calls
+independent_hears_front plan told me peer on base held (Got pdu rest) edge calls =
+    and_works (independent_hears_messages plan told me peer pdu.messages edge calls) (λ e c. on (place_behind base (length held - length rest)) rest e c)
+independent_hears_front plan told me peer on base held (Bad wrong) edge calls = Stops (stop.Refused (fault.Refused base (refusal_of wrong))) (with_receiver peer.0 (Broken base wrong) edge) calls
 
 -- so many PDUs at most
-abbrev pub hears_few : Plan → Answers → ℕ → EdgeId → ℕ → ℕ → List ℕ → IndepState → List LinkCall → Outcome
-hears_few plan told me peer zero base held edge calls = Goes (with_receiver peer.0 (Receiving base held) edge) calls
-hears_few plan told me peer (suc n) base held edge calls = hears_front plan told me peer (hears_few plan told me peer n) base held (front_of 4096 held) edge calls
+abbrev pub independent_hears_few : Plan → Answers → ℕ → EdgeId → ℕ → ℕ → List ℕ → IndepState → List LinkCall → IndepOutcome
+independent_hears_few plan told me peer zero base held edge calls = Goes (with_receiver peer.0 (Receiving base held) edge) calls
+independent_hears_few plan told me peer (suc n) base held edge calls = independent_hears_front plan told me peer (independent_hears_few plan told me peer n) base held (front_of 4096 held) edge calls
 
 -- all of them: a PDU has octets, so there are no more PDUs than octets
-abbrev pub hears_all : Plan → Answers → ℕ → EdgeId → ℕ → List ℕ → IndepState → List LinkCall → Outcome
-hears_all plan told me peer base held edge calls = hears_few plan told me peer (suc (length held)) base held edge calls
+abbrev pub hears_all : Plan → Answers → ℕ → EdgeId → ℕ → List ℕ → IndepState → List LinkCall → IndepOutcome
+hears_all plan told me peer base held edge calls = independent_hears_few plan told me peer (suc (length held)) base held edge calls
 
 -- by what the edge hears the peer with; it is taken up while it hears, so that nothing is left where a message is refused
-abbrev pub hears_by : Plan → Answers → ℕ → EdgeId → List ℕ → Receiver → IndepState → List LinkCall → Outcome
+abbrev pub hears_by : Plan → Answers → ℕ → EdgeId → List ℕ → Receiver → IndepState → List LinkCall → IndepOutcome
 hears_by plan told me peer octets (Receiving base held) edge calls = hears_all plan told me peer base (held ++ octets) (with_receiver peer.0 Stopped edge) calls
 hears_by plan told me peer octets (Broken base wrong) edge calls = Stops (stop.Refused (fault.Refused base (refusal_of wrong))) edge calls
 hears_by plan told me peer octets Stopped edge calls = Goes edge calls
@@ -83,7 +83,7 @@ hears_by plan told me peer octets Stopped edge calls = Goes edge calls
 -- ---- in parts
 
 -- what comes of octets behind those that are held
-abbrev pub hears_at : Plan → Answers → ℕ → EdgeId → Receiver → List ℕ → IndepState → List LinkCall → Outcome
+abbrev pub hears_at : Plan → Answers → ℕ → EdgeId → Receiver → List ℕ → IndepState → List LinkCall → IndepOutcome
 hears_at plan told me peer (Receiving base held) more edge calls = hears_all plan told me peer base (held ++ more) edge calls
 hears_at plan told me peer (Broken base wrong) more edge calls = Stops (stop.Refused (fault.Refused base (refusal_of wrong))) (with_receiver peer.0 (Broken base wrong) edge) calls
 hears_at plan told me peer Stopped more edge calls = Goes edge calls

@@ -5,7 +5,7 @@ use Rattle.pw_tlvs.specs.declared.pw_status.PwStatus.{PwStatus}
 use Rattle.pw_messages.specs.Sender.{following}
 use Rattle.status_exchange.specs.declared.wish.Wish.{Wish}
 use Rattle.status_exchange.specs.declared.wish.Wish.TheVariants.{Standby}
-use Rattle.status_exchange.specs.Exchange.{EdgeStatuses, at}
+use Rattle.status_exchange.specs.Exchange.{EdgeStatuses, put_at_place}
 
 -- What an edge hears a peer with: the octets that are no whole PDU yet, and the place in the stream of the first of them; or the place
 -- and the fault that was answered; or nothing any more, where it was refused what it had to tell while it heard.
@@ -36,13 +36,13 @@ first_state = record { local = λ wire. Standby; remote = λ wire. None; connect
 -- ---- changes
 
 unfoldable pub with_local : ℕ → Wish → IndepState → IndepState
-with_local wire wish edge = record edge { local = at wire wish edge.local }
+with_local wire wish edge = record edge { local = put_at_place wire wish edge.local }
 
 unfoldable pub with_remote : ℕ → Option PwStatus → IndepState → IndepState
-with_remote wire status edge = record edge { remote = at wire status edge.remote }
+with_remote wire status edge = record edge { remote = put_at_place wire status edge.remote }
 
 unfoldable pub with_connection : ℕ → Option ConnectionState → IndepState → IndepState
-with_connection peer kept edge = record edge { connection = at peer kept edge.connection }
+with_connection peer kept edge = record edge { connection = put_at_place peer kept edge.connection }
 
 -- the remote statuses of some wires go
 unfoldable pub without_remotes : (ℕ → Bool) → IndepState → IndepState
@@ -65,5 +65,5 @@ abbrev pub statuses_of : IndepState → EdgeStatuses
 statuses_of edge = record { local = edge.local; remote = edge.remote; next = λ peer. option_map id_next (edge.connection peer) }
 
 -- a message was put: the next one has the next number
-abbrev pub spoken : ConnectionState → ConnectionState
-spoken kept = record kept { next_id = following kept.next_id }
+abbrev pub spoken_once : ConnectionState → ConnectionState
+spoken_once kept = record kept { next_id = following kept.next_id }

@@ -16,7 +16,7 @@ use Rattle.independent_model.specs.declared.indep_stop.IndepStop.TheVariants as 
 use Rattle.independent_model.specs.Calls.{independent_connects, independent_hears, sets}
 use Rattle.independent_model.specs.Hear.{hears_by}
 use Rattle.independent_model.specs.State.{IndepState, Receiving}
-use Rattle.independent_model.specs.Work.{Goes, Outcome, Stops}
+use Rattle.independent_model.specs.Work.{Goes, IndepOutcome, Stops}
 
 -- of the calls from one number on up to another one each was taken
 abbrev pub AllTaken : Answers → ℕ → ℕ → Type 0
@@ -31,7 +31,7 @@ pub record LastFailed (told : Answers) (from to : ℕ) : Type 0 where
   pub failed : told last ≡ false
 
 -- `Link` comes exactly where a put has failed, which is then the last one; else all were taken
-abbrev pub EndsAs : Answers → ℕ → Outcome → Type 0
+abbrev pub EndsAs : Answers → ℕ → IndepOutcome → Type 0
 EndsAs told from (Goes edge calls) = (from ≤ length calls) × AllTaken told from (length calls)
 EndsAs told from (Stops stop.Link edge calls) = LastFailed told from (length calls)
 EndsAs told from (Stops (stop.Refused fault) edge calls) = (from ≤ length calls) × AllTaken told from (length calls)
@@ -73,7 +73,7 @@ pub record IsFaulty (base : ℕ) (octets : List ℕ) (answer : StreamFault) : Ty
   pub parsed : IsParsedFrom base 4096 octets pdus (Refused at wrong)
   pub is : answer ≡ fault.Refused at (refusal_of wrong)
 
-abbrev pub ParsesAs : ℕ → List ℕ → Outcome → Type 0
+abbrev pub ParsesAs : ℕ → List ℕ → IndepOutcome → Type 0
 ParsesAs base octets (Goes edge calls) = IsPendingFrom base octets
 ParsesAs base octets (Stops stop.Link edge calls) = Unit {0}
 ParsesAs base octets (Stops (stop.Refused answer) edge calls) = IsFaulty base octets answer

@@ -15,9 +15,9 @@ use Rattle.pw_messages.specs.Sender.{platform_of}
 use Rattle.status_exchange.specs.declared.wish.Wish.{Wish}
 use Rattle.status_exchange.specs.Wish.{status_of}
 use Rattle.independent_model.specs.declared.indep_stop.IndepStop.TheVariants as stop
-use Rattle.independent_model.specs.State.{ConnectionState, IndepState, spoken, with_connection}
+use Rattle.independent_model.specs.State.{ConnectionState, IndepState, spoken_once, with_connection}
 use Rattle.independent_model.specs.Wires.{is_between}
-use Rattle.independent_model.specs.Work.{Goes, Outcome, Stops, and_then}
+use Rattle.independent_model.specs.Work.{Goes, IndepOutcome, Stops, and_works}
 
 -- ---- the message
 
@@ -36,30 +36,30 @@ octets_on plan me row wish id = octets_by (slice_get plan.edges me) (notificatio
 -- ---- it is told
 
 -- the octets are put: the next message has the next number where the link takes them, and else nothing more is put
-abbrev pub puts : EdgeId → ConnectionState → List ℕ → Bool → IndepState → List LinkCall → Outcome
-puts peer kept octets true edge calls = Goes (with_connection peer.0 (Some (spoken kept)) edge) (calls ++ call_of peer false octets true ∷ [])
-puts peer kept octets false edge calls = Stops stop.Link edge (calls ++ call_of peer false octets false ∷ [])
+abbrev pub independent_puts : EdgeId → ConnectionState → List ℕ → Bool → IndepState → List LinkCall → IndepOutcome
+independent_puts peer kept octets true edge calls = Goes (with_connection peer.0 (Some (spoken_once kept)) edge) (calls ++ call_of peer false octets true ∷ [])
+independent_puts peer kept octets false edge calls = Stops stop.Link edge (calls ++ call_of peer false octets false ∷ [])
 
-abbrev pub tells_by : Plan → Answers → ℕ → EdgeId → ℕ → WirePlan → Option ConnectionState → IndepState → List LinkCall → Outcome
-tells_by plan told me peer wire row None edge calls = Goes edge calls
-tells_by plan told me peer wire row (Some kept) edge calls = puts peer kept (octets_on plan me row (edge.local wire) kept.next_id) (told (length calls)) edge calls
+abbrev pub independent_tells_by : Plan → Answers → ℕ → EdgeId → ℕ → WirePlan → Option ConnectionState → IndepState → List LinkCall → IndepOutcome
+independent_tells_by plan told me peer wire row None edge calls = Goes edge calls
+independent_tells_by plan told me peer wire row (Some kept) edge calls = independent_puts peer kept (octets_on plan me row (edge.local wire) kept.next_id) (told (length calls)) edge calls
 
 -- what the edge calls a wire is told to the peer, where it is connected
-abbrev pub tells_row : Plan → Answers → ℕ → EdgeId → ℕ → WirePlan → IndepState → List LinkCall → Outcome
-tells_row plan told me peer wire row edge calls = tells_by plan told me peer wire row (edge.connection peer.0) edge calls
+abbrev pub tells_row : Plan → Answers → ℕ → EdgeId → ℕ → WirePlan → IndepState → List LinkCall → IndepOutcome
+tells_row plan told me peer wire row edge calls = independent_tells_by plan told me peer wire row (edge.connection peer.0) edge calls
 
-abbrev pub tells_in : Plan → Answers → ℕ → EdgeId → ℕ → Option WirePlan → IndepState → List LinkCall → Outcome
+abbrev pub tells_in : Plan → Answers → ℕ → EdgeId → ℕ → Option WirePlan → IndepState → List LinkCall → IndepOutcome
 tells_in plan told me peer wire None edge calls = Goes edge calls
 tells_in plan told me peer wire (Some row) edge calls = tells_row plan told me peer wire row edge calls
 
-abbrev pub tells : Plan → Answers → ℕ → EdgeId → ℕ → IndepState → List LinkCall → Outcome
+abbrev pub tells : Plan → Answers → ℕ → EdgeId → ℕ → IndepState → List LinkCall → IndepOutcome
 tells plan told me peer wire edge calls = tells_in plan told me peer wire (slice_get plan.wires wire) edge calls
 
 -- a wire is told where it joins the two edges
-abbrev pub tells_place : Plan → Answers → ℕ → EdgeId → ℕ → IndepState → List LinkCall → Outcome
+abbrev pub tells_place : Plan → Answers → ℕ → EdgeId → ℕ → IndepState → List LinkCall → IndepOutcome
 tells_place plan told me peer wire edge calls = if is_between plan wire me peer.0 then tells plan told me peer wire edge calls else Goes edge calls
 
 -- so many wires, from this one on
-abbrev pub tells_from : Plan → Answers → ℕ → EdgeId → ℕ → ℕ → IndepState → List LinkCall → Outcome
+abbrev pub tells_from : Plan → Answers → ℕ → EdgeId → ℕ → ℕ → IndepState → List LinkCall → IndepOutcome
 tells_from plan told me peer wire zero edge calls = Goes edge calls
-tells_from plan told me peer wire (suc n) edge calls = and_then (tells_place plan told me peer wire edge calls) (λ e c. tells_from plan told me peer (wire + 1) n e c)
+tells_from plan told me peer wire (suc n) edge calls = and_works (tells_place plan told me peer wire edge calls) (λ e c. tells_from plan told me peer (wire + 1) n e c)

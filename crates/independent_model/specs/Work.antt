@@ -9,14 +9,14 @@ use Rattle.independent_model.specs.State.{IndepState}
 
 -- What became of it: the edge, and the calls of the link, those of earlier calls among them. It goes on, or has stopped and does
 -- nothing more.
-pub data Outcome : Type 0 where
-  Goes : (edge : IndepState) (calls : List LinkCall) → Outcome
-  Stops : (why : IndepStop) (edge : IndepState) (calls : List LinkCall) → Outcome
+pub data IndepOutcome : Type 0 where
+  Goes : (edge : IndepState) (calls : List LinkCall) → IndepOutcome
+  Stops : (why : IndepStop) (edge : IndepState) (calls : List LinkCall) → IndepOutcome
 
 -- more is done where it goes on
-abbrev pub and_then : Outcome → (IndepState → List LinkCall → Outcome) → Outcome
-and_then (Goes edge calls) more = more edge calls
-and_then (Stops why edge calls) more = Stops why edge calls
+abbrev pub and_works : IndepOutcome → (IndepState → List LinkCall → IndepOutcome) → IndepOutcome
+and_works (Goes edge calls) more = more edge calls
+and_works (Stops why edge calls) more = Stops why edge calls
 
 -- ---- what contracts say
 
@@ -26,7 +26,7 @@ pub record CallsGoOn (old new : List LinkCall) : Type 0 where
   pub same : (k : ℕ) (d : LinkCall) → k < length old → slice_index_or new k d ≡ slice_index_or old k d
 
 -- This is the outcome, by what a call has answered. After want of memory nothing is said of it.
-abbrev pub Comes : {T : Type 0} → Result T IndepStop → IndepState → List LinkCall → Outcome → Type 0
+abbrev pub Comes : {T : Type 0} → Result T IndepStop → IndepState → List LinkCall → IndepOutcome → Type 0
 Comes (Ok done) edge calls outcome = outcome ≡ Goes edge calls
 Comes (Err stop.Link) edge calls outcome = outcome ≡ Stops stop.Link edge calls
 Comes (Err (stop.Refused fault)) edge calls outcome = outcome ≡ Stops (stop.Refused fault) edge calls

@@ -57,7 +57,7 @@ impl FieldSet {
     pub fn contains(&self, field: Field) -> bool
         ensures { result ≡ has self.now field }
     {
-        self.places[place_of_field(field)]
+        self.places[place_of(field)]
     }
 
     /// Puts a field into the set.
@@ -66,7 +66,7 @@ impl FieldSet {
         ensures it { has self.new field ≡ true }
         ensures kept { (other : FieldOf) → has self.new other ≡ false → has self.old other ≡ false }
     {
-        let place = place_of_field(field);
+        let place = place_of(field);
         self.places[place] = true;
     }
 }

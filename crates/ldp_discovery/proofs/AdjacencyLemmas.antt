@@ -5,8 +5,8 @@ use Rattle.std.proofs.lemmas.Bool.Decides.{nat_tests}
 use Rattle.std.proofs.lemmas.List.{get_or-set_same, get_or-set_other, length-set, length-map}
 use Rattle.net_values.proofs.RowLemmas.{edited_next, edited_length}
 use Rattle.ldp_discovery.specs.declared.adjacency.Adjacency.{Adjacency}
-use Rattle.ldp_discovery.specs.Adjacencies.{AdjacencyLists, DeedsAreKept, IsAfter, after, id_after, known_of}
-use Rattle.ldp_discovery.specs.Live.{Deed, said, heard, ticked, AreHolds, aged, is_live, live, proposed, refreshed, unknown}
+use Rattle.ldp_discovery.specs.Adjacencies.{AdjacencyLists, DeedsAreKept, IsAfter, adjacencies_after, id_after, known_of}
+use Rattle.ldp_discovery.specs.Live.{Deed, said, heard, ticked, AreHolds, adjacency_aged, is_adjacency_live, live, hold_proposed, refreshed, unknown}
 use Rattle.ldp_discovery.proofs.LiveLemmas.{stands}
 
 -- ---- a list whose items are changed one by one
@@ -14,11 +14,11 @@ use Rattle.ldp_discovery.proofs.LiveLemmas.{stands}
 -- one item more
 pub each_next : {X : Type 0} (f : X → X) (xs now : List X) (i : ℕ) (d y : X) → now ≡ map f (take i xs) ++ drop i xs → i < length now → y ≡ f (get_or now i d)
     → set now i y ≡ map f (take (i + 1) xs) ++ drop (i + 1) xs
-each_next {X = X} f xs now i d y so_far within after =
+each_next {X = X} f xs now i d y so_far within adjacencies_after =
     let parts : length (map f (take i xs) ++ drop i xs) ≡ length xs = edited_length f xs i in
     let below : i < length xs = omega (arith, ap length so_far) in
     let next : suc i ≡ i + 1 = omega arith in
-    ap (λ (v : X). set now i v) after
+    ap (λ (v : X). set now i v) adjacencies_after
     ∙ (ap (λ (l : List X). set l i (f (get_or l i d))) so_far
     ∙ (edited_next f xs i d below
     ∙ ap (λ (n : ℕ). map f (take n xs) ++ drop n xs) next))
@@ -43,14 +43,14 @@ changed xs place peer f within = elim (cases_Bool (nat_eq place peer)) [
 ]
 
 -- what is kept of a peer tells whether the adjacency lives
-pub lives_is : (history : List Deed) (a : AdjacencyLists) (peer : ℕ) → AreHolds history → IsAfter history a → peer < length a.known → is_live (known_of a peer) ≡ live peer history
-lives_is history a peer are is within = ap is_live (is.peers peer within) ∙ stands peer history are
+pub lives_is : (history : List Deed) (a : AdjacencyLists) (peer : ℕ) → AreHolds history → IsAfter history a → peer < length a.known → is_adjacency_live (known_of a peer) ≡ live peer history
+lives_is history a peer are is within = ap is_adjacency_live (is.peers peer within) ∙ stands peer history are
 
 pub deeds_kept : DeedsAreKept
 deeds_kept (said to hold) history a is = record {
   peers = λ peer within.
-      let there : peer < length a.known = omega (arith, within, length-set a.known to (proposed hold (known_of a to))) in
-      changed a.known to peer (proposed hold) there ∙ ap (λ (k : Adjacency). if to == peer then proposed hold k else k) (is.peers peer there);
+      let there : peer < length a.known = omega (arith, within, length-set a.known to (hold_proposed hold (known_of a to))) in
+      changed a.known to peer (hold_proposed hold) there ∙ ap (λ (k : Adjacency). if to == peer then hold_proposed hold k else k) (is.peers peer there);
   numbered = ap id_after is.numbered;
 }
 deeds_kept (heard from hold) history a is = record {
@@ -61,7 +61,7 @@ deeds_kept (heard from hold) history a is = record {
 }
 deeds_kept ticked history a is = record {
   peers = λ peer within.
-      let there : peer < length a.known = omega (arith, within, length-map a.known aged) in
-      mapped aged a.known peer unknown there ∙ ap aged (is.peers peer there);
+      let there : peer < length a.known = omega (arith, within, length-map a.known adjacency_aged) in
+      mapped adjacency_aged a.known peer unknown there ∙ ap adjacency_aged (is.peers peer there);
   numbered = is.numbered;
 }

@@ -10,7 +10,7 @@ use Rattle.ldp_discovery.specs.declared.heard.Heard.TheVariants.{Fresh, Ignored}
 use Rattle.ldp_discovery.specs.declared.heard.HelloFault.{HelloFault}
 use Rattle.ldp_discovery.specs.declared.neighbour.Neighbour.{Neighbour}
 use Rattle.ldp_discovery.specs.Hellos.{Says}
-use Rattle.ldp_discovery.specs.Live.{Deed, said, heard, ticked, aged, is_live, kept, live, proposed, refreshed, unknown, AreHolds}
+use Rattle.ldp_discovery.specs.Live.{Deed, said, heard, ticked, adjacency_aged, is_adjacency_live, kept, live, hold_proposed, refreshed, unknown, AreHolds}
 
 -- by the plan's places: what the plan says of each edge, and what is kept of it
 pub record AdjacencyLists : Type 0 where
@@ -44,14 +44,14 @@ id_after id = (id + 1) % 2 ^ 32
 
 -- ---- what becomes of them
 
-abbrev pub after : Deed → AdjacencyLists → AdjacencyLists
-after (said peer hold) a = record a { next_id = id_after a.next_id; known = slice_set a.known peer (proposed hold (known_of a peer)) }
-after (heard peer hold) a = record a { known = slice_set a.known peer (refreshed hold (known_of a peer)) }
-after ticked a = record a { known = map aged a.known }
+abbrev pub adjacencies_after : Deed → AdjacencyLists → AdjacencyLists
+adjacencies_after (said peer hold) a = record a { next_id = id_after a.next_id; known = slice_set a.known peer (hold_proposed hold (known_of a peer)) }
+adjacencies_after (heard peer hold) a = record a { known = slice_set a.known peer (refreshed hold (known_of a peer)) }
+adjacencies_after ticked a = record a { known = map adjacency_aged a.known }
 
 -- an adjacency lives, and does not any more a tick later
 abbrev pub lapses : Adjacency → Bool
-lapses adjacency = is_live adjacency && not (is_live (aged adjacency))
+lapses adjacency = is_adjacency_live adjacency && not (is_adjacency_live (adjacency_aged adjacency))
 
 -- octets that are heard of an edge of the plan are a Hello of it with this hold time, or are none
 abbrev pub SaysFrom : AdjacencyLists → ℕ → List ℕ → Result ℕ HelloFault → Type 0
@@ -61,7 +61,7 @@ SaysFrom a from octets verdict = IfSome (slice_get a.neighbours from) (λ neighb
 pub record IsFresh (old now : AdjacencyLists) (from : ℕ) (octets : List ℕ) : Type 0 where
   pub hold : ℕ
   pub says : SaysFrom old from octets (Ok hold)
-  pub kept : now ≡ after (heard from hold) old
+  pub kept : now ≡ adjacencies_after (heard from hold) old
 
 -- what came of octets that were heard: what is no Hello changes nothing
 abbrev pub Hears : AdjacencyLists → ℕ → List ℕ → Heard → AdjacencyLists → Type 0
@@ -84,4 +84,4 @@ pub record IsAfter (history : List Deed) (a : AdjacencyLists) : Type 0 where
 
 -- so it stays with each further deed
 abbrev pub DeedsAreKept : Type 0
-DeedsAreKept = (deed : Deed) (history : List Deed) (a : AdjacencyLists) → IsAfter history a → IsAfter (deed ∷ history) (after deed a)
+DeedsAreKept = (deed : Deed) (history : List Deed) (a : AdjacencyLists) → IsAfter history a → IsAfter (deed ∷ history) (adjacencies_after deed a)

@@ -25,16 +25,16 @@ hello_of address id hold = message.Hello id hold true true (Some address)
 abbrev pub hello_octets : Addr → ℕ → ℕ → List ℕ
 hello_octets address id hold = written (hello_of address id hold) (identifier address)
 
-abbrev pub is_address : Addr → Addr → Bool
-is_address a b = bytes_eq a.0 b.0
+abbrev pub are_same_address : Addr → Addr → Bool
+are_same_address a b = bytes_eq a.0 b.0
 
 -- the transport address is this one, where it is told
 abbrev pub tells_address : Addr → Option Addr → Bool
 tells_address address None = true
-tells_address address (Some told) = is_address told address
+tells_address address (Some told) = are_same_address told address
 
 abbrev pub is_sender : Addr → LdpId → Option Addr → Bool
-is_sender address id transport = (is_address id.router address && id.space == 0) && tells_address address transport
+is_sender address id transport = (are_same_address id.router address && id.space == 0) && tells_address address transport
 
 -- the hold time of a Hello of the peer with this address, or why the message is none
 abbrev pub hold_in_message : Addr → LdpId → Message → Result ℕ HelloFault

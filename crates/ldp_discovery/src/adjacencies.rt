@@ -2,9 +2,9 @@
 ghost use Rattle.std.specs.Prelude.{◌≡◌, ◌≤◌, ◌<◌, ◌++◌, ℕ, List, [], Some, length, drop, map, slice_get, slice_index_or, slice_set, false, IfOk, OnErr};
 ghost use Rattle.net_base.specs.plan.Accepted.{IsChecked};
 ghost use Rattle.net_base.specs.plan.Paths.{edge_address};
-ghost use Rattle.ldp_discovery.specs.Adjacencies.{Hears, IsAfter, after, id_behind, is_joined_to, known_of, lapses, neighbours_from};
+ghost use Rattle.ldp_discovery.specs.Adjacencies.{Hears, IsAfter, adjacencies_after, id_behind, is_joined_to, known_of, lapses, neighbours_from};
 ghost use Rattle.ldp_discovery.specs.Hellos.{hello_octets};
-ghost use Rattle.ldp_discovery.specs.Live.{Deed, said, ticked, aged, is_live, live, proposed, refreshed, unknown, AreHolds};
+ghost use Rattle.ldp_discovery.specs.Live.{Deed, said, ticked, adjacency_aged, is_adjacency_live, live, hold_proposed, refreshed, unknown, AreHolds};
 
 use crate::adjacency::{Adjacency, UNKNOWN, adjacency_lives, tick_later};
 use crate::heard::Heard;
@@ -65,7 +65,7 @@ impl Adjacencies {
         requires room { 34 ≤ length out.old }
         ensures count { result ≡ 34 }
         ensures octets { out.new ≡ hello_octets self.old.address self.old.next_id hold ++ drop 34 out.old }
-        ensures kept { self.new ≡ after (said peer.0 hold) self.old }
+        ensures kept { self.new ≡ adjacencies_after (said peer.0 hold) self.old }
     {
         let count = put_hello(self.address, self.next_id, hold, out);
         self.next_id = self.next_id.wrapping_add(1);
@@ -95,7 +95,7 @@ impl Adjacencies {
     /// A tick passes. Answers which adjacencies ended by it.
     pub fn tick(&mut self) -> Lapsed
         ensures lapsed { (peer : ℕ) → slice_index_or result peer false ≡ lapses (known_of self.old peer) }
-        ensures kept { self.new ≡ after ticked self.old }
+        ensures kept { self.new ≡ adjacencies_after ticked self.old }
     {
         let lapsed = lapsing(self.known.as_slice());
         age_all(&mut self.known);
@@ -106,7 +106,7 @@ impl Adjacencies {
     /// the one that the edge had proposed as it came. A hold time of 0 stands for 45 seconds, and one of 65,535 has no end.
     #[tactic(auto, using(crate::proofs::AdjacencyLemmas::lives_is))]
     pub fn lives(&self, peer: EdgeId) -> bool
-        ensures kept { result ≡ is_live (known_of self.now peer.0) }
+        ensures kept { result ≡ is_adjacency_live (known_of self.now peer.0) }
         ensures history { (history : List Deed) → AreHolds history → IsAfter history self.now → peer.0 < length self.now.known → result ≡ live peer.0 history }
     {
         self.is_known_live(peer)
@@ -114,7 +114,7 @@ impl Adjacencies {
 
     // The same by what is kept of the peer.
     fn is_known_live(&self, peer: EdgeId) -> bool
-        ensures { result ≡ is_live (known_of self.now peer.0) }
+        ensures { result ≡ is_adjacency_live (known_of self.now peer.0) }
     {
         match self.known.get(peer.0 as usize) {
             Some(adjacency) => adjacency_lives(*adjacency),
@@ -159,7 +159,7 @@ fn neighbours_of(alloc: Global, plan: &Plan, me: EdgeId) -> Result<Vec<Neighbour
 // The edge proposes a hold time to a peer.
 fn propose(known: &mut Vec<Adjacency>, peer: EdgeId, hold: u16)
     requires { peer.0 < length known.old.items }
-    ensures { known.new.items ≡ slice_set known.old.items peer.0 (proposed hold (slice_index_or known.old.items peer.0 unknown)) }
+    ensures { known.new.items ≡ slice_set known.old.items peer.0 (hold_proposed hold (slice_index_or known.old.items peer.0 unknown)) }
 {
     let place = peer.0 as usize;
     known[place] = known[place].proposing(hold);
@@ -196,7 +196,7 @@ fn is_lapsing(adjacency: Adjacency) -> bool
 
 // Each adjacency is a tick older.
 fn age_all(known: &mut Vec<Adjacency>)
-    ensures { known.new.items ≡ map aged known.old.items }
+    ensures { known.new.items ≡ map adjacency_aged known.old.items }
 {
     for adjacency in known.iter_mut() {
         age(adjacency);
@@ -205,7 +205,7 @@ fn age_all(known: &mut Vec<Adjacency>)
 
 // An adjacency is a tick older.
 fn age(adjacency: &mut Adjacency)
-    ensures { adjacency.new ≡ aged adjacency.old }
+    ensures { adjacency.new ≡ adjacency_aged adjacency.old }
 {
     *adjacency = tick_later(*adjacency);
 }

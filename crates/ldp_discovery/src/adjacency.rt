@@ -1,6 +1,6 @@
 //! What an edge knows of one peer.
 ghost use Rattle.std.specs.Prelude.{◌≡◌};
-ghost use Rattle.ldp_discovery.specs.Live.{lasts, lives_by, is_live, aged, proposed, refreshed, unknown};
+ghost use Rattle.ldp_discovery.specs.Live.{lasts, lives_by, is_adjacency_live, adjacency_aged, hold_proposed, refreshed, unknown};
 
 /// The last Hello that a peer was heard to say.
 #[derive(Clone, Copy, Debug, PartialEq, Eq)]
@@ -30,7 +30,7 @@ pub const UNKNOWN: Adjacency = Adjacency {
 impl Adjacency {
     /// The edge proposes another hold time.
     pub fn proposing(self, hold: u16) -> Adjacency
-        ensures { result ≡ proposed hold self }
+        ensures { result ≡ hold_proposed hold self }
     {
         Adjacency {
             proposal: hold,
@@ -75,7 +75,7 @@ fn hello_lives(hello: LastHello) -> bool
 
 /// Whether the adjacency lives.
 pub fn adjacency_lives(adjacency: Adjacency) -> bool
-    ensures { result ≡ is_live adjacency }
+    ensures { result ≡ is_adjacency_live adjacency }
 {
     match adjacency.hello {
         Some(hello) => hello_lives(hello),
@@ -85,7 +85,7 @@ pub fn adjacency_lives(adjacency: Adjacency) -> bool
 
 /// The adjacency a tick later.
 pub fn tick_later(adjacency: Adjacency) -> Adjacency
-    ensures { result ≡ aged adjacency }
+    ensures { result ≡ adjacency_aged adjacency }
 {
     match adjacency.hello {
         Some(hello) => {

@@ -1,7 +1,7 @@
 //! Hellos, written and heard.
 ghost use Rattle.std.specs.Prelude.{◌≡◌, ◌≤◌, ◌++◌, length, drop, IfOk};
 ghost use Rattle.std.specs.Str.{bytes_eq};
-ghost use Rattle.ldp_discovery.specs.Hellos.{Says, hello_octets, hold_in, hold_in_message, is_address, is_no_memory, is_sender, tells_address};
+ghost use Rattle.ldp_discovery.specs.Hellos.{Says, hello_octets, hold_in, hold_in_message, are_same_address, is_no_memory, is_sender, tells_address};
 
 use crate::heard::HelloFault;
 use ldp_codec::{DecodeFault, decode_pdu, encode_into};
@@ -36,7 +36,7 @@ pub fn put_hello(address: Addr, id: u32, hold: u16, out: &mut [u8]) -> usize
 
 // Whether two addresses are the same.
 fn is_same_address(a: Addr, b: Addr) -> bool
-    ensures { result ≡ is_address a b }
+    ensures { result ≡ are_same_address a b }
 {
     are_same_octets(&a.0, &b.0)
 }

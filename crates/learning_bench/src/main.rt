@@ -4,7 +4,7 @@
 
 ghost use Rattle.std.specs.Prelude.{◌≡◌, ◌<◌, ◌≤◌, ℕ, [], true, false, length, IfSome};
 ghost use Rattle.net_base.specs.plan.Accepted.{IsChecked};
-ghost use Rattle.hvpls_spokes.specs.PortSet.{has};
+ghost use Rattle.hvpls_spokes.specs.PortSet.{holds_port};
 ghost use Rattle.mac_table.specs.Addresses.{NoneAfter};
 ghost use Rattle.net_values.specs.Mac.{is_group_address};
 
@@ -141,8 +141,8 @@ fn bridge(alloc: Global) -> Option<Bridge>
 // The first two ports.
 #[tactic(auto, using(crate::proofs::PortLemmas::both_had, crate::proofs::PortLemmas::both_alone))]
 fn both_ports() -> PortSet
-    ensures both { (p : ℕ) → p < 2 → has result p ≡ true }
-    ensures alone { (p : ℕ) → has result p ≡ true → p < 2 }
+    ensures both { (p : ℕ) → p < 2 → holds_port result p ≡ true }
+    ensures alone { (p : ℕ) → holds_port result p ≡ true → p < 2 }
 {
     let mut ports = PortSet::empty();
     ports.insert(0);
@@ -152,8 +152,8 @@ fn both_ports() -> PortSet
 
 // One frame.
 fn decides(bridge: &mut Bridge, forwarding: &PortSet, from: u32, to: u32) -> bool
-    requires ports { (p : ℕ) → has forwarding.now p ≡ true → p < length bridge.old.ports }
-    requires both { (p : ℕ) → p < 2 → has forwarding.now p ≡ true }
+    requires ports { (p : ℕ) → holds_port forwarding.now p ≡ true → p < length bridge.old.ports }
+    requires both { (p : ℕ) → p < 2 → holds_port forwarding.now p ≡ true }
     requires ticks { NoneAfter 10 bridge.old.entries }
     ensures ticks { NoneAfter 10 bridge.new.entries }
     ensures ports { bridge.new.ports ≡ bridge.old.ports }

@@ -1,6 +1,6 @@
 //! The ports to which a MAC withdraw is passed.
 ghost use Rattle.std.specs.Prelude.{◌≡◌, ◌<◌, true, ℕ, length};
-ghost use Rattle.hvpls_spokes.specs.PortSet.{has};
+ghost use Rattle.hvpls_spokes.specs.PortSet.{holds_port};
 ghost use Rattle.mac_withdraw.specs.Passing.{is_passed_to, is_wire_at};
 ghost use Rattle.hvpls_spokes.specs.declared.edge_role.Role.TheVariants as roles;
 
@@ -10,7 +10,7 @@ use hvpls_spokes::{PortKind, PortSet, Ports, Role};
 /// by all other wires, and from a mesh wire by all spokes; a spoke edge by none (RFC 4762 section 6.2).
 pub fn pass_to(ports: &Ports, role: Role, from: u16) -> PortSet
     requires { is_wire_at ports.now from ≡ true }
-    ensures { (p : ℕ) → has result p ≡ is_passed_to role ports.now from p }
+    ensures { (p : ℕ) → holds_port result p ≡ is_passed_to role ports.now from p }
 {
     match role {
         Role::SpokeEdge => PortSet::empty(),
@@ -21,7 +21,7 @@ pub fn pass_to(ports: &Ports, role: Role, from: u16) -> PortSet
 // What a core edge passes on from the wire port `from`: by all wires but that one, and from a mesh wire by no mesh wire.
 fn all_but(ports: &Ports, from: u16) -> PortSet
     requires { is_wire_at ports.now from ≡ true }
-    ensures { (p : ℕ) → has result p ≡ is_passed_to roles.Core ports.now from p }
+    ensures { (p : ℕ) → holds_port result p ≡ is_passed_to roles.Core ports.now from p }
 {
     let mut passed = PortSet::empty();
     for port in 0..ports.len() {

@@ -1,7 +1,7 @@
 //! Names and fixed words as texts.
 ghost use Rattle.std.specs.Prelude.{◌≡◌};
 ghost use Rattle.report_text.specs.Words.{edge_name};
-ghost use Rattle.migrated_text.specs.Rows.{class_name, mode_name, service_name};
+ghost use Rattle.migrated_text.specs.Rows.{class_name, mode_name, name_of_service};
 
 use net_base::{Class, EdgeId, Name, Plan, ServiceId};
 use std::str;
@@ -26,7 +26,7 @@ pub fn edge_text(plan: &Plan, edge: EdgeId) -> &str
 
 /// The name of a service; empty outside the plan.
 pub fn service_text(plan: &Plan, service: ServiceId) -> &str
-    ensures { result.now ≡ service_name plan.now service }
+    ensures { result.now ≡ name_of_service plan.now service }
 {
     match plan.services.get(service.0 as usize) {
         Some(row) => name_text(&row.name),

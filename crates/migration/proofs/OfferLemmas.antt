@@ -14,7 +14,7 @@ use Rattle.scenario_text.specs.declared.group_use.GroupUse.TheVariants.{Number, 
 use Rattle.scenario_text.specs.declared.offer_row.OfferRow.{OfferRow}
 use Rattle.scenario_text.specs.Keys.{is_offer_key}
 use Rattle.scenario_text.specs.Values.{a_boolean, a_mode, a_number, a_description, defaulted, optional}
-use Rattle.scenario_text.specs.Rows.{a_group, near_in, end_in}
+use Rattle.scenario_text.specs.Rows.{a_group, near_in, offer_table_in}
 use Rattle.scenario_text.specs.References.{told_unless_zero, offer_from}
 use Rattle.toml_tables.specs.Tables.{put, put_told}
 use Rattle.toml_tables.proofs.KeyLemmas.{put_same, put_other, put_keys, told_keys, all_keys}
@@ -161,12 +161,12 @@ module _ (offer : Offer) where
       ) refl
 
   -- a table of an end
-  pub near_read : (index : ℕ) → IsOffer offer → IsSaid offer → end_in kind.Near index (offer_table offer) ≡ Ok (row_of offer)
-  unfolding end_in
+  pub near_read : (index : ℕ) → IsOffer offer → IsSaid offer → offer_table_in kind.Near index (offer_table offer) ≡ Ok (row_of offer)
+  unfolding offer_table_in
   near_read index is said = rw (keys_read (record { table = kind.Near; index = index }) is said, known Two kind.Near (record { table = kind.Near; index = index }) (offer_table offer) keys_known) refl
 
-  pub far_read : (index : ℕ) → IsOffer offer → IsSaid offer → end_in kind.Far index (offer_table offer) ≡ Ok (row_of offer)
-  unfolding end_in
+  pub far_read : (index : ℕ) → IsOffer offer → IsSaid offer → offer_table_in kind.Far index (offer_table offer) ≡ Ok (row_of offer)
+  unfolding offer_table_in
   far_read index is said = rw (keys_read (record { table = kind.Far; index = index }) is said, known Two kind.Far (record { table = kind.Far; index = index }) (offer_table offer) keys_known) refl
 
   told_back : (most : ℕ) (value : Option ℕ) → IsTold most value → told_unless_zero (unwrap_or value 0) ≡ value

@@ -13,7 +13,7 @@ use Rattle.net_base.specs.declared.plan.wire_plan.Class.TheVariants.{Mesh, Spoke
 use Rattle.net_base.specs.plan.RowFaults.{is_unspecified}
 use Rattle.command_text.specs.declared.row_place.RowPlace.{RowPlace}
 use Rattle.command_text.specs.declared.scenario_fault.ScenarioFault.{ScenarioFault}
-use Rattle.command_text.specs.Places.{place_at}
+use Rattle.command_text.specs.Places.{place_of_key}
 use Rattle.scenario_text.specs.declared.document_version.DocumentVersion.{DocumentVersion}
 use Rattle.scenario_text.specs.Keys.{is_known_key, unknown_keys, least, none_unknown, only_known}
 use Rattle.scenario_text.specs.Values.{a_name, an_address, a_number, a_mode, a_class, a_description, quad_of, needed, defaulted, optional}
@@ -34,16 +34,16 @@ pub skip_some : {x : Option Data} (key other : List ℕ) (values : List Data) (m
 skip_some key other values ms apart at = some_other key other values ms apart ∙ at
 
 module _ {A : Type 0} (kind : Place → Data → Result A ScenarioFault) (row : RowPlace) (key : List ℕ) (ms : Members) where
-  pub needed_is : (value : Data) (x : A) → get_member key ms ≡ Some value → kind (place_at row key) value ≡ Ok x → needed kind row key ms ≡ Ok x
+  pub needed_is : (value : Data) (x : A) → get_member key ms ≡ Some value → kind (place_of_key row key) value ≡ Ok x → needed kind row key ms ≡ Ok x
   needed_is value x at is = rw at is
 
-  pub defaulted_is : (default : A) (value : Data) (x : A) → get_member key ms ≡ Some value → kind (place_at row key) value ≡ Ok x → defaulted default kind row key ms ≡ Ok x
+  pub defaulted_is : (default : A) (value : Data) (x : A) → get_member key ms ≡ Some value → kind (place_of_key row key) value ≡ Ok x → defaulted default kind row key ms ≡ Ok x
   defaulted_is default value x at is = rw at is
 
   pub defaulted_none : (default : A) → get_member key ms ≡ None → defaulted default kind row key ms ≡ Ok default
   defaulted_none default at = rw at refl
 
-  pub optional_is : (default : Option A) (value : Data) (x : A) → get_member key ms ≡ Some value → kind (place_at row key) value ≡ Ok x → optional default kind row key ms ≡ Ok (Some x)
+  pub optional_is : (default : Option A) (value : Data) (x : A) → get_member key ms ≡ Some value → kind (place_of_key row key) value ≡ Ok x → optional default kind row key ms ≡ Ok (Some x)
   optional_is default value x at is = rw (at, is) refl
 
   pub optional_none : (default : Option A) → get_member key ms ≡ None → optional default kind row key ms ≡ Ok default

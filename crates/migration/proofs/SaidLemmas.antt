@@ -16,7 +16,7 @@ use Rattle.net_base.specs.declared.plan.table.Table.TheVariants as kind
 use Rattle.command_text.specs.declared.row_place.RowPlace.{RowPlace}
 use Rattle.command_text.specs.declared.scenario_fault.ScenarioFault.{ScenarioFault}
 use Rattle.command_text.specs.Reading.{◌>>=◌, found}
-use Rattle.command_text.specs.Places.{place_at}
+use Rattle.command_text.specs.Places.{place_of_key}
 use Rattle.scenario_text.specs.declared.document_version.DocumentVersion.{DocumentVersion}
 use Rattle.scenario_text.specs.declared.document_version.DocumentVersion.TheVariants.{One, Two}
 use Rattle.scenario_text.specs.declared.circuit_row.CircuitRow.{CircuitRow}
@@ -28,7 +28,7 @@ use Rattle.scenario_text.specs.declared.offer_row.OfferRow.{OfferRow}
 use Rattle.scenario_text.specs.declared.wire_row.WireRow.{WireRow}
 use Rattle.scenario_text.specs.Keys.{only_known}
 use Rattle.scenario_text.specs.Values.{in_range, meant, a_text, a_name, whole_of, quad_of, is_unspecified_quad, address_in, an_address, number_from, a_number, a_boolean, a_mode, a_class, a_path, a_description, needed, read_or, defaulted, optional}
-use Rattle.scenario_text.specs.Rows.{edge_in, service_in, group_row_in, circuit_row_in, a_group, near_in, far_in, ends_by_keys, a_table, end_in, plain_offer, end_or, ends_by_tables, ends_in, wire_row_in, row_members, rows_in}
+use Rattle.scenario_text.specs.Rows.{edge_in, service_in, group_row_in, circuit_row_in, a_group, near_in, far_in, ends_by_keys, a_table, offer_table_in, plain_offer, end_or, ends_by_tables, ends_in, wire_row_in, row_members, rows_in}
 use Rattle.net_base.specs.declared.plan.Plan.{Plan}
 use Rattle.net_base.specs.declared.plan.circuit_plan.CircuitPlan.{CircuitPlan}
 use Rattle.net_base.specs.declared.plan.wire_plan.WirePlan.{WirePlan}
@@ -55,21 +55,21 @@ if_in P place false x p = tt
 
 module _ {A : Type 0} (P : A → Type 0) (kind : Place → Data → Result A ScenarioFault) (each : (place : Place) (value : Data) → IfOk (kind place value) P) (row : RowPlace) (key : List ℕ) (ms : Members) where
   needed_ok : IfOk (needed kind row key ms) P
-  needed_ok = if_any _ (found _ (get_member key ms)) (kind (place_at row key)) (each (place_at row key))
+  needed_ok = if_any _ (found _ (get_member key ms)) (kind (place_of_key row key)) (each (place_of_key row key))
 
   defaulted_ok : (default : A) → P default → IfOk (defaulted default kind row key ms) P
   defaulted_ok default is = of_value (get_member key ms)
     where
-      of_value : (value : Option Data) → IfOk (read_or default (kind (place_at row key)) value) P
+      of_value : (value : Option Data) → IfOk (read_or default (kind (place_of_key row key)) value) P
       of_value None = is
-      of_value (Some value) = each (place_at row key) value
+      of_value (Some value) = each (place_of_key row key) value
 
   optional_ok : (default : Option A) → IfSome default P → IfOk (optional default kind row key ms) (λ o. IfSome o P)
   optional_ok default is = of_value (get_member key ms)
     where
-      of_value : (value : Option Data) → IfOk (read_or default (λ v. kind (place_at row key) v >>= (λ x. Ok (Some x))) value) (λ o. IfSome o P)
+      of_value : (value : Option Data) → IfOk (read_or default (λ v. kind (place_of_key row key) v >>= (λ x. Ok (Some x))) value) (λ o. IfSome o P)
       of_value None = is
-      of_value (Some value) = if_ok _ (kind (place_at row key) value) (λ x. Ok (Some x)) (each (place_at row key) value) (λ x p. p)
+      of_value (Some value) = if_ok _ (kind (place_of_key row key) value) (λ x. Ok (Some x)) (each (place_of_key row key) value) (λ x p. p)
 
 -- kinds
 name_ok : (place : Place) (value : Data) → IfOk (a_name place value) IsName
@@ -204,8 +204,8 @@ ends_one row ms =
     if_ok _ (far_in near row ms) _ (far_ok near is_near row ms) (λ far is_far.
     if_any _ (only_known One kind.Wire row ms) _ (λ known. (is_near, is_far))))
 
-end_ok : (table : Table) (index : ℕ) (ms : Members) → IfOk (end_in table index ms) IsRowSaid
-unfolding end_in
+end_ok : (table : Table) (index : ℕ) (ms : Members) → IfOk (offer_table_in table index ms) IsRowSaid
+unfolding offer_table_in
 end_ok table index ms =
     if_ok _ (near_in Two (record { table = table; index = index }) ms) _ (near_ok Two (record { table = table; index = index }) ms) (λ offer is.
     if_any _ (only_known Two table (record { table = table; index = index }) ms) _ (λ known. is))

@@ -20,14 +20,14 @@ use Rattle.scenario_text.specs.Values.{a_name, a_number, a_class, a_path, all_it
 use Rattle.scenario_text.specs.Rows.{a_table, circuit_row_in, ends_by_tables, wire_row_in}
 use Rattle.toml_tables.proofs.KeyLemmas.{put_same, put_keys, told_keys, all_keys}
 use Rattle.report_text.specs.Words.{edge_name}
-use Rattle.migrated_text.specs.Rows.{number, service_name, class_name, offer_table, circuit_table, ends_table, wire_table}
+use Rattle.migrated_text.specs.Rows.{number, name_of_service, class_name, offer_table, circuit_table, ends_table, wire_table}
 use Rattle.migration.specs.ReadPlan.{IsSaid}
 use Rattle.migration.proofs.ReadLemmas.{skip, needed_is, defaulted_is, optional_is, name_is, number_is, class_is, known}
 use Rattle.migration.proofs.OfferLemmas.{row_of, told_value, told_at_key, told_read, near_read, far_read}
 
 -- what the row of a circuit says
 abbrev pub circuit_of : Plan → CircuitPlan → CircuitRow
-circuit_of plan circuit = record { name = circuit.name; edge = edge_name plan circuit.edge; service = service_name plan circuit.service; tag = circuit.tag }
+circuit_of plan circuit = record { name = circuit.name; edge = edge_name plan circuit.edge; service = name_of_service plan circuit.service; tag = circuit.tag }
 
 module _ (plan : Plan) (circuit : CircuitPlan) where
   circuit_name_at : get_member (codes "name") (circuit_table plan circuit) ≡ Some (string circuit.name)
@@ -38,7 +38,7 @@ module _ (plan : Plan) (circuit : CircuitPlan) where
   unfolding circuit_table
   circuit_edge_at = skip (codes "edge") (codes "name") _ _ refl (put_same (codes "edge") _ _)
 
-  circuit_service_at : get_member (codes "service") (circuit_table plan circuit) ≡ Some (string (service_name plan circuit.service))
+  circuit_service_at : get_member (codes "service") (circuit_table plan circuit) ≡ Some (string (name_of_service plan circuit.service))
   unfolding circuit_table
   circuit_service_at = skip (codes "service") (codes "name") _ _ refl (skip (codes "service") (codes "edge") _ _ refl (put_same (codes "service") _ _))
 
@@ -51,14 +51,14 @@ module _ (plan : Plan) (circuit : CircuitPlan) where
   unfolding circuit_table
   circuit_keys_known = put_keys _ (codes "name") _ _ refl (put_keys _ (codes "edge") _ _ refl (put_keys _ (codes "service") _ _ refl (told_keys _ (codes "tag") circuit.tag no_members refl refl)))
 
-  pub circuit_read : (row : RowPlace) → IsName circuit.name → IsName (edge_name plan circuit.edge) → IsName (service_name plan circuit.service) → is_told_within 1 4094 circuit.tag ≡ true
+  pub circuit_read : (row : RowPlace) → IsName circuit.name → IsName (edge_name plan circuit.edge) → IsName (name_of_service plan circuit.service) → is_told_within 1 4094 circuit.tag ≡ true
       → circuit_row_in Two row (circuit_table plan circuit) ≡ Ok (circuit_of plan circuit)
   unfolding circuit_row_in
   circuit_read row name edge service tag =
       rw (
         needed_is a_name row (codes "name") (circuit_table plan circuit) (string circuit.name) circuit.name circuit_name_at (name_is _ circuit.name name),
         needed_is a_name row (codes "edge") (circuit_table plan circuit) (string (edge_name plan circuit.edge)) (edge_name plan circuit.edge) circuit_edge_at (name_is _ (edge_name plan circuit.edge) edge),
-        needed_is a_name row (codes "service") (circuit_table plan circuit) (string (service_name plan circuit.service)) (service_name plan circuit.service) circuit_service_at (name_is _ (service_name plan circuit.service) service),
+        needed_is a_name row (codes "service") (circuit_table plan circuit) (string (name_of_service plan circuit.service)) (name_of_service plan circuit.service) circuit_service_at (name_is _ (name_of_service plan circuit.service) service),
         told_read (codes "tag") circuit.tag (circuit_table plan circuit) row 1 4094 circuit_tag_at tag,
         known Two kind.Circuit row (circuit_table plan circuit) circuit_keys_known,
       ) refl
@@ -91,7 +91,7 @@ abbrev pub wire_of : Plan → WirePlan → WireRow
 wire_of plan wire =
     record {
       name = wire.name;
-      service = service_name plan wire.service;
+      service = name_of_service plan wire.service;
       class = wire.class;
       path = path_names plan wire.path;
       pw_id = wire.pw_id;
@@ -105,7 +105,7 @@ module _ (plan : Plan) (wire : WirePlan) where
   unfolding wire_table
   wire_name_at = put_same (codes "name") _ _
 
-  wire_service_at : get_member (codes "service") (wire_table plan wire) ≡ Some (string (service_name plan wire.service))
+  wire_service_at : get_member (codes "service") (wire_table plan wire) ≡ Some (string (name_of_service plan wire.service))
   unfolding wire_table
   wire_service_at = skip (codes "service") (codes "name") _ _ refl (put_same (codes "service") _ _)
 
@@ -160,14 +160,14 @@ module _ (plan : Plan) (wire : WirePlan) where
         far_read wire.far row.index far said_far,
       ) refl
 
-  pub wire_read : (row : RowPlace) → IsName wire.name → IsName (service_name plan wire.service) → AreNamed plan wire.path → IsWireOf plan wire → wire.priority ≤ 255 → IsSaid wire.near
+  pub wire_read : (row : RowPlace) → IsName wire.name → IsName (name_of_service plan wire.service) → AreNamed plan wire.path → IsWireOf plan wire → wire.priority ≤ 255 → IsSaid wire.near
       → IsSaid wire.far
       → wire_row_in Two row (wire_table plan wire) ≡ Ok (wire_of plan wire)
   unfolding wire_row_in
   wire_read row name service path is priority near far =
       rw (
         needed_is a_name row (codes "name") (wire_table plan wire) (string wire.name) wire.name wire_name_at (name_is _ wire.name name),
-        needed_is a_name row (codes "service") (wire_table plan wire) (string (service_name plan wire.service)) (service_name plan wire.service) wire_service_at (name_is _ (service_name plan wire.service) service),
+        needed_is a_name row (codes "service") (wire_table plan wire) (string (name_of_service plan wire.service)) (name_of_service plan wire.service) wire_service_at (name_is _ (name_of_service plan wire.service) service),
         needed_is a_class row (codes "class") (wire_table plan wire) (string (class_name wire.class)) wire.class wire_class_at (class_is _ wire.class),
         needed_is a_path row (codes "path") (wire_table plan wire) (array (path_items plan wire.path)) (path_names plan wire.path) wire_path_at (path_is plan _ wire.path path),
         needed_is (a_number 1 4294967295) row (codes "pw_id") (wire_table plan wire) (number wire.pw_id) wire.pw_id wire_id_at (number_is 1 4294967295 wire.pw_id _ is.pw_id.0 is.pw_id.1),

@@ -15,7 +15,7 @@ use Rattle.flight_laws.specs.Bound.{some_message}
 use Rattle.flight_laws.specs.Ends.{HasTypes, ends_at}
 use Rattle.flight_laws.specs.Facts.{flight}
 use Rattle.flight_laws.specs.Meeting.{Spares, said_to}
-use Rattle.flight_laws.specs.Messages.{IsSaid}
+use Rattle.flight_laws.specs.Messages.{IsSaidAcross}
 use Rattle.flight_laws.specs.Sound.{TellsSoundly, point_limit}
 use Rattle.move_laws.specs.Moves.{has_short_paths}
 use Rattle.hvpls_spokes.specs.Port.{ports_of}
@@ -266,7 +266,7 @@ module _ (plan : Plan) (service : ServiceId) (site : Sites) (network : NetworkSt
   -- ---- one message
 
   -- a session that is up acts on a message
-  acts_heal : (m : Message) (messages : List Message) (work : Work) → IsSaid (ends_at plan peer.0 me.0) m → LeavesMesh plan service me.0 peer.0 m
+  acts_heal : (m : Message) (messages : List Message) (work : Work) → IsSaidAcross (ends_at plan peer.0 me.0) m → LeavesMesh plan service me.0 peer.0 m
       → ((core : ℕ) → is_core_edge plan service core ≡ true → nat_eq core me.0 ≡ false → is_core_edge plan service me.0 ≡ true → MeshesTo plan service me.0 core)
       → has_end work.edge peer ≡ true → TellsSoundly (point_limit plan me.0) (acts_on plan taken_all peer m work).edge → Healing (m ∷ messages) work
       → Healing messages (acts_on plan taken_all peer m work)
@@ -281,7 +281,7 @@ module _ (plan : Plan) (service : ServiceId) (site : Sites) (network : NetworkSt
     first : {m : Message} → Healing (m ∷ messages) work → Speaks plan service network me peer.0 work work
     first heals = speaks_first plan service network me peer.0 work heals.stays
 
-    by : (m : Message) → IsSaid (ends_at plan peer.0 me.0) m → LeavesMesh plan service me.0 peer.0 m → TellsSoundly (point_limit plan me.0) (acts_on plan taken_all peer m work).edge
+    by : (m : Message) → IsSaidAcross (ends_at plan peer.0 me.0) m → LeavesMesh plan service me.0 peer.0 m → TellsSoundly (point_limit plan me.0) (acts_on plan taken_all peer m work).edge
         → Healing (m ∷ messages) work → Healing messages (acts_on plan taken_all peer m work)
     by (Initialization id params) said leaves sound heals = popped (Initialization id params) messages work (λ n joined. refl) heals
     by (KeepAlive id) said leaves sound heals = popped (KeepAlive id) messages work (λ n joined. refl) heals
@@ -338,7 +338,7 @@ module _ (plan : Plan) (service : ServiceId) (site : Sites) (network : NetworkSt
   pub message_heals : (m : Message) (messages : List Message) (work : Work)
       → ((core : ℕ) → is_core_edge plan service core ≡ true → nat_eq core me.0 ≡ false → is_core_edge plan service me.0 ≡ true → MeshesTo plan service me.0 core)
       → (are_joined_by plan service me.0 peer.0 ≡ true → stands network peer.0 me.0 ≡ true) → stands network me.0 peer.0 ≡ true
-      → IsSaid (ends_at plan peer.0 me.0) m → TellsSoundly (point_limit plan me.0) (happens_with_ends taken_all peer (Received m) work).edge
+      → IsSaidAcross (ends_at plan peer.0 me.0) m → TellsSoundly (point_limit plan me.0) (happens_with_ends taken_all peer (Received m) work).edge
       → TellsSoundly (point_limit plan me.0) (hears_one plan taken_all peer m work).edge
       → HearsHealing plan service site network me peer.0 (m ∷ messages) work → HearsHealing plan service site network me peer.0 messages (hears_message plan taken_all peer m work)
   message_heals m messages work stand back there said sound_event sound hears = record {

@@ -18,7 +18,7 @@ use Rattle.flight_laws.proofs.UniqueLemmas.{said_once}
 use Rattle.flight_laws.proofs.WorkLemmas.{with_peering_spares}
 use Rattle.flight_laws.specs.Ends.{HasTypes, IsOrdered, ends_at}
 use Rattle.flight_laws.specs.Facts.{flight}
-use Rattle.flight_laws.specs.Messages.{IsSaid, octets_of_all}
+use Rattle.flight_laws.specs.Messages.{IsSaidAcross, octets_of_all}
 use Rattle.flight_laws.specs.Pair.{ArePaired, AreTalking}
 use Rattle.flight_laws.specs.Rules.{AllMessages}
 use Rattle.flight_laws.specs.Sound.{TellsSoundly, point_limit}
@@ -218,7 +218,7 @@ module _ (plan : Plan) (service : ServiceId) (site : Sites) (calm network : Netw
     by false apart = event_heals plan service site network me peer checked types short ways (Heard (platform_of (ends_at plan peer.0 me.0).me)) messages work apart
         (happens_sound taken_all peer (Heard (platform_of (ends_at plan peer.0 me.0).me)) work both.1.heals.stays.sound) both.1.heals
 
-  hears_sound : (m : Message) (messages : List Message) (work : Work) → IsSaid (ends_at plan peer.0 me.0) m → Hearing (m ∷ messages) work
+  hears_sound : (m : Message) (messages : List Message) (work : Work) → IsSaidAcross (ends_at plan peer.0 me.0) m → Hearing (m ∷ messages) work
       → TellsSoundly (point_limit plan me.0) (hears_one plan taken_all peer m work).edge
   hears_sound m messages work said hears = by (work.edge.peering peer.0) refl where
     by : (near : Option Peering) → work.edge.peering peer.0 ≡ near → TellsSoundly (point_limit plan me.0) (hears_one plan taken_all peer m work).edge

@@ -17,7 +17,7 @@ use Rattle.flight_laws.proofs.PlaceLemmas.{IsEndOf, member_by_pw_id, same_row}
 use Rattle.flight_laws.proofs.SoundLemmas.{sound_giving, sound_same, sound_with_end}
 use Rattle.flight_laws.proofs.SteadyLemmas.{IsSilent, WishesSoundly, advertised_up, end_small, next_is_label, status_small, wishes, with_end_rest, advertising_rest}
 use Rattle.flight_laws.specs.Ends.{HasTypes}
-use Rattle.flight_laws.specs.Sound.{CanBeTold, IsSoundEnd, IsSoundPart, TellsSoundly, point_limit}
+use Rattle.flight_laws.specs.Sound.{CanBeMapped as CanBeTold, IsSoundEnd, IsSoundPart, TellsSoundly, point_limit}
 use Rattle.move_laws.specs.Moves.{has_short_paths}
 use Rattle.edge_model.specs.Labels.{giving, label_to_give}
 use Rattle.ldp_grammar.specs.declared.message.Message.{Message}

@@ -12,7 +12,7 @@ use Rattle.net_base.specs.declared.plan.wire_rule.WireRule.TheVariants.{PwIds, M
 use Rattle.net_base.specs.plan.Paths.{first_edge, last_edge, share_segment, is_same_edge, have_same_ends}
 use Rattle.net_base.specs.plan.Places.{is_mesh_class}
 use Rattle.net_base.specs.plan.WireFaults.{breaks, have_same_service, starts_in_mesh}
-use Rattle.net_base.specs.plan.WireMarks.{edge_number, pw_id_mark, pair_mark, end_mark, start_mark, ends_mark, left_first, left_last, is_marked, marks_with, IsLeft, AreLeft}
+use Rattle.net_base.specs.plan.WireMarks.{edge_number, pw_id_mark, pair_mark, end_mark, start_mark, ends_mark, left_first, left_last, is_wire_marked as is_marked, marks_with, IsMarkLeft, AreMarksLeft}
 
 same_edge : (a b : Option EdgeId) → is_same_edge a b ≡ true → edge_number a ≡ edge_number b
 same_edge None b e = absurd (cc)
@@ -27,7 +27,7 @@ kept (m ∷ ms) zero (suc k) e = e
 kept (m ∷ ms) (suc i) zero e = e
 kept (m ∷ ms) (suc i) (suc k) e = kept ms i k e
 
-stays : (rule : WireRule) (marks : List Bool) (wire more : WirePlan) → IsLeft rule marks wire → IsLeft rule (marks_with rule marks more) wire
+stays : (rule : WireRule) (marks : List Bool) (wire more : WirePlan) → IsMarkLeft rule marks wire → IsMarkLeft rule (marks_with rule marks more) wire
 stays rule marks wire more is = record {
   first = kept (set marks (left_first rule more) true) (left_last rule more) (left_first rule wire) (kept marks (left_first rule more) (left_first rule wire) is.first);
   last = kept (set marks (left_first rule more) true) (left_last rule more) (left_last rule wire) (kept marks (left_first rule more) (left_last rule wire) is.last);
@@ -62,7 +62,7 @@ are_within PwIds marks wire size = (rw size (pw_id_below wire.pw_id), rw size (p
 are_within MeshWires marks wire size = (rw size (ends_below wire.service.0 _ _), rw size (ends_below wire.service.0 _ _))
 are_within SpokeStarts marks wire size = (rw size (first_below (is_mesh_class wire.class) wire.service.0 _), rw size (omega (arith, end_below wire.service.0 (edge_number (last_edge wire.path)))))
 
-laid : (rule : WireRule) (marks : List Bool) (wire : WirePlan) → AreWithin rule marks wire → IsLeft rule (marks_with rule marks wire) wire
+laid : (rule : WireRule) (marks : List Bool) (wire : WirePlan) → AreWithin rule marks wire → IsMarkLeft rule (marks_with rule marks wire) wire
 laid rule marks wire within = record {
   first = kept (set marks (left_first rule wire) true) (left_last rule wire) (left_first rule wire) (get_or-set_same marks (left_first rule wire) true false within.0);
   last = get_or-set_same (set marks (left_first rule wire) true) (left_last rule wire) true false (rw length-set within.1);
@@ -70,13 +70,13 @@ laid rule marks wire within = record {
 
 -- those of one more wire
 left_more : (rule : WireRule) (marks : List Bool) (wires : List WirePlan) (wire : WirePlan)
-    → AreWithin rule marks wire → AreLeft rule marks wires → AreLeft rule (marks_with rule marks wire) (wires ++ wire ∷ [])
+    → AreWithin rule marks wire → AreMarksLeft rule marks wires → AreMarksLeft rule (marks_with rule marks wire) (wires ++ wire ∷ [])
 left_more rule marks [] wire within are = (laid rule marks wire within, tt)
 left_more rule marks (old ∷ rest) wire within are = (stays rule marks old wire are.0, left_more rule marks rest wire within are.1)
 
 -- those of the wires up to the next one
 pub left_next : (rule : WireRule) (marks now : List Bool) (wires : List WirePlan) (i : ℕ) (wire : WirePlan) → wire ≡ get_or wires i wire → i < length wires → length marks ≡ 8192
-    → now ≡ marks_with rule marks wire → AreLeft rule marks (take i wires) → AreLeft rule now (take (i + 1) wires)
+    → now ≡ marks_with rule marks wire → AreMarksLeft rule marks (take i wires) → AreMarksLeft rule now (take (i + 1) wires)
 left_next rule marks now wires i wire is below size made are =
     let front : take (suc i) wires ≡ take i wires ++ wire ∷ [] = take-suc wires i wire below ∙ ap (λ y. take i wires ++ y ∷ []) (sym is) in
     rw (add-one, front, made) (left_more rule marks (take i wires) wire (are_within rule marks wire size) are)
@@ -131,7 +131,7 @@ first_number wire = edge_number (first_edge wire.path)
 abbrev last_number : WirePlan → ℕ
 last_number wire = edge_number (last_edge wire.path)
 
-caught : (rule : WireRule) (marks : List Bool) (old later : WirePlan) → IsLeft rule marks old → breaks rule old later ≡ true → is_marked rule marks later ≡ true
+caught : (rule : WireRule) (marks : List Bool) (old later : WirePlan) → IsMarkLeft rule marks old → breaks rule old later ≡ true → is_marked rule marks later ≡ true
 caught PwIds marks old later left e =
     both_of (old.pw_id == later.pw_id) (share_segment old.path later.path) e (λ h g.
     or_left _ _ (ap (λ n. get_or marks (pw_id_mark n) false) (sym (eqb-true old.pw_id later.pw_id h)) ∙ left.first))
@@ -153,7 +153,7 @@ caught SpokeStarts marks old later left e =
     (same_edge (first_edge later.path) (last_edge old.path)) (same_edge (first_edge later.path) (first_edge old.path)) h)
 
 -- a wire that asks for no mark that was left breaks the rule with none
-pub none_broken : (rule : WireRule) (marks : List Bool) (wires : List WirePlan) (later : WirePlan) → AreLeft rule marks wires
+pub none_broken : (rule : WireRule) (marks : List Bool) (wires : List WirePlan) (later : WirePlan) → AreMarksLeft rule marks wires
     → is_marked rule marks later ≡ false → list_any (λ old. breaks rule old later) wires ≡ false
 none_broken rule marks [] later are none = refl
 none_broken rule marks (old ∷ rest) later are none =

@@ -8,7 +8,7 @@ use Rattle.pcap_file.specs.declared.capture_field.CaptureField.TheVariants.{Majo
 use Rattle.pcap_file.specs.declared.endianness.Endianness.{Endianness}
 use Rattle.pcap_file.specs.declared.endianness.Endianness.TheVariants.{Big}
 use Rattle.pcap_file.specs.Fields.{field_place, field_size, value_fault, field_fault, first_field_fault, header_fields, record_fields}
-use Rattle.pcap_file.specs.Numbers.{number_at, order_told}
+use Rattle.pcap_file.specs.Numbers.{number_in_order as number_at, order_told}
 use Rattle.pcap_file.specs.Records.{HasHeader}
 
 -- neither of two has a fault

@@ -11,7 +11,7 @@ use Rattle.pcap_file.specs.Answers.{TellsCaptureFault, IsCaptureUnlessNoMemory}
 use Rattle.pcap_file.specs.Fields.{first_field_fault, header_fields, record_fields}
 use Rattle.pcap_file.specs.FirstFault.{IsHeaderFault, HasBrokenRecord, IsFirstFault}
 use Rattle.pcap_file.specs.Laws.{OneCaptureReading}
-use Rattle.pcap_file.specs.Numbers.{number_at, order_told}
+use Rattle.pcap_file.specs.Numbers.{number_in_order, order_told}
 use Rattle.pcap_file.specs.Records.{HasHeader, PacketRecord, IsPacketRecord, AreRecords, IsCapture, spell_record, record_frame}
 use Rattle.pcap_file.proofs.FieldLemmas.{header_passes}
 use Rattle.pcap_file.proofs.RecordLemmas.{record_passes}
@@ -29,9 +29,9 @@ not_both found a none some = let e : None ≡ Some a = sym none ∙ some in absu
 -- a header has no fault
 pub header_sound : (order : Endianness) (octets : List ℕ) (fault : CaptureFault) → HasHeader order octets → IsHeaderFault octets fault → ⊥
 header_sound order octets fault header (inl lacks) = let there = header.there in let few = lacks.few in absurd (omega arith)
-header_sound order octets fault header (inr (inl other)) = not_both (order_told (number_at Big 4 0 octets)) order other.other header.magic
+header_sound order octets fault header (inr (inl other)) = not_both (order_told (number_in_order Big 4 0 octets)) order other.other header.magic
 header_sound order octets fault header (inr (inr wrong)) =
-    let same = same_order (order_told (number_at Big 4 0 octets)) order wrong.order header.magic wrong.magic in
+    let same = same_order (order_told (number_in_order Big 4 0 octets)) order wrong.order header.magic wrong.magic in
     not_both (first_field_fault 0 order octets header_fields) fault (header_passes order octets header)
     (subst (λ (o : Endianness). first_field_fault 0 o octets header_fields ≡ Some fault) (sym same) wrong.first)
 
@@ -42,11 +42,11 @@ one_header_fault octets fault other (inl a) (inr (inl b)) = let few = a.few in l
 one_header_fault octets fault other (inl a) (inr (inr b)) = let few = a.few in let there = b.there in absurd (omega arith)
 one_header_fault octets fault other (inr (inl a)) (inl b) = let few = b.few in let there = a.there in absurd (omega arith)
 one_header_fault octets fault other (inr (inl a)) (inr (inl b)) = a.is ∙ sym b.is
-one_header_fault octets fault other (inr (inl a)) (inr (inr b)) = absurd (not_both (order_told (number_at Big 4 0 octets)) b.order a.other b.magic)
+one_header_fault octets fault other (inr (inl a)) (inr (inr b)) = absurd (not_both (order_told (number_in_order Big 4 0 octets)) b.order a.other b.magic)
 one_header_fault octets fault other (inr (inr a)) (inl b) = let few = b.few in let there = a.there in absurd (omega arith)
-one_header_fault octets fault other (inr (inr a)) (inr (inl b)) = absurd (not_both (order_told (number_at Big 4 0 octets)) a.order b.other a.magic)
+one_header_fault octets fault other (inr (inr a)) (inr (inl b)) = absurd (not_both (order_told (number_in_order Big 4 0 octets)) a.order b.other a.magic)
 one_header_fault octets fault other (inr (inr a)) (inr (inr b)) =
-    let same = same_order (order_told (number_at Big 4 0 octets)) a.order b.order a.magic b.magic in
+    let same = same_order (order_told (number_in_order Big 4 0 octets)) a.order b.order a.magic b.magic in
     same_fault (first_field_fault 0 a.order octets header_fields) fault other a.first (subst (λ (o : Endianness). first_field_fault 0 o octets header_fields ≡ Some other) (sym same) b.first)
 
 -- the record in front of octets is one
@@ -55,7 +55,7 @@ same_record : (order : Endianness) (p q : PacketRecord) (more rest : List ℕ) �
 same_record order p q more rest is_p is_q e =
     let joined : p.head ++ (p.frame ++ more) ≡ q.head ++ (q.frame ++ rest) = sym (append_assoc p.head p.frame more) ∙ (e ∙ append_assoc q.head q.frame rest) in
     let (heads, behind) = same_front p.head q.head (p.frame ++ more) (q.frame ++ rest) (is_p.size ∙ sym is_q.size) joined in
-    let lengths : length p.frame ≡ length q.frame = sym is_p.captured ∙ (ap (λ (l : List ℕ). number_at order 4 8 l) heads ∙ is_q.captured) in
+    let lengths : length p.frame ≡ length q.frame = sym is_p.captured ∙ (ap (λ (l : List ℕ). number_in_order order 4 8 l) heads ∙ is_q.captured) in
     let (frames, back) = same_front p.frame q.frame more rest lengths behind in
     ((λ i. record { head = heads i; frame = frames i }), back)
 
@@ -119,13 +119,13 @@ one_broken order octets fault other a b =
 
 one_list : (octets : List ℕ) (frames others : List (List ℕ)) → IsCapture octets frames → IsCapture octets others → frames ≡ others
 one_list octets frames others a b =
-    let same = same_order (order_told (number_at Big 4 0 octets)) a.order b.order a.header.magic b.header.magic in
+    let same = same_order (order_told (number_in_order Big 4 0 octets)) a.order b.order a.header.magic b.header.magic in
     same_frames a.order (drop 24 octets) frames others a.records (subst (λ (o : Endianness). AreRecords o (drop 24 octets) others) (sym same) b.records)
 
 never_both : (octets : List ℕ) (frames : List (List ℕ)) (fault : CaptureFault) → IsCapture octets frames → IsFirstFault octets fault → ⊥
 never_both octets frames fault a (inl header) = header_sound a.order octets fault a.header header
 never_both octets frames fault a (inr b) =
-    let same = same_order (order_told (number_at Big 4 0 octets)) a.order b.order a.header.magic b.header.magic in
+    let same = same_order (order_told (number_in_order Big 4 0 octets)) a.order b.order a.header.magic b.header.magic in
     not_broken a.order (drop 24 octets) frames fault a.records (subst (λ (o : Endianness). HasBrokenRecord o (drop 24 octets) fault) (sym same) b.broken)
 
 one_fault : (octets : List ℕ) (fault other : CaptureFault) → IsFirstFault octets fault → IsFirstFault octets other → fault ≡ other
@@ -133,7 +133,7 @@ one_fault octets fault other (inl a) (inl b) = one_header_fault octets fault oth
 one_fault octets fault other (inl a) (inr b) = absurd (header_sound b.order octets fault b.header a)
 one_fault octets fault other (inr a) (inl b) = absurd (header_sound a.order octets other a.header b)
 one_fault octets fault other (inr a) (inr b) =
-    let same = same_order (order_told (number_at Big 4 0 octets)) a.order b.order a.header.magic b.header.magic in
+    let same = same_order (order_told (number_in_order Big 4 0 octets)) a.order b.order a.header.magic b.header.magic in
     one_broken a.order (drop 24 octets) fault other a.broken (subst (λ (o : Endianness). HasBrokenRecord o (drop 24 octets) other) (sym same) b.broken)
 
 pub one_reading : OneCaptureReading

@@ -12,12 +12,12 @@ use Rattle.pcap_file.specs.declared.endianness.Endianness.{Endianness}
 use Rattle.pcap_file.specs.declared.endianness.Endianness.TheVariants.{Big, Little}
 use Rattle.pcap_file.specs.Fields.{first_field_fault, record_fields}
 use Rattle.pcap_file.specs.FirstFault.{HasBrokenRecord}
-use Rattle.pcap_file.specs.Numbers.{number_at}
+use Rattle.pcap_file.specs.Numbers.{number_in_order}
 use Rattle.pcap_file.proofs.FieldLemmas.{BeginsRecord, field_passes, first_passes}
 use Rattle.pcap_file.specs.Records.{PacketRecord, IsPacketRecord, AreRecords, spell_record, record_frame}
 
 -- a number in the front is that of all
-pub number_front : (order : Endianness) (size place : ℕ) (xs ys : List ℕ) → place + size ≤ length xs → number_at order size place (xs ++ ys) ≡ number_at order size place xs
+pub number_front : (order : Endianness) (size place : ℕ) (xs ys : List ℕ) → place + size ≤ length xs → number_in_order order size place (xs ++ ys) ≡ number_in_order order size place xs
 number_front Big size place xs ys within = ap (λ (l : List ℕ). big_number size l) (drop-append-le place xs ys (omega arith))
     ∙ big_from-append size (drop place xs) ys (let len = length-drop place xs in omega arith)
 number_front Little size place xs ys within = ap (λ (l : List ℕ). little_number size l) (drop-append-le place xs ys (omega arith))
@@ -43,11 +43,11 @@ records_more order octets frames r are is = record {
 }
 
 -- a number in the octets that are taken is that of all
-pub number_taken : (order : Endianness) (size place count : ℕ) (octets : List ℕ) → place + size ≤ count → count ≤ length octets → number_at order size place (take count octets)
-    ≡ number_at order size place octets
+pub number_taken : (order : Endianness) (size place count : ℕ) (octets : List ℕ) → place + size ≤ count → count ≤ length octets → number_in_order order size place (take count octets)
+    ≡ number_in_order order size place octets
 number_taken order size place count octets fits within =
     sym (number_front order size place (take count octets) (drop count octets) (let len = length-take count octets in omega arith))
-    ∙ ap (λ (l : List ℕ). number_at order size place l) (take-append-drop count octets)
+    ∙ ap (λ (l : List ℕ). number_in_order order size place l) (take-append-drop count octets)
 
 -- octets that begin with a record begin with its head and its frame
 pub record_in_front : (order : Endianness) (octets frame : List ℕ) (count : ℕ) → BeginsRecord order octets count → frame ≡ take count (drop 16 octets)
@@ -99,7 +99,7 @@ record_passes base order r more is =
     let octets = spell_record r ++ more in
     let all = length-append (spell_record r) more in
     let parts = length-append r.head r.frame in
-    let captured : number_at order 4 8 (spell_record r ++ more) ≡ length r.frame =
+    let captured : number_in_order order 4 8 (spell_record r ++ more) ≡ length r.frame =
     number_front order 4 8 (spell_record r) more (omega arith) ∙ (number_front order 4 8 r.head r.frame (omega arith) ∙ is.captured) in
     let passes = field_passes base order octets in
     first_passes base order octets record_fields (

@@ -11,7 +11,7 @@ use Rattle.pcap_file.specs.declared.endianness.Endianness.TheVariants.{Big}
 use Rattle.pcap_file.specs.Fields.{first_field_fault, header_fields, record_fields}
 use Rattle.pcap_file.specs.FirstFault.{HasBrokenRecord}
 use Rattle.pcap_file.specs.Laws.{CaptureReading, captured, refused, EachCaptureIsRead}
-use Rattle.pcap_file.specs.Numbers.{number_at, order_told}
+use Rattle.pcap_file.specs.Numbers.{number_in_order, order_told}
 use Rattle.pcap_file.specs.Records.{HasHeader, AreRecords}
 use Rattle.pcap_file.proofs.FieldLemmas.{header_sound, record_sound}
 use Rattle.pcap_file.proofs.RecordLemmas.{record_in_front, records_more}
@@ -34,7 +34,7 @@ goes_on order octets front rest frames so_far some next (Some fault) e =
     broken fault (record { front = front; rest = rest; split = so_far.split; frames = frames; records = so_far.records; some = some; first = e })
 goes_on order octets front rest frames so_far some next None e =
     let begins = record_sound (24 + length front) order rest e in
-    let count = number_at order 4 8 rest in
+    let count = number_in_order order 4 8 rest in
     let frame = take count (drop 16 rest) in
     let is = record_in_front order rest frame count begins refl in
     let piece : take 16 rest ++ frame ≡ take (16 + count) rest = sym (take-add 16 count rest) in
@@ -63,17 +63,17 @@ behind_header : (order : Endianness) (octets : List ℕ) → HasHeader order oct
 behind_header order octets header (whole frames are) = captured frames (record { order = order; header = header; records = are })
 behind_header order octets header (broken fault is) = refused fault (inr (record { order = order; header = header; broken = is }))
 
-behind_magic : (order : Endianness) (octets : List ℕ) → 4 ≤ length octets → order_told (number_at Big 4 0 octets) ≡ Some order → (found : Option CaptureFault)
+behind_magic : (order : Endianness) (octets : List ℕ) → 4 ≤ length octets → order_told (number_in_order Big 4 0 octets) ≡ Some order → (found : Option CaptureFault)
     → first_field_fault 0 order octets header_fields ≡ found → CaptureReading octets
 behind_magic order octets there told (Some fault) e = refused fault (inl (inr (inr (record { order = order; there = there; magic = told; first = e }))))
 behind_magic order octets there told None e = behind_header order octets (header_sound order octets there told e) (each_records order (drop 24 octets))
 
-with_magic : (octets : List ℕ) → 4 ≤ length octets → (told : Option Endianness) → order_told (number_at Big 4 0 octets) ≡ told → CaptureReading octets
+with_magic : (octets : List ℕ) → 4 ≤ length octets → (told : Option Endianness) → order_told (number_in_order Big 4 0 octets) ≡ told → CaptureReading octets
 with_magic octets there (Some order) e = behind_magic order octets there e (first_field_fault 0 order octets header_fields) refl
 with_magic octets there None e = refused (Magic 0) (inl (inr (inl (record { there = there; other = e; is = refl }))))
 
 pub each_is_read : EachCaptureIsRead
 each_is_read octets = elim (cases_lt (length octets) 4) [
   | inl few ↦ refused (Truncated 0 field.Magic) (inl (inl (record { few = few; is = refl })))
-  | inr there ↦ with_magic octets there (order_told (number_at Big 4 0 octets)) refl
+  | inr there ↦ with_magic octets there (order_told (number_in_order Big 4 0 octets)) refl
 ]

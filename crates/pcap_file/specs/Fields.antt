@@ -7,7 +7,7 @@ use Rattle.pcap_file.specs.declared.capture_fault.CaptureFault.TheVariants as fa
 use Rattle.pcap_file.specs.declared.capture_field.CaptureField.{CaptureField}
 use Rattle.pcap_file.specs.declared.capture_field.CaptureField.TheVariants.{Magic, Major, Minor, Zone, Accuracy, Snap, Network, Seconds, Fraction, Captured, Original, Data}
 use Rattle.pcap_file.specs.declared.endianness.Endianness.{Endianness}
-use Rattle.pcap_file.specs.Numbers.{number_at}
+use Rattle.pcap_file.specs.Numbers.{number_in_order}
 
 -- the first octet of a field, counted from that of its header or record
 abbrev pub field_place : CaptureField → ℕ
@@ -37,21 +37,21 @@ field_size order octets Seconds = 4
 field_size order octets Fraction = 4
 field_size order octets Captured = 4
 field_size order octets Original = 4
-field_size order octets Data = number_at order 4 8 octets
+field_size order octets Data = number_in_order order 4 8 octets
 
 -- the fault of a field of a header or record that begins at this place of the file, where the field is whole: the
 -- version is 2.4, the network 1 (Ethernet), and a captured length at most 262,144. Nothing else is looked at.
 abbrev pub value_fault : ℕ → Endianness → List ℕ → CaptureField → Option CaptureFault
 value_fault base order octets Magic = None
-value_fault base order octets Major = if number_at order 2 4 octets == 2 then None else Some (fault.Version (base + 4))
-value_fault base order octets Minor = if number_at order 2 6 octets == 4 then None else Some (fault.Version (base + 4))
+value_fault base order octets Major = if number_in_order order 2 4 octets == 2 then None else Some (fault.Version (base + 4))
+value_fault base order octets Minor = if number_in_order order 2 6 octets == 4 then None else Some (fault.Version (base + 4))
 value_fault base order octets Zone = None
 value_fault base order octets Accuracy = None
 value_fault base order octets Snap = None
-value_fault base order octets Network = if number_at order 4 20 octets == 1 then None else Some (fault.Network (base + 20))
+value_fault base order octets Network = if number_in_order order 4 20 octets == 1 then None else Some (fault.Network (base + 20))
 value_fault base order octets Seconds = None
 value_fault base order octets Fraction = None
-value_fault base order octets Captured = if nat_le (number_at order 4 8 octets) 262144 then None else Some (fault.Length (base + 8))
+value_fault base order octets Captured = if nat_le (number_in_order order 4 8 octets) 262144 then None else Some (fault.Length (base + 8))
 value_fault base order octets Original = None
 value_fault base order octets Data = None
 

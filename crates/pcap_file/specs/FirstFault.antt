@@ -6,7 +6,7 @@ use Rattle.pcap_file.specs.declared.capture_field.CaptureField.TheVariants as fi
 use Rattle.pcap_file.specs.declared.endianness.Endianness.{Endianness}
 use Rattle.pcap_file.specs.declared.endianness.Endianness.TheVariants.{Big}
 use Rattle.pcap_file.specs.Fields.{first_field_fault, header_fields, record_fields}
-use Rattle.pcap_file.specs.Numbers.{number_at, order_told}
+use Rattle.pcap_file.specs.Numbers.{number_in_order, order_told}
 use Rattle.pcap_file.specs.Records.{HasHeader, AreRecords}
 
 -- the octets end within the magic
@@ -17,14 +17,14 @@ pub record LacksMagic (octets : List ℕ) (fault : CaptureFault) : Type 0 where
 -- the first four octets are none of the four magics
 pub record HasOtherMagic (octets : List ℕ) (fault : CaptureFault) : Type 0 where
   pub there : 4 ≤ length octets
-  pub other : order_told (number_at Big 4 0 octets) ≡ None
+  pub other : order_told (number_in_order Big 4 0 octets) ≡ None
   pub is : fault ≡ Magic 0
 
 -- behind a magic the header has this first fault, read in the byte order that the magic tells
 pub record HasWrongHeader (octets : List ℕ) (fault : CaptureFault) : Type 0 where
   pub order : Endianness
   pub there : 4 ≤ length octets
-  pub magic : order_told (number_at Big 4 0 octets) ≡ Some order
+  pub magic : order_told (number_in_order Big 4 0 octets) ≡ Some order
   pub first : first_field_fault 0 order octets header_fields ≡ Some fault
 
 -- the header has this first fault

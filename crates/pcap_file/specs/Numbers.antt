@@ -5,9 +5,9 @@ use Rattle.pcap_file.specs.declared.endianness.Endianness.{Endianness}
 use Rattle.pcap_file.specs.declared.endianness.Endianness.TheVariants.{Big, Little}
 
 -- the number of so many octets at a place
-abbrev pub number_at : Endianness → ℕ → ℕ → List ℕ → ℕ
-number_at Big size place octets = big_number size (drop place octets)
-number_at Little size place octets = little_number size (drop place octets)
+abbrev pub number_in_order : Endianness → ℕ → ℕ → List ℕ → ℕ
+number_in_order Big size place octets = big_number size (drop place octets)
+number_in_order Little size place octets = little_number size (drop place octets)
 
 -- the byte order that a magic tells, where its octets are taken with the high one first: each order has a magic for
 -- times in microseconds and one for times in nanoseconds

@@ -1,6 +1,6 @@
 //! The byte order of a capture.
 ghost use Rattle.std.specs.Prelude.{◌≡◌, ◌≤◌, ◌+◌, length};
-ghost use Rattle.pcap_file.specs.Numbers.{number_at, order_told};
+ghost use Rattle.pcap_file.specs.Numbers.{number_in_order, order_told};
 
 use byteorder::{BigEndian, ByteOrder, LittleEndian};
 
@@ -28,7 +28,7 @@ impl Endianness {
     /// The number of the two octets at a place.
     pub fn two_at(self, place: usize, octets: &[u8]) -> u16
         requires { place + 2 ≤ length octets.now }
-        ensures { result ≡ number_at self 2 place octets.now }
+        ensures { result ≡ number_in_order self 2 place octets.now }
     {
         let (_, number) = octets.split_at(place);
         match self {
@@ -40,7 +40,7 @@ impl Endianness {
     /// The number of the four octets at a place.
     pub fn four_at(self, place: usize, octets: &[u8]) -> u32
         requires { place + 4 ≤ length octets.now }
-        ensures { result ≡ number_at self 4 place octets.now }
+        ensures { result ≡ number_in_order self 4 place octets.now }
     {
         let (_, number) = octets.split_at(place);
         match self {

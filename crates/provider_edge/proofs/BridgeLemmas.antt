@@ -21,7 +21,7 @@ use Rattle.pw_messages.specs.LinkAnswers.{Agrees, Answers}
 use Rattle.hvpls_spokes.specs.declared.port.Port.{Port}
 use Rattle.hvpls_spokes.specs.declared.port.Port.TheVariants as port
 use Rattle.hvpls_spokes.specs.Port.{ports_of}
-use Rattle.hvpls_spokes.specs.PortSet.{has}
+use Rattle.hvpls_spokes.specs.PortSet.{holds_port as has}
 use Rattle.pw_signalling.specs.declared.binding.Binding.{Binding}
 use Rattle.vsi_bridge.specs.Targets.{is_target, known_port}
 use Rattle.edge_model.specs.declared.effect.Effect.{Effect}

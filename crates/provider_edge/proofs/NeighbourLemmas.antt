@@ -11,7 +11,7 @@ use Rattle.net_base.specs.declared.plan.wire_plan.WirePlan.{WirePlan}
 use Rattle.net_base.specs.plan.Paths.{are_joined, joins}
 use Rattle.edge_model.specs.declared.end_place.EndPlace.{EndPlace}
 use Rattle.edge_model.specs.EndPlaces.{end_place_at, end_places, places_along, places_at, places_from}
-use Rattle.provider_edge.specs.EndOf.{is_beside}
+use Rattle.provider_edge.specs.EndOf.{is_end_beside as is_beside}
 
 any_append : {X : Type 0} (f : X → Bool) (xs ys : List X) → list_any f (xs ++ ys) ≡ list_any f xs || list_any f ys
 any_append {X = X} f [] ys = refl

@@ -9,12 +9,12 @@ use Rattle.edge_model.specs.State.{EdgeState, Peering}
 use Rattle.peer_dialogue.specs.Peering.{held_octets}
 
 -- the octets of the longest PDU: its PDU Length counts at most 4,096, and 4 stand before those that it counts (RFC 5036 section 3.1)
-abbrev pub most_octets : ℕ
-most_octets = 4100
+abbrev pub most_pdu_octets : ℕ
+most_pdu_octets = 4100
 
 -- of a connection no more octets are held than those of the longest PDU
 abbrev pub HoldsFew : Option Peering → Type 0
-HoldsFew kept = length (held_octets kept) ≤ most_octets
+HoldsFew kept = length (held_octets kept) ≤ most_pdu_octets
 
 pub record IsBounded (plan : Plan) (edge : EdgeState) : Type 0 where
   -- a connection is kept with edges of the plan alone, at most one with each of them

@@ -7,5 +7,5 @@ abbrev pub is_of_segment : SegKey → EndPlace → Bool
 is_of_segment key place = place.wire.0 == key.wire.0 && place.segment == key.segment
 
 -- the end is beside a peer
-abbrev pub is_beside : ℕ → EndPlace → Bool
-is_beside peer place = place.peer.0 == peer
+abbrev pub is_end_beside : ℕ → EndPlace → Bool
+is_end_beside peer place = place.peer.0 == peer

@@ -12,7 +12,7 @@ use Rattle.label_space.specs.declared.kept.Kept.{Kept}
 use Rattle.label_space.specs.declared.owner.Owner.{Owner}
 use Rattle.label_space.specs.Kept.{met, put_by, ticked, without}
 use Rattle.label_space.specs.Labels.{LabelNumbers, freed, freed_of, given_to, issued, meeting_neighbour, next_after, number_to_give, numbers_end, opened_space, owned_label, owner_of, owns, ticking}
-use Rattle.label_space.specs.Laws.{AmongNumbers, AreLabelsApart as AreNumbersApart, Free, Issue, Met, Tick, listed}
+use Rattle.label_space.specs.Laws.{AmongNumbers, AreLabelsApart as AreNumbersApart, Free, Issue, Met, Tick, issued_numbers}
 use Rattle.label_space.proofs.LabelLemmas.{owner_of-find, owner_of-kept, owner_of-put}
 use Rattle.label_space.proofs.LawLemmas.{labels_are_used_again}
 use Rattle.label_space.proofs.OrderLemmas.{long_filtered, long_put}
@@ -164,7 +164,7 @@ apart_new owners label (o ∷ os) (suc slot) none owned apart =
 -- a label that is given is nobody's
 given_unowned : (labels : LabelNumbers) (label : ℕ) → AreNumbersApart labels → number_to_give labels.next labels.kept ≡ Some label → owner_of label labels.owners ≡ None
 given_unowned labels label apart given =
-    (labels_are_used_again.may labels (Issue no_key 0 no_peer) label apart (subst (λ (r : Option ℕ). AmongNumbers label (listed r)) (sym given) (inl refl))).unowned
+    (labels_are_used_again.may labels (Issue no_key 0 no_peer) label apart (subst (λ (r : Option ℕ). AmongNumbers label (issued_numbers r)) (sym given) (inl refl))).unowned
   where
     no_key : SegKey
     no_key = record { wire = record { 0 = 0 }; segment = 0 }

@@ -20,10 +20,10 @@ HasWords [] = ⊥
 HasWords (word ∷ words) = IsPlainLine (word ∷ words)
 
 -- the text of lines
-abbrev pub text_of : List (List (List ℕ)) → List ℕ
-text_of [] = []
-text_of (words ∷ lines) = line_of words ++ text_of lines
+abbrev pub text_of_lines : List (List (List ℕ)) → List ℕ
+text_of_lines [] = []
+text_of_lines (words ∷ lines) = line_of words ++ text_of_lines lines
 
 -- lists of lines have the same text only where they are the same
 abbrev pub LinesAreToldApart : Type 0
-LinesAreToldApart = (a b : List (List (List ℕ))) → AllByRecursion HasWords a → AllByRecursion HasWords b → text_of a ≡ text_of b → a ≡ b
+LinesAreToldApart = (a b : List (List (List ℕ))) → AllByRecursion HasWords a → AllByRecursion HasWords b → text_of_lines a ≡ text_of_lines b → a ≡ b

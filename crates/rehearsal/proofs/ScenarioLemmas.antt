@@ -22,7 +22,7 @@ use Rattle.command_text.specs.declared.command.Command.{Command}
 use Rattle.command_text.specs.declared.command.Command.TheVariants.{One, Settle, Flow}
 use Rattle.command_text.specs.Planned.{IsPlanned}
 use Rattle.scenario_text.specs.declared.scenario.Scenario.{Scenario}
-use Rattle.rehearsal.specs.Commands.{commands, connect, connect_commands, frame, frames_from, payload, station}
+use Rattle.rehearsal.specs.Commands.{commands, connect, connect_commands, frame, frames_from, probe_payload, station}
 use Rattle.rehearsal.specs.Draws.{drawn, next_number}
 use Rattle.rehearsal.specs.Rows.{plan, wires}
 use Rattle.rehearsal.specs.Scenario.{rehearsal}
@@ -91,8 +91,8 @@ connects_planned (row ∷ rows) all =
     (connects_planned rows (All-tail (IsWireOf plan) row rows all))
 
 -- a frame is as long, whether it goes to everybody or to a station
-either_length : (to_all : Bool) (from to : ℕ) → length (((if to_all then 255 ∷ 255 ∷ 255 ∷ 255 ∷ 255 ∷ 255 ∷ [] else station to) ++ station from) ++ payload) ≡ 60
-unfolding payload
+either_length : (to_all : Bool) (from to : ℕ) → length (((if to_all then 255 ∷ 255 ∷ 255 ∷ 255 ∷ 255 ∷ 255 ∷ [] else station to) ++ station from) ++ probe_payload) ≡ 60
+unfolding probe_payload
 either_length true from to = refl
 either_length false from to = refl
 

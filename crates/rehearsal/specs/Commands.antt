@@ -24,15 +24,15 @@ abbrev pub station : ℕ → List ℕ
 station number = 2 ∷ 0 ∷ 0 ∷ 0 ∷ 0 ∷ number ∷ []
 
 -- where a frame goes to: to everybody (0), or to the station of this number, which is nowhere where the number is no edge's
-abbrev pub destination : ℕ → List ℕ
-destination number = if number == 0 then 255 ∷ 255 ∷ 255 ∷ 255 ∷ 255 ∷ 255 ∷ [] else station number
+abbrev pub probe_destination : ℕ → List ℕ
+probe_destination number = if number == 0 then 255 ∷ 255 ∷ 255 ∷ 255 ∷ 255 ∷ 255 ∷ [] else station number
 
 -- the type of IPv4, and 46 octets: the least frame (IEEE 802.3 section 3.2.7)
-unfoldable pub payload : List ℕ
-payload = 8 ∷ 0 ∷ replicate 46 0
+unfoldable pub probe_payload : List ℕ
+probe_payload = 8 ∷ 0 ∷ replicate 46 0
 
 unfoldable pub frame : ℕ → ℕ → List ℕ
-frame from to = (destination to ++ station from) ++ payload
+frame from to = (probe_destination to ++ station from) ++ probe_payload
 
 -- so many frames and their ways, where the draw before them left this number: the first draw is the circuit at which the frame enters,
 -- and the second one where it goes to

@@ -1,6 +1,6 @@
 //! What happens in a rehearsal.
 ghost use Rattle.std.specs.Prelude.{◌≡◌, ◌<◌, ◌+◌, ◌++◌, IfOk, OnOk};
-ghost use Rattle.rehearsal.specs.Commands.{commands, connect, connect_commands, destination, frame, frames_from, payload, station};
+ghost use Rattle.rehearsal.specs.Commands.{commands, connect, connect_commands, probe_destination, frame, frames_from, probe_payload, station};
 ghost use Rattle.rehearsal.specs.Draws.{next_number};
 
 use crate::draws::Draws;
@@ -49,7 +49,7 @@ fn station(number: u8) -> [u8; 6]
 
 // The address to which a frame goes.
 fn destination(number: u8) -> [u8; 6]
-    ensures { result ≡ destination number }
+    ensures { result ≡ probe_destination number }
 {
     if number == 0 {
         [255, 255, 255, 255, 255, 255]
@@ -59,7 +59,7 @@ fn destination(number: u8) -> [u8; 6]
 }
 
 // A frame from a station to another one, or to everybody.
-#[tactic(auto, unfolding(crate::specs::Commands::frame, crate::specs::Commands::payload))]
+#[tactic(auto, unfolding(crate::specs::Commands::frame, crate::specs::Commands::probe_payload))]
 fn frame(alloc: Global, from: u8, to: u8) -> Result<Octets, NoMemory>
     ensures { IfOk result (λ octets. octets ≡ frame from to) }
 {

@@ -32,9 +32,9 @@ use Rattle.report_entries.specs.declared.passed.Carried.{Carried}
 use Rattle.report_entries.specs.declared.passed.Passed.{Passed}
 use Rattle.report_entries.specs.declared.unread.Unread.{Unread}
 use Rattle.report_entries.specs.Cut.{before_mark, behind_mark, line_words, words_within}
-use Rattle.report_entries.specs.Entries.{aged_in, carried_in, copied_in, did_in, dropped_in, entered_in, entry_in, entry_of, exact, idle_in, left_in, line_entry, packet_told_in, passed_in, pong_in, said_in, sent_in, session_in, told_in, wire_told_in, words_entry}
-use Rattle.report_entries.specs.Events.{circuit_switch_told, connect_told, connection_event_in, deliver_told, event_told, event_of, frame_in, lose_told, of_record_size, packet_named, part_event_in, ping_told, priority_in, restart_told, status_told, tick_told, wire_switch_told}
-use Rattle.report_entries.specs.Reading.{◌>>=◌, Reads, arrival_in, cause_in, cause_rest_in, circuit_in, edge_in, ended_in, number_in, octets_in, sequence_in, state_in, switch_in, wire_end_in, wire_in}
+use Rattle.report_entries.specs.Entries.{aged_in, carried_in, copied_in, did_in, dropped_in, entered_in, told_entry_in, told_entry_of, exact, idle_in, left_in, line_entry, packet_told_in, passed_in, pong_in, said_in, sent_in, session_in, answer_told, wire_told_in, words_entry}
+use Rattle.report_entries.specs.Events.{circuit_switch_told, connect_told, connection_event_in, deliver_told, event_told, frame_event_told, frame_told, lose_told, of_record_size, packet_named, part_event_in, ping_told, priority_told, restart_told, status_told, tick_told, wire_switch_told}
+use Rattle.report_entries.specs.Reading.{◌>>=◌, Reads, arrival_in, cause_in, cause_rest_in, circuit_of_word, edge_of_word, ended_in, number_in, digits_told, sequence_in, state_in, switch_in, wire_end_in, wire_of_word}
 use Rattle.report_entries.proofs.DigitLemmas.{octets_again}
 use Rattle.report_entries.proofs.FoundLemmas.{few_words}
 use Rattle.report_entries.proofs.NamedLemmas.{by_word, mapped, then, weaker}
@@ -83,8 +83,8 @@ sequence_again : (word : List ℕ) → IfSome (sequence_in word) (λ n. decimal 
 unfolding sequence_in
 sequence_again word = decimal_again 0 65535 word (omega arith)
 
-digits_again : (word : List ℕ) → IfSome (octets_in word) (λ o. hex o ≡ word)
-digits_again word = weaker (λ o. AreOctetsTold o × (hex o ≡ word)) (λ o. hex o ≡ word) (octets_in word) (λ o is. is.1) (octets_again word)
+digits_again : (word : List ℕ) → IfSome (digits_told word) (λ o. hex o ≡ word)
+digits_again word = weaker (λ o. AreOctetsTold o × (hex o ≡ word)) (λ o. hex o ≡ word) (digits_told word) (λ o is. is.1) (octets_again word)
 
 switch_again : (word : List ℕ) → IfSome (switch_in word) (λ x. switch_name x ≡ word)
 unfolding switch_in
@@ -141,23 +141,23 @@ as_wire : ℕ → WireId
 as_wire n = record { 0 = n }
 
 module _ (plan : Plan) where
-  edge_again : (word : List ℕ) → IfSome (edge_in (names_of plan) word) (λ a. edge_name plan a ≡ word)
-  unfolding edge_in as_edge
+  edge_again : (word : List ℕ) → IfSome (edge_of_word (names_of plan) word) (λ a. edge_name plan a ≡ word)
+  unfolding edge_of_word as_edge
   edge_again word = mapped _ (λ a. edge_name plan a ≡ word) as_edge (place_in (names_of plan).edges word) (λ n same. same) (row_again (λ (row : EdgePlan). row.name) plan.edges word)
 
-  circuit_again : (word : List ℕ) → IfSome (circuit_in (names_of plan) word) (λ a. circuit_name plan a ≡ word)
-  unfolding circuit_in as_circuit
+  circuit_again : (word : List ℕ) → IfSome (circuit_of_word (names_of plan) word) (λ a. circuit_name plan a ≡ word)
+  unfolding circuit_of_word as_circuit
   circuit_again word = mapped _ (λ a. circuit_name plan a ≡ word) as_circuit (place_in (names_of plan).circuits word) (λ n same. same) (row_again (λ (row : CircuitPlan). row.name) plan.circuits word)
 
-  wire_again : (word : List ℕ) → IfSome (wire_in (names_of plan) word) (λ a. wire_name plan a ≡ word)
-  unfolding wire_in as_wire
+  wire_again : (word : List ℕ) → IfSome (wire_of_word (names_of plan) word) (λ a. wire_name plan a ≡ word)
+  unfolding wire_of_word as_wire
   wire_again word = mapped _ (λ a. wire_name plan a ≡ word) as_wire (place_in (names_of plan).wires word) (λ n same. same) (row_again (λ (row : WirePlan). row.name) plan.wires word)
 
   arrival_again : (word : List ℕ) → IfSome (arrival_in (names_of plan) word) (λ a. arrival_name plan a ≡ word)
   unfolding arrival_in
-  arrival_again word = by_text (λ a. arrival_name plan a ≡ word) word (codes "-") _ _ (λ same. same) (by_word (λ a. arrival_name plan a ≡ word) (is_some (circuit_in (names_of plan) word)) _ _
-      (mapped (λ a. circuit_name plan a ≡ word) (λ a. arrival_name plan a ≡ word) arrival.Circuit (circuit_in (names_of plan) word) (λ a same. same) (circuit_again word))
-      (mapped (λ a. wire_name plan a ≡ word) (λ a. arrival_name plan a ≡ word) arrival.Wire (wire_in (names_of plan) word) (λ a same. same) (wire_again word)))
+  arrival_again word = by_text (λ a. arrival_name plan a ≡ word) word (codes "-") _ _ (λ same. same) (by_word (λ a. arrival_name plan a ≡ word) (is_some (circuit_of_word (names_of plan) word)) _ _
+      (mapped (λ a. circuit_name plan a ≡ word) (λ a. arrival_name plan a ≡ word) arrival.Circuit (circuit_of_word (names_of plan) word) (λ a same. same) (circuit_again word))
+      (mapped (λ a. wire_name plan a ≡ word) (λ a. arrival_name plan a ≡ word) arrival.Wire (wire_of_word (names_of plan) word) (λ a same. same) (wire_again word)))
 
   -- ---- events
 
@@ -209,8 +209,8 @@ module _ (plan : Plan) where
   tick_again [] = refl
   tick_again (w0 ∷ rest) = tt
 
-  frame_again : (words : List (List ℕ)) → IfSome (frame_in (names_of plan) words) (λ e. event_words plan e ≡ codes "frame" ∷ words)
-  unfolding frame_in
+  frame_again : (words : List (List ℕ)) → IfSome (frame_told (names_of plan) words) (λ e. event_words plan e ≡ codes "frame" ∷ words)
+  unfolding frame_told
   frame_again [] = tt
   frame_again (w0 ∷ []) = tt
   frame_again (w0 ∷ w1 ∷ []) = then (λ a. circuit_name plan a ≡ w0) (λ e. event_words plan e ≡ codes "frame" ∷ w0 ∷ w1 ∷ []) _ _ (circuit_again w0) (λ circuit at_circuit.
@@ -248,8 +248,8 @@ module _ (plan : Plan) where
       (λ i. codes "status" ∷ at_edge i ∷ at_wire i ∷ at_bits i ∷ []))))
   status_again (w0 ∷ w1 ∷ w2 ∷ w3 ∷ rest) = tt
 
-  priority_again : (words : List (List ℕ)) → IfSome (priority_in (names_of plan) words) (λ e. event_words plan e ≡ codes "priority" ∷ words)
-  unfolding priority_in
+  priority_again : (words : List (List ℕ)) → IfSome (priority_told (names_of plan) words) (λ e. event_words plan e ≡ codes "priority" ∷ words)
+  unfolding priority_told
   priority_again [] = tt
   priority_again (w0 ∷ []) = tt
   priority_again (w0 ∷ w1 ∷ []) = tt
@@ -290,8 +290,8 @@ module _ (plan : Plan) where
       (event_by kind (codes "tick") words _ _ (tick_again words)
       (part_event_again kind words)))))
 
-  event_of_again : (kind : List ℕ) (words : List (List ℕ)) → IfSome (event_of (names_of plan) kind words) (λ e. event_words plan e ≡ kind ∷ words)
-  unfolding event_of
+  event_of_again : (kind : List ℕ) (words : List (List ℕ)) → IfSome (frame_event_told (names_of plan) kind words) (λ e. event_words plan e ≡ kind ∷ words)
+  unfolding frame_event_told
   event_of_again kind words = event_by kind (codes "frame") words _ _ (frame_again words)
       (event_by kind (codes "arrive") words _ _ (then (λ n. decimal n ∷ [] ≡ words) (λ e. event_words plan e ≡ codes "arrive" ∷ words) (packet_named words) _ (packet_again words) (λ packet at. ap (λ (l : List (List ℕ)). codes "arrive" ∷ l) at))
       (event_by kind (codes "drop") words _ _ (then (λ n. decimal n ∷ [] ≡ words) (λ e. event_words plan e ≡ codes "drop" ∷ words) (packet_named words) _ (packet_again words) (λ packet at. ap (λ (l : List (List ℕ)). codes "drop" ∷ l) at))
@@ -437,8 +437,8 @@ module _ (plan : Plan) where
   entry_by kind text words x y first second = by_text (λ e. entry_words plan e ≡ kind ∷ words) kind text x y
       (λ same. weaker (λ e. entry_words plan e ≡ text ∷ words) (λ e. entry_words plan e ≡ kind ∷ words) x (λ e at. at ∙ ap (λ (k : List ℕ). k ∷ words) same) first) second
 
-  told_again : (kind : List ℕ) (words : List (List ℕ)) → IfSome (told_in (names_of plan) kind words) (λ e. entry_words plan e ≡ kind ∷ words)
-  unfolding told_in
+  told_again : (kind : List ℕ) (words : List (List ℕ)) → IfSome (answer_told (names_of plan) kind words) (λ e. entry_words plan e ≡ kind ∷ words)
+  unfolding answer_told
   told_again kind words = entry_by kind (codes "said") words _ _ (said_again words)
       (entry_by kind (codes "session") words _ _ (session_again words)
       (entry_by kind (codes "wire") words _ _ (wire_told_again words)
@@ -454,8 +454,8 @@ module _ (plan : Plan) where
       (entry_by kind (codes "aged") words _ _ (aged_again words)
       (told_again kind words))))
 
-  entry_of_again : (kind : List ℕ) (words : List (List ℕ)) → IfSome (entry_of (names_of plan) kind words) (λ e. entry_words plan e ≡ kind ∷ words)
-  unfolding entry_of
+  entry_of_again : (kind : List ℕ) (words : List (List ℕ)) → IfSome (told_entry_of (names_of plan) kind words) (λ e. entry_words plan e ≡ kind ∷ words)
+  unfolding told_entry_of
   entry_of_again kind words = entry_by kind (codes ">") words _ _ (did_again words)
       (entry_by kind (codes "in") words _ _ (entered_again words)
       (entry_by kind (codes "left") words _ _ (left_again words)
@@ -485,21 +485,21 @@ line_again (suc most) line few = by (behind_mark 32 line) refl few (λ rest fewe
   by (Some more) at few each = ap (λ (l : List ℕ). before_mark 32 line ++ 32 ∷ l) (each more (omega (arith, few)))
       ∙ (sym (append_assoc (before_mark 32 line) (32 ∷ more) (codes "\n")) ∙ ap (λ (l : List ℕ). l ++ codes "\n") (sym (cut_joined 32 line more at)))
 
-entry_again : (plan : Plan) (line : List ℕ) → IfSome (entry_in (names_of plan) line) (λ e. entry_line plan e ≡ line ++ codes "\n")
-unfolding entry_in line_words
+entry_again : (plan : Plan) (line : List ℕ) → IfSome (told_entry_in (names_of plan) line) (λ e. entry_line plan e ≡ line ++ codes "\n")
+unfolding told_entry_in line_words
 entry_again plan line = weaker (λ e. entry_words plan e ≡ words_within 10 line) (λ e. entry_line plan e ≡ line ++ codes "\n") (words_entry (names_of plan) (words_within 10 line))
     (λ e at. ap line_of at ∙ line_again 9 line (subst (λ (words : List (List ℕ)). length words ≤ 9) at (few_words plan e))) (words_again plan (words_within 10 line))
 
 -- the words of a line tell no other entry than that of which it is the line
-line_told : (plan : Plan) (line : List ℕ) → line_entry plan line ≡ entry_in (names_of plan) line
+line_told : (plan : Plan) (line : List ℕ) → line_entry plan line ≡ told_entry_in (names_of plan) line
 unfolding line_entry
-line_told plan line = by (entry_in (names_of plan) line) (entry_again plan line) where
+line_told plan line = by (told_entry_in (names_of plan) line) (entry_again plan line) where
   by : (o : Option Entry) → IfSome o (λ e. entry_line plan e ≡ line ++ codes "\n") → o >>= exact plan line ≡ o
   by None at = refl
   by (Some e) at = rw ((bytes_eq-Decides (entry_line plan e) (line ++ codes "\n")).1 at) refl
 
 pub reads_line_of : (plan : Plan) (line : List ℕ) (names : PlanNames) (words : List (List ℕ)) (result : Result Entry Unread) → names ≡ names_of plan → words ≡ line_words line
     → Reads result (words_entry names words) → Reads result (line_entry plan line)
-unfolding entry_in
+unfolding told_entry_in
 reads_line_of plan line names words result named cut reads =
     subst (Reads result) (ap (λ (n : PlanNames). words_entry n words) named ∙ (ap (words_entry (names_of plan)) cut ∙ sym (line_told plan line))) reads

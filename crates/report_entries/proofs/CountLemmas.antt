@@ -3,9 +3,9 @@ use Rattle.std.proofs.Common.{◌≡◌, subst, sym, arith}
 use Rattle.net_base.specs.declared.trace.entry.Entry.{Entry}
 use Rattle.net_base.specs.declared.trace.entry.Entry.TheVariants as entry
 use Rattle.report_entries.specs.declared.tally.Tally.{Tally}
-use Rattle.report_entries.specs.Counted.{AreCounted, counted}
+use Rattle.report_entries.specs.Counted.{AreTallied, tallied}
 
-counted_more : (e : Entry) (tally : Tally) → AreCounted tally → AreCounted (counted e tally)
+counted_more : (e : Entry) (tally : Tally) → AreTallied tally → AreTallied (tallied e tally)
 counted_more (entry.Did event) tally are = record {
   events = omega (arith, are.events);
   entered = omega (arith, are.entered);
@@ -51,5 +51,5 @@ counted_more (entry.Wire edge wire down) tally are =
 counted_more (entry.Pong edge wire sequence) tally are =
     record { events = omega (arith, are.events); entered = omega (arith, are.entered); left = omega (arith, are.left); sent = omega (arith, are.sent); dropped = omega (arith, are.dropped) }
 
-pub counted_on : (e : Entry) (old new : Tally) → AreCounted old → new ≡ counted e old → AreCounted new
-counted_on e old new are is = subst AreCounted (sym is) (counted_more e old are)
+pub counted_on : (e : Entry) (old new : Tally) → AreTallied old → new ≡ tallied e old → AreTallied new
+counted_on e old new are is = subst AreTallied (sym is) (counted_more e old are)

@@ -7,7 +7,7 @@ use Rattle.hex.specs.Hex.{encode_with, lower_digits}
 use Rattle.command_text.specs.Hex.{digit_value, unhex}
 use Rattle.text_pieces.specs.Pieces.{hex}
 use Rattle.report_reading.specs.Named.{AreOctetsTold}
-use Rattle.report_entries.specs.Reading.{is_small, octets_in}
+use Rattle.report_entries.specs.Reading.{is_small, digits_told}
 
 -- the test of the numbers below a bound, which computes
 all_below : (ℕ → Bool) → ℕ → Bool
@@ -99,8 +99,8 @@ unhex_again (a ∷ b ∷ rest) small =
     pair_again a b rest (digit_value a) (digit_value b) (unhex rest) (digit_again a first.0) (digit_again b next.0) (unhex_again rest next.1)
 
 -- octets that are read are written so
-pub octets_again : (word : List ℕ) → IfSome (octets_in word) (λ octets. AreOctetsTold octets × (hex octets ≡ word))
-unfolding octets_in
+pub octets_again : (word : List ℕ) → IfSome (digits_told word) (λ octets. AreOctetsTold octets × (hex octets ≡ word))
+unfolding digits_told
 octets_again word = by (list_all is_small word) refl where
   by : (b : Bool) → list_all is_small word ≡ b → IfSome (cond b (unhex word) None) (AreRead word)
   by true small = unhex_again word small

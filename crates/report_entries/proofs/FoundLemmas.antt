@@ -38,20 +38,20 @@ use Rattle.report_text.specs.Report.{entry_line, entry_words}
 use Rattle.report_text.specs.Words.{arrival_name, cause_name, circuit_name, edge_name, event_words, name_or_empty, state_name, switch_name, wire_end_name, wire_name}
 use Rattle.event_laws.specs.Law.{HasNames}
 use Rattle.event_laws.proofs.ValueLemmas.{number_said, octets_read, row_said}
-use Rattle.report_reading.specs.Named.{AreOctetsTold, HasNamesApart, IsArrival, IsCircuit, IsEdge, IsNamed, IsNamedEvent, IsNumber, IsWire, IsFromTo}
+use Rattle.report_reading.specs.Named.{AreOctetsTold, HasNamesApart, IsArrival, IsCircuit, IsNamedEdge, IsEntryNamed, IsNamedEvent, IsToldNumber, IsWire, IsFromTo}
 use Rattle.report_reading.proofs.ApartLemmas.{names_apart}
 use Rattle.report_reading.proofs.PlainLemmas.{entry_plain}
 use Rattle.report_entries.specs.Cut.{line_words, words_within}
-use Rattle.report_entries.specs.Entries.{aged_in, carried_in, copied_in, dropped_in, entered_in, entry_of, idle_in, left_in, line_entry, entry_in, packet_told_in, passed_in, pong_in, said_in, sent_in, session_in, told_in, wire_told_in, words_entry}
-use Rattle.report_entries.specs.Events.{circuit_switch_told, connect_told, connection_event_in, deliver_told, event_told, event_of, frame_in, lose_told, packet_named, part_event_in, ping_told, priority_in, restart_told, status_told, tick_told, wire_switch_told}
+use Rattle.report_entries.specs.Entries.{aged_in, carried_in, copied_in, dropped_in, entered_in, told_entry_of, idle_in, left_in, line_entry, told_entry_in, packet_told_in, passed_in, pong_in, said_in, sent_in, session_in, answer_told, wire_told_in, words_entry}
+use Rattle.report_entries.specs.Events.{circuit_switch_told, connect_told, connection_event_in, deliver_told, event_told, frame_event_told, frame_told, lose_told, packet_named, part_event_in, ping_told, priority_told, restart_told, status_told, tick_told, wire_switch_told}
 use Rattle.report_entries.proofs.CutLemmas.{joined_free, line_is, words_found}
 use Rattle.report_entries.proofs.DigitLemmas.{digits_small}
 use Rattle.report_entries.specs.Laws.{IsFreeOf}
-use Rattle.report_entries.specs.Reading.{arrival_in, cause_in, cause_rest_in, circuit_in, edge_in, ended_in, number_in, octets_in, sequence_in, state_in, switch_in, wire_end_in, wire_in}
+use Rattle.report_entries.specs.Reading.{arrival_in, cause_in, cause_rest_in, circuit_of_word, edge_of_word, ended_in, number_in, digits_told, sequence_in, state_in, switch_in, wire_end_in, wire_of_word}
 
 -- ---- values
 
-number_found : (n : ℕ) → IsNumber n → number_in (decimal n) ≡ Some n
+number_found : (n : ℕ) → IsToldNumber n → number_in (decimal n) ≡ Some n
 unfolding number_in
 number_found n is = number_said 0 18446744073709551615 n (omega arith) (omega (arith, is)) is
 
@@ -62,8 +62,8 @@ sequence_found : (n : ℕ) → IsFromTo 0 65535 n → sequence_in (decimal n) �
 unfolding sequence_in
 sequence_found n is = within_found 0 65535 n is (omega arith)
 
-octets_found : (octets : List ℕ) → AreOctetsTold octets → octets_in (hex octets) ≡ Some octets
-unfolding octets_in
+octets_found : (octets : List ℕ) → AreOctetsTold octets → digits_told (hex octets) ≡ Some octets
+unfolding digits_told
 octets_found octets are = rw (digits_small octets are) (octets_read octets are)
 
 switch_found : (on : Bool) → switch_in (switch_name on) ≡ Some on
@@ -133,20 +133,20 @@ abbrev as_wire : Option ℕ → Option WireId
 as_wire place = option_map (λ (n : ℕ). record { 0 = n }) place
 
 module _ (plan : Plan) (names : HasNames plan) where
-  edge_found : (a : EdgeId) → IsEdge plan a → edge_in (names_of plan) (edge_name plan a) ≡ Some a
-  unfolding edge_in
+  edge_found : (a : EdgeId) → IsNamedEdge plan a → edge_of_word (names_of plan) (edge_name plan a) ≡ Some a
+  unfolding edge_of_word
   edge_found a is = ap as_edge (row_said (λ (row : EdgePlan). row.name) plan.edges a.0 names.edges is)
 
-  circuit_found : (a : CircuitId) → IsCircuit plan a → circuit_in (names_of plan) (circuit_name plan a) ≡ Some a
-  unfolding circuit_in
+  circuit_found : (a : CircuitId) → IsCircuit plan a → circuit_of_word (names_of plan) (circuit_name plan a) ≡ Some a
+  unfolding circuit_of_word
   circuit_found a is = ap as_circuit (row_said (λ (row : CircuitPlan). row.name) plan.circuits a.0 names.circuits is)
 
-  wire_found : (a : WireId) → IsWire plan a → wire_in (names_of plan) (wire_name plan a) ≡ Some a
-  unfolding wire_in
+  wire_found : (a : WireId) → IsWire plan a → wire_of_word (names_of plan) (wire_name plan a) ≡ Some a
+  unfolding wire_of_word
   wire_found a is = ap as_wire (row_said (λ (row : WirePlan). row.name) plan.wires a.0 names.wires is)
 
   event_found : (x : Event) → IsNamedEvent plan x → event_told (names_of plan) (event_words plan x) ≡ Some x
-  unfolding event_of connection_event_in part_event_in connect_told deliver_told lose_told restart_told tick_told frame_in packet_named wire_switch_told circuit_switch_told status_told priority_in ping_told
+  unfolding frame_event_told connection_event_in part_event_in connect_told deliver_told lose_told restart_told tick_told frame_told packet_named wire_switch_told circuit_switch_told status_told priority_told ping_told
   event_found (event.Connect from to) is = rw (edge_found from is.0, edge_found to is.1) refl
   event_found (event.Deliver from to count) is = rw (edge_found from is.0, edge_found to is.1.0, within_found 1 65535 count is.1.1 (omega arith)) refl
   event_found (event.Lose edge peer) is = rw (edge_found edge is.0, edge_found peer is.1) refl
@@ -177,8 +177,8 @@ no_place f rows word none = place_of_none (bytes_eq word) (map f rows) (all_apar
     by true within = absurd (omega (arith, same, (Decides-ltb (position_or_len test words) (length words)).0 within))
     by false out = refl
 
-no_circuit : (plan : Plan) → HasNamesApart plan → (a : WireId) → IsWire plan a → circuit_in (names_of plan) (wire_name plan a) ≡ None
-unfolding circuit_in
+no_circuit : (plan : Plan) → HasNamesApart plan → (a : WireId) → IsWire plan a → circuit_of_word (names_of plan) (wire_name plan a) ≡ None
+unfolding circuit_of_word
 no_circuit plan apart a is = ap as_circuit (no_place (λ (row : CircuitPlan). row.name) plan.circuits (wire_name plan a)
     (λ i lt. octets_apart_test (wire_name plan a) (circuit_name plan (record { 0 = i })) (λ same. apart.apart (record { 0 = i }) a lt is (sym same))))
 
@@ -224,8 +224,8 @@ module _ (plan : Plan) (names : HasNames plan) (apart : HasNamesApart plan) wher
   arrival_found (arrival.Wire a) is = rw (no_dash_wire a is, no_circuit plan apart a is, wire_found plan names a is) refl
   arrival_found arrival.Own is = refl
 
-  entry_found : (x : Entry) → IsNamed plan x → words_entry (names_of plan) (entry_words plan x) ≡ Some x
-  unfolding entry_of packet_told_in told_in idle_in said_in entered_in sent_in carried_in passed_in copied_in aged_in left_in dropped_in session_in wire_told_in pong_in
+  entry_found : (x : Entry) → IsEntryNamed plan x → words_entry (names_of plan) (entry_words plan x) ≡ Some x
+  unfolding told_entry_of packet_told_in answer_told idle_in said_in entered_in sent_in carried_in passed_in copied_in aged_in left_in dropped_in session_in wire_told_in pong_in
   entry_found (entry.Did event) is = rw (event_found plan names event is) refl
   entry_found entry.Idle is = refl
   entry_found (entry.Said from to octets) is = rw (edge_found plan names from is.0, edge_found plan names to is.1.0, octets_found octets is.1.1) refl
@@ -253,7 +253,7 @@ module _ (plan : Plan) (names : HasNames plan) (apart : HasNamesApart plan) wher
     pub free : IsFreeOf 10 line
     pub words : line_words line ≡ entry_words plan x
 
-  pub entry_line_of : (x : Entry) (line : List ℕ) → IsNamed plan x → entry_line plan x ≡ line ++ codes "\n" → IsEntryLine x line
+  pub entry_line_of : (x : Entry) (line : List ℕ) → IsEntryNamed plan x → entry_line plan x ≡ line ++ codes "\n" → IsEntryLine x line
   unfolding line_words
   entry_line_of x line is same = by (entry_words plan x) refl (entry_plain plan names x is) (few_words plan x) same where
     by : (words : List (List ℕ)) → entry_words plan x ≡ words → HasWords words → length words ≤ 9 → line_of words ≡ line ++ codes "\n" → IsEntryLine x line
@@ -264,8 +264,8 @@ module _ (plan : Plan) (names : HasNames plan) (apart : HasNamesApart plan) wher
     }
 
   -- an entry's line is read as the entry
-  pub line_found : (x : Entry) (line : List ℕ) → IsNamed plan x → entry_line plan x ≡ line ++ codes "\n" → line_entry plan line ≡ Some x
-  unfolding line_entry entry_in
+  pub line_found : (x : Entry) (line : List ℕ) → IsEntryNamed plan x → entry_line plan x ≡ line ++ codes "\n" → line_entry plan line ≡ Some x
+  unfolding line_entry told_entry_in
   line_found x line is same = rw loose_found (exact_found (entry_line plan x) (line ++ codes "\n") same) where
     loose_found : words_entry (names_of plan) (line_words line) ≡ Some x
     loose_found = ap (words_entry (names_of plan)) (entry_line_of x line is same).words ∙ entry_found x is
@@ -273,5 +273,5 @@ module _ (plan : Plan) (names : HasNames plan) (apart : HasNamesApart plan) wher
     exact_found : (a b : List ℕ) → a ≡ b → cond (bytes_eq a b) (Some x) None ≡ Some x
     exact_found a b same = rw ((bytes_eq-Decides a b).1 same) refl
 
-pub lines_read : (plan : Plan) (entry : Entry) (line : List ℕ) → IsChecked plan → HasNames plan → IsNamed plan entry → entry_line plan entry ≡ line ++ codes "\n" → line_entry plan line ≡ Some entry
+pub lines_read : (plan : Plan) (entry : Entry) (line : List ℕ) → IsChecked plan → HasNames plan → IsEntryNamed plan entry → entry_line plan entry ≡ line ++ codes "\n" → line_entry plan line ≡ Some entry
 lines_read plan entry line checked names is same = line_found plan names (names_apart plan checked names) entry line is same

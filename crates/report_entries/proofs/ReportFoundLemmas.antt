@@ -8,13 +8,13 @@ use Rattle.net_base.specs.plan.Accepted.{IsChecked}
 use Rattle.text_lines.specs.Lines.{line_of}
 use Rattle.report_text.specs.Report.{entry_line, entry_lines, entry_words}
 use Rattle.event_laws.specs.Law.{HasNames}
-use Rattle.report_reading.specs.Named.{HasNamesApart, IsNamed}
+use Rattle.report_reading.specs.Named.{HasNamesApart, IsEntryNamed}
 use Rattle.report_reading.proofs.ApartLemmas.{names_apart}
 use Rattle.report_reading.proofs.PlainLemmas.{entry_plain}
 use Rattle.read_lines.specs.Plain.{HasWords}
 use Rattle.report_entries.specs.declared.tally.Tally.{Tally}
 use Rattle.report_entries.specs.Cut.{line_words}
-use Rattle.report_entries.specs.Counted.{counted, first_counts}
+use Rattle.report_entries.specs.Counted.{tallied, first_counts}
 use Rattle.report_entries.specs.Laws.{IsFreeOf, counted_all}
 use Rattle.report_entries.specs.Report.{goes_on, ends_report, is_last_of, told_of, with_entry}
 use Rattle.report_entries.proofs.CutLemmas.{before_one, behind_one, joined, line_joined}
@@ -49,17 +49,17 @@ has_line [] plain = absurd plain
 has_line (word ∷ words) plain = record { line = joined word words; is = line_joined word words }
 
 module _ (plan : Plan) (names : HasNames plan) (apart : HasNamesApart plan) where
-  line_behind : (x : Entry) → IsNamed plan x → HasLine (entry_line plan x)
+  line_behind : (x : Entry) → IsEntryNamed plan x → HasLine (entry_line plan x)
   line_behind x is = has_line (entry_words plan x) (entry_plain plan names x is)
 
-  many_lines : (trace : List Entry) (rest : List ℕ) → AllByRecursion (IsNamed plan) trace → length trace + length rest ≤ length (entry_lines plan trace ++ rest)
+  many_lines : (trace : List Entry) (rest : List ℕ) → AllByRecursion (IsEntryNamed plan) trace → length trace + length rest ≤ length (entry_lines plan trace ++ rest)
   many_lines [] rest named = omega arith
   many_lines (x ∷ xs) rest named =
       let own = line_behind x named.0 in
       let more = many_lines xs rest named.1 in
       omega (arith, more, length-append (entry_lines plan xs) rest, length-append (entry_lines plan (x ∷ xs)) rest, length-append (entry_line plan x) (entry_lines plan xs), ap length own.is, length-append own.line (codes "\n"))
 
-  lines_read : (trace : List Entry) (most : ℕ) (tally : Tally) (last : List ℕ) → AllByRecursion (IsNamed plan) trace → length trace < most → IsFreeOf 10 last
+  lines_read : (trace : List Entry) (most : ℕ) (tally : Tally) (last : List ℕ) → AllByRecursion (IsEntryNamed plan) trace → length trace < most → IsFreeOf 10 last
       → ends_report (counted_all tally trace) last ≡ true
       → goes_on most plan tally (entry_lines plan trace ++ (last ++ codes "\n")) ≡ Ok trace
   lines_read trace zero tally last named few free right = absurd (omega (arith, few))
@@ -72,9 +72,9 @@ module _ (plan : Plan) (names : HasNames plan) (apart : HasNamesApart plan) wher
       append_assoc (entry_line plan x) (entry_lines plan xs) (last ++ codes "\n") ∙ (ap (λ (l : List ℕ). l ++ rest) own.is ∙ append_assoc own.line (codes "\n") rest) in
       ap (goes_on (suc most) plan tally) text
       ∙ rw (behind_one 10 own.line rest fits.free, before_one 10 own.line rest fits.free, is_none plan own.line x fits.words tally, line_found plan names apart x own.line named.0 own.is)
-      (ap (with_entry x) (lines_read xs most (counted x tally) last named.1 (omega (arith, few)) free right))
+      (ap (with_entry x) (lines_read xs most (tallied x tally) last named.1 (omega (arith, few)) free right))
 
-pub report_read : (plan : Plan) (trace : List Entry) (last : List ℕ) → IsChecked plan → HasNames plan → AllByRecursion (IsNamed plan) trace → IsFreeOf 10 last
+pub report_read : (plan : Plan) (trace : List Entry) (last : List ℕ) → IsChecked plan → HasNames plan → AllByRecursion (IsEntryNamed plan) trace → IsFreeOf 10 last
     → ends_report (counted_all first_counts trace) last ≡ true
     → told_of plan ((codes "vplsnet 1\n" ++ entry_lines plan trace) ++ (last ++ codes "\n")) ≡ Ok trace
 unfolding told_of

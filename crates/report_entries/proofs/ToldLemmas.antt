@@ -16,11 +16,11 @@ use Rattle.report_text.specs.Report.{counts_words, entry_lines, is_counted, last
 use Rattle.event_laws.specs.Law.{HasNames}
 use Rattle.event_laws.proofs.ValueLemmas.{number_said}
 use Rattle.read_lines.specs.Plain.{HasWords}
-use Rattle.report_reading.specs.Named.{IsNumber}
+use Rattle.report_reading.specs.Named.{IsToldNumber}
 use Rattle.report_reading.specs.Read.{IsEnding, ReadReport}
 use Rattle.report_reading.proofs.PlainLemmas.{last_plain}
 use Rattle.report_entries.specs.declared.tally.Tally.{Tally}
-use Rattle.report_entries.specs.Counted.{counted, first_counts}
+use Rattle.report_entries.specs.Counted.{tallied, first_counts}
 use Rattle.report_entries.specs.Cut.{line_words}
 use Rattle.report_entries.specs.Laws.{IsFreeOf, counted_all}
 use Rattle.report_entries.specs.Report.{ends_report, is_last_of, tally_line, told_of}
@@ -32,7 +32,7 @@ use Rattle.report_entries.proofs.ReportFoundLemmas.{report_read}
 one_more : (before own behind one whole : ℕ) → whole ≡ one + behind → one ≡ before + own → whole ≡ before + (own + behind)
 one_more before own behind one whole rest first = omega (arith, rest, first)
 
-events_more : (x : Entry) (tally : Tally) → (counted x tally).events ≡ tally.events + cond (is_counted kind.Event x) 1 0
+events_more : (x : Entry) (tally : Tally) → (tallied x tally).events ≡ tally.events + cond (is_counted kind.Event x) 1 0
 unfolding is_counted
 events_more (entry.Did event) tally = omega arith
 events_more entry.Idle tally = omega arith
@@ -49,14 +49,14 @@ events_more (entry.Pong edge wire sequence) tally = omega arith
 
 events_all : (tally : Tally) (trace : List Entry) → (counted_all tally trace).events ≡ tally.events + count_by (is_counted kind.Event) trace
 events_all tally [] = omega arith
-events_all tally (x ∷ xs) = one_more tally.events (cond (is_counted kind.Event x) 1 0) (count_by (is_counted kind.Event) xs) (counted x tally).events
-    (counted_all (counted x tally) xs).events (events_all (counted x tally) xs) (events_more x tally)
+events_all tally (x ∷ xs) = one_more tally.events (cond (is_counted kind.Event x) 1 0) (count_by (is_counted kind.Event) xs) (tallied x tally).events
+    (counted_all (tallied x tally) xs).events (events_all (tallied x tally) xs) (events_more x tally)
     ∙ ap (λ (n : ℕ). tally.events + n) (sym (sum_by-cons (λ e. cond (is_counted kind.Event e) 1 0) x xs))
 
 events_first : (trace : List Entry) → (counted_all first_counts trace).events ≡ count_by (is_counted kind.Event) trace
 events_first trace = omega (arith, events_all first_counts trace)
 
-entered_more : (x : Entry) (tally : Tally) → (counted x tally).entered ≡ tally.entered + cond (is_counted kind.Entered x) 1 0
+entered_more : (x : Entry) (tally : Tally) → (tallied x tally).entered ≡ tally.entered + cond (is_counted kind.Entered x) 1 0
 unfolding is_counted
 entered_more (entry.Did event) tally = omega arith
 entered_more entry.Idle tally = omega arith
@@ -73,14 +73,14 @@ entered_more (entry.Pong edge wire sequence) tally = omega arith
 
 entered_all : (tally : Tally) (trace : List Entry) → (counted_all tally trace).entered ≡ tally.entered + count_by (is_counted kind.Entered) trace
 entered_all tally [] = omega arith
-entered_all tally (x ∷ xs) = one_more tally.entered (cond (is_counted kind.Entered x) 1 0) (count_by (is_counted kind.Entered) xs) (counted x tally).entered
-    (counted_all (counted x tally) xs).entered (entered_all (counted x tally) xs) (entered_more x tally)
+entered_all tally (x ∷ xs) = one_more tally.entered (cond (is_counted kind.Entered x) 1 0) (count_by (is_counted kind.Entered) xs) (tallied x tally).entered
+    (counted_all (tallied x tally) xs).entered (entered_all (tallied x tally) xs) (entered_more x tally)
     ∙ ap (λ (n : ℕ). tally.entered + n) (sym (sum_by-cons (λ e. cond (is_counted kind.Entered e) 1 0) x xs))
 
 entered_first : (trace : List Entry) → (counted_all first_counts trace).entered ≡ count_by (is_counted kind.Entered) trace
 entered_first trace = omega (arith, entered_all first_counts trace)
 
-left_more : (x : Entry) (tally : Tally) → (counted x tally).left ≡ tally.left + cond (is_counted kind.Left x) 1 0
+left_more : (x : Entry) (tally : Tally) → (tallied x tally).left ≡ tally.left + cond (is_counted kind.Left x) 1 0
 unfolding is_counted
 left_more (entry.Did event) tally = omega arith
 left_more entry.Idle tally = omega arith
@@ -97,13 +97,13 @@ left_more (entry.Pong edge wire sequence) tally = omega arith
 
 left_all : (tally : Tally) (trace : List Entry) → (counted_all tally trace).left ≡ tally.left + count_by (is_counted kind.Left) trace
 left_all tally [] = omega arith
-left_all tally (x ∷ xs) = one_more tally.left (cond (is_counted kind.Left x) 1 0) (count_by (is_counted kind.Left) xs) (counted x tally).left (counted_all (counted x tally) xs).left
-    (left_all (counted x tally) xs) (left_more x tally) ∙ ap (λ (n : ℕ). tally.left + n) (sym (sum_by-cons (λ e. cond (is_counted kind.Left e) 1 0) x xs))
+left_all tally (x ∷ xs) = one_more tally.left (cond (is_counted kind.Left x) 1 0) (count_by (is_counted kind.Left) xs) (tallied x tally).left (counted_all (tallied x tally) xs).left
+    (left_all (tallied x tally) xs) (left_more x tally) ∙ ap (λ (n : ℕ). tally.left + n) (sym (sum_by-cons (λ e. cond (is_counted kind.Left e) 1 0) x xs))
 
 left_first : (trace : List Entry) → (counted_all first_counts trace).left ≡ count_by (is_counted kind.Left) trace
 left_first trace = omega (arith, left_all first_counts trace)
 
-sent_more : (x : Entry) (tally : Tally) → (counted x tally).sent ≡ tally.sent + cond (is_counted kind.Sent x) 1 0
+sent_more : (x : Entry) (tally : Tally) → (tallied x tally).sent ≡ tally.sent + cond (is_counted kind.Sent x) 1 0
 unfolding is_counted
 sent_more (entry.Did event) tally = omega arith
 sent_more entry.Idle tally = omega arith
@@ -120,13 +120,13 @@ sent_more (entry.Pong edge wire sequence) tally = omega arith
 
 sent_all : (tally : Tally) (trace : List Entry) → (counted_all tally trace).sent ≡ tally.sent + count_by (is_counted kind.Sent) trace
 sent_all tally [] = omega arith
-sent_all tally (x ∷ xs) = one_more tally.sent (cond (is_counted kind.Sent x) 1 0) (count_by (is_counted kind.Sent) xs) (counted x tally).sent (counted_all (counted x tally) xs).sent
-    (sent_all (counted x tally) xs) (sent_more x tally) ∙ ap (λ (n : ℕ). tally.sent + n) (sym (sum_by-cons (λ e. cond (is_counted kind.Sent e) 1 0) x xs))
+sent_all tally (x ∷ xs) = one_more tally.sent (cond (is_counted kind.Sent x) 1 0) (count_by (is_counted kind.Sent) xs) (tallied x tally).sent (counted_all (tallied x tally) xs).sent
+    (sent_all (tallied x tally) xs) (sent_more x tally) ∙ ap (λ (n : ℕ). tally.sent + n) (sym (sum_by-cons (λ e. cond (is_counted kind.Sent e) 1 0) x xs))
 
 sent_first : (trace : List Entry) → (counted_all first_counts trace).sent ≡ count_by (is_counted kind.Sent) trace
 sent_first trace = omega (arith, sent_all first_counts trace)
 
-dropped_more : (x : Entry) (tally : Tally) → (counted x tally).dropped ≡ tally.dropped + cond (is_counted kind.Dropped x) 1 0
+dropped_more : (x : Entry) (tally : Tally) → (tallied x tally).dropped ≡ tally.dropped + cond (is_counted kind.Dropped x) 1 0
 unfolding is_counted
 dropped_more (entry.Did event) tally = omega arith
 dropped_more entry.Idle tally = omega arith
@@ -143,8 +143,8 @@ dropped_more (entry.Pong edge wire sequence) tally = omega arith
 
 dropped_all : (tally : Tally) (trace : List Entry) → (counted_all tally trace).dropped ≡ tally.dropped + count_by (is_counted kind.Dropped) trace
 dropped_all tally [] = omega arith
-dropped_all tally (x ∷ xs) = one_more tally.dropped (cond (is_counted kind.Dropped x) 1 0) (count_by (is_counted kind.Dropped) xs) (counted x tally).dropped
-    (counted_all (counted x tally) xs).dropped (dropped_all (counted x tally) xs) (dropped_more x tally)
+dropped_all tally (x ∷ xs) = one_more tally.dropped (cond (is_counted kind.Dropped x) 1 0) (count_by (is_counted kind.Dropped) xs) (tallied x tally).dropped
+    (counted_all (tallied x tally) xs).dropped (dropped_all (tallied x tally) xs) (dropped_more x tally)
     ∙ ap (λ (n : ℕ). tally.dropped + n) (sym (sum_by-cons (λ e. cond (is_counted kind.Dropped e) 1 0) x xs))
 
 dropped_first : (trace : List Entry) → (counted_all first_counts trace).dropped ≡ count_by (is_counted kind.Dropped) trace
@@ -152,7 +152,7 @@ dropped_first trace = omega (arith, dropped_all first_counts trace)
 
 -- ---- the last line
 
-is_number : (n : ℕ) → IsNumber n → is_decimal (decimal n) ≡ true
+is_number : (n : ℕ) → IsToldNumber n → is_decimal (decimal n) ≡ true
 is_number n is = by (is_decimal (decimal n)) (nat_le 0 (value_from 0 (decimal n)) && nat_le (value_from 0 (decimal n)) 18446744073709551615) refl (number_said 0 18446744073709551615 n (omega arith) (omega (arith, is)) is) where
   by : (a b : Bool) → is_decimal (decimal n) ≡ a → cond (is_decimal (decimal n) && b) (Some (value_from 0 (decimal n))) None ≡ Some n → is_decimal (decimal n) ≡ true
   by true b first said = first

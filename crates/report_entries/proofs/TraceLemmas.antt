@@ -10,8 +10,8 @@ use Rattle.command_text.specs.Planned.{names_of}
 use Rattle.report_text.specs.Report.{entry_line, entry_lines}
 use Rattle.report_entries.specs.declared.tally.Tally.{Tally}
 use Rattle.report_entries.specs.Cut.{before_mark, behind_mark}
-use Rattle.report_entries.specs.Entries.{exact, line_entry, entry_in}
-use Rattle.report_entries.specs.Counted.{counted, first_counts}
+use Rattle.report_entries.specs.Entries.{exact, line_entry, told_entry_in}
+use Rattle.report_entries.specs.Counted.{tallied, first_counts}
 use Rattle.report_entries.specs.Laws.{TellsTrace, counted_all}
 use Rattle.report_entries.specs.Report.{found_on_line, goes_on, begins_report, ends_report, told_of, with_entry, ◌>>=◌}
 
@@ -38,7 +38,7 @@ cut_joined mark (c ∷ cs) more is = by (nat_eq c mark) refl is (cut_joined mark
 -- what is read of a line is written so
 pub reads_line : (plan : Plan) (entry : Entry) (line : List ℕ) → line_entry plan line ≡ Some entry → entry_line plan entry ≡ line ++ codes "\n"
 unfolding line_entry
-reads_line plan entry line is = by (entry_in (names_of plan) line) is where
+reads_line plan entry line is = by (told_entry_in (names_of plan) line) is where
   some_same : {x y : Entry} → Some x ≡ Some y → x ≡ y
   some_same e = cc e
 
@@ -76,7 +76,7 @@ one_line plan tally text more trace cut right ends = by (nat_eq (length more) 0)
   by false some at = no_error (tally.lines + 2) trace at
 
 one_more : (plan : Plan) (tally : Tally) (text more : List ℕ) (entry : Entry) (trace : List Entry) → behind_mark 10 text ≡ Some more → line_entry plan (before_mark 10 text)
-    ≡ Some entry → IsReadOn plan (counted entry tally) more trace → IsReadOn plan tally text (entry ∷ trace)
+    ≡ Some entry → IsReadOn plan (tallied entry tally) more trace → IsReadOn plan tally text (entry ∷ trace)
 one_more plan tally text more entry trace cut reads rest = record {
   line = rest.line;
   is = cut_joined 10 text more cut
@@ -98,26 +98,26 @@ told_behind entry (Err line) trace is = no_error line trace is
 
 goes_read : (most : ℕ) (plan : Plan) (tally : Tally) (text : List ℕ) (trace : List Entry) → goes_on most plan tally text ≡ Ok trace → IsReadOn plan tally text trace
 goes_read zero plan tally text trace is = no_error (tally.lines + 1) trace is
-goes_read (suc most) plan tally text trace is = behind (behind_mark 10 text) refl is (λ more entry es at. goes_read most plan (counted entry tally) more es at) where
+goes_read (suc most) plan tally text trace is = behind (behind_mark 10 text) refl is (λ more entry es at. goes_read most plan (tallied entry tally) more es at) where
   entry_by : (more : List ℕ) → behind_mark 10 text ≡ Some more → (o : Option Entry) → line_entry plan (before_mark 10 text) ≡ o
-      → found_on_line (tally.lines + 1) o >>= (λ entry. with_entry entry (goes_on most plan (counted entry tally) more)) ≡ Ok trace
-      → ((entry : Entry) (es : List Entry) → goes_on most plan (counted entry tally) more ≡ Ok es → IsReadOn plan (counted entry tally) more es) → IsReadOn plan tally text trace
+      → found_on_line (tally.lines + 1) o >>= (λ entry. with_entry entry (goes_on most plan (tallied entry tally) more)) ≡ Ok trace
+      → ((entry : Entry) (es : List Entry) → goes_on most plan (tallied entry tally) more ≡ Ok es → IsReadOn plan (tallied entry tally) more es) → IsReadOn plan tally text trace
   entry_by more cut None reads at rest = no_error (tally.lines + 1) trace at
   entry_by more cut (Some entry) reads at rest =
-      let told = told_behind entry (goes_on most plan (counted entry tally) more) trace at in
+      let told = told_behind entry (goes_on most plan (tallied entry tally) more) trace at in
       subst (IsReadOn plan tally text) (sym told.trace_is) (one_more plan tally text more entry told.entries cut reads (rest entry told.entries told.told_is))
 
   last_by : (more : List ℕ) → behind_mark 10 text ≡ Some more → (b : Bool) → ends_report tally (before_mark 10 text) ≡ b
       → cond b (cond (nat_eq (length more) 0) (Ok []) (Err (tally.lines + 2)))
-      (found_on_line (tally.lines + 1) (line_entry plan (before_mark 10 text)) >>= (λ entry. with_entry entry (goes_on most plan (counted entry tally) more))) ≡ Ok trace
-      → ((entry : Entry) (es : List Entry) → goes_on most plan (counted entry tally) more ≡ Ok es → IsReadOn plan (counted entry tally) more es) → IsReadOn plan tally text trace
+      (found_on_line (tally.lines + 1) (line_entry plan (before_mark 10 text)) >>= (λ entry. with_entry entry (goes_on most plan (tallied entry tally) more))) ≡ Ok trace
+      → ((entry : Entry) (es : List Entry) → goes_on most plan (tallied entry tally) more ≡ Ok es → IsReadOn plan (tallied entry tally) more es) → IsReadOn plan tally text trace
   last_by more cut true right at rest = one_line plan tally text more trace cut right at
   last_by more cut false other at rest = entry_by more cut (line_entry plan (before_mark 10 text)) refl at rest
 
   behind : (o : Option (List ℕ)) → behind_mark 10 text ≡ o
       → found_on_line (tally.lines + 1) o >>= (λ more. cond (ends_report tally (before_mark 10 text)) (cond (nat_eq (length more) 0) (Ok []) (Err (tally.lines + 2)))
-      (found_on_line (tally.lines + 1) (line_entry plan (before_mark 10 text)) >>= (λ entry. with_entry entry (goes_on most plan (counted entry tally) more)))) ≡ Ok trace
-      → ((more : List ℕ) (entry : Entry) (es : List Entry) → goes_on most plan (counted entry tally) more ≡ Ok es → IsReadOn plan (counted entry tally) more es) → IsReadOn plan tally text trace
+      (found_on_line (tally.lines + 1) (line_entry plan (before_mark 10 text)) >>= (λ entry. with_entry entry (goes_on most plan (tallied entry tally) more)))) ≡ Ok trace
+      → ((more : List ℕ) (entry : Entry) (es : List Entry) → goes_on most plan (tallied entry tally) more ≡ Ok es → IsReadOn plan (tallied entry tally) more es) → IsReadOn plan tally text trace
   behind None cut at rest = no_error (tally.lines + 1) trace at
   behind (Some more) cut at rest = last_by more cut (ends_report tally (before_mark 10 text)) refl at (rest more)
 

@@ -17,11 +17,11 @@ counted_kind (Dropped edge origin cause) tally = record tally { dropped = tally.
 counted_kind entry tally = tally
 
 -- the line of an entry more
-abbrev pub counted : Entry → Tally → Tally
-counted entry tally = record (counted_kind entry tally) { lines = tally.lines + 1 }
+abbrev pub tallied : Entry → Tally → Tally
+tallied entry tally = record (counted_kind entry tally) { lines = tally.lines + 1 }
 
 -- no kind has more entries than there are lines
-pub record AreCounted (tally : Tally) : Type 0 where
+pub record AreTallied (tally : Tally) : Type 0 where
   pub events : tally.events ≤ tally.lines
   pub entered : tally.entered ≤ tally.lines
   pub left : tally.left ≤ tally.lines

@@ -14,8 +14,8 @@ behind_mark mark (octet ∷ octets) = if octet == mark then Some octets else beh
 abbrev pub blank : ℕ
 blank = 32
 
-abbrev pub line_feed : ℕ
-line_feed = 10
+abbrev pub report_line_feed : ℕ
+report_line_feed = 10
 
 -- the first words of a line, at most so many. It is cut at each single blank, so that a word may be empty
 abbrev pub words_within : ℕ → List ℕ → List (List ℕ)

@@ -11,7 +11,7 @@ use Rattle.report_entries.specs.declared.passed.Carried.{Carried}
 use Rattle.report_entries.specs.declared.passed.Passed.{Passed}
 use Rattle.report_entries.specs.Cut.{line_words}
 use Rattle.report_entries.specs.Events.{event_told}
-use Rattle.report_entries.specs.Reading.{◌>>=◌, arrival_in, cause_in, circuit_in, edge_in, number_in, octets_in, sequence_in, state_in, wire_end_in, wire_in}
+use Rattle.report_entries.specs.Reading.{◌>>=◌, arrival_in, cause_in, circuit_of_word, edge_of_word, number_in, digits_told, sequence_in, state_in, wire_end_in, wire_of_word}
 
 unfoldable pub idle_in : List (List ℕ) → Option Entry
 idle_in [] = Some Idle
@@ -19,17 +19,17 @@ idle_in words = None
 
 unfoldable pub said_in : PlanNames → List (List ℕ) → Option Entry
 said_in names (from ∷ to ∷ octets ∷ []) = do
-  from ← edge_in names from
-  to ← edge_in names to
-  octets ← octets_in octets
+  from ← edge_of_word names from
+  to ← edge_of_word names to
+  octets ← digits_told octets
   Some (Said from to octets)
 said_in names words = None
 
 unfoldable pub entered_in : PlanNames → List (List ℕ) → Option Entry
 entered_in names (circuit ∷ number ∷ octets ∷ []) = do
-  circuit ← circuit_in names circuit
+  circuit ← circuit_of_word names circuit
   number ← number_in number
-  octets ← octets_in octets
+  octets ← digits_told octets
   Some (In circuit number octets)
 entered_in names words = None
 
@@ -38,14 +38,14 @@ unfoldable pub passed_in : List (List ℕ) → Option Passed
 passed_in (origin ∷ hops ∷ octets ∷ []) = do
   origin ← number_in origin
   hops ← number_in hops
-  octets ← octets_in octets
+  octets ← digits_told octets
   Some (record { origin = origin; hops = hops; bytes = octets })
 passed_in words = None
 
 -- the wire that a packet was sent on, by what it came, and the frame
 unfoldable pub carried_in : PlanNames → List (List ℕ) → Option Carried
 carried_in names (wire ∷ came ∷ words) = do
-  wire ← wire_in names wire
+  wire ← wire_of_word names wire
   came ← arrival_in names came
   passed ← passed_in words
   Some (record { wire = wire; arrival = came; passed = passed })
@@ -54,8 +54,8 @@ carried_in names words = None
 unfoldable pub sent_in : PlanNames → List (List ℕ) → Option Entry
 sent_in names (packet ∷ from ∷ to ∷ words) = do
   packet ← number_in packet
-  from ← edge_in names from
-  to ← edge_in names to
+  from ← edge_of_word names from
+  to ← edge_of_word names to
   carried ← carried_in names words
   Some (Sent from to carried.wire carried.arrival packet carried.passed.origin carried.passed.hops carried.passed.bytes)
 sent_in names words = None
@@ -75,14 +75,14 @@ aged_in words = None
 
 unfoldable pub left_in : PlanNames → List (List ℕ) → Option Entry
 left_in names (circuit ∷ words) = do
-  circuit ← circuit_in names circuit
+  circuit ← circuit_of_word names circuit
   passed ← passed_in words
   Some (Left circuit passed.origin passed.hops passed.bytes)
 left_in names words = None
 
 unfoldable pub dropped_in : PlanNames → List (List ℕ) → Option Entry
 dropped_in names (edge ∷ origin ∷ why ∷ []) = do
-  edge ← edge_in names edge
+  edge ← edge_of_word names edge
   origin ← number_in origin
   why ← cause_in why
   Some (Dropped edge origin why)
@@ -90,31 +90,31 @@ dropped_in names words = None
 
 unfoldable pub session_in : PlanNames → List (List ℕ) → Option Entry
 session_in names (edge ∷ peer ∷ name ∷ []) = do
-  edge ← edge_in names edge
-  peer ← edge_in names peer
+  edge ← edge_of_word names edge
+  peer ← edge_of_word names peer
   name ← state_in name
   Some (Session edge peer name)
 session_in names words = None
 
 unfoldable pub wire_told_in : PlanNames → List (List ℕ) → Option Entry
 wire_told_in names (edge ∷ wire ∷ down ∷ []) = do
-  edge ← edge_in names edge
-  wire ← wire_in names wire
+  edge ← edge_of_word names edge
+  wire ← wire_of_word names wire
   down ← wire_end_in down
   Some (Wire edge wire down)
 wire_told_in names words = None
 
 unfoldable pub pong_in : PlanNames → List (List ℕ) → Option Entry
 pong_in names (edge ∷ wire ∷ sequence ∷ []) = do
-  edge ← edge_in names edge
-  wire ← wire_in names wire
+  edge ← edge_of_word names edge
+  wire ← wire_of_word names wire
   sequence ← sequence_in sequence
   Some (Pong edge wire sequence)
 pong_in names words = None
 
 -- the entry of a first word that tells of a session, a wire or an answer
-unfoldable pub told_in : PlanNames → List ℕ → List (List ℕ) → Option Entry
-told_in names kind words =
+unfoldable pub answer_told : PlanNames → List ℕ → List (List ℕ) → Option Entry
+answer_told names kind words =
     if bytes_eq kind (codes "said") then said_in names words
     else if bytes_eq kind (codes "session") then session_in names words
     else if bytes_eq kind (codes "wire") then wire_told_in names words
@@ -129,15 +129,15 @@ packet_told_in names kind words =
     else if bytes_eq kind (codes "dropped") then dropped_in names words
     else if bytes_eq kind (codes "copied") then copied_in words
     else if bytes_eq kind (codes "aged") then aged_in words
-    else told_in names kind words
+    else answer_told names kind words
 
 -- an event that was done
 abbrev pub did_in : PlanNames → List (List ℕ) → Option Entry
 did_in names words = event_told names words >>= (λ event. Some (Did event))
 
 -- or of an event or a frame
-unfoldable pub entry_of : PlanNames → List ℕ → List (List ℕ) → Option Entry
-entry_of names kind words =
+unfoldable pub told_entry_of : PlanNames → List ℕ → List (List ℕ) → Option Entry
+told_entry_of names kind words =
     if bytes_eq kind (codes ">") then did_in names words
     else if bytes_eq kind (codes "in") then entered_in names words
     else if bytes_eq kind (codes "left") then left_in names words
@@ -146,11 +146,11 @@ entry_of names kind words =
 -- the entry that these words tell
 abbrev pub words_entry : PlanNames → List (List ℕ) → Option Entry
 words_entry names [] = None
-words_entry names (kind ∷ words) = entry_of names kind words
+words_entry names (kind ∷ words) = told_entry_of names kind words
 
 -- the entry that the words of a line tell
-unfoldable pub entry_in : PlanNames → List ℕ → Option Entry
-entry_in names line = words_entry names (line_words line)
+unfoldable pub told_entry_in : PlanNames → List ℕ → Option Entry
+told_entry_in names line = words_entry names (line_words line)
 
 -- the entry, where this is its line
 abbrev pub exact : Plan → List ℕ → Entry → Option Entry
@@ -158,4 +158,4 @@ exact plan line entry = if bytes_eq (entry_line plan entry) (line ++ codes "\n")
 
 -- the entry of which this is the line, without its line feed
 unfoldable pub line_entry : Plan → List ℕ → Option Entry
-line_entry plan line = entry_in (names_of plan) line >>= exact plan line
+line_entry plan line = told_entry_in (names_of plan) line >>= exact plan line

@@ -6,33 +6,33 @@ use Rattle.net_base.specs.declared.trace.event.Event.{Event}
 use Rattle.net_base.specs.declared.trace.event.Event.TheVariants.{Connect, Deliver, Lose, Restart, Tick, Frame, Arrive, Discard, Again, Wire, Circuit, Status, Priority, Ping}
 use Rattle.command_text.specs.declared.plan_names.PlanNames.{PlanNames}
 use Rattle.command_text.specs.Words.{decimal_from}
-use Rattle.report_entries.specs.Reading.{◌>>=◌, circuit_in, edge_in, octets_in, switch_in, wire_in}
+use Rattle.report_entries.specs.Reading.{◌>>=◌, circuit_of_word, edge_of_word, digits_told, switch_in, wire_of_word}
 
 unfoldable pub connect_told : PlanNames → List (List ℕ) → Option Event
 connect_told names (from ∷ to ∷ []) = do
-  from ← edge_in names from
-  to ← edge_in names to
+  from ← edge_of_word names from
+  to ← edge_of_word names to
   Some (Connect from to)
 connect_told names words = None
 
 unfoldable pub deliver_told : PlanNames → List (List ℕ) → Option Event
 deliver_told names (from ∷ to ∷ count ∷ []) = do
-  from ← edge_in names from
-  to ← edge_in names to
+  from ← edge_of_word names from
+  to ← edge_of_word names to
   count ← decimal_from 1 65535 count
   Some (Deliver from to count)
 deliver_told names words = None
 
 unfoldable pub lose_told : PlanNames → List (List ℕ) → Option Event
 lose_told names (edge ∷ peer ∷ []) = do
-  edge ← edge_in names edge
-  peer ← edge_in names peer
+  edge ← edge_of_word names edge
+  peer ← edge_of_word names peer
   Some (Lose edge peer)
 lose_told names words = None
 
 unfoldable pub restart_told : PlanNames → List (List ℕ) → Option Event
 restart_told names (edge ∷ []) = do
-  edge ← edge_in names edge
+  edge ← edge_of_word names edge
   Some (Restart edge)
 restart_told names words = None
 
@@ -44,13 +44,13 @@ tick_told words = None
 abbrev pub of_record_size : List ℕ → Option (List ℕ)
 of_record_size octets = if nat_le (length octets) 262144 then Some octets else None
 
-unfoldable pub frame_in : PlanNames → List (List ℕ) → Option Event
-frame_in names (circuit ∷ octets ∷ []) = do
-  circuit ← circuit_in names circuit
-  octets ← octets_in octets
+unfoldable pub frame_told : PlanNames → List (List ℕ) → Option Event
+frame_told names (circuit ∷ octets ∷ []) = do
+  circuit ← circuit_of_word names circuit
+  octets ← digits_told octets
   octets ← of_record_size octets
   Some (Frame circuit octets)
-frame_in names words = None
+frame_told names words = None
 
 -- the number of a packet
 unfoldable pub packet_named : List (List ℕ) → Option ℕ
@@ -59,39 +59,39 @@ packet_named words = None
 
 unfoldable pub wire_switch_told : PlanNames → List (List ℕ) → Option Event
 wire_switch_told names (edge ∷ wire ∷ on ∷ []) = do
-  edge ← edge_in names edge
-  wire ← wire_in names wire
+  edge ← edge_of_word names edge
+  wire ← wire_of_word names wire
   on ← switch_in on
   Some (Wire edge wire on)
 wire_switch_told names words = None
 
 unfoldable pub circuit_switch_told : PlanNames → List (List ℕ) → Option Event
 circuit_switch_told names (circuit ∷ on ∷ []) = do
-  circuit ← circuit_in names circuit
+  circuit ← circuit_of_word names circuit
   on ← switch_in on
   Some (Circuit circuit on)
 circuit_switch_told names words = None
 
 unfoldable pub status_told : PlanNames → List (List ℕ) → Option Event
 status_told names (edge ∷ wire ∷ bits ∷ []) = do
-  edge ← edge_in names edge
-  wire ← wire_in names wire
+  edge ← edge_of_word names edge
+  wire ← wire_of_word names wire
   bits ← decimal_from 0 31 bits
   Some (Status edge wire bits)
 status_told names words = None
 
-unfoldable pub priority_in : PlanNames → List (List ℕ) → Option Event
-priority_in names (edge ∷ wire ∷ priority ∷ []) = do
-  edge ← edge_in names edge
-  wire ← wire_in names wire
+unfoldable pub priority_told : PlanNames → List (List ℕ) → Option Event
+priority_told names (edge ∷ wire ∷ priority ∷ []) = do
+  edge ← edge_of_word names edge
+  wire ← wire_of_word names wire
   priority ← decimal_from 0 255 priority
   Some (Priority edge wire priority)
-priority_in names words = None
+priority_told names words = None
 
 unfoldable pub ping_told : PlanNames → List (List ℕ) → Option Event
 ping_told names (edge ∷ wire ∷ []) = do
-  edge ← edge_in names edge
-  wire ← wire_in names wire
+  edge ← edge_of_word names edge
+  wire ← wire_of_word names wire
   Some (Ping edge wire)
 ping_told names words = None
 
@@ -101,7 +101,7 @@ part_event_in names kind words =
     if bytes_eq kind (codes "wire") then wire_switch_told names words
     else if bytes_eq kind (codes "circuit") then circuit_switch_told names words
     else if bytes_eq kind (codes "status") then status_told names words
-    else if bytes_eq kind (codes "priority") then priority_in names words
+    else if bytes_eq kind (codes "priority") then priority_told names words
     else if bytes_eq kind (codes "ping") then ping_told names words
     else None
 
@@ -116,9 +116,9 @@ connection_event_in names kind words =
     else part_event_in names kind words
 
 -- or one that speaks of a frame or a packet
-unfoldable pub event_of : PlanNames → List ℕ → List (List ℕ) → Option Event
-event_of names kind words =
-    if bytes_eq kind (codes "frame") then frame_in names words
+unfoldable pub frame_event_told : PlanNames → List ℕ → List (List ℕ) → Option Event
+frame_event_told names kind words =
+    if bytes_eq kind (codes "frame") then frame_told names words
     else if bytes_eq kind (codes "arrive") then packet_named words >>= (λ packet. Some (Arrive packet))
     else if bytes_eq kind (codes "drop") then packet_named words >>= (λ packet. Some (Discard packet))
     else if bytes_eq kind (codes "again") then packet_named words >>= (λ packet. Some (Again packet))
@@ -127,4 +127,4 @@ event_of names kind words =
 -- the event that these words tell
 abbrev pub event_told : PlanNames → List (List ℕ) → Option Event
 event_told names [] = None
-event_told names (kind ∷ words) = event_of names kind words
+event_told names (kind ∷ words) = frame_event_told names kind words

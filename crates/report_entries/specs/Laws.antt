@@ -5,22 +5,22 @@ use Rattle.net_base.specs.declared.plan.Plan.{Plan}
 use Rattle.net_base.specs.declared.trace.entry.Entry.{Entry}
 use Rattle.net_base.specs.plan.Accepted.{IsChecked}
 use Rattle.event_laws.specs.Law.{HasNames}
-use Rattle.report_reading.specs.Named.{IsNamed}
+use Rattle.report_reading.specs.Named.{IsEntryNamed}
 use Rattle.report_reading.specs.Read.{ReadReport}
 use Rattle.report_text.specs.Report.{entry_line, entry_lines}
 use Rattle.report_entries.specs.declared.tally.Tally.{Tally}
-use Rattle.report_entries.specs.Counted.{counted, first_counts}
+use Rattle.report_entries.specs.Counted.{tallied, first_counts}
 use Rattle.report_entries.specs.Entries.{line_entry}
 use Rattle.report_entries.specs.Report.{ends_report, told_of}
 
 -- the counts behind entries
 abbrev pub counted_all : Tally → List Entry → Tally
 counted_all tally [] = tally
-counted_all tally (e ∷ es) = counted_all (counted e tally) es
+counted_all tally (e ∷ es) = counted_all (tallied e tally) es
 
 -- the line of an entry that names places of the plan is read as this entry
 abbrev pub LinesAreRead : Type 0
-LinesAreRead = (plan : Plan) (entry : Entry) (line : List ℕ) → IsChecked plan → HasNames plan → IsNamed plan entry → entry_line plan entry ≡ line ++ codes "\n" → line_entry plan line ≡ Some entry
+LinesAreRead = (plan : Plan) (entry : Entry) (line : List ℕ) → IsChecked plan → HasNames plan → IsEntryNamed plan entry → entry_line plan entry ≡ line ++ codes "\n" → line_entry plan line ≡ Some entry
 
 -- what is read of a line is an entry of which it is the line
 abbrev pub ReadsLines : Type 0
@@ -28,7 +28,7 @@ ReadsLines = (plan : Plan) (entry : Entry) (line : List ℕ) → line_entry plan
 
 -- and names places of the plan
 abbrev pub LinesNamePlaces : Type 0
-LinesNamePlaces = (plan : Plan) (line : List ℕ) (entry : Entry) → line_entry plan line ≡ Some entry → IsNamed plan entry
+LinesNamePlaces = (plan : Plan) (line : List ℕ) (entry : Entry) → line_entry plan line ≡ Some entry → IsEntryNamed plan entry
 
 -- a text has the lines of a trace, and a right last line
 pub record TellsTrace (plan : Plan) (text : List ℕ) (trace : List Entry) : Type 0 where
@@ -46,7 +46,7 @@ IsFreeOf mark octets = AllByRecursion (λ c. c == mark ≡ false) octets
 
 -- the report of entries that name places of a checked plan is read as these, behind any right last line
 abbrev pub ReportsAreRead : Type 0
-ReportsAreRead = (plan : Plan) (trace : List Entry) (last : List ℕ) → IsChecked plan → HasNames plan → AllByRecursion (IsNamed plan) trace → IsFreeOf 10 last → ends_report (counted_all first_counts trace) last ≡ true
+ReportsAreRead = (plan : Plan) (trace : List Entry) (last : List ℕ) → IsChecked plan → HasNames plan → AllByRecursion (IsEntryNamed plan) trace → IsFreeOf 10 last → ends_report (counted_all first_counts trace) last ≡ true
     → told_of plan ((codes "vplsnet 1\n" ++ entry_lines plan trace) ++ (last ++ codes "\n")) ≡ Ok trace
 
 -- a text that is the report of a trace tells this trace

@@ -35,21 +35,21 @@ Reads (Err NoMemory) read = Unit {0}
 
 -- ---- words
 
-unfoldable pub edge_in : PlanNames → List ℕ → Option EdgeId
-edge_in names word = option_map (λ n. record { 0 = n }) (place_in names.edges word)
+unfoldable pub edge_of_word : PlanNames → List ℕ → Option EdgeId
+edge_of_word names word = option_map (λ n. record { 0 = n }) (place_in names.edges word)
 
-unfoldable pub circuit_in : PlanNames → List ℕ → Option CircuitId
-circuit_in names word = option_map (λ n. record { 0 = n }) (place_in names.circuits word)
+unfoldable pub circuit_of_word : PlanNames → List ℕ → Option CircuitId
+circuit_of_word names word = option_map (λ n. record { 0 = n }) (place_in names.circuits word)
 
-unfoldable pub wire_in : PlanNames → List ℕ → Option WireId
-wire_in names word = option_map (λ n. record { 0 = n }) (place_in names.wires word)
+unfoldable pub wire_of_word : PlanNames → List ℕ → Option WireId
+wire_of_word names word = option_map (λ n. record { 0 = n }) (place_in names.wires word)
 
 -- no circuit has the name of a wire, and none has a dash
 unfoldable pub arrival_in : PlanNames → List ℕ → Option Arrival
 arrival_in names word =
     if bytes_eq word (codes "-") then Some arrival.Own
-    else if is_some (circuit_in names word) then option_map arrival.Circuit (circuit_in names word)
-    else option_map arrival.Wire (wire_in names word)
+    else if is_some (circuit_of_word names word) then option_map arrival.Circuit (circuit_of_word names word)
+    else option_map arrival.Wire (wire_of_word names word)
 
 -- a number of 64 bits, and one of 16
 unfoldable pub number_in : List ℕ → Option ℕ
@@ -62,8 +62,8 @@ abbrev pub is_small : ℕ → Bool
 is_small octet = not (is_ascii_uppercase octet)
 
 -- pairs of digits, without capital letters
-unfoldable pub octets_in : List ℕ → Option (List ℕ)
-octets_in word = if list_all is_small word then unhex word else None
+unfoldable pub digits_told : List ℕ → Option (List ℕ)
+digits_told word = if list_all is_small word then unhex word else None
 
 unfoldable pub switch_in : List ℕ → Option Bool
 switch_in word = if bytes_eq word (codes "on") then Some Bool.true else if bytes_eq word (codes "off") then Some Bool.false else None

@@ -1,6 +1,6 @@
 //! The entries that lines tell.
 ghost use Rattle.std.specs.Prelude.{◌≡◌, map};
-ghost use Rattle.report_entries.specs.Entries.{aged_in, copied_in, did_in, dropped_in, entered_in, entry_of, idle_in, left_in, packet_told_in, pong_in, said_in, sent_in, session_in, told_in, wire_told_in, words_entry};
+ghost use Rattle.report_entries.specs.Entries.{aged_in, copied_in, did_in, dropped_in, entered_in, told_entry_of, idle_in, left_in, packet_told_in, pong_in, said_in, sent_in, session_in, answer_told, wire_told_in, words_entry};
 ghost use Rattle.report_entries.specs.Reading.{Reads};
 
 use crate::Unread;
@@ -229,9 +229,9 @@ fn pong(names: &PlanNames<'_>, words: &[&[u8]]) -> Result<Entry, Unread>
 }
 
 // The entry of a first word that tells of a session, a wire or an answer.
-#[tactic(auto, unfolding(crate::specs::Entries::told_in))]
+#[tactic(auto, unfolding(crate::specs::Entries::answer_told))]
 fn told(alloc: Global, names: &PlanNames<'_>, kind: &[u8], words: &[&[u8]]) -> Result<Entry, Unread>
-    ensures { Reads result (told_in names.now kind.now (map (λ w. w.now) words.now)) }
+    ensures { Reads result (answer_told names.now kind.now (map (λ w. w.now) words.now)) }
 {
     if is_word(kind, "said") {
         said(alloc, names, words)
@@ -282,14 +282,14 @@ fn did(alloc: Global, names: &PlanNames<'_>, words: &[&[u8]]) -> Result<Entry, U
 }
 
 // Or of an event or a frame.
-#[tactic(auto, unfolding(crate::specs::Entries::entry_of))]
+#[tactic(auto, unfolding(crate::specs::Entries::told_entry_of))]
 fn entry_of_kind(
     alloc: Global,
     names: &PlanNames<'_>,
     kind: &[u8],
     words: &[&[u8]],
 ) -> Result<Entry, Unread>
-    ensures { Reads result (entry_of names.now kind.now (map (λ w. w.now) words.now)) }
+    ensures { Reads result (told_entry_of names.now kind.now (map (λ w. w.now) words.now)) }
 {
     if is_word(kind, ">") {
         did(alloc, names, words)

@@ -1,7 +1,7 @@
 //! The entry that a line tells.
 ghost use Rattle.std.specs.Prelude.{◌≡◌, map, IfOk};
 ghost use Rattle.command_text.specs.Planned.{names_of};
-ghost use Rattle.report_reading.specs.Named.{IsNamed};
+ghost use Rattle.report_reading.specs.Named.{IsEntryNamed};
 ghost use Rattle.report_entries.specs.Answers.{Finds};
 ghost use Rattle.report_entries.specs.Cut.{line_words};
 ghost use Rattle.report_entries.specs.Entries.{line_entry};
@@ -42,7 +42,7 @@ fn read_entry(
     requires names { names.now ≡ names_of plan.now }
     requires words { map (λ w. w.now) words.now ≡ line_words line.now }
     ensures read { Reads result (line_entry plan.now line.now) }
-    ensures named { IfOk result (IsNamed plan.now) }
+    ensures named { IfOk result (IsEntryNamed plan.now) }
 {
     told_entry(alloc, plan, names, line, words)
 }
@@ -59,7 +59,7 @@ pub fn entry_at(
     requires names { names.now ≡ names_of plan.now }
     requires words { map (λ w. w.now) words.now ≡ line_words line.now }
     ensures found { Finds result (found_on_line number (line_entry plan.now line.now)) }
-    ensures named { IfOk result (IsNamed plan.now) }
+    ensures named { IfOk result (IsEntryNamed plan.now) }
 {
     match read_entry(alloc, plan, names, line, words) {
         Ok(entry) => Ok(entry),

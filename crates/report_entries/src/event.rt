@@ -1,6 +1,6 @@
 //! The events that lines tell.
 ghost use Rattle.std.specs.Prelude.{◌≡◌, map};
-ghost use Rattle.report_entries.specs.Events.{circuit_switch_told, connect_told, connection_event_in, deliver_told, event_told, event_of, frame_in, lose_told, packet_named, part_event_in, ping_told, priority_in, restart_told, status_told, tick_told, wire_switch_told};
+ghost use Rattle.report_entries.specs.Events.{circuit_switch_told, connect_told, connection_event_in, deliver_told, event_told, frame_event_told, frame_told, lose_told, packet_named, part_event_in, ping_told, priority_told, restart_told, status_told, tick_told, wire_switch_told};
 ghost use Rattle.report_entries.specs.Reading.{Reads};
 
 use crate::Unread;
@@ -81,9 +81,9 @@ fn tick(words: &[&[u8]]) -> Result<Event, Unread>
 }
 
 // `frame C HEX`, with 0 to 262,144 octets.
-#[tactic(auto, unfolding(crate::specs::Events::frame_in))]
+#[tactic(auto, unfolding(crate::specs::Events::frame_told))]
 fn frame(alloc: Global, names: &PlanNames<'_>, words: &[&[u8]]) -> Result<Event, Unread>
-    ensures { Reads result (frame_in names.now (map (λ w. w.now) words.now)) }
+    ensures { Reads result (frame_told names.now (map (λ w. w.now) words.now)) }
 {
     match words {
         [at, digits] => {
@@ -165,9 +165,9 @@ fn status(names: &PlanNames<'_>, words: &[&[u8]]) -> Result<Event, Unread>
 }
 
 // `priority E W N`, with N from 0 to 255.
-#[tactic(auto, unfolding(crate::specs::Events::priority_in))]
+#[tactic(auto, unfolding(crate::specs::Events::priority_told))]
 fn priority(names: &PlanNames<'_>, words: &[&[u8]]) -> Result<Event, Unread>
-    ensures { Reads result (priority_in names.now (map (λ w. w.now) words.now)) }
+    ensures { Reads result (priority_told names.now (map (λ w. w.now) words.now)) }
 {
     match words {
         [at, of, priority] => {
@@ -240,14 +240,14 @@ fn connection_event(names: &PlanNames<'_>, kind: &[u8], words: &[&[u8]]) -> Resu
 }
 
 // The event of a first word.
-#[tactic(auto, unfolding(crate::specs::Events::event_of))]
+#[tactic(auto, unfolding(crate::specs::Events::frame_event_told))]
 fn event_of_kind(
     alloc: Global,
     names: &PlanNames<'_>,
     kind: &[u8],
     words: &[&[u8]],
 ) -> Result<Event, Unread>
-    ensures { Reads result (event_of names.now kind.now (map (λ w. w.now) words.now)) }
+    ensures { Reads result (frame_event_told names.now kind.now (map (λ w. w.now) words.now)) }
 {
     if is_word(kind, "frame") {
         frame(alloc, names, words)

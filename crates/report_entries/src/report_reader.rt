@@ -1,9 +1,9 @@
 //! Reading a report line by line.
 ghost use Rattle.std.specs.Prelude.{◌≡◌, ◌<◌, ◌≤◌, ◌+◌, ◌^◌, [], length, IfOk, IfSome, OnOk};
 ghost use Rattle.command_text.specs.Planned.{names_of};
-ghost use Rattle.report_reading.specs.Named.{IsNamed};
+ghost use Rattle.report_reading.specs.Named.{IsEntryNamed};
 ghost use Rattle.report_entries.specs.Answers.{Begins, ReportGoesOn};
-ghost use Rattle.report_entries.specs.Counted.{AreCounted};
+ghost use Rattle.report_entries.specs.Counted.{AreTallied};
 
 use crate::ReportFault;
 use crate::cut::{cut_at, words_of};
@@ -27,13 +27,13 @@ pub struct ReportReader<'a> {
 
 impl<'a> Model for ReportReader<'a> {
     ghost use Rattle.report_entries.specs.ReadSoFar.{ReadSoFar};
-    ghost use Rattle.report_entries.specs.Counted.{AreCounted};
+    ghost use Rattle.report_entries.specs.Counted.{AreTallied};
 
     ghost Value = { ReadSoFar };
 
     ghost view = { λ r. record { tally = r.tally; rest = r.rest.now; waits = r.writer.page } };
 
-    ghost invariant = { λ r. AreCounted r.tally };
+    ghost invariant = { λ r. AreTallied r.tally };
 }
 
 impl<'a> ReportReader<'a> {
@@ -87,7 +87,7 @@ impl<'a> ReportReader<'a> {
         requires ready { self.old.waits ≡ [] }
         ensures ready { OnOk result (self.new.waits ≡ []) }
         ensures lines { OnOk result (self.new.tally.lines ≤ self.old.tally.lines + 1) }
-        ensures named { IfOk result (λ told. IfSome told (IsNamed plan.now)) }
+        ensures named { IfOk result (λ told. IfSome told (IsEntryNamed plan.now)) }
         ensures goes { ReportGoesOn plan.now self.old self.new result }
     {
         let number = self.tally.lines + 1;

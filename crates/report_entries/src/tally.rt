@@ -1,6 +1,6 @@
 //! Counts of lines and entries.
 ghost use Rattle.std.specs.Prelude.{◌≡◌, ◌<◌, ◌^◌};
-ghost use Rattle.report_entries.specs.Counted.{AreCounted, counted, counted_kind, first_counts};
+ghost use Rattle.report_entries.specs.Counted.{AreTallied, tallied, counted_kind, first_counts};
 
 use net_base::Entry;
 
@@ -32,7 +32,7 @@ impl Tally {
 
     // Counts an entry more of its kind.
     fn add_kind(&mut self, entry: &Entry)
-        requires counted { AreCounted self.old }
+        requires counted { AreTallied self.old }
         requires few { self.old.lines < 2 ^ 63 }
         ensures { self.new ≡ counted_kind entry.now self.old }
     {
@@ -49,10 +49,10 @@ impl Tally {
     /// Counts the line of an entry more.
     #[tactic(auto, using(crate::proofs::CountLemmas::counted_on))]
     pub fn add(&mut self, entry: &Entry)
-        requires counted { AreCounted self.old }
+        requires counted { AreTallied self.old }
         requires few { self.old.lines < 2 ^ 63 }
-        ensures is { self.new ≡ counted entry.now self.old }
-        ensures counted { AreCounted self.new }
+        ensures is { self.new ≡ tallied entry.now self.old }
+        ensures counted { AreTallied self.new }
     {
         self.add_kind(entry);
         self.lines += 1;

@@ -3,7 +3,7 @@ ghost use Rattle.std.specs.Prelude.{◌≡◌, ◌≤◌, IfOk};
 ghost use Rattle.std.specs.List.{list_all};
 ghost use Rattle.std.specs.Str.{bytes_eq};
 ghost use Rattle.command_text.specs.Words.{decimal_from};
-ghost use Rattle.report_entries.specs.Reading.{Reads, arrival_in, cause_in, cause_rest_in, circuit_in, edge_in, ended_in, is_small, number_in, octets_in, sequence_in, state_in, switch_in, wire_end_in, wire_in};
+ghost use Rattle.report_entries.specs.Reading.{Reads, arrival_in, cause_in, cause_rest_in, circuit_of_word, edge_of_word, ended_in, is_small, number_in, digits_told, sequence_in, state_in, switch_in, wire_end_in, wire_of_word};
 
 use crate::Unread;
 use command_text::PlanNames;
@@ -22,9 +22,9 @@ pub fn is_word(word: &[u8], other: &str) -> bool
 }
 
 /// The edge of a name.
-#[tactic(auto, unfolding(crate::specs::Reading::edge_in))]
+#[tactic(auto, unfolding(crate::specs::Reading::edge_of_word))]
 pub fn edge(names: &PlanNames<'_>, word: &[u8]) -> Result<EdgeId, Unread>
-    ensures { Reads result (edge_in names.now word.now) }
+    ensures { Reads result (edge_of_word names.now word.now) }
 {
     match names.edges.place(word) {
         Some(place) => Ok(EdgeId(place)),
@@ -33,9 +33,9 @@ pub fn edge(names: &PlanNames<'_>, word: &[u8]) -> Result<EdgeId, Unread>
 }
 
 /// The circuit of a name.
-#[tactic(auto, unfolding(crate::specs::Reading::circuit_in))]
+#[tactic(auto, unfolding(crate::specs::Reading::circuit_of_word))]
 pub fn circuit(names: &PlanNames<'_>, word: &[u8]) -> Result<CircuitId, Unread>
-    ensures { Reads result (circuit_in names.now word.now) }
+    ensures { Reads result (circuit_of_word names.now word.now) }
 {
     match names.circuits.place(word) {
         Some(place) => Ok(CircuitId(place)),
@@ -44,9 +44,9 @@ pub fn circuit(names: &PlanNames<'_>, word: &[u8]) -> Result<CircuitId, Unread>
 }
 
 /// The wire of a name.
-#[tactic(auto, unfolding(crate::specs::Reading::wire_in))]
+#[tactic(auto, unfolding(crate::specs::Reading::wire_of_word))]
 pub fn wire(names: &PlanNames<'_>, word: &[u8]) -> Result<WireId, Unread>
-    ensures { Reads result (wire_in names.now word.now) }
+    ensures { Reads result (wire_of_word names.now word.now) }
 {
     match names.wires.place(word) {
         Some(place) => Ok(WireId(place)),
@@ -55,7 +55,7 @@ pub fn wire(names: &PlanNames<'_>, word: &[u8]) -> Result<WireId, Unread>
 }
 
 /// By what a frame came: a circuit, a wire, or a dash.
-#[tactic(auto, unfolding(crate::specs::Reading::arrival_in, crate::specs::Reading::circuit_in, crate::specs::Reading::wire_in))]
+#[tactic(auto, unfolding(crate::specs::Reading::arrival_in, crate::specs::Reading::circuit_of_word, crate::specs::Reading::wire_of_word))]
 pub fn arrival(names: &PlanNames<'_>, word: &[u8]) -> Result<Arrival, Unread>
     ensures { Reads result (arrival_in names.now word.now) }
 {
@@ -113,9 +113,9 @@ fn is_all_small(word: &[u8]) -> bool
 }
 
 /// Octets as pairs of hexadecimal digits, without capital letters.
-#[tactic(auto, unfolding(crate::specs::Reading::octets_in))]
+#[tactic(auto, unfolding(crate::specs::Reading::digits_told))]
 pub fn octets(alloc: Global, word: &[u8]) -> Result<Octets, Unread>
-    ensures { Reads result (octets_in word.now) }
+    ensures { Reads result (digits_told word.now) }
 {
     if !is_all_small(word) {
         return Err(Unread::NoEntry);

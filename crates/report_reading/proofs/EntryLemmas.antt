@@ -13,10 +13,10 @@ use Rattle.text_pieces.specs.Pieces.{hex}
 use Rattle.report_text.specs.Report.{entry_words}
 use Rattle.report_text.specs.Words.{arrival_name, cause_name, circuit_name, edge_name, event_words, state_name, switch_name, wire_end_name, wire_name}
 use Rattle.event_laws.specs.Law.{HasNames}
-use Rattle.report_reading.specs.Named.{HasNamesApart, IsNamed, IsNamedEvent, IsNumber, IsNamedPacket}
+use Rattle.report_reading.specs.Named.{HasNamesApart, IsEntryNamed, IsNamedEvent, IsToldNumber, IsNamedPacket}
 use Rattle.report_reading.proofs.ValueLemmas.{within_number, arrival_same, cause_same, circuit_same, edge_same, end_same, number_same, octets_same, state_same, switch_same, wire_same}
 
-packet_number : (n : ℕ) → IsNamedPacket n → IsNumber n
+packet_number : (n : ℕ) → IsNamedPacket n → IsToldNumber n
 packet_number n is = within_number 1 18446744073709551615 n is (omega arith)
 
 event_kind : Event → ℕ
@@ -193,7 +193,7 @@ other_entry plan x y apart e =
     clash (sym apart ∙ (ap (λ (n : ℕ). nat_eq n (entry_kind y)) is ∙ same_number (entry_kind y)))
 
 module _ (plan : Plan) (names : HasNames plan) (apart : HasNamesApart plan) where
-  pub entry_same : (x y : Entry) → IsNamed plan x → IsNamed plan y → entry_words plan x ≡ entry_words plan y → x ≡ y
+  pub entry_same : (x y : Entry) → IsEntryNamed plan x → IsEntryNamed plan y → entry_words plan x ≡ entry_words plan y → x ≡ y
   unfolding entry_kind
   entry_same (entry.Did event) (entry.Did event') is_x is_y e =
       let word_event : event_words plan event ≡ event_words plan event' = cc (e) in

@@ -41,7 +41,7 @@ use Rattle.event_laws.specs.Law.{AreNames, HasNames}
 use Rattle.event_laws.proofs.ValueLemmas.{row_name, numerals}
 use Rattle.read_lines.specs.Plain.{HasWords, IsPlain, IsPlainLine, is_plain}
 use Rattle.report_reading.proofs.ValueLemmas.{within_number}
-use Rattle.report_reading.specs.Named.{AreOctetsTold, IsArrival, IsCircuit, IsEdge, IsNamed, IsNamedEvent, IsNumber, IsWire}
+use Rattle.report_reading.specs.Named.{AreOctetsTold, IsArrival, IsCircuit, IsNamedEdge, IsEntryNamed, IsNamedEvent, IsToldNumber, IsWire}
 
 plain_by : (test : ℕ → Bool) → ((c : ℕ) → test c ≡ true → is_plain c ≡ true) → (word : List ℕ) → list_all test word ≡ true → IsPlain word
 plain_by test none [] e = tt
@@ -58,7 +58,7 @@ digit_plain c e = grind (arith, nat_tests, e)
 name_plain : (c : ℕ) → is_name_octet_of c ≡ true → is_plain c ≡ true
 name_plain c e = grind (arith, nat_tests, e)
 
-pub number_plain : (n : ℕ) → IsNumber n → IsPlain (decimal n)
+pub number_plain : (n : ℕ) → IsToldNumber n → IsPlain (decimal n)
 number_plain n h = plain_by is_digit_of digit_plain (decimal n) (digits_decimal numerals n h)
 
 all_below : (ℕ → Bool) → ℕ → Bool
@@ -157,7 +157,7 @@ state_plain : (x : StateName) → IsPlain (state_name x)
 state_plain x = all_plain (state_name x) (state_all x)
 
 module _ (plan : Plan) (names : HasNames plan) where
-  edge_plain : (a : EdgeId) → IsEdge plan a → IsPlain (edge_name plan a)
+  edge_plain : (a : EdgeId) → IsNamedEdge plan a → IsPlain (edge_name plan a)
   edge_plain a is = row_plain (λ (row : EdgePlan). row.name) plan.edges a.0 names.edges is
 
   circuit_plain : (a : CircuitId) → IsCircuit plan a → IsPlain (circuit_name plan a)
@@ -187,7 +187,7 @@ module _ (plan : Plan) (names : HasNames plan) where
   event_plain (event.Priority edge wire priority) is = (all_plain (codes "priority") refl, (edge_plain edge (is.0), (wire_plain wire (is.1.0), (number_plain priority (within_number 0 255 priority is.1.1 (omega arith)), tt))))
   event_plain (event.Ping edge wire) is = (all_plain (codes "ping") refl, (edge_plain edge (is.0), (wire_plain wire (is.1), tt)))
 
-  pub entry_plain : (x : Entry) → IsNamed plan x → HasWords (entry_words plan x)
+  pub entry_plain : (x : Entry) → IsEntryNamed plan x → HasWords (entry_words plan x)
   entry_plain (entry.Did event) is = (all_plain (codes ">") refl, event_plain event is)
   entry_plain entry.Idle is = (all_plain (codes "idle") refl, tt)
   entry_plain (entry.Said from to octets) is = (all_plain (codes "said") refl, (edge_plain from (is.0), (edge_plain to (is.1.0), (octets_plain octets (is.1.1), tt))))

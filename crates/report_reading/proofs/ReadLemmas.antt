@@ -10,7 +10,7 @@ use Rattle.report_text.specs.Report.{entry_line, entry_lines, entry_words, last_
 use Rattle.event_laws.specs.Law.{HasNames}
 use Rattle.read_lines.specs.Plain.{HasWords}
 use Rattle.read_lines.proofs.LineLemmas.{line_same}
-use Rattle.report_reading.specs.Named.{HasNamesApart, IsNamed}
+use Rattle.report_reading.specs.Named.{HasNamesApart, IsEntryNamed}
 use Rattle.report_reading.specs.Read.{ReadReport}
 use Rattle.report_reading.proofs.ApartLemmas.{names_apart}
 use Rattle.report_reading.proofs.PlainLemmas.{entry_plain, last_plain}
@@ -33,7 +33,7 @@ drop_front [] a b e = e
 drop_front (x ∷ front) a b e = drop_front front a b (cc (e))
 
 module _ (plan : Plan) (names : HasNames plan) (apart : HasNamesApart plan) where
-  lines_same : (a b s t : List Entry) (x y : Ending) → AllByRecursion (IsNamed plan) a → AllByRecursion (IsNamed plan) b
+  lines_same : (a b s t : List Entry) (x y : Ending) → AllByRecursion (IsEntryNamed plan) a → AllByRecursion (IsEntryNamed plan) b
       → AllByRecursion (λ entry. HasWords (entry_words plan entry)) a → AllByRecursion (λ entry. HasWords (entry_words plan entry)) b → HasWords (last_words s x) → HasWords (last_words t y)
       → entry_lines plan a ++ last_line s x ≡ entry_lines plan b ++ last_line t y → a ≡ b
   lines_same [] [] s t x y na nb pa pb ls lt e = refl
@@ -49,7 +49,7 @@ module _ (plan : Plan) (names : HasNames plan) (apart : HasNamesApart plan) wher
       ap (λ (z : Entry). z ∷ a) (entry_same plan names apart p q na.0 nb.0 here.0)
       ∙ ap (λ (l : List Entry). q ∷ l) (lines_same a b s t x y na.1 nb.1 pa.1 pb.1 ls lt here.1)
 
-  all_plain_lines : (trace : List Entry) → AllByRecursion (IsNamed plan) trace → AllByRecursion (λ entry. HasWords (entry_words plan entry)) trace
+  all_plain_lines : (trace : List Entry) → AllByRecursion (IsEntryNamed plan) trace → AllByRecursion (λ entry. HasWords (entry_words plan entry)) trace
   all_plain_lines [] named = tt
   all_plain_lines (x ∷ xs) named = (entry_plain plan names x named.0, all_plain_lines xs named.1)
 

@@ -26,7 +26,7 @@ use Rattle.text_pieces.specs.Pieces.{hex}
 use Rattle.report_text.specs.Words.{arrival_name, cause_name, circuit_name, edge_name, state_name, switch_name, wire_end_name, wire_name}
 use Rattle.event_laws.specs.Law.{HasNames}
 use Rattle.event_laws.proofs.ValueLemmas.{number_said, octets_read, row_said, switch_said}
-use Rattle.report_reading.specs.Named.{AreOctetsTold, HasNamesApart, IsArrival, IsCircuit, IsEdge, IsNumber, IsWire, IsFromTo}
+use Rattle.report_reading.specs.Named.{AreOctetsTold, HasNamesApart, IsArrival, IsCircuit, IsNamedEdge, IsToldNumber, IsWire, IsFromTo}
 
 -- what is read of a word is one value
 read_same : {A B : Type 0} (read : B → Option A) (a b : A) (x y : B) → read x ≡ Some a → read y ≡ Some b → x ≡ y → a ≡ b
@@ -36,13 +36,13 @@ pub octets_same : (a b : List ℕ) → AreOctetsTold a → AreOctetsTold b → h
 octets_same a b are_a are_b e = read_same unhex a b (hex a) (hex b) (octets_read a are_a) (octets_read b are_b) e
 
 -- a number in a range of numbers of 64 bits is one
-pub within_number : (low high n : ℕ) → IsFromTo low high n → high < 2 ^ 64 → IsNumber n
+pub within_number : (low high n : ℕ) → IsFromTo low high n → high < 2 ^ 64 → IsToldNumber n
 within_number low high n is few = omega (arith, is.1, few)
 
-number_read : (n : ℕ) → IsNumber n → decimal_from 0 18446744073709551615 (decimal n) ≡ Some n
+number_read : (n : ℕ) → IsToldNumber n → decimal_from 0 18446744073709551615 (decimal n) ≡ Some n
 number_read n is = number_said 0 18446744073709551615 n (omega arith) (omega (arith, is)) is
 
-pub number_same : (a b : ℕ) → IsNumber a → IsNumber b → decimal a ≡ decimal b → a ≡ b
+pub number_same : (a b : ℕ) → IsToldNumber a → IsToldNumber b → decimal a ≡ decimal b → a ≡ b
 number_same a b is_a is_b e = read_same (decimal_from 0 18446744073709551615) a b (decimal a) (decimal b) (number_read a is_a) (number_read b is_b) e
 
 pub switch_same : (a b : Bool) → switch_name a ≡ switch_name b → a ≡ b
@@ -58,7 +58,7 @@ abbrev as_wire : ℕ → WireId
 as_wire n = record { 0 = n }
 
 module _ (plan : Plan) (names : HasNames plan) where
-  pub edge_same : (a b : EdgeId) → IsEdge plan a → IsEdge plan b → edge_name plan a ≡ edge_name plan b → a ≡ b
+  pub edge_same : (a b : EdgeId) → IsNamedEdge plan a → IsNamedEdge plan b → edge_name plan a ≡ edge_name plan b → a ≡ b
   edge_same a b is_a is_b e = ap as_edge
       (read_same (place_in (edge_names plan.edges)) a.0 b.0 (edge_name plan a) (edge_name plan b)
       (row_said (λ (row : EdgePlan). row.name) plan.edges a.0 names.edges is_a) (row_said (λ (row : EdgePlan). row.name) plan.edges b.0 names.edges is_b) e)

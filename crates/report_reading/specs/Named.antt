@@ -14,8 +14,8 @@ use Rattle.net_base.specs.declared.trace.event.Event.TheVariants as event
 use Rattle.net_base.specs.plan.Planned.{IsFrame}
 use Rattle.report_text.specs.Words.{circuit_name, wire_name}
 
-abbrev pub IsNumber : ℕ → Type 0
-IsNumber n = n < 2 ^ 64
+abbrev pub IsToldNumber : ℕ → Type 0
+IsToldNumber n = n < 2 ^ 64
 
 -- a number from one to another one
 abbrev pub IsFromTo : ℕ → ℕ → ℕ → Type 0
@@ -28,8 +28,8 @@ IsNamedPacket n = IsFromTo 1 18446744073709551615 n
 abbrev pub AreOctetsTold : List ℕ → Type 0
 AreOctetsTold octets = All (λ octet. octet < 256) octets
 
-abbrev pub IsEdge : Plan → EdgeId → Type 0
-IsEdge plan edge = edge.0 < length plan.edges
+abbrev pub IsNamedEdge : Plan → EdgeId → Type 0
+IsNamedEdge plan edge = edge.0 < length plan.edges
 
 abbrev pub IsCircuit : Plan → CircuitId → Type 0
 IsCircuit plan circuit = circuit.0 < length plan.circuits
@@ -49,32 +49,32 @@ pub record HasNamesApart (plan : Plan) : Type 0 where
   pub wires : (wire : WireId) → IsWire plan wire → wire_name plan wire ≡ codes "-" → ⊥
 
 abbrev pub IsNamedEvent : Plan → Event → Type 0
-IsNamedEvent plan (event.Connect from to) = IsEdge plan from × IsEdge plan to
-IsNamedEvent plan (event.Deliver from to count) = IsEdge plan from × (IsEdge plan to × IsFromTo 1 65535 count)
-IsNamedEvent plan (event.Lose edge peer) = IsEdge plan edge × IsEdge plan peer
-IsNamedEvent plan (event.Restart edge) = IsEdge plan edge
+IsNamedEvent plan (event.Connect from to) = IsNamedEdge plan from × IsNamedEdge plan to
+IsNamedEvent plan (event.Deliver from to count) = IsNamedEdge plan from × (IsNamedEdge plan to × IsFromTo 1 65535 count)
+IsNamedEvent plan (event.Lose edge peer) = IsNamedEdge plan edge × IsNamedEdge plan peer
+IsNamedEvent plan (event.Restart edge) = IsNamedEdge plan edge
 IsNamedEvent plan event.Tick = Unit {0}
 IsNamedEvent plan (event.Frame circuit octets) = IsCircuit plan circuit × (AreOctetsTold octets × IsFrame octets)
 IsNamedEvent plan (event.Arrive packet) = IsNamedPacket packet
 IsNamedEvent plan (event.Discard packet) = IsNamedPacket packet
 IsNamedEvent plan (event.Again packet) = IsNamedPacket packet
-IsNamedEvent plan (event.Wire edge wire on) = IsEdge plan edge × IsWire plan wire
+IsNamedEvent plan (event.Wire edge wire on) = IsNamedEdge plan edge × IsWire plan wire
 IsNamedEvent plan (event.Circuit circuit on) = IsCircuit plan circuit
-IsNamedEvent plan (event.Status edge wire bits) = IsEdge plan edge × (IsWire plan wire × IsFromTo 0 31 bits)
-IsNamedEvent plan (event.Priority edge wire priority) = IsEdge plan edge × (IsWire plan wire × IsFromTo 0 255 priority)
-IsNamedEvent plan (event.Ping edge wire) = IsEdge plan edge × IsWire plan wire
+IsNamedEvent plan (event.Status edge wire bits) = IsNamedEdge plan edge × (IsWire plan wire × IsFromTo 0 31 bits)
+IsNamedEvent plan (event.Priority edge wire priority) = IsNamedEdge plan edge × (IsWire plan wire × IsFromTo 0 255 priority)
+IsNamedEvent plan (event.Ping edge wire) = IsNamedEdge plan edge × IsWire plan wire
 
-abbrev pub IsNamed : Plan → Entry → Type 0
-IsNamed plan (entry.Did event) = IsNamedEvent plan event
-IsNamed plan entry.Idle = Unit {0}
-IsNamed plan (entry.Said from to octets) = IsEdge plan from × (IsEdge plan to × AreOctetsTold octets)
-IsNamed plan (entry.In circuit number octets) = IsCircuit plan circuit × (IsNumber number × AreOctetsTold octets)
-IsNamed plan (entry.Sent from to wire came packet origin hops octets) =
-    IsEdge plan from × (IsEdge plan to × (IsWire plan wire × (IsArrival plan came × (IsNumber packet × (IsNumber origin × (IsNumber hops × AreOctetsTold octets))))))
-IsNamed plan (entry.Copied packet of) = IsNumber packet × IsNumber of
-IsNamed plan (entry.Aged packet) = IsNumber packet
-IsNamed plan (entry.Left circuit origin hops octets) = IsCircuit plan circuit × (IsNumber origin × (IsNumber hops × AreOctetsTold octets))
-IsNamed plan (entry.Dropped edge origin cause) = IsEdge plan edge × IsNumber origin
-IsNamed plan (entry.Session edge peer state) = IsEdge plan edge × IsEdge plan peer
-IsNamed plan (entry.Wire edge wire down) = IsEdge plan edge × IsWire plan wire
-IsNamed plan (entry.Pong edge wire sequence) = IsEdge plan edge × (IsWire plan wire × IsFromTo 0 65535 sequence)
+abbrev pub IsEntryNamed : Plan → Entry → Type 0
+IsEntryNamed plan (entry.Did event) = IsNamedEvent plan event
+IsEntryNamed plan entry.Idle = Unit {0}
+IsEntryNamed plan (entry.Said from to octets) = IsNamedEdge plan from × (IsNamedEdge plan to × AreOctetsTold octets)
+IsEntryNamed plan (entry.In circuit number octets) = IsCircuit plan circuit × (IsToldNumber number × AreOctetsTold octets)
+IsEntryNamed plan (entry.Sent from to wire came packet origin hops octets) =
+    IsNamedEdge plan from × (IsNamedEdge plan to × (IsWire plan wire × (IsArrival plan came × (IsToldNumber packet × (IsToldNumber origin × (IsToldNumber hops × AreOctetsTold octets))))))
+IsEntryNamed plan (entry.Copied packet of) = IsToldNumber packet × IsToldNumber of
+IsEntryNamed plan (entry.Aged packet) = IsToldNumber packet
+IsEntryNamed plan (entry.Left circuit origin hops octets) = IsCircuit plan circuit × (IsToldNumber origin × (IsToldNumber hops × AreOctetsTold octets))
+IsEntryNamed plan (entry.Dropped edge origin cause) = IsNamedEdge plan edge × IsToldNumber origin
+IsEntryNamed plan (entry.Session edge peer state) = IsNamedEdge plan edge × IsNamedEdge plan peer
+IsEntryNamed plan (entry.Wire edge wire down) = IsNamedEdge plan edge × IsWire plan wire
+IsEntryNamed plan (entry.Pong edge wire sequence) = IsNamedEdge plan edge × (IsWire plan wire × IsFromTo 0 65535 sequence)

@@ -6,16 +6,16 @@ use Rattle.net_base.specs.declared.trace.entry.Entry.{Entry}
 use Rattle.report_text.specs.declared.ending.Ending.{Ending}
 use Rattle.report_text.specs.declared.ending.Ending.TheVariants.{End, Crowded, TooMuch}
 use Rattle.report_text.specs.Report.{report}
-use Rattle.report_reading.specs.Named.{IsNamed, IsNumber}
+use Rattle.report_reading.specs.Named.{IsEntryNamed, IsToldNumber}
 
 abbrev pub IsEnding : Ending → Type 0
 IsEnding End = Unit {0}
-IsEnding (Crowded count) = IsNumber count
-IsEnding (TooMuch weight) = IsNumber weight
+IsEnding (Crowded count) = IsToldNumber count
+IsEnding (TooMuch weight) = IsToldNumber weight
 
 -- the entries name places of the plan, and the numbers of the last line are numbers of 64 bits
 pub record IsReported (plan : Plan) (trace : List Entry) (ending : Ending) : Type 0 where
-  pub named : AllByRecursion (IsNamed plan) trace
+  pub named : AllByRecursion (IsEntryNamed plan) trace
   pub few : length trace < 2 ^ 64
   pub ends : IsEnding ending
 

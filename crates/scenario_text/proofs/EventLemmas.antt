@@ -9,7 +9,7 @@ use Rattle.command_text.specs.declared.scenario_fault.ScenarioFault.{ScenarioFau
 use Rattle.command_text.specs.declared.scenario_fault.ScenarioFault.TheVariants.{WrongKind, TooMany}
 use Rattle.command_text.specs.Reading.{◌>>=◌, checked, found}
 use Rattle.command_text.specs.Events.{most_events}
-use Rattle.command_text.specs.Places.{place_at, top_row}
+use Rattle.command_text.specs.Places.{place_of_key, top_row}
 use Rattle.scenario_text.specs.declared.document_version.DocumentVersion.{DocumentVersion}
 use Rattle.scenario_text.specs.Values.{all_items, an_array, is_string, needed, defaulted, read_or}
 use Rattle.scenario_text.specs.Rows.{items_length}
@@ -109,7 +109,7 @@ IsItems value events = IfSome value (λ v. IfSome (as_array (view v)) (λ items.
 of_found : (ms : Members) (value : Option Value) (events : List Value) → option_map view value ≡ get_member (codes "events") ms → IsItems value events → IfNone value (events ≡ [])
     → (arrays : Arrays) → AreFound ms arrays → items_view events ≡ arrays.events
 of_found ms value events at array none arrays are =
-    of_value (place_at top_row (codes "events")) value events arrays.events array none (ap (λ d. read_or no_items (an_array is_string (place_at top_row (codes "events"))) d) at ∙ are.0)
+    of_value (place_of_key top_row (codes "events")) value events arrays.events array none (ap (λ d. read_or no_items (an_array is_string (place_of_key top_row (codes "events"))) d) at ∙ are.0)
 
 -- the items of what stands at the key are the events among the arrays
 pub taken_events : (ms : Members) (value : Option Value) (events : List Value) → option_map view value ≡ get_member (codes "events") ms → IsItems value events → IfNone value (events ≡ [])

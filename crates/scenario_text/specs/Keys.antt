@@ -9,7 +9,7 @@ use Rattle.net_base.specs.declared.plan.table.Table.TheVariants.{Top, Events, Ed
 use Rattle.command_text.specs.declared.row_place.RowPlace.{RowPlace}
 use Rattle.command_text.specs.declared.scenario_fault.ScenarioFault.{ScenarioFault}
 use Rattle.command_text.specs.declared.scenario_fault.ScenarioFault.TheVariants.{UnknownKey}
-use Rattle.command_text.specs.Places.{place_at}
+use Rattle.command_text.specs.Places.{place_of_key}
 use Rattle.scenario_text.specs.declared.document_version.DocumentVersion.{DocumentVersion}
 use Rattle.scenario_text.specs.declared.document_version.DocumentVersion.TheVariants.{One, Two}
 
@@ -94,7 +94,7 @@ unknown_key version table ms = least (unknown_keys version table ms)
 
 abbrev pub none_unknown : RowPlace → Option (List ℕ) → Result Bool ScenarioFault
 none_unknown row None = Ok true
-none_unknown row (Some key) = Err (UnknownKey (place_at row key))
+none_unknown row (Some key) = Err (UnknownKey (place_of_key row key))
 
 -- the row has known keys alone
 abbrev pub only_known : DocumentVersion → Table → RowPlace → Members → Result Bool ScenarioFault

@@ -18,7 +18,7 @@ use Rattle.command_text.specs.declared.row_place.RowPlace.{RowPlace}
 use Rattle.command_text.specs.declared.scenario_fault.ScenarioFault.{ScenarioFault}
 use Rattle.command_text.specs.declared.scenario_fault.ScenarioFault.TheVariants as fault
 use Rattle.command_text.specs.Reading.{◌>>=◌, found}
-use Rattle.command_text.specs.Places.{place_at}
+use Rattle.command_text.specs.Places.{place_of_key}
 use Rattle.command_text.specs.Names.{place_in}
 use Rattle.scenario_text.specs.declared.plan.PlacedRows.{PlacedRows}
 use Rattle.scenario_text.specs.declared.circuit_row.CircuitRow.{CircuitRow}
@@ -30,7 +30,7 @@ use Rattle.scenario_text.specs.declared.wire_row.WireRow.{WireRow}
 
 -- the place of a name that a row has at a key
 abbrev pub named : RowPlace → List ℕ → List (List ℕ) → List ℕ → Result ℕ ScenarioFault
-named row key names name = found (fault.Plan (UnknownName (place_at row key))) (place_in names name)
+named row key names name = found (fault.Plan (UnknownName (place_of_key row key))) (place_in names name)
 
 -- the circuit of a row
 unfoldable pub circuit_in : List (List ℕ) → List (List ℕ) → RowPlace → CircuitRow → Result CircuitPlan ScenarioFault
@@ -133,7 +133,7 @@ sound plan = without_fault plan (plan_fault plan)
 -- no group has the name of an earlier one; else the place of the first that has
 abbrev pub without_repeat : Option ℕ → Result Bool ScenarioFault
 without_repeat None = Ok true
-without_repeat (Some row) = Err (fault.Plan (RepeatedName (place_at (record { table = Group; index = row + 1 }) (codes "name"))))
+without_repeat (Some row) = Err (fault.Plan (RepeatedName (place_of_key (record { table = Group; index = row + 1 }) (codes "name"))))
 
 abbrev pub groups_differ : List GroupRow → Result Bool ScenarioFault
 groups_differ groups = without_repeat (first_clash bytes_eq (group_names groups))

@@ -10,7 +10,7 @@ use Rattle.command_text.specs.declared.row_place.RowPlace.{RowPlace}
 use Rattle.command_text.specs.declared.scenario_fault.ScenarioFault.{ScenarioFault}
 use Rattle.command_text.specs.declared.scenario_fault.ScenarioFault.TheVariants.{WrongKind}
 use Rattle.command_text.specs.Reading.{◌>>=◌, found}
-use Rattle.command_text.specs.Places.{place_at}
+use Rattle.command_text.specs.Places.{place_of_key}
 use Rattle.scenario_text.specs.declared.circuit_row.CircuitRow.{CircuitRow}
 use Rattle.scenario_text.specs.declared.document_version.DocumentVersion.{DocumentVersion}
 use Rattle.scenario_text.specs.declared.document_version.DocumentVersion.TheVariants.{One, Two}
@@ -105,8 +105,8 @@ abbrev pub a_table : Place → Data → Result Members ScenarioFault
 a_table place value = found (WrongKind place) (as_table value)
 
 -- what an end offers by a table of its own, at the wire's index
-unfoldable pub end_in : Table → ℕ → Members → Result OfferRow ScenarioFault
-end_in table index ms = do
+unfoldable pub offer_table_in : Table → ℕ → Members → Result OfferRow ScenarioFault
+offer_table_in table index ms = do
   offer ← near_in Two (record { table = table; index = index }) ms
   known ← only_known Two table (record { table = table; index = index }) ms
   Ok offer
@@ -118,7 +118,7 @@ plain_offer = record { tagged = false; cword = true; mtu = None; vlan = None; vc
 -- what an end offers by its table, and without it this
 abbrev pub end_or : OfferRow → Table → ℕ → Option Members → Result OfferRow ScenarioFault
 end_or other table index None = Ok other
-end_or other table index (Some ms) = end_in table index ms
+end_or other table index (Some ms) = offer_table_in table index ms
 
 -- the ends of a wire by tables of their own; without its table, the far end offers the same as the near one
 unfoldable pub ends_by_tables : RowPlace → Members → Result EndRows ScenarioFault
@@ -149,7 +149,7 @@ wire_row_in version row ms = do
 
 -- the members of a row, which is a table
 abbrev pub row_members : RowPlace → Data → Result Members ScenarioFault
-row_members row value = found (WrongKind (place_at row [])) (as_table value)
+row_members row value = found (WrongKind (place_of_key row [])) (as_table value)
 
 -- the row that a value is
 abbrev pub row_in : {A : Type 0} → (RowPlace → Members → Result A ScenarioFault) → RowPlace → Data → Result A ScenarioFault

@@ -12,7 +12,7 @@ use Rattle.net_base.specs.declared.plan.wire_plan.Class.TheVariants.{Mesh, Spoke
 use Rattle.command_text.specs.declared.row_place.RowPlace.{RowPlace}
 use Rattle.command_text.specs.declared.scenario_fault.ScenarioFault.{ScenarioFault}
 use Rattle.command_text.specs.declared.scenario_fault.ScenarioFault.TheVariants.{Missing, WrongKind, Plan}
-use Rattle.command_text.specs.Places.{place_at}
+use Rattle.command_text.specs.Places.{place_of_key}
 use Rattle.command_text.specs.Reading.{◌>>=◌, checked, found}
 
 -- the value where it is in its range
@@ -107,7 +107,7 @@ a_path place value = an_array is_string place value >>= names_in place
 
 -- the value at a key that a row has to have
 abbrev pub needed : {A : Type 0} → (Place → Data → Result A ScenarioFault) → RowPlace → List ℕ → Members → Result A ScenarioFault
-needed kind row key ms = found (Missing (place_at row key)) (get_member key ms) >>= kind (place_at row key)
+needed kind row key ms = found (Missing (place_of_key row key)) (get_member key ms) >>= kind (place_of_key row key)
 
 -- what is read where a value stands, and else the default
 abbrev pub read_or : {A : Type 0} → A → (Data → Result A ScenarioFault) → Option Data → Result A ScenarioFault
@@ -116,8 +116,8 @@ read_or default read (Some value) = read value
 
 -- the value at a key, which has a default
 abbrev pub defaulted : {A : Type 0} → A → (Place → Data → Result A ScenarioFault) → RowPlace → List ℕ → Members → Result A ScenarioFault
-defaulted default kind row key ms = read_or default (kind (place_at row key)) (get_member key ms)
+defaulted default kind row key ms = read_or default (kind (place_of_key row key)) (get_member key ms)
 
 -- the value at a key that may be left out, whose default may be none
 abbrev pub optional : {A : Type 0} → Option A → (Place → Data → Result A ScenarioFault) → RowPlace → List ℕ → Members → Result (Option A) ScenarioFault
-optional default kind row key ms = read_or default (λ value. kind (place_at row key) value >>= (λ x. Ok (Some x))) (get_member key ms)
+optional default kind row key ms = read_or default (λ value. kind (place_of_key row key) value >>= (λ x. Ok (Some x))) (get_member key ms)

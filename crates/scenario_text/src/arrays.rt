@@ -4,7 +4,7 @@ ghost use Rattle.std.specs.List.{list_all};
 ghost use Rattle.toml.specs.Data.{no_items, as_array};
 ghost use Rattle.toml.specs.View.{view, items_view, table_view};
 ghost use Rattle.command_text.specs.Events.{most_events};
-ghost use Rattle.command_text.specs.Places.{place_at, top_row};
+ghost use Rattle.command_text.specs.Places.{place_of_key, top_row};
 ghost use Rattle.command_text.specs.Reading.{MapsTo};
 ghost use Rattle.scenario_text.specs.Values.{is_string, an_array, all_items, needed, defaulted};
 ghost use Rattle.scenario_text.specs.Top.{is_table, a_version, few, few_in, groups_at, arrays_at, arrays_in};
@@ -66,7 +66,7 @@ fn are_tables(array: &[Value]) -> bool
 
 // An array of tables.
 fn tables<'a>(row: RowPlace, key: &str, value: &'a Value) -> Result<&'a [Value], ScenarioFault>
-    ensures { MapsTo (λ items. items_view items.now) result (an_array is_table (place_at row key.now) (view value.now)) }
+    ensures { MapsTo (λ items. items_view items.now) result (an_array is_table (place_of_key row key.now) (view value.now)) }
 {
     match value.as_array() {
         Some(array) => {

@@ -2,7 +2,7 @@
 ghost use Rattle.std.specs.Prelude.{◌≡◌, ◌≤◌, None, option_map, IfOk, IfSome};
 ghost use Rattle.toml.specs.Data.{get_member};
 ghost use Rattle.toml.specs.View.{view, table_view};
-ghost use Rattle.command_text.specs.Places.{place_at};
+ghost use Rattle.command_text.specs.Places.{place_of_key};
 ghost use Rattle.command_text.specs.Reading.{Gives, MapsTo, found};
 ghost use Rattle.scenario_text.specs.Values.{a_name, an_address, a_number, a_boolean, a_class, a_mode, a_description, a_path, needed, defaulted, optional};
 ghost use Rattle.scenario_text.specs.Rows.{a_group, a_table};
@@ -29,7 +29,7 @@ pub fn needed_value<'a>(
     table: &'a Table,
     key: &str,
 ) -> Result<&'a Value, ScenarioFault>
-    ensures { MapsTo (λ v. view v.now) result (found (ScenarioFault.Missing (place_at place key.now)) (get_member key.now (table_view table.now))) }
+    ensures { MapsTo (λ v. view v.now) result (found (ScenarioFault.Missing (place_of_key place key.now)) (get_member key.now (table_view table.now))) }
 {
     match member(table, key) {
         Some(value) => Ok(value),
@@ -39,7 +39,7 @@ pub fn needed_value<'a>(
 
 /// The value at a key that the row has to have.
 pub fn needed_member<'a>(row: TableRow<'a>, key: &str) -> Result<&'a Value, ScenarioFault>
-    ensures { MapsTo (λ v. view v.now) result (found (ScenarioFault.Missing (place_at row.entry.place key.now)) (get_member key.now (table_view row.entry.table.now))) }
+    ensures { MapsTo (λ v. view v.now) result (found (ScenarioFault.Missing (place_of_key row.entry.place key.now)) (get_member key.now (table_view row.entry.table.now))) }
 {
     needed_value(row.place, row.table, key)
 }
@@ -177,7 +177,7 @@ fn group(
     key: &str,
     value: &Value,
 ) -> Result<GroupUse, ScenarioFault>
-    ensures { result ≡ a_group version (place_at row key.now) (view value.now) }
+    ensures { result ≡ a_group version (place_of_key row key.now) (view value.now) }
 {
     match version {
         DocumentVersion::One => match number(row, key, value, 0, 4294967295) {
@@ -208,7 +208,7 @@ pub fn group_or(
 
 // A table.
 fn table<'a>(row: RowPlace, key: &str, value: &'a Value) -> Result<&'a Table, ScenarioFault>
-    ensures { MapsTo (λ t. table_view t.now) result (a_table (place_at row key.now) (view value.now)) }
+    ensures { MapsTo (λ t. table_view t.now) result (a_table (place_of_key row key.now) (view value.now)) }
 {
     match value.as_table() {
         Some(table) => Ok(table),

@@ -1,7 +1,7 @@
 //! What the ends of a wire offer.
 ghost use Rattle.std.specs.Prelude.{◌≡◌, option_map, IfOk};
 ghost use Rattle.toml.specs.View.{table_view};
-ghost use Rattle.scenario_text.specs.Rows.{near_in, far_in, ends_by_keys, end_in, end_or, ends_by_tables, ends_in, plain_offer};
+ghost use Rattle.scenario_text.specs.Rows.{near_in, far_in, ends_by_keys, offer_table_in, end_or, ends_by_tables, ends_in, plain_offer};
 ghost use Rattle.scenario_text.specs.Offers.{HasRanges};
 
 use crate::document_version::DocumentVersion;
@@ -89,9 +89,9 @@ fn ends_of_keys(row: TableRow<'_>) -> Result<EndRows, ScenarioFault>
 }
 
 // What an end offers by a table of its own, at the wire's index.
-#[tactic(auto, unfolding(crate::specs::Rows::end_in))]
+#[tactic(auto, unfolding(crate::specs::Rows::offer_table_in))]
 fn end_of_table(kind: TableKind, index: u32, table: &Table) -> Result<OfferRow, ScenarioFault>
-    ensures { result ≡ end_in kind index (table_view table.now) }
+    ensures { result ≡ offer_table_in kind index (table_view table.now) }
 {
     let row = TableRow {
         version: DocumentVersion::Two,

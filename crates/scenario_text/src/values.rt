@@ -2,7 +2,7 @@
 ghost use Rattle.std.specs.Prelude.{◌≡◌, ◌≤◌, IfOk};
 ghost use Rattle.std.specs.List.{list_all};
 ghost use Rattle.toml.specs.View.{view, items_view};
-ghost use Rattle.command_text.specs.Places.{place_at};
+ghost use Rattle.command_text.specs.Places.{place_of_key};
 ghost use Rattle.command_text.specs.Reading.{Gives, MapsTo};
 ghost use Rattle.scenario_text.specs.Values.{meant, a_text, a_name, quad_of, an_address, a_number, a_boolean, a_class, a_mode, a_description, is_string, an_array, names_in, a_path, all_items};
 
@@ -14,7 +14,7 @@ use toml::Value;
 
 // A string.
 fn text<'a>(row: RowPlace, key: &str, value: &'a Value) -> Result<&'a str, ScenarioFault>
-    ensures { MapsTo (λ t. t.now) result (a_text (place_at row key.now) (view value.now)) }
+    ensures { MapsTo (λ t. t.now) result (a_text (place_of_key row key.now) (view value.now)) }
 {
     match value.as_str() {
         Some(text) => Ok(text),
@@ -24,7 +24,7 @@ fn text<'a>(row: RowPlace, key: &str, value: &'a Value) -> Result<&'a str, Scena
 
 // The value that is meant, where there is one in the range of the key.
 fn meant<T: Drop>(row: RowPlace, key: &str, value: Option<T>) -> Result<T, ScenarioFault>
-    ensures { result ≡ meant (place_at row key.now) value }
+    ensures { result ≡ meant (place_of_key row key.now) value }
 {
     match value {
         Some(value) => Ok(value),
@@ -34,7 +34,7 @@ fn meant<T: Drop>(row: RowPlace, key: &str, value: Option<T>) -> Result<T, Scena
 
 /// A string that is a name.
 pub fn name(row: RowPlace, key: &str, value: &Value) -> Result<Name, ScenarioFault>
-    ensures { result ≡ a_name (place_at row key.now) (view value.now) }
+    ensures { result ≡ a_name (place_of_key row key.now) (view value.now) }
 {
     match text(row, key, value) {
         Ok(text) => meant(row, key, Name::read(text)),
@@ -54,7 +54,7 @@ fn quad(text: &str) -> Option<[u8; 4]>
 
 /// A string that is a dotted quad without leading zeros, not 0.0.0.0.
 pub fn address(row: RowPlace, key: &str, value: &Value) -> Result<Addr, ScenarioFault>
-    ensures { result ≡ an_address (place_at row key.now) (view value.now) }
+    ensures { result ≡ an_address (place_of_key row key.now) (view value.now) }
 {
     match text(row, key, value) {
         Ok(text) => match quad(text) {
@@ -73,7 +73,7 @@ pub fn number(
     low: u32,
     high: u32,
 ) -> Result<u32, ScenarioFault>
-    ensures exact { result ≡ a_number low high (place_at row key.now) (view value.now) }
+    ensures exact { result ≡ a_number low high (place_of_key row key.now) (view value.now) }
     ensures within { IfOk result (λ n. (low ≤ n) × (n ≤ high)) }
 {
     match value.as_integer() {
@@ -89,7 +89,7 @@ pub fn number(
 
 /// A boolean.
 pub fn boolean(row: RowPlace, key: &str, value: &Value) -> Result<bool, ScenarioFault>
-    ensures { result ≡ a_boolean (place_at row key.now) (view value.now) }
+    ensures { result ≡ a_boolean (place_of_key row key.now) (view value.now) }
 {
     match value.as_bool() {
         Some(boolean) => Ok(boolean),
@@ -99,7 +99,7 @@ pub fn boolean(row: RowPlace, key: &str, value: &Value) -> Result<bool, Scenario
 
 /// The string `mesh` or `spoke`.
 pub fn class(row: RowPlace, key: &str, value: &Value) -> Result<Class, ScenarioFault>
-    ensures { result ≡ a_class (place_at row key.now) (view value.now) }
+    ensures { result ≡ a_class (place_of_key row key.now) (view value.now) }
 {
     match text(row, key, value) {
         Ok(text) if is_same(text, "mesh") => Ok(Class::Mesh),
@@ -111,7 +111,7 @@ pub fn class(row: RowPlace, key: &str, value: &Value) -> Result<Class, ScenarioF
 
 /// The string `raw` or `tagged`, and whether it is the latter.
 pub fn mode(row: RowPlace, key: &str, value: &Value) -> Result<bool, ScenarioFault>
-    ensures { result ≡ a_mode (place_at row key.now) (view value.now) }
+    ensures { result ≡ a_mode (place_of_key row key.now) (view value.now) }
 {
     match text(row, key, value) {
         Ok(text) if is_same(text, "raw") => Ok(false),
@@ -124,7 +124,7 @@ pub fn mode(row: RowPlace, key: &str, value: &Value) -> Result<bool, ScenarioFau
 /// A string of at most 80 octets.
 #[tactic(auto, using(crate::proofs::DocumentLemmas::text_is_utf8))]
 pub fn description(row: RowPlace, key: &str, value: &Value) -> Result<Text<80>, ScenarioFault>
-    ensures { result ≡ a_description (place_at row key.now) (view value.now) }
+    ensures { result ≡ a_description (place_of_key row key.now) (view value.now) }
 {
     match text(row, key, value) {
         Ok(text) => meant(row, key, Text::read(text.as_bytes())),
@@ -148,7 +148,7 @@ fn are_strings(array: &[Value]) -> bool
 
 /// An array of strings.
 pub fn strings<'a>(row: RowPlace, key: &str, value: &'a Value) -> Result<&'a [Value], ScenarioFault>
-    ensures { MapsTo (λ items. items_view items.now) result (an_array is_string (place_at row key.now) (view value.now)) }
+    ensures { MapsTo (λ items. items_view items.now) result (an_array is_string (place_of_key row key.now) (view value.now)) }
 {
     match value.as_array() {
         Some(array) => {
@@ -169,7 +169,7 @@ fn names(
     key: &str,
     array: &[Value],
 ) -> Result<List<Name>, ScenarioFault>
-    ensures { Gives result (names_in (place_at row key.now) (items_view array.now)) }
+    ensures { Gives result (names_in (place_of_key row key.now) (items_view array.now)) }
 {
     let mut names = List::new(alloc);
     for value in array {
@@ -186,7 +186,7 @@ pub fn path(
     key: &str,
     value: &Value,
 ) -> Result<List<Name>, ScenarioFault>
-    ensures { Gives result (a_path (place_at row key.now) (view value.now)) }
+    ensures { Gives result (a_path (place_of_key row key.now) (view value.now)) }
 {
     match strings(row, key, value) {
         Ok(items) => names(alloc, row, key, items),

@@ -3,7 +3,7 @@ use Rattle.std.specs.Prelude.{◌++◌, ◌+◌, ◌&&◌, nat_le, nat_lt, ℕ, 
 use Rattle.std.specs.List.{list_all}
 use Rattle.script_text.specs.declared.script_fault.ScriptFault.{ScriptFault}
 use Rattle.script_text.specs.declared.script_fault.ScriptFault.TheVariants.{Bad}
-use Rattle.script_text.specs.Parts.{parted}
+use Rattle.script_text.specs.Parts.{parted_by}
 use Rattle.script_text.specs.Reading.{◌>>=◌}
 
 -- a space and a line feed
@@ -27,13 +27,13 @@ is_word word = nat_lt 0 (length word) && list_all is_graphic word
 
 -- the words of a line, parted by one space
 abbrev pub words_of : List ℕ → List (List ℕ)
-words_of line = parted space line
+words_of line = parted_by space line
 
 -- words with a space between each two
-abbrev pub spaced : List (List ℕ) → List ℕ
-spaced [] = []
-spaced (word ∷ []) = word
-spaced (word ∷ next ∷ words) = word ++ space ∷ spaced (next ∷ words)
+abbrev pub spaced_words : List (List ℕ) → List ℕ
+spaced_words [] = []
+spaced_words (word ∷ []) = word
+spaced_words (word ∷ next ∷ words) = word ++ space ∷ spaced_words (next ∷ words)
 
 -- the number of the first that is no word, where the first one has this number
 abbrev pub bad_word : ℕ → List (List ℕ) → Option ℕ
@@ -76,4 +76,4 @@ lines_in number (line ∷ next ∷ parts) =
 
 -- the lines of a script, each as the list of its words, or the first place that is wrong
 unfoldable pub script : List ℕ → Result (List (List (List ℕ))) ScriptFault
-script bytes = lines_in 1 (parted line_feed bytes)
+script bytes = lines_in 1 (parted_by line_feed bytes)

@@ -21,7 +21,7 @@ impl Model for Line {
 }
 
 impl Line {
-    ghost use Rattle.script_text.specs.Script.{spaced, words_of};
+    ghost use Rattle.script_text.specs.Script.{spaced_words, words_of};
 
     /// The line of a text.
     pub(crate) fn of(text: Word) -> Line
@@ -57,7 +57,7 @@ impl Line {
     /// What follows the first word and its space; empty where there is no second word.
     #[tactic(auto, using(crate::proofs::PartLemmas::words_behind, crate::proofs::PartLemmas::no_words_behind))]
     pub fn rest(&self) -> &str
-        ensures { result.now ≡ spaced (drop 1 self.now) }
+        ensures { result.now ≡ spaced_words (drop 1 self.now) }
     {
         match after(self.text.as_str()) {
             Some(rest) => rest,

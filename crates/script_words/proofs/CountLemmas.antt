@@ -3,7 +3,7 @@ use Rattle.std.proofs.Common.{◌≡◌, ◌<◌, ◌≤◌, ◌+◌, ◌-◌, �
 use Rattle.std.proofs.lemmas.Bool.Decides.{nat_tests}
 use Rattle.script_text.specs.declared.script_fault.ScriptFault.{ScriptFault}
 use Rattle.script_text.specs.declared.script_fault.ScriptFault.TheVariants.{Bad}
-use Rattle.script_text.specs.Parts.{parted}
+use Rattle.script_text.specs.Parts.{parted_by}
 use Rattle.script_text.specs.Reading.{◌>>=◌}
 use Rattle.script_text.specs.Script.{last_in, last_within, line_feed, line_in, lines_in, lines_with, most_lines, script}
 
@@ -40,4 +40,4 @@ few_in number (line ∷ next ∷ parts) lines low is =
 
 pub few_lines : (octets : List ℕ) (lines : List (List (List ℕ))) → script octets ≡ Ok lines → length lines < 2 ^ 32 - 1
 unfolding script
-few_lines octets lines is = let few : 1 + length lines ≤ most_lines + 1 = few_in 1 (parted line_feed octets) lines (omega arith) is in omega (arith, few)
+few_lines octets lines is = let few : 1 + length lines ≤ most_lines + 1 = few_in 1 (parted_by line_feed octets) lines (omega arith) is in omega (arith, few)

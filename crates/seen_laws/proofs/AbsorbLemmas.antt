@@ -21,8 +21,8 @@ use Rattle.network_model.specs.Absorb.{absorb, absorb_all, absorb_one, all_entri
 use Rattle.network_model.specs.State.{NetworkState, held, held_by, stands, with_edge, with_packet, with_pipe}
 use Rattle.network_model.proofs.CommonLemmas.{one_edges}
 use Rattle.seen_network.specs.Seen.{Seen, is_shown_up}
-use Rattle.seen_laws.specs.Shows.{IsReady, Shows, tolds}
-use Rattle.seen_laws.specs.Work.{TellsChanges, ended, up_after}
+use Rattle.seen_laws.specs.Shows.{IsReadyToShow as IsReady, Shows, tolds}
+use Rattle.seen_laws.specs.Work.{TellsChanges, is_told_ended, up_after}
 use Rattle.seen_laws.proofs.SeenLemmas.{SeesPackets, ShownBy, all_show, all_way}
 
 -- ---- the pipe of an edge to itself, which has no end
@@ -184,19 +184,19 @@ module _ (plan : Plan) (network : NetworkState) (me : EdgeId) (first work : Work
   effects : work.effects ≡ tells.more
   effects = tells.given ∙ ap (λ (l : List Effect). l ++ tells.more) begins.effects
 
-  stood : (k : ℕ) → is_there (work.edge.peering k) ≡ (is_there ((network.edges me.0).peering k) && not (ended k work.effects))
-  stood k = tells.stands k ∙ (ap (λ (p : ℕ → Option Peering). is_there (p k) && not (ended k tells.more)) begins.peering
-      ∙ ap (λ (es : List Effect). is_there ((network.edges me.0).peering k) && not (ended k es)) (sym effects))
+  stood : (k : ℕ) → is_there (work.edge.peering k) ≡ (is_there ((network.edges me.0).peering k) && not (is_told_ended k work.effects))
+  stood k = tells.stands k ∙ (ap (λ (p : ℕ → Option Peering). is_there (p k) && not (is_told_ended k tells.more)) begins.peering
+      ∙ ap (λ (es : List Effect). is_there ((network.edges me.0).peering k) && not (is_told_ended k es)) (sym effects))
 
   -- whatever circuits are seen on
   pub works_ready : IsReady plan network me work (record seen { on = turned })
   works_ready = record {
     alone = shows.standing me.0 me.0 ∙ alone;
-    near = λ k. ap (λ (b : Bool). b && not (ended k work.effects)) (shows.standing me.0 k) ∙ sym (stood k);
+    near = λ k. ap (λ (b : Bool). b && not (is_told_ended k work.effects)) (shows.standing me.0 k) ∙ sym (stood k);
     far = λ a b apart. shows.standing a b;
-    inward = λ k. rw (shows.pipes k me.0, ap (closes k) effects, ap (ended k) effects, tells.shut k) refl;
+    inward = λ k. rw (shows.pipes k me.0, ap (closes k) effects, ap (is_told_ended k) effects, tells.shut k) refl;
     outward = λ a b other. shows.pipes a b;
-    rest = λ k. ap (λ (l : List ℕ). cond (ended k work.effects) [] l) (shows.rests me.0 k) ∙ rest_of (ended k work.effects) ((network.edges me.0).peering k) (work.edge.peering k) (stood k) (kept k);
+    rest = λ k. ap (λ (l : List ℕ). cond (is_told_ended k work.effects) [] l) (shows.rests me.0 k) ∙ rest_of (is_told_ended k work.effects) ((network.edges me.0).peering k) (work.edge.peering k) (stood k) (kept k);
     rests = λ a b apart. shows.rests a b;
     up = λ wire. rw (shows.up me.0 wire, effects) (sym
         (tells.up wire ∙ ap (λ (d : ℕ → Option Rattle.net_base.specs.declared.trace.down.Down.Down). up_after wire tells.more (is_shown_up (d wire))) begins.downs));

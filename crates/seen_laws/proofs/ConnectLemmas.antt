@@ -37,8 +37,8 @@ use Rattle.flight_laws.proofs.PlanLemmas.{both_in, ends_are, joined_apart, joine
 use Rattle.flight_laws.proofs.SettleLemmas.{edge_else, edge_pipes, edge_there}
 use Rattle.seen_network.specs.Seen.{Seen, is_shown_up, with_standing}
 use Rattle.seen_laws.specs.Events.{HasGone, IsShown, NoneAlone, WasIdle}
-use Rattle.seen_laws.specs.Shows.{AreUpTo, IsReady, Shows, copy_of, tolds}
-use Rattle.seen_laws.specs.Work.{TellsChanges, ended, up_after}
+use Rattle.seen_laws.specs.Shows.{AreUpTo, IsReadyToShow, Shows, copy_of, tolds}
+use Rattle.seen_laws.specs.Work.{TellsChanges, is_told_ended, up_after}
 use Rattle.seen_laws.proofs.AbsorbLemmas.{absorb_shows, on_still, rest_of}
 use Rattle.seen_laws.proofs.InputLemmas.{mends_tell, none}
 use Rattle.seen_laws.proofs.SeenLemmas.{told-append, tolds-append, work_told}
@@ -163,11 +163,11 @@ module _ (network : NetworkState) (me peer : EdgeId) (kept : Peering) (held_none
   unfolding changes
   effects = on.tells.given
 
-  told_stands : (k : ℕ) → is_there (work.edge.peering k) ≡ (is_there (first.edge.peering k) && not (ended k work.effects))
-  told_stands k = on.tells.stands k ∙ ap (λ (es : List Effect). is_there (first.edge.peering k) && not (ended k es)) (sym effects)
+  told_stands : (k : ℕ) → is_there (work.edge.peering k) ≡ (is_there (first.edge.peering k) && not (is_told_ended k work.effects))
+  told_stands k = on.tells.stands k ∙ ap (λ (es : List Effect). is_there (first.edge.peering k) && not (is_told_ended k es)) (sym effects)
 
-  told_shut : (k : ℕ) → closes k work.effects ≡ ended k work.effects
-  told_shut k = ap (closes k) effects ∙ (on.tells.shut k ∙ ap (ended k) (sym effects))
+  told_shut : (k : ℕ) → closes k work.effects ≡ is_told_ended k work.effects
+  told_shut k = ap (closes k) effects ∙ (on.tells.shut k ∙ ap (is_told_ended k) (sym effects))
 
   told_up : (wire : ℕ) → is_shown_up (work.edge.told_down wire) ≡ up_after wire work.effects (is_shown_up ((network.edges me.0).told_down wire))
   unfolding changes with_kept with_peering
@@ -185,9 +185,9 @@ module _ (network : NetworkState) (me peer : EdgeId) (kept : Peering) (held_none
     | inr away ↦ rw away refl
   ]
 
-  told_rest : (k : ℕ) → cond (ended k work.effects) [] (held_by ((network.edges me.0).peering k)) ≡ held_by (work.edge.peering k)
-  told_rest k = ap (λ (l : List ℕ). cond (ended k work.effects) [] l) (sym (first_held k))
-      ∙ rest_of (ended k work.effects) (first.edge.peering k) (work.edge.peering k) (told_stands k) (on.tells.kept k refl)
+  told_rest : (k : ℕ) → cond (is_told_ended k work.effects) [] (held_by ((network.edges me.0).peering k)) ≡ held_by (work.edge.peering k)
+  told_rest k = ap (λ (l : List ℕ). cond (is_told_ended k work.effects) [] l) (sym (first_held k))
+      ∙ rest_of (is_told_ended k work.effects) (first.edge.peering k) (work.edge.peering k) (told_stands k) (on.tells.kept k refl)
 
   -- it holds the same
   still_held : (k : ℕ) → held_by ((network.edges me.0).peering k) ≡ held_by (work.edge.peering k)
@@ -273,15 +273,15 @@ module _ (plan : Plan) (network : NetworkState) (seen : Seen) (shows : Shows pla
   unfolding with_edge
   start_way = refl
 
-  first_ready : IsReady plan start from one both
+  first_ready : IsReadyToShow plan start from one both
   unfolding with_standing
   first_ready = record {
     alone = rw (apart, same_number from.0) (shows.standing from.0 from.0 ∙ alone from.0);
-    near = λ k. ap (λ (b : Bool). b && not (ended k one.effects)) (from_stands k) ∙ sym (told_stands network from to kept nothing one here none_yet k);
+    near = λ k. ap (λ (b : Bool). b && not (is_told_ended k one.effects)) (from_stands k) ∙ sym (told_stands network from to kept nothing one here none_yet k);
     far = both_far;
     inward = λ k. rw (shows.pipes k from.0, start_pipes k from.0, told_shut network from to kept nothing one here none_yet k) refl;
     outward = λ a b gone. shows.pipes a b ∙ sym (start_pipes a b);
-    rest = λ k. ap (λ (l : List ℕ). cond (ended k one.effects) [] l) (shows.rests from.0 k) ∙ told_rest network from to kept nothing one here none_yet k;
+    rest = λ k. ap (λ (l : List ℕ). cond (is_told_ended k one.effects) [] l) (shows.rests from.0 k) ∙ told_rest network from to kept nothing one here none_yet k;
     rests = λ a b gone. shows.rests a b ∙ start_held a b;
     up = λ wire. ap (up_after wire one.effects) (shows.up from.0 wire) ∙ sym (told_up network from to kept nothing one here none_yet wire);
     ups = λ a wire gone. shows.up a wire ∙ start_up a wire;
@@ -317,8 +317,8 @@ module _ (plan : Plan) (network : NetworkState) (seen : Seen) (shows : Shows pla
   nothing_held true (Some x) is = clash is
   nothing_held false o is = refl
 
-  still : (k : ℕ) → (is_there (two.edge.peering k) && not (ended k two.effects)) ≡ is_there (two.edge.peering k)
-  still k = stays_same (is_there (two.edge.peering k)) (is_there ((stood network to from other).edge.peering k)) (ended k two.effects) (there.there k)
+  still : (k : ℕ) → (is_there (two.edge.peering k) && not (is_told_ended k two.effects)) ≡ is_there (two.edge.peering k)
+  still k = stays_same (is_there (two.edge.peering k)) (is_there ((stood network to from other).edge.peering k)) (is_told_ended k two.effects) (there.there k)
       (told_stands network to from other nothing' two there none_yet' k)
 
   at_to : (k : ℕ) → between.stands to.0 k ≡ is_there (two.edge.peering k)
@@ -328,15 +328,15 @@ module _ (plan : Plan) (network : NetworkState) (seen : Seen) (shows : Shows pla
   unfolding with_standing
   to_alone = rw (away, same_number to.0) (shows.standing to.0 to.0 ∙ alone to.0)
 
-  second_ready : IsReady plan middle to two between
+  second_ready : IsReadyToShow plan middle to two between
   second_ready = record {
     alone = at_to to.0 ∙ (there.there to.0 ∙ (sym (to_stands to.0) ∙ to_alone));
-    near = λ k. ap (λ (b : Bool). b && not (ended k two.effects)) (at_to k) ∙ still k;
+    near = λ k. ap (λ (b : Bool). b && not (is_told_ended k two.effects)) (at_to k) ∙ still k;
     far = λ a b gone. middle_shows.standing a b;
     inward = λ k. rw (middle_shows.pipes k to.0, told_shut network to from other nothing' two there none_yet' k) refl;
     outward = λ a b gone. middle_shows.pipes a b;
-    rest = λ k. ap (λ (l : List ℕ). cond (ended k two.effects) [] l) (middle_shows.rests to.0 k ∙ ap (λ (e : EdgeState). held_by (e.peering k)) middle_to)
-        ∙ nothing_held (ended k two.effects) (two.edge.peering k) (still k);
+    rest = λ k. ap (λ (l : List ℕ). cond (is_told_ended k two.effects) [] l) (middle_shows.rests to.0 k ∙ ap (λ (e : EdgeState). held_by (e.peering k)) middle_to)
+        ∙ nothing_held (is_told_ended k two.effects) (two.edge.peering k) (still k);
     rests = λ a b gone. middle_shows.rests a b;
     up = λ wire. ap (up_after wire two.effects) (middle_shows.up to.0 wire ∙ ap (λ (e : EdgeState). is_shown_up (e.told_down wire)) middle_to)
         ∙ sym (told_up network to from other nothing' two there none_yet' wire);

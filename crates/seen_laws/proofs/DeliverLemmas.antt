@@ -24,8 +24,8 @@ use Rattle.flight_laws.proofs.EventLemmas.{stands_apart}
 use Rattle.flight_laws.proofs.SaidLemmas.{all_octets}
 use Rattle.seen_network.specs.Seen.{Seen, cut, delivers, with_octets, with_rest}
 use Rattle.seen_laws.specs.Events.{IsShown, NoneAlone, WasIdle}
-use Rattle.seen_laws.specs.Shows.{IsReady, Shows}
-use Rattle.seen_laws.specs.Work.{TellsChanges, ended}
+use Rattle.seen_laws.specs.Shows.{IsReadyToShow, Shows}
+use Rattle.seen_laws.specs.Work.{TellsChanges, is_told_ended}
 use Rattle.seen_laws.proofs.AbsorbLemmas.{on_still, rest_of}
 use Rattle.seen_laws.proofs.EventLemmas.{IsButFor, losing_ready, work_shown}
 use Rattle.seen_laws.proofs.HeardLemmas.{HoldsRest, KeepsHeld, hears_rest, mends_keep_held}
@@ -105,13 +105,13 @@ module _ (plan : Plan) (network : NetworkState) (seen : Seen) (shows : Shows pla
     mend_tells = mends_tell plan taken_all heard
 
     stood_heard : (k : ℕ) → is_there (work.edge.peering k) ≡ true → is_there (heard.edge.peering k) ≡ true
-    stood_heard k there = first_holds (is_there (heard.edge.peering k)) (not (ended k mend_tells.more)) (sym (mend_tells.stands k) ∙ there)
+    stood_heard k there = first_holds (is_there (heard.edge.peering k)) (not (is_told_ended k mend_tells.more)) (sym (mend_tells.stands k) ∙ there)
 
-    stood : (k : ℕ) → is_there (work.edge.peering k) ≡ (is_there ((network.edges to.0).peering k) && not (ended k work.effects))
-    stood k = tells.stands k ∙ ap (λ (es : List _). is_there ((network.edges to.0).peering k) && not (ended k es)) (sym tells.given)
+    stood : (k : ℕ) → is_there (work.edge.peering k) ≡ (is_there ((network.edges to.0).peering k) && not (is_told_ended k work.effects))
+    stood k = tells.stands k ∙ ap (λ (es : List _). is_there ((network.edges to.0).peering k) && not (is_told_ended k es)) (sym tells.given)
 
-    closed : (k : ℕ) → closes k work.effects ≡ ended k work.effects
-    closed k = ap (closes k) tells.given ∙ (tells.shut k ∙ ap (ended k) (sym tells.given))
+    closed : (k : ℕ) → closes k work.effects ≡ is_told_ended k work.effects
+    closed k = ap (closes k) tells.given ∙ (tells.shut k ∙ ap (is_told_ended k) (sym tells.given))
 
     at_peer : (gone : Bool) (new : Option Peering) → is_there new ≡ (is_there ((network.edges to.0).peering from.0) && not gone) → (is_there new ≡ true → held_by new ≡ cut octets)
         → cond gone [] (cut octets) ≡ held_by new
@@ -120,23 +120,23 @@ module _ (plan : Plan) (network : NetworkState) (seen : Seen) (shows : Shows pla
     at_peer false None there held = clash (there ∙ rw is refl)
     at_peer false (Some x) there held = sym (held refl)
 
-    same_rest : (k : ℕ) → cond (ended k work.effects) [] (taken.rests to.0 k) ≡ held_by (work.edge.peering k)
+    same_rest : (k : ℕ) → cond (is_told_ended k work.effects) [] (taken.rests to.0 k) ≡ held_by (work.edge.peering k)
     unfolding with_octets with_rest
     same_rest k = rw (same_number to.0) (by (nat_eq k from.0) refl) where
-      by : (b : Bool) → nat_eq k from.0 ≡ b → cond (ended k work.effects) [] (cond b (cut (seen.rests to.0 from.0 ++ take count (seen.pipes from.0 to.0))) (seen.rests to.0 k))
+      by : (b : Bool) → nat_eq k from.0 ≡ b → cond (is_told_ended k work.effects) [] (cond b (cut (seen.rests to.0 from.0 ++ take count (seen.pipes from.0 to.0))) (seen.rests to.0 k))
           ≡ held_by (work.edge.peering k)
-      by true same = subst (λ (n : ℕ). cond (ended n work.effects) [] (cut (seen.rests to.0 from.0 ++ take count (seen.pipes from.0 to.0))) ≡ held_by (work.edge.peering n))
+      by true same = subst (λ (n : ℕ). cond (is_told_ended n work.effects) [] (cut (seen.rests to.0 from.0 ++ take count (seen.pipes from.0 to.0))) ≡ held_by (work.edge.peering n))
           (sym (eqb-true k from.0 same))
           (rw (shows.rests to.0 from.0 ∙ ap held_by is, shows.pipes from.0 to.0)
-          (at_peer (ended from.0 work.effects) (work.edge.peering from.0) (stood from.0) (λ there. mended.kept from.0 there ∙ rest.rest (stood_heard from.0 there))))
-      by false other = ap (λ (l : List ℕ). cond (ended k work.effects) [] l) (shows.rests to.0 k)
-          ∙ rest_of (ended k work.effects) ((network.edges to.0).peering k) (work.edge.peering k) (stood k) (λ there. mended.kept k there ∙ rest.others k other (stood_heard k there))
+          (at_peer (is_told_ended from.0 work.effects) (work.edge.peering from.0) (stood from.0) (λ there. mended.kept from.0 there ∙ rest.rest (stood_heard from.0 there))))
+      by false other = ap (λ (l : List ℕ). cond (is_told_ended k work.effects) [] l) (shows.rests to.0 k)
+          ∙ rest_of (is_told_ended k work.effects) ((network.edges to.0).peering k) (work.edge.peering k) (stood k) (λ there. mended.kept k there ∙ rest.others k other (stood_heard k there))
 
-    heard_ready : IsReady plan later to work taken
+    heard_ready : IsReadyToShow plan later to work taken
     unfolding with_octets with_rest with_pipe
     heard_ready = record {
       alone = shows.standing to.0 to.0 ∙ alone to.0;
-      near = λ k. ap (λ (b : Bool). b && not (ended k work.effects)) (shows.standing to.0 k) ∙ sym (stood k);
+      near = λ k. ap (λ (b : Bool). b && not (is_told_ended k work.effects)) (shows.standing to.0 k) ∙ sym (stood k);
       far = λ a b away. shows.standing a b;
       inward = λ k. rw (same_pipes k to.0, closed k) refl;
       outward = λ a b other. same_pipes a b;

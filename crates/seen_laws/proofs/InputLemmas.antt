@@ -24,7 +24,7 @@ use Rattle.edge_model.proofs.WalkLemmas.{hears_holds, mends_holds}
 use Rattle.flight_laws.specs.Meeting.{closes}
 use Rattle.network_model.specs.State.{held_by}
 use Rattle.seen_network.specs.Seen.{is_shown_up}
-use Rattle.seen_laws.specs.Work.{TellsChanges as Tells, ended, up_after}
+use Rattle.seen_laws.specs.Work.{TellsChanges as Tells, is_told_ended, up_after}
 use Rattle.seen_laws.proofs.TellLemmas.{any, changes_tell, happens_with_ends_tells, hear_tells, mend_tells, tells_not, tells_then}
 
 -- of no peer the edge hears
@@ -58,7 +58,7 @@ pub lost_gone : (plan : Plan) (told : Answers) (peer : EdgeId) (work : Work) →
 lost_gone plan told peer work =
     let lost : Work = happens_with_ends told peer (Closed reason.Closed) work in
     let tells : Tells none lost (mends plan told lost) = mends_tell plan told lost in
-    tells.stands peer.0 ∙ ap (λ (o : Option Peering). is_there o && not (ended peer.0 tells.more)) (closed_gone told peer work)
+    tells.stands peer.0 ∙ ap (λ (o : Option Peering). is_there o && not (is_told_ended peer.0 tells.more)) (closed_gone told peer work)
 
 -- ---- a tick
 
@@ -102,7 +102,7 @@ priority_tells wire priority work = changes_tell none (with_priority wire priori
 -- ---- frames, packets and pings
 
 pub record TellsNothing (es : List Effect) : Type 0 where
-  pub stays : (k : ℕ) → ended k es ≡ false
+  pub stays : (k : ℕ) → is_told_ended k es ≡ false
   pub shut : (k : ℕ) → closes k es ≡ false
   pub still : (wire : ℕ) (up : Bool) → up_after wire es up ≡ up
 
@@ -130,7 +130,7 @@ bridged_tells old new me circuits peering downs gives =
       given = gives.given;
       me = me;
       circuits = circuits;
-      stands = λ k. ap (λ (p : ℕ → Option Peering). is_there (p k)) peering ∙ stays_there (is_there (old.edge.peering k)) (ended k gives.more) (nothing.stays k);
+      stands = λ k. ap (λ (p : ℕ → Option Peering). is_there (p k)) peering ∙ stays_there (is_there (old.edge.peering k)) (is_told_ended k gives.more) (nothing.stays k);
       shut = λ k. nothing.shut k ∙ sym (nothing.stays k);
       up = λ wire. ap (λ (d : ℕ → Option Down). is_shown_up (d wire)) downs ∙ sym (nothing.still wire (is_shown_up (old.edge.told_down wire)));
       kept = λ k apart there. ap (λ (p : ℕ → Option Peering). held_by (p k)) peering;

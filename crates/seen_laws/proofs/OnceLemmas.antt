@@ -43,7 +43,7 @@ use Rattle.network_model.proofs.RunLemmas.{after-append, along-append}
 use Rattle.network_model.proofs.PacketListLemmas.{run_numbered}
 use Rattle.flood_laws.proofs.RunLemmas.{runs_serve_once}
 use Rattle.seen_network.specs.Once.{OnceSeen, SeenServed, SeenWindow, SeenWithin, all_spared, entered_as, is_circuit_row_of, is_seen_copy, is_seen_site, is_sourced_by, spares_seen, times_seen}
-use Rattle.seen_network.specs.Seen.{BeginsEvent, Seen, happened_or, is_idle_behind, seen_from, seen_in, told}
+use Rattle.seen_network.specs.Seen.{BeginsEvent, Seen, happened_or, is_idle_behind, seen_from, seen_in, told_by_itself}
 use Rattle.seen_network.proofs.ReadLemmas.{idle_behind}
 use Rattle.seen_laws.specs.Shows.{Shows, copy_of}
 use Rattle.seen_laws.specs.Sources.{KnowsSources}
@@ -153,16 +153,16 @@ spared_own : (origin : ℕ) (seen : Seen) (own more : List Entry) → NoEvent ow
 spared_own origin seen [] more none = refl
 spared_own origin seen (entry.Did event ∷ own) more none = absurd none
 spared_own origin seen (entry.Idle ∷ own) more none = spared_own origin seen own more none
-spared_own origin seen (entry.Said from to octets ∷ own) more none = spared_own origin (told (entry.Said from to octets) seen) own more none
-spared_own origin seen (entry.In at number octets ∷ own) more none = spared_own origin (told (entry.In at number octets) seen) own more none
-spared_own origin seen (entry.Sent from to wire came packet of hops octets ∷ own) more none = spared_own origin (told (entry.Sent from to wire came packet of hops octets) seen) own more none
-spared_own origin seen (entry.Copied packet of ∷ own) more none = spared_own origin (told (entry.Copied packet of) seen) own more none
-spared_own origin seen (entry.Aged packet ∷ own) more none = spared_own origin (told (entry.Aged packet) seen) own more none
-spared_own origin seen (entry.Left at from hops octets ∷ own) more none = spared_own origin (told (entry.Left at from hops octets) seen) own more none
-spared_own origin seen (entry.Dropped edge of cause ∷ own) more none = spared_own origin (told (entry.Dropped edge of cause) seen) own more none
-spared_own origin seen (entry.Session edge peer name ∷ own) more none = spared_own origin (told (entry.Session edge peer name) seen) own more none
-spared_own origin seen (entry.Wire edge wire down ∷ own) more none = spared_own origin (told (entry.Wire edge wire down) seen) own more none
-spared_own origin seen (entry.Pong edge wire sequence ∷ own) more none = spared_own origin (told (entry.Pong edge wire sequence) seen) own more none
+spared_own origin seen (entry.Said from to octets ∷ own) more none = spared_own origin (told_by_itself (entry.Said from to octets) seen) own more none
+spared_own origin seen (entry.In at number octets ∷ own) more none = spared_own origin (told_by_itself (entry.In at number octets) seen) own more none
+spared_own origin seen (entry.Sent from to wire came packet of hops octets ∷ own) more none = spared_own origin (told_by_itself (entry.Sent from to wire came packet of hops octets) seen) own more none
+spared_own origin seen (entry.Copied packet of ∷ own) more none = spared_own origin (told_by_itself (entry.Copied packet of) seen) own more none
+spared_own origin seen (entry.Aged packet ∷ own) more none = spared_own origin (told_by_itself (entry.Aged packet) seen) own more none
+spared_own origin seen (entry.Left at from hops octets ∷ own) more none = spared_own origin (told_by_itself (entry.Left at from hops octets) seen) own more none
+spared_own origin seen (entry.Dropped edge of cause ∷ own) more none = spared_own origin (told_by_itself (entry.Dropped edge of cause) seen) own more none
+spared_own origin seen (entry.Session edge peer name ∷ own) more none = spared_own origin (told_by_itself (entry.Session edge peer name) seen) own more none
+spared_own origin seen (entry.Wire edge wire down ∷ own) more none = spared_own origin (told_by_itself (entry.Wire edge wire down) seen) own more none
+spared_own origin seen (entry.Pong edge wire sequence ∷ own) more none = spared_own origin (told_by_itself (entry.Pong edge wire sequence) seen) own more none
 
 -- ---- the number of a frame that entered
 

@@ -31,7 +31,7 @@ use Rattle.network_model.proofs.PacketListLemmas.{AreNumbered}
 use Rattle.flight_laws.proofs.SettleLemmas.{edge_else, edge_there}
 use Rattle.seen_network.specs.Seen.{Seen, SeenCopy, copy_goes, origin_among, repeats, with_copies, with_on, without_copy, without_edge}
 use Rattle.seen_laws.specs.Events.{HasGone, IsShown, NoneAlone, WasIdle}
-use Rattle.seen_laws.specs.Shows.{AreTold, IsReady, Shows, copy_of, tolds}
+use Rattle.seen_laws.specs.Shows.{AreTold, IsReadyToShow as IsReady, Shows, copy_of, tolds}
 use Rattle.seen_laws.specs.Work.{TellsChanges}
 use Rattle.seen_laws.proofs.AbsorbLemmas.{BeginsFrom, OnAfter, absorb_shows, on_still, ready_alone, works_ready}
 use Rattle.seen_laws.proofs.AgeLemmas.{aged_shows, aged_told}

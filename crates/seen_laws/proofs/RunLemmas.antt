@@ -20,7 +20,7 @@ use Rattle.network_model.proofs.PacketListLemmas.{AreNumbered, step_numbered}
 use Rattle.flight_laws.specs.Ends.{HasTypes, IsOrdered}
 use Rattle.flight_laws.specs.Laws.{IsRun, network_after}
 use Rattle.flight_laws.proofs.RunLemmas.{empty_ordered, step_keeps}
-use Rattle.seen_network.specs.Seen.{BeginsEvent, Seen, happened, happened_or, is_idle_behind, nothing_seen, seen_from, seen_in, told}
+use Rattle.seen_network.specs.Seen.{BeginsEvent, Seen, happened, happened_or, is_idle_behind, nothing_seen, seen_from, seen_in, told_by_itself}
 use Rattle.seen_network.proofs.ReadLemmas.{seen_on}
 use Rattle.seen_laws.specs.Events.{HasGone, IsShown, NoneAlone, WasIdle}
 use Rattle.seen_laws.specs.Shows.{AreTold, Shows, tolds}
@@ -36,16 +36,16 @@ pub told_read : (es : List Entry) (seen : Seen) → AreTold es → seen_from see
 told_read [] seen are = refl
 told_read (entry.Did event ∷ es) seen are = absurd are
 told_read (entry.Idle ∷ es) seen are = absurd are
-told_read (entry.Said from to octets ∷ es) seen are = told_read es (told (entry.Said from to octets) seen) are
-told_read (entry.In circuit number octets ∷ es) seen are = told_read es (told (entry.In circuit number octets) seen) are
-told_read (entry.Sent from to wire came packet origin hops octets ∷ es) seen are = told_read es (told (entry.Sent from to wire came packet origin hops octets) seen) are
-told_read (entry.Copied packet of ∷ es) seen are = told_read es (told (entry.Copied packet of) seen) are
-told_read (entry.Aged packet ∷ es) seen are = told_read es (told (entry.Aged packet) seen) are
-told_read (entry.Left circuit origin hops octets ∷ es) seen are = told_read es (told (entry.Left circuit origin hops octets) seen) are
-told_read (entry.Dropped edge origin cause ∷ es) seen are = told_read es (told (entry.Dropped edge origin cause) seen) are
-told_read (entry.Session edge peer name ∷ es) seen are = told_read es (told (entry.Session edge peer name) seen) are
-told_read (entry.Wire edge wire down ∷ es) seen are = told_read es (told (entry.Wire edge wire down) seen) are
-told_read (entry.Pong edge wire sequence ∷ es) seen are = told_read es (told (entry.Pong edge wire sequence) seen) are
+told_read (entry.Said from to octets ∷ es) seen are = told_read es (told_by_itself (entry.Said from to octets) seen) are
+told_read (entry.In circuit number octets ∷ es) seen are = told_read es (told_by_itself (entry.In circuit number octets) seen) are
+told_read (entry.Sent from to wire came packet origin hops octets ∷ es) seen are = told_read es (told_by_itself (entry.Sent from to wire came packet origin hops octets) seen) are
+told_read (entry.Copied packet of ∷ es) seen are = told_read es (told_by_itself (entry.Copied packet of) seen) are
+told_read (entry.Aged packet ∷ es) seen are = told_read es (told_by_itself (entry.Aged packet) seen) are
+told_read (entry.Left circuit origin hops octets ∷ es) seen are = told_read es (told_by_itself (entry.Left circuit origin hops octets) seen) are
+told_read (entry.Dropped edge origin cause ∷ es) seen are = told_read es (told_by_itself (entry.Dropped edge origin cause) seen) are
+told_read (entry.Session edge peer name ∷ es) seen are = told_read es (told_by_itself (entry.Session edge peer name) seen) are
+told_read (entry.Wire edge wire down ∷ es) seen are = told_read es (told_by_itself (entry.Wire edge wire down) seen) are
+told_read (entry.Pong edge wire sequence ∷ es) seen are = told_read es (told_by_itself (entry.Pong edge wire sequence) seen) are
 
 -- the event behind which they are told has applied
 pub told_applied : (es : List Entry) → AreTold es → is_idle_behind es ≡ false

@@ -16,10 +16,10 @@ use Rattle.flight_laws.proofs.WorkLemmas.{said-append, same_end}
 use Rattle.network_model.specs.Absorb.{absorb_all, absorb_one, all_entries_of, entries_told}
 use Rattle.network_model.specs.State.{NetworkState, with_packet, with_pipe}
 use Rattle.network_model.proofs.AbsorbLemmas.{pipe_sends_none}
-use Rattle.seen_network.specs.Seen.{Seen, SeenCopy, copy_comes, end_goes, is_shown_up, said_towards, session_told, told, with_copies, with_octets, with_rest, with_standing, with_up, without_copy}
+use Rattle.seen_network.specs.Seen.{Seen, SeenCopy, copy_comes, end_goes, is_shown_up, said_towards, session_told, told_by_itself, with_copies, with_octets, with_rest, with_standing, with_up, without_copy}
 use Rattle.seen_network.proofs.CommonLemmas.{session_way, said_way}
 use Rattle.seen_laws.specs.Shows.{AreTold, AreUpTo, copy_of, tolds}
-use Rattle.seen_laws.specs.Work.{ended, up_after}
+use Rattle.seen_laws.specs.Work.{is_told_ended, up_after}
 use Rattle.seen_laws.proofs.CopyLemmas.{below_behind, below_more, none_without, without_below}
 use Rattle.seen_laws.proofs.TellLemmas.{ended-append, up-append}
 
@@ -27,7 +27,7 @@ use Rattle.seen_laws.proofs.TellLemmas.{ended-append, up-append}
 
 pub tolds-append : (xs ys : List Entry) (seen : Seen) → tolds (xs ++ ys) seen ≡ tolds ys (tolds xs seen)
 tolds-append [] ys seen = refl
-tolds-append (x ∷ xs) ys seen = tolds-append xs ys (told x seen)
+tolds-append (x ∷ xs) ys seen = tolds-append xs ys (told_by_itself x seen)
 
 pub told-append : (xs ys : List Entry) → AreTold xs → AreTold ys → AreTold (xs ++ ys)
 told-append [] ys front back = back
@@ -68,43 +68,43 @@ silent_pipe false pipe = refl
 
 -- what effects of an edge show: its own ends, what they held and what was on its way to them, what it said, and its wires
 pub record ShownBy (me : ℕ) (more : List Effect) (old new : Seen) : Type 0 where
-  pub near : (k : ℕ) → new.stands me k ≡ (old.stands me k && not (ended k more))
+  pub near : (k : ℕ) → new.stands me k ≡ (old.stands me k && not (is_told_ended k more))
   pub far : (a b : ℕ) → nat_eq a me ≡ false → new.stands a b ≡ old.stands a b
-  pub rest : (k : ℕ) → new.rests me k ≡ cond (ended k more) [] (old.rests me k)
+  pub rest : (k : ℕ) → new.rests me k ≡ cond (is_told_ended k more) [] (old.rests me k)
   pub rests : (a b : ℕ) → nat_eq a me ≡ false → new.rests a b ≡ old.rests a b
-  pub inward : (k : ℕ) → nat_eq k me ≡ false → new.pipes k me ≡ cond (ended k more) [] (old.pipes k me)
+  pub inward : (k : ℕ) → nat_eq k me ≡ false → new.pipes k me ≡ cond (is_told_ended k more) [] (old.pipes k me)
   pub outward : (k : ℕ) → nat_eq k me ≡ false → new.pipes me k ≡ cond (old.stands k me) (old.pipes me k ++ said_to k more) (old.pipes me k)
   pub apart : (a b : ℕ) → nat_eq a me ≡ false → nat_eq b me ≡ false → new.pipes a b ≡ old.pipes a b
-  pub own : old.stands me me ≡ false → new.pipes me me ≡ cond (ended me more) [] (old.pipes me me)
+  pub own : old.stands me me ≡ false → new.pipes me me ≡ cond (is_told_ended me more) [] (old.pipes me me)
   pub up : (wire : ℕ) → new.up me wire ≡ up_after wire more (old.up me wire)
   pub ups : (a wire : ℕ) → nat_eq a me ≡ false → new.up a wire ≡ old.up a wire
   pub on : new.on ≡ old.on
 
 pub shown_then : (me : ℕ) (es fs : List Effect) (a b c : Seen) → ShownBy me es a b → ShownBy me fs b c → ShownBy me (es ++ fs) a c
 shown_then me es fs a b c first next = record {
-  near = λ k. next.near k ∙ (ap (λ (x : Bool). x && not (ended k fs)) (first.near k)
-      ∙ (and_not (a.stands me k) (ended k es) (ended k fs) ∙ ap (λ (x : Bool). a.stands me k && not x) (sym (ended-append k es fs))));
+  near = λ k. next.near k ∙ (ap (λ (x : Bool). x && not (is_told_ended k fs)) (first.near k)
+      ∙ (and_not (a.stands me k) (is_told_ended k es) (is_told_ended k fs) ∙ ap (λ (x : Bool). a.stands me k && not x) (sym (ended-append k es fs))));
   far = λ x y apart. next.far x y apart ∙ first.far x y apart;
-  rest = λ k. next.rest k ∙ (ap (λ (l : List ℕ). cond (ended k fs) [] l) (first.rest k)
-      ∙ (silent_either (ended k es) (ended k fs) (a.rests me k) ∙ ap (λ (x : Bool). cond x [] (a.rests me k)) (sym (ended-append k es fs))));
+  rest = λ k. next.rest k ∙ (ap (λ (l : List ℕ). cond (is_told_ended k fs) [] l) (first.rest k)
+      ∙ (silent_either (is_told_ended k es) (is_told_ended k fs) (a.rests me k) ∙ ap (λ (x : Bool). cond x [] (a.rests me k)) (sym (ended-append k es fs))));
   rests = λ x y apart. next.rests x y apart ∙ first.rests x y apart;
   inward = λ k away. next.inward k away
-      ∙ (ap (λ (l : List ℕ). cond (ended k fs) [] l) (first.inward k away)
-      ∙ (silent_either (ended k es) (ended k fs) (a.pipes k me) ∙ ap (λ (x : Bool). cond x [] (a.pipes k me)) (sym (ended-append k es fs))));
+      ∙ (ap (λ (l : List ℕ). cond (is_told_ended k fs) [] l) (first.inward k away)
+      ∙ (silent_either (is_told_ended k es) (is_told_ended k fs) (a.pipes k me) ∙ ap (λ (x : Bool). cond x [] (a.pipes k me)) (sym (ended-append k es fs))));
   outward = λ k away. next.outward k away
       ∙ (rw (first.far k me away, first.outward k away)
       (joined (a.stands k me) (a.pipes me k) (said_to k es) (said_to k fs)) ∙ ap (λ (l : List ℕ). cond (a.stands k me) (a.pipes me k ++ l) (a.pipes me k)) (sym (said-append k es fs)));
   apart = λ x y one other. next.apart x y one other ∙ first.apart x y one other;
   own = λ alone. next.own (first.near me ∙ rw alone refl)
-      ∙ (ap (λ (l : List ℕ). cond (ended me fs) [] l) (first.own alone)
-      ∙ (silent_either (ended me es) (ended me fs) (a.pipes me me) ∙ ap (λ (x : Bool). cond x [] (a.pipes me me)) (sym (ended-append me es fs))));
+      ∙ (ap (λ (l : List ℕ). cond (is_told_ended me fs) [] l) (first.own alone)
+      ∙ (silent_either (is_told_ended me es) (is_told_ended me fs) (a.pipes me me) ∙ ap (λ (x : Bool). cond x [] (a.pipes me me)) (sym (ended-append me es fs))));
   up = λ wire. next.up wire ∙ (ap (up_after wire fs) (first.up wire) ∙ sym (up-append wire es fs (a.up me wire)));
   ups = λ x wire apart. next.ups x wire apart ∙ first.ups x wire apart;
   on = next.on ∙ first.on;
 }
 
 -- effects that show nothing of it
-pub shows_none : (me : ℕ) (es : List Effect) (old new : Seen) → ((k : ℕ) → ended k es ≡ false) → ((k : ℕ) → said_to k es ≡ []) → ((wire : ℕ) (up : Bool) → up_after wire es up ≡ up)
+pub shows_none : (me : ℕ) (es : List Effect) (old new : Seen) → ((k : ℕ) → is_told_ended k es ≡ false) → ((k : ℕ) → said_to k es ≡ []) → ((wire : ℕ) (up : Bool) → up_after wire es up ≡ up)
     → new.stands ≡ old.stands → new.pipes ≡ old.pipes → new.rests ≡ old.rests → new.up ≡ old.up → new.on ≡ old.on → ShownBy me es old new
 shows_none me es old new shuts silent still stands pipes rests ups on = record {
   near = λ k. ap (λ (f : ℕ → ℕ → Bool). f me k) stands ∙ (and_not_false (old.stands me k) ∙ ap (λ (x : Bool). old.stands me k && not x) (sym (shuts k)));
@@ -121,7 +121,7 @@ shows_none me es old new shuts silent still stands pipes rests ups on = record {
   on = on;
 }
 
-shows_same : (me : ℕ) (e : Effect) (seen : Seen) → ((k : ℕ) → ended k (e ∷ []) ≡ false) → ((k : ℕ) → said_to k (e ∷ []) ≡ [])
+shows_same : (me : ℕ) (e : Effect) (seen : Seen) → ((k : ℕ) → is_told_ended k (e ∷ []) ≡ false) → ((k : ℕ) → said_to k (e ∷ []) ≡ [])
     → ((wire : ℕ) (up : Bool) → up_after wire (e ∷ []) up ≡ up) → ShownBy me (e ∷ []) seen seen
 shows_same me e seen shuts silent still = shows_none me (e ∷ []) seen seen shuts silent still refl refl refl refl refl
 

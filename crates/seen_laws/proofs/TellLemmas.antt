@@ -43,14 +43,14 @@ use Rattle.flight_laws.specs.Meeting.{closes}
 use Rattle.flight_laws.proofs.WorkLemmas.{closes-append}
 use Rattle.network_model.specs.State.{held_by}
 use Rattle.seen_network.specs.Seen.{is_shown_up}
-use Rattle.seen_laws.specs.Work.{TellsChanges as Tells, ended, is_ended, up_after}
+use Rattle.seen_laws.specs.Work.{TellsChanges as Tells, is_told_ended, is_ended, up_after}
 
 -- ---- joined effects
 
-pub ended-append : (place : ℕ) (es fs : List Effect) → ended place (es ++ fs) ≡ (ended place es || ended place fs)
+pub ended-append : (place : ℕ) (es fs : List Effect) → is_told_ended place (es ++ fs) ≡ (is_told_ended place es || is_told_ended place fs)
 ended-append place [] fs = refl
 ended-append place (effect.Session peer state ∷ es) fs =
-    ap (λ (b : Bool). (is_ended state && nat_eq place peer.0) || b) (ended-append place es fs) ∙ or_append (is_ended state && nat_eq place peer.0) (ended place es) (ended place fs)
+    ap (λ (b : Bool). (is_ended state && nat_eq place peer.0) || b) (ended-append place es fs) ∙ or_append (is_ended state && nat_eq place peer.0) (is_told_ended place es) (is_told_ended place fs)
 ended-append place (effect.Sent peer wire came octets ∷ es) fs = ended-append place es fs
 ended-append place (effect.Left circuit octets ∷ es) fs = ended-append place es fs
 ended-append place (effect.Dropped cause ∷ es) fs = ended-append place es fs
@@ -93,13 +93,13 @@ module _ (heard : ℕ → Bool) where
     circuits = next.circuits ∙ first.circuits;
     stands = λ k.
         next.stands k
-        ∙ (ap (λ (x : Bool). x && not (ended k next.more)) (first.stands k)
-        ∙ (and_not (is_there (a.edge.peering k)) (ended k first.more) (ended k next.more)
+        ∙ (ap (λ (x : Bool). x && not (is_told_ended k next.more)) (first.stands k)
+        ∙ (and_not (is_there (a.edge.peering k)) (is_told_ended k first.more) (is_told_ended k next.more)
         ∙ ap (λ (x : Bool). is_there (a.edge.peering k) && not x) (sym (ended-append k first.more next.more))));
     shut = λ k. closes-append k first.more next.more ∙ (rw (first.shut k, next.shut k) (sym (ended-append k first.more next.more)));
     up = λ wire. next.up wire ∙ (ap (up_after wire next.more) (first.up wire) ∙ sym (up-append wire first.more next.more (is_shown_up (a.edge.told_down wire))));
     kept = λ k apart there_spoken.
-        next.kept k apart there_spoken ∙ first.kept k apart (first_holds (is_there (b.edge.peering k)) (not (ended k next.more)) (sym (next.stands k) ∙ there_spoken));
+        next.kept k apart there_spoken ∙ first.kept k apart (first_holds (is_there (b.edge.peering k)) (not (is_told_ended k next.more)) (sym (next.stands k) ∙ there_spoken));
   }
 
   -- ---- single operations
@@ -147,7 +147,7 @@ module _ (heard : ℕ → Bool) where
       ]
 
   -- an effect that tells nothing of it
-  pub gives_tell : (e : Effect) (work : Work) → ((k : ℕ) → ended k (e ∷ []) ≡ false) → ((k : ℕ) → closes k (e ∷ []) ≡ false) → ((wire : ℕ) (up : Bool) → up_after wire (e ∷ []) up ≡ up)
+  pub gives_tell : (e : Effect) (work : Work) → ((k : ℕ) → is_told_ended k (e ∷ []) ≡ false) → ((k : ℕ) → closes k (e ∷ []) ≡ false) → ((wire : ℕ) (up : Bool) → up_after wire (e ∷ []) up ≡ up)
       → Tells heard work (gives e work)
   unfolding gives
   gives_tell e work none shuts still = record {

@@ -13,8 +13,8 @@ use Rattle.edge_model.specs.Work.{Work}
 use Rattle.flight_laws.specs.Meeting.{closes}
 use Rattle.network_model.specs.declared.packet.Packet.{Packet}
 use Rattle.network_model.specs.State.{NetworkState, held, held_by, stands, with_edge}
-use Rattle.seen_network.specs.Seen.{Seen, SeenCopy, is_shown_up, told}
-use Rattle.seen_laws.specs.Work.{ended, up_after}
+use Rattle.seen_network.specs.Seen.{Seen, SeenCopy, is_shown_up, told_by_itself}
+use Rattle.seen_laws.specs.Work.{is_told_ended, up_after}
 
 abbrev pub copy_of : Packet → SeenCopy
 copy_of packet = record { number = packet.number; origin = packet.origin }
@@ -36,7 +36,7 @@ pub record Shows (plan : Plan) (network : NetworkState) (seen : Seen) : Type 0 w
 
 abbrev pub tolds : List Entry → Seen → Seen
 tolds [] seen = seen
-tolds (e ∷ es) seen = tolds es (told e seen)
+tolds (e ∷ es) seen = tolds es (told_by_itself e seen)
 
 -- no event is among them, and none that did not apply
 abbrev pub AreTold : List Entry → Type 0
@@ -48,13 +48,13 @@ AreTold (e ∷ es) = AreTold es
 -- ---- an edge's work before it goes into the network
 
 -- what is seen becomes what the network is, once the work of an edge is told and goes into the network
-pub record IsReady (plan : Plan) (network : NetworkState) (me : EdgeId) (work : Work) (seen : Seen) : Type 0 where
+pub record IsReadyToShow (plan : Plan) (network : NetworkState) (me : EdgeId) (work : Work) (seen : Seen) : Type 0 where
   pub alone : seen.stands me.0 me.0 ≡ false
-  pub near : (k : ℕ) → (seen.stands me.0 k && not (ended k work.effects)) ≡ is_there (work.edge.peering k)
+  pub near : (k : ℕ) → (seen.stands me.0 k && not (is_told_ended k work.effects)) ≡ is_there (work.edge.peering k)
   pub far : (a b : ℕ) → nat_eq a me.0 ≡ false → seen.stands a b ≡ stands network a b
-  pub inward : (k : ℕ) → (if ended k work.effects then [] else seen.pipes k me.0) ≡ (if closes k work.effects then [] else network.pipes k me.0)
+  pub inward : (k : ℕ) → (if is_told_ended k work.effects then [] else seen.pipes k me.0) ≡ (if closes k work.effects then [] else network.pipes k me.0)
   pub outward : (a b : ℕ) → nat_eq b me.0 ≡ false → seen.pipes a b ≡ network.pipes a b
-  pub rest : (k : ℕ) → (if ended k work.effects then [] else seen.rests me.0 k) ≡ held_by (work.edge.peering k)
+  pub rest : (k : ℕ) → (if is_told_ended k work.effects then [] else seen.rests me.0 k) ≡ held_by (work.edge.peering k)
   pub rests : (a b : ℕ) → nat_eq a me.0 ≡ false → seen.rests a b ≡ held network a b
   pub up : (wire : ℕ) → up_after wire work.effects (seen.up me.0 wire) ≡ is_shown_up (work.edge.told_down wire)
   pub ups : (a wire : ℕ) → nat_eq a me.0 ≡ false → seen.up a wire ≡ is_shown_up ((network.edges a).told_down wire)

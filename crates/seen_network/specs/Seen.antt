@@ -148,14 +148,14 @@ session_told edge peer (state.Ended why) seen = end_goes edge peer seen
 session_told edge peer name seen = seen
 
 -- what an entry shows by itself
-abbrev pub told : Entry → Seen → Seen
-told (entry.Said from to octets) seen = said_towards from.0 to.0 octets seen
-told (entry.Session edge peer name) seen = session_told edge.0 peer.0 name seen
-told (entry.Wire edge wire down) seen = with_up edge.0 wire.0 (is_shown_up down) seen
-told (entry.Sent from to wire arrival packet origin hops octets) seen = copy_comes packet origin seen
-told (entry.Copied packet of) seen = repeats packet (origin_among of seen.under_way) seen
-told (entry.Aged packet) seen = copy_goes packet seen
-told other seen = seen
+abbrev pub told_by_itself : Entry → Seen → Seen
+told_by_itself (entry.Said from to octets) seen = said_towards from.0 to.0 octets seen
+told_by_itself (entry.Session edge peer name) seen = session_told edge.0 peer.0 name seen
+told_by_itself (entry.Wire edge wire down) seen = with_up edge.0 wire.0 (is_shown_up down) seen
+told_by_itself (entry.Sent from to wire arrival packet origin hops octets) seen = copy_comes packet origin seen
+told_by_itself (entry.Copied packet of) seen = repeats packet (origin_among of seen.under_way) seen
+told_by_itself (entry.Aged packet) seen = copy_goes packet seen
+told_by_itself other seen = seen
 
 -- ---- a trace
 
@@ -174,7 +174,7 @@ happened_or idle event seen = if idle then seen else happened event seen
 abbrev pub seen_from : Seen → List Entry → Seen
 seen_from seen [] = seen
 seen_from seen (entry.Did event ∷ es) = seen_from (happened_or (is_idle_behind es) event seen) es
-seen_from seen (e ∷ es) = seen_from (told e seen) es
+seen_from seen (e ∷ es) = seen_from (told_by_itself e seen) es
 
 -- what a trace shows
 abbrev pub seen_in : List Entry → Seen

@@ -4,7 +4,7 @@ use Rattle.net_values.proofs.RowLemmas.{replicate_length, replicate_default}
 use Rattle.seen_network.specs.Seen.{nothing_seen}
 use Rattle.seen_state.specs.declared.sizes.Sizes.{Sizes}
 use Rattle.seen_state.specs.PeerEnd.{no_end}
-use Rattle.seen_state.specs.Sight.{EdgeSeen, IsWhole, ShowsSight, unseen_edge, shown}
+use Rattle.seen_state.specs.Sight.{EdgeSeen, IsWhole, ShowsSight, unseen_edge, shown_with}
 
 ends_none : (n m w : ℕ) (i j : ℕ) → slice_index_or (slice_index_or (replicate n (record { ends = replicate m no_end; up = replicate w false })) i unseen_edge).ends j no_end ≡ no_end
 ends_none zero m w i j = refl
@@ -36,7 +36,7 @@ pub opened_shows : (sizes : Sizes)
       edges = replicate sizes.edges (record { ends = replicate sizes.edges no_end; up = replicate sizes.wires false });
       on = replicate sizes.circuits true;
     }) nothing_seen
-unfolding shown
+unfolding shown_with
 opened_shows sizes = λ z. record {
   stands = λ i j. (ends_none sizes.edges sizes.edges sizes.wires i j z).stands;
   pipes = λ i j. (ends_none sizes.edges sizes.edges sizes.wires j i z).way;

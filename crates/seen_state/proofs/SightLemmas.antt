@@ -4,8 +4,8 @@ use Rattle.std.proofs.lemmas.Bool.{eqb-true}
 use Rattle.std.proofs.lemmas.List.{get_or_default}
 use Rattle.net_values.proofs.BoolLemmas.{and_turned}
 use Rattle.seen_network.specs.Seen.{Seen, SeenCopy, at, at_both, cut, delivers, end_goes, said_towards, repeats, with_copies, with_octets, with_on, with_rest, with_standing, with_up, without_copy, without_edge}
-use Rattle.seen_state.specs.PeerEnd.{EndSeen, no_end, taken}
-use Rattle.seen_state.specs.Sight.{EdgeSeen, IsWhole, ShowsSight as Shows, SightLists, edge_seen, end_seen, unseen_edge as no_edge, shown}
+use Rattle.seen_state.specs.PeerEnd.{EndSeen, no_end, taken_from_way}
+use Rattle.seen_state.specs.Sight.{EdgeSeen, IsWhole, ShowsSight as Shows, SightLists, edge_seen, end_seen, unseen_edge as no_edge, shown_with as shown}
 use Rattle.seen_state.proofs.RowLemmas.{set_at}
 
 -- with another end
@@ -126,8 +126,8 @@ put_on_way s seen me peer octets h g shows = by (end_seen s me peer).stands (sta
 
 -- one of which octets are taken
 less_way : (s : SightLists) (seen : Seen) (me peer count : ℕ)
-    → put_all me peer (taken count (end_seen s me peer)) (shown s seen.under_way) ≡ delivers peer me count (shown s seen.under_way)
-unfolding taken with_octets with_rest shown
+    → put_all me peer (taken_from_way count (end_seen s me peer)) (shown s seen.under_way) ≡ delivers peer me count (shown s seen.under_way)
+unfolding taken_from_way with_octets with_rest shown
 less_way s seen me peer count = λ z. record {
   stands = λ i j. same_both (shown s seen.under_way).stands me peer (end_seen s me peer).stands refl i j z;
   pipes = at_both (shown s seen.under_way).pipes peer me (drop count (end_seen s me peer).way);
@@ -138,9 +138,9 @@ less_way s seen me peer count = λ z. record {
 }
 
 pub taken_from : (s : SightLists) (seen : Seen) (me peer count : ℕ) → me < length s.edges → peer < length (edge_seen s me).ends → Shows s seen
-    → Shows (with_end me peer (taken count (end_seen s me peer)) s) (delivers peer me count seen)
+    → Shows (with_end me peer (taken_from_way count (end_seen s me peer)) s) (delivers peer me count seen)
 unfolding with_octets with_rest
-taken_from s seen me peer count h g shows = shown_end s seen.under_way me peer (taken count (end_seen s me peer)) h g ∙ (less_way s seen me peer count ∙ ap (delivers peer me count) shows)
+taken_from s seen me peer count h g shows = shown_end s seen.under_way me peer (taken_from_way count (end_seen s me peer)) h g ∙ (less_way s seen me peer count ∙ ap (delivers peer me count) shows)
 
 -- ---- a whole edge, a wire, a circuit
 

@@ -7,12 +7,12 @@ use Rattle.seen_network.specs.Calm.{is_seen_mesh, is_seen_settled, is_seen_spoke
 use Rattle.seen_network.specs.Seen.{Seen}
 
 -- nothing is seen on its way between the two edges, where the service joins them
-abbrev pub is_quiet_between : Plan → Seen → ServiceId → ℕ → ℕ → Bool
-is_quiet_between plan seen service a b = not (are_joined_by plan service a b) || is_seen_settled seen a b
+abbrev pub is_seen_quiet_between : Plan → Seen → ServiceId → ℕ → ℕ → Bool
+is_seen_quiet_between plan seen service a b = not (are_joined_by plan service a b) || is_seen_settled seen a b
 
 -- the two edges have a mesh wire that is seen up, where they are two core edges of the service
-abbrev pub is_full_between : Plan → Seen → ServiceId → ℕ → ℕ → Bool
-is_full_between plan seen service a b = not (is_core_edge plan service a && is_core_edge plan service b) || (a == b || any_wire (is_seen_mesh seen service a b) 0 plan.wires)
+abbrev pub is_seen_full_between : Plan → Seen → ServiceId → ℕ → ℕ → Bool
+is_seen_full_between plan seen service a b = not (is_core_edge plan service a && is_core_edge plan service b) || (a == b || any_wire (is_seen_mesh seen service a b) 0 plan.wires)
 
 -- the edge has exactly one spoke that is seen up, where it is a spoke edge of the service
 abbrev pub has_one_spoke : Plan → Seen → ServiceId → ℕ → Bool

@@ -20,8 +20,8 @@ whole_pdu octets =
     else 4 + pair_at octets 2
 
 -- octets are taken from the way
-unfoldable pub taken : ℕ → EndSeen → EndSeen
-taken count end = record end { rest = cut (end.rest ++ take count end.way); way = drop count end.way }
+unfoldable pub taken_from_way : ℕ → EndSeen → EndSeen
+taken_from_way count end = record end { rest = cut (end.rest ++ take count end.way); way = drop count end.way }
 
 -- a whole PDU in front of what is held is not held any more; where there is none, nothing changes
 abbrev pub CutsFirst : Bool → EndSeen → EndSeen → Type 0

@@ -26,8 +26,8 @@ abbrev pub end_seen : SightLists → ℕ → ℕ → EndSeen
 end_seen sight me peer = slice_index_or (edge_seen sight me).ends peer no_end
 
 -- as a trace shows it, with these packets under way
-unfoldable pub shown : SightLists → List SeenCopy → Seen
-shown sight copies = record {
+unfoldable pub shown_with : SightLists → List SeenCopy → Seen
+shown_with sight copies = record {
   stands = λ me peer. (end_seen sight me peer).stands;
   pipes = λ from to. (end_seen sight to from).way;
   rests = λ me peer. (end_seen sight me peer).rest;
@@ -49,7 +49,7 @@ sizes_of plan = record { edges = length plan.edges; wires = length plan.wires; c
 
 -- what is seen is what a trace shows
 abbrev pub ShowsSight : SightLists → Seen → Type 0
-ShowsSight sight seen = shown sight seen.under_way ≡ seen
+ShowsSight sight seen = shown_with sight seen.under_way ≡ seen
 
 -- a wire is up at an edge, where one is told
 abbrev pub up_at : Seen → ℕ → Option EdgeId → Bool

@@ -6,8 +6,8 @@ ghost use Rattle.net_base.specs.plan.Paths.{joins};
 ghost use Rattle.net_base.specs.plan.Roles.{all_below, is_core_edge, is_spoke_edge, is_wire_of};
 ghost use Rattle.seen_network.specs.Calm.{has_seen_spokes, is_seen_calm, is_seen_drained, is_seen_full, is_seen_quiet, is_seen_up};
 ghost use Rattle.seen_network.specs.Seen.{Seen};
-ghost use Rattle.seen_state.specs.Calm.{has_one_spoke, is_full_between, is_quiet_between};
-ghost use Rattle.seen_state.specs.Sight.{ShowsSight, shown};
+ghost use Rattle.seen_state.specs.Calm.{has_one_spoke, is_seen_full_between, is_seen_quiet_between};
+ghost use Rattle.seen_state.specs.Sight.{ShowsSight, shown_with};
 
 use crate::sight::Sight;
 use hvpls_spokes::{Role, is_mesh_between, role, starts_spoke};
@@ -28,7 +28,7 @@ impl Sight {
     // The same, whatever is under way.
     fn is_calm_alone(&self, plan: &Plan, service: ServiceId) -> bool
         requires { IsWithinLimits plan.now }
-        ensures { result ≡ is_seen_calm plan.now (shown self.now []) service }
+        ensures { result ≡ is_seen_calm plan.now (shown_with self.now []) service }
     {
         (self.is_quiet(plan, service) && self.is_full(plan, service))
             && self.has_spokes(plan, service)
@@ -38,7 +38,7 @@ impl Sight {
     #[tactic(auto, using(crate::proofs::CalmLemmas::below_more))]
     fn is_quiet(&self, plan: &Plan, service: ServiceId) -> bool
         requires { IsWithinLimits plan.now }
-        ensures { result ≡ is_seen_quiet plan.now (shown self.now []) service }
+        ensures { result ≡ is_seen_quiet plan.now (shown_with self.now []) service }
     {
         let count = plan.edges.len();
         for a in 0..count {
@@ -54,7 +54,7 @@ impl Sight {
     fn is_quiet_beside(&self, plan: &Plan, service: ServiceId, a: usize) -> bool
         requires limits { IsWithinLimits plan.now }
         requires a { a < length plan.now.edges }
-        ensures { result ≡ all_below (length plan.now.edges) (is_quiet_between plan.now (shown self.now []) service a) }
+        ensures { result ≡ all_below (length plan.now.edges) (is_seen_quiet_between plan.now (shown_with self.now []) service a) }
     {
         let count = plan.edges.len();
         for b in 0..count {
@@ -67,9 +67,9 @@ impl Sight {
 
     // Nothing is seen between the two edges, where the service joins them: neither end of their connection stands, or both stand and
     // nothing is on its way or held.
-    #[tactic(auto, unfolding(crate::specs::Sight::shown))]
+    #[tactic(auto, unfolding(crate::specs::Sight::shown_with))]
     fn is_quiet_between(&self, plan: &Plan, service: ServiceId, a: EdgeId, b: EdgeId) -> bool
-        ensures { result ≡ is_quiet_between plan.now (shown self.now []) service a.0 b.0 }
+        ensures { result ≡ is_seen_quiet_between plan.now (shown_with self.now []) service a.0 b.0 }
     {
         if !are_joined_by(plan.wires.as_slice(), service, a, b) {
             return true;
@@ -79,9 +79,9 @@ impl Sight {
     }
 
     // An edge's end of its connection with a peer stands.
-    #[tactic(auto, unfolding(crate::specs::Sight::shown))]
+    #[tactic(auto, unfolding(crate::specs::Sight::shown_with))]
     fn stands(&self, edge: EdgeId, peer: EdgeId) -> bool
-        ensures { result ≡ (shown self.now []).stands edge.0 peer.0 }
+        ensures { result ≡ (shown_with self.now []).stands edge.0 peer.0 }
     {
         match self.end_of(edge, peer) {
             Some(end) => end.stands(),
@@ -90,9 +90,9 @@ impl Sight {
     }
 
     // Nothing is on its way from an edge to another one, and the other one holds no rest.
-    #[tactic(auto, unfolding(crate::specs::Sight::shown))]
+    #[tactic(auto, unfolding(crate::specs::Sight::shown_with))]
     fn is_drained(&self, from: EdgeId, to: EdgeId) -> bool
-        ensures { result ≡ is_seen_drained (shown self.now []) from.0 to.0 }
+        ensures { result ≡ is_seen_drained (shown_with self.now []) from.0 to.0 }
     {
         match self.end_of(to, from) {
             Some(end) => end.is_drained(),
@@ -104,7 +104,7 @@ impl Sight {
     #[tactic(auto, using(crate::proofs::CalmLemmas::below_more))]
     fn is_full(&self, plan: &Plan, service: ServiceId) -> bool
         requires { IsWithinLimits plan.now }
-        ensures { result ≡ is_seen_full plan.now (shown self.now []) service }
+        ensures { result ≡ is_seen_full plan.now (shown_with self.now []) service }
     {
         let count = plan.edges.len();
         for a in 0..count {
@@ -120,7 +120,7 @@ impl Sight {
     fn is_full_beside(&self, plan: &Plan, service: ServiceId, a: usize) -> bool
         requires limits { IsWithinLimits plan.now }
         requires a { a < length plan.now.edges }
-        ensures { result ≡ all_below (length plan.now.edges) (is_full_between plan.now (shown self.now []) service a) }
+        ensures { result ≡ all_below (length plan.now.edges) (is_seen_full_between plan.now (shown_with self.now []) service a) }
     {
         let count = plan.edges.len();
         for b in 0..count {
@@ -135,7 +135,7 @@ impl Sight {
     #[tactic(auto, using(crate::proofs::CalmLemmas::wire_steps))]
     fn is_full_between(&self, plan: &Plan, service: ServiceId, a: EdgeId, b: EdgeId) -> bool
         requires { IsWithinLimits plan.now }
-        ensures { result ≡ is_full_between plan.now (shown self.now []) service a.0 b.0 }
+        ensures { result ≡ is_seen_full_between plan.now (shown_with self.now []) service a.0 b.0 }
     {
         if !(is_core(plan, service, a) && is_core(plan, service, b)) || a == b {
             return true;
@@ -153,7 +153,7 @@ impl Sight {
     #[tactic(auto, using(crate::proofs::CalmLemmas::below_more))]
     fn has_spokes(&self, plan: &Plan, service: ServiceId) -> bool
         requires { IsWithinLimits plan.now }
-        ensures { result ≡ has_seen_spokes plan.now (shown self.now []) service }
+        ensures { result ≡ has_seen_spokes plan.now (shown_with self.now []) service }
     {
         let count = plan.edges.len();
         for edge in 0..count {
@@ -168,7 +168,7 @@ impl Sight {
     #[tactic(auto, using(crate::proofs::CalmLemmas::wire_steps))]
     fn has_one_spoke(&self, plan: &Plan, service: ServiceId, edge: EdgeId) -> bool
         requires { IsWithinLimits plan.now }
-        ensures { result ≡ has_one_spoke plan.now (shown self.now []) service edge.0 }
+        ensures { result ≡ has_one_spoke plan.now (shown_with self.now []) service edge.0 }
     {
         if !starts_some_spoke(plan, service, edge) {
             return true;
@@ -184,9 +184,9 @@ impl Sight {
     }
 
     // A wire is up at both terminal edges.
-    #[tactic(auto, using(crate::proofs::CalmLemmas::up_steps), unfolding(crate::specs::Sight::shown))]
+    #[tactic(auto, using(crate::proofs::CalmLemmas::up_steps), unfolding(crate::specs::Sight::shown_with))]
     fn is_up(&self, wire: usize, row: &WirePlan) -> bool
-        ensures { result ≡ is_seen_up (shown self.now []) wire row.now }
+        ensures { result ≡ is_seen_up (shown_with self.now []) wire row.now }
     {
         self.is_up_at(first_of(row.path.as_slice()), wire)
             && self.is_up_at(last_of(row.path.as_slice()), wire)

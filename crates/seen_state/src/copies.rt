@@ -1,7 +1,7 @@
 //! The packets under way.
 ghost use Rattle.std.specs.Prelude.{◌≡◌, ◌<◌, ◌≤◌, ◌+◌, ◌-◌, ◌++◌, ◌∷◌, ◌==◌, ◌^◌, ℕ, [], Some, IfOk, OnOk, List, if◌then◌else◌};
 ghost use Rattle.seen_network.specs.Once.{has_seen, names_seen};
-ghost use Rattle.seen_network.specs.Seen.{Seen, SeenCopy, copy_comes, happened, origin_among, repeats, told, without_copy};
+ghost use Rattle.seen_network.specs.Seen.{Seen, SeenCopy, copy_comes, happened, origin_among, repeats, told_by_itself, without_copy};
 ghost use Rattle.seen_state.specs.Copies.{TellsPackets, copies_of, count_in, origin_under};
 
 use net_base::{Entry, Event, NoMemory};
@@ -179,7 +179,7 @@ impl Copies {
     pub fn tell(&mut self, entry: &Entry) -> Result<(), NoMemory>
         requires { self.old.comings < 2 ^ 63 }
         ensures comings { OnOk result (self.new.comings ≤ self.old.comings + 1) }
-        ensures told { OnOk result ((seen : Seen) → TellsPackets self.old seen.under_way → TellsPackets self.new (told entry.now seen).under_way) }
+        ensures told { OnOk result ((seen : Seen) → TellsPackets self.old seen.under_way → TellsPackets self.new (told_by_itself entry.now seen).under_way) }
     {
         match *entry {
             Entry::Sent { packet, origin, .. } => self.enter(packet, origin),

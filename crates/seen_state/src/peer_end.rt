@@ -1,7 +1,7 @@
 //! An edge's end of a connection.
 ghost use Rattle.std.specs.Prelude.{◌≡◌, ◌==◌, ◌&&◌, ◌++◌, length, true, false, take, drop, OnOk, if◌then◌else◌};
 ghost use Rattle.seen_network.specs.Seen.{cut};
-ghost use Rattle.seen_state.specs.PeerEnd.{CutsFirst, no_end, taken};
+ghost use Rattle.seen_state.specs.PeerEnd.{CutsFirst, no_end, taken_from_way};
 
 use crate::whole_pdu::whole_pdu;
 use net_base::NoMemory;
@@ -95,9 +95,9 @@ impl PeerEnd {
     }
 
     /// The first `count` octets on their way are taken, or all where there are fewer.
-    #[tactic(auto, unfolding(crate::specs::PeerEnd::taken))]
+    #[tactic(auto, unfolding(crate::specs::PeerEnd::taken_from_way))]
     pub fn take(&mut self, count: usize)
-        ensures { self.new ≡ taken count self.old }
+        ensures { self.new ≡ taken_from_way count self.old }
     {
         self.move_on(count);
         self.cut_pdus();

@@ -3,7 +3,7 @@ ghost use Rattle.std.specs.Prelude.{◌≡◌, ◌<◌, ◌≤◌, ◌+◌, ◌^
 ghost use Rattle.net_base.specs.plan.Accepted.{IsWithinLimits};
 ghost use Rattle.seen_network.specs.Calm.{is_seen_calm};
 ghost use Rattle.seen_network.specs.Once.{has_seen, names_seen};
-ghost use Rattle.seen_network.specs.Seen.{Seen, happened, nothing_seen, told};
+ghost use Rattle.seen_network.specs.Seen.{Seen, happened, nothing_seen, told_by_itself};
 ghost use Rattle.seen_state.specs.Placed.{IsEventWithin, IsWithin};
 ghost use Rattle.seen_state.specs.SeenState.{Knows};
 ghost use Rattle.seen_state.specs.Sight.{sizes_of};
@@ -53,7 +53,7 @@ impl SeenState {
         requires few { self.old.copies.comings < 2 ^ 63 }
         ensures sizes { self.new.sight.sizes ≡ self.old.sight.sizes }
         ensures comings { OnOk result (self.new.copies.comings ≤ self.old.copies.comings + 1) }
-        ensures knows { OnOk result ((seen : Seen) → Knows self.old seen → Knows self.new (told entry.now seen)) }
+        ensures knows { OnOk result ((seen : Seen) → Knows self.old seen → Knows self.new (told_by_itself entry.now seen)) }
     {
         match self.sight.tell(entry) {
             Ok(()) => self.copies.tell(entry),

@@ -1,9 +1,9 @@
 //! What is seen of a network but for the packets under way.
 ghost use Rattle.std.specs.Prelude.{◌≡◌, ◌<◌, [], false, true, option_copied, replicate, unwrap_or, IfOk, OnOk};
-ghost use Rattle.seen_network.specs.Seen.{Seen, delivers, end_goes, happened, nothing_seen, said_towards, session_told, told, with_on, with_standing, with_up, without_edge};
+ghost use Rattle.seen_network.specs.Seen.{Seen, delivers, end_goes, happened, nothing_seen, said_towards, session_told, told_by_itself, with_on, with_standing, with_up, without_edge};
 ghost use Rattle.seen_state.specs.PeerEnd.{no_end};
 ghost use Rattle.seen_state.specs.Placed.{IsEventWithin, IsWithin};
-ghost use Rattle.seen_state.specs.Sight.{ShowsSight, end_seen, shown, sizes_of, up_at};
+ghost use Rattle.seen_state.specs.Sight.{ShowsSight, end_seen, shown_with, sizes_of, up_at};
 
 use crate::peer_end::PeerEnd;
 use crate::seen_edge::SeenEdge;
@@ -141,7 +141,7 @@ impl Sight {
     pub fn tell(&mut self, entry: &Entry) -> Result<(), NoMemory>
         requires { IsWithin self.old.sizes entry.now }
         ensures sizes { self.new.sizes ≡ self.old.sizes }
-        ensures shows { OnOk result ((seen : Seen) → ShowsSight self.old seen → ShowsSight self.new (told entry.now seen)) }
+        ensures shows { OnOk result ((seen : Seen) → ShowsSight self.old seen → ShowsSight self.new (told_by_itself entry.now seen)) }
     {
         match *entry {
             Entry::Said {
@@ -197,9 +197,9 @@ impl Sight {
     }
 
     // Whether a wire is up at an edge, where one is told.
-    #[tactic(auto, unfolding(crate::specs::Sight::shown))]
+    #[tactic(auto, unfolding(crate::specs::Sight::shown_with))]
     pub(crate) fn is_up_at(&self, edge: Option<EdgeId>, wire: usize) -> bool
-        ensures { result ≡ up_at (shown self.now []) wire edge }
+        ensures { result ≡ up_at (shown_with self.now []) wire edge }
     {
         let Some(edge) = edge else {
             return false;
@@ -214,7 +214,7 @@ impl Sight {
     }
 
     /// Whether a circuit is on.
-    #[tactic(auto, unfolding(crate::specs::Sight::shown))]
+    #[tactic(auto, unfolding(crate::specs::Sight::shown_with))]
     pub fn is_on(&self, circuit: CircuitId) -> bool
         ensures { (seen : Seen) → ShowsSight self.now seen → result ≡ seen.on circuit.0 }
     {

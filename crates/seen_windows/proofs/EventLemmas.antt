@@ -10,7 +10,7 @@ use Rattle.net_base.specs.declared.trace.entry.Entry.TheVariants as entry
 use Rattle.net_base.specs.declared.trace.event.Event.{Event}
 use Rattle.net_base.specs.trace.Frame.{destination_of, goes_to_group}
 use Rattle.seen_network.specs.Once.{all_spared, entered_as, is_seen_flooded, is_sourced_by, spares_seen}
-use Rattle.seen_network.specs.Seen.{BeginsEvent, Seen, happened_or, is_idle_behind, seen_from, told}
+use Rattle.seen_network.specs.Seen.{BeginsEvent, Seen, happened_or, is_idle_behind, seen_from, told_by_itself}
 use Rattle.seen_network.proofs.ReadLemmas.{idle_behind}
 use Rattle.seen_windows.specs.EventEntries.{HasNoEvent, entered_place, tells_idle}
 
@@ -19,22 +19,22 @@ use Rattle.seen_windows.specs.EventEntries.{HasNoEvent, entered_place, tells_idl
 -- what is seen of them, one by one
 abbrev pub told_all : Seen → List Entry → Seen
 told_all seen [] = seen
-told_all seen (e ∷ es) = told_all (told e seen) es
+told_all seen (e ∷ es) = told_all (told_by_itself e seen) es
 
 pub seen_told : (es : List Entry) (seen : Seen) → HasNoEvent es → seen_from seen es ≡ told_all seen es
 seen_told [] seen none = refl
 seen_told (entry.Did event ∷ es) seen none = absurd none
-seen_told (entry.Idle ∷ es) seen none = seen_told es (told entry.Idle seen) none
-seen_told (entry.Said from to octets ∷ es) seen none = seen_told es (told (entry.Said from to octets) seen) none
-seen_told (entry.In at number octets ∷ es) seen none = seen_told es (told (entry.In at number octets) seen) none
-seen_told (entry.Sent from to wire came packet from2 hops octets ∷ es) seen none = seen_told es (told (entry.Sent from to wire came packet from2 hops octets) seen) none
-seen_told (entry.Copied packet of ∷ es) seen none = seen_told es (told (entry.Copied packet of) seen) none
-seen_told (entry.Aged packet ∷ es) seen none = seen_told es (told (entry.Aged packet) seen) none
-seen_told (entry.Left at from hops octets ∷ es) seen none = seen_told es (told (entry.Left at from hops octets) seen) none
-seen_told (entry.Dropped edge from cause ∷ es) seen none = seen_told es (told (entry.Dropped edge from cause) seen) none
-seen_told (entry.Session edge peer name ∷ es) seen none = seen_told es (told (entry.Session edge peer name) seen) none
-seen_told (entry.Wire edge wire down ∷ es) seen none = seen_told es (told (entry.Wire edge wire down) seen) none
-seen_told (entry.Pong edge wire sequence ∷ es) seen none = seen_told es (told (entry.Pong edge wire sequence) seen) none
+seen_told (entry.Idle ∷ es) seen none = seen_told es (told_by_itself entry.Idle seen) none
+seen_told (entry.Said from to octets ∷ es) seen none = seen_told es (told_by_itself (entry.Said from to octets) seen) none
+seen_told (entry.In at number octets ∷ es) seen none = seen_told es (told_by_itself (entry.In at number octets) seen) none
+seen_told (entry.Sent from to wire came packet from2 hops octets ∷ es) seen none = seen_told es (told_by_itself (entry.Sent from to wire came packet from2 hops octets) seen) none
+seen_told (entry.Copied packet of ∷ es) seen none = seen_told es (told_by_itself (entry.Copied packet of) seen) none
+seen_told (entry.Aged packet ∷ es) seen none = seen_told es (told_by_itself (entry.Aged packet) seen) none
+seen_told (entry.Left at from hops octets ∷ es) seen none = seen_told es (told_by_itself (entry.Left at from hops octets) seen) none
+seen_told (entry.Dropped edge from cause ∷ es) seen none = seen_told es (told_by_itself (entry.Dropped edge from cause) seen) none
+seen_told (entry.Session edge peer name ∷ es) seen none = seen_told es (told_by_itself (entry.Session edge peer name) seen) none
+seen_told (entry.Wire edge wire down ∷ es) seen none = seen_told es (told_by_itself (entry.Wire edge wire down) seen) none
+seen_told (entry.Pong edge wire sequence ∷ es) seen none = seen_told es (told_by_itself (entry.Pong edge wire sequence) seen) none
 
 pub idle_told : (es : List Entry) → HasNoEvent es → is_idle_behind es ≡ tells_idle es
 idle_told [] none = refl
@@ -54,17 +54,17 @@ idle_told (entry.Pong edge wire sequence ∷ es) none = idle_told es none
 pub spared_none : (es : List Entry) (origin : ℕ) (seen : Seen) → HasNoEvent es → all_spared origin seen es ≡ true
 spared_none [] origin seen none = refl
 spared_none (entry.Did event ∷ es) origin seen none = absurd none
-spared_none (entry.Idle ∷ es) origin seen none = spared_none es origin (told entry.Idle seen) none
-spared_none (entry.Said from to octets ∷ es) origin seen none = spared_none es origin (told (entry.Said from to octets) seen) none
-spared_none (entry.In at number octets ∷ es) origin seen none = spared_none es origin (told (entry.In at number octets) seen) none
-spared_none (entry.Sent from to wire came packet from2 hops octets ∷ es) origin seen none = spared_none es origin (told (entry.Sent from to wire came packet from2 hops octets) seen) none
-spared_none (entry.Copied packet of ∷ es) origin seen none = spared_none es origin (told (entry.Copied packet of) seen) none
-spared_none (entry.Aged packet ∷ es) origin seen none = spared_none es origin (told (entry.Aged packet) seen) none
-spared_none (entry.Left at from hops octets ∷ es) origin seen none = spared_none es origin (told (entry.Left at from hops octets) seen) none
-spared_none (entry.Dropped edge from cause ∷ es) origin seen none = spared_none es origin (told (entry.Dropped edge from cause) seen) none
-spared_none (entry.Session edge peer name ∷ es) origin seen none = spared_none es origin (told (entry.Session edge peer name) seen) none
-spared_none (entry.Wire edge wire down ∷ es) origin seen none = spared_none es origin (told (entry.Wire edge wire down) seen) none
-spared_none (entry.Pong edge wire sequence ∷ es) origin seen none = spared_none es origin (told (entry.Pong edge wire sequence) seen) none
+spared_none (entry.Idle ∷ es) origin seen none = spared_none es origin (told_by_itself entry.Idle seen) none
+spared_none (entry.Said from to octets ∷ es) origin seen none = spared_none es origin (told_by_itself (entry.Said from to octets) seen) none
+spared_none (entry.In at number octets ∷ es) origin seen none = spared_none es origin (told_by_itself (entry.In at number octets) seen) none
+spared_none (entry.Sent from to wire came packet from2 hops octets ∷ es) origin seen none = spared_none es origin (told_by_itself (entry.Sent from to wire came packet from2 hops octets) seen) none
+spared_none (entry.Copied packet of ∷ es) origin seen none = spared_none es origin (told_by_itself (entry.Copied packet of) seen) none
+spared_none (entry.Aged packet ∷ es) origin seen none = spared_none es origin (told_by_itself (entry.Aged packet) seen) none
+spared_none (entry.Left at from hops octets ∷ es) origin seen none = spared_none es origin (told_by_itself (entry.Left at from hops octets) seen) none
+spared_none (entry.Dropped edge from cause ∷ es) origin seen none = spared_none es origin (told_by_itself (entry.Dropped edge from cause) seen) none
+spared_none (entry.Session edge peer name ∷ es) origin seen none = spared_none es origin (told_by_itself (entry.Session edge peer name) seen) none
+spared_none (entry.Wire edge wire down ∷ es) origin seen none = spared_none es origin (told_by_itself (entry.Wire edge wire down) seen) none
+spared_none (entry.Pong edge wire sequence ∷ es) origin seen none = spared_none es origin (told_by_itself (entry.Pong edge wire sequence) seen) none
 
 -- ---- entries before an event
 
@@ -78,18 +78,18 @@ spared_on (entry.Did event ∷ front) back origin seen begins =
       and_turn : (a b c : Bool) → (a && (b && c)) ≡ ((a && b) && c)
       and_turn true b c = refl
       and_turn false b c = refl
-spared_on (entry.Idle ∷ front) back origin seen begins = spared_on front back origin (told entry.Idle seen) begins
-spared_on (entry.Said from to octets ∷ front) back origin seen begins = spared_on front back origin (told (entry.Said from to octets) seen) begins
-spared_on (entry.In at number octets ∷ front) back origin seen begins = spared_on front back origin (told (entry.In at number octets) seen) begins
+spared_on (entry.Idle ∷ front) back origin seen begins = spared_on front back origin (told_by_itself entry.Idle seen) begins
+spared_on (entry.Said from to octets ∷ front) back origin seen begins = spared_on front back origin (told_by_itself (entry.Said from to octets) seen) begins
+spared_on (entry.In at number octets ∷ front) back origin seen begins = spared_on front back origin (told_by_itself (entry.In at number octets) seen) begins
 spared_on (entry.Sent from to wire came packet from2 hops octets ∷ front) back origin seen begins =
-    spared_on front back origin (told (entry.Sent from to wire came packet from2 hops octets) seen) begins
-spared_on (entry.Copied packet of ∷ front) back origin seen begins = spared_on front back origin (told (entry.Copied packet of) seen) begins
-spared_on (entry.Aged packet ∷ front) back origin seen begins = spared_on front back origin (told (entry.Aged packet) seen) begins
-spared_on (entry.Left at from hops octets ∷ front) back origin seen begins = spared_on front back origin (told (entry.Left at from hops octets) seen) begins
-spared_on (entry.Dropped edge from cause ∷ front) back origin seen begins = spared_on front back origin (told (entry.Dropped edge from cause) seen) begins
-spared_on (entry.Session edge peer name ∷ front) back origin seen begins = spared_on front back origin (told (entry.Session edge peer name) seen) begins
-spared_on (entry.Wire edge wire down ∷ front) back origin seen begins = spared_on front back origin (told (entry.Wire edge wire down) seen) begins
-spared_on (entry.Pong edge wire sequence ∷ front) back origin seen begins = spared_on front back origin (told (entry.Pong edge wire sequence) seen) begins
+    spared_on front back origin (told_by_itself (entry.Sent from to wire came packet from2 hops octets) seen) begins
+spared_on (entry.Copied packet of ∷ front) back origin seen begins = spared_on front back origin (told_by_itself (entry.Copied packet of) seen) begins
+spared_on (entry.Aged packet ∷ front) back origin seen begins = spared_on front back origin (told_by_itself (entry.Aged packet) seen) begins
+spared_on (entry.Left at from hops octets ∷ front) back origin seen begins = spared_on front back origin (told_by_itself (entry.Left at from hops octets) seen) begins
+spared_on (entry.Dropped edge from cause ∷ front) back origin seen begins = spared_on front back origin (told_by_itself (entry.Dropped edge from cause) seen) begins
+spared_on (entry.Session edge peer name ∷ front) back origin seen begins = spared_on front back origin (told_by_itself (entry.Session edge peer name) seen) begins
+spared_on (entry.Wire edge wire down ∷ front) back origin seen begins = spared_on front back origin (told_by_itself (entry.Wire edge wire down) seen) begins
+spared_on (entry.Pong edge wire sequence ∷ front) back origin seen begins = spared_on front back origin (told_by_itself (entry.Pong edge wire sequence) seen) begins
 
 pub entered_on : (front back : List Entry) (circuit : CircuitId) → BeginsEvent back → entered_as circuit (front ++ back) ≡ entered_as circuit front
 entered_on [] [] circuit begins = refl

@@ -16,7 +16,7 @@ use Rattle.seen_network.specs.Once.{SeenWindow, all_spared, has_seen, is_seen_fl
 use Rattle.seen_network.specs.Seen.{BeginsEvent, Seen, happened_or, is_idle_behind, nothing_seen, seen_from, seen_in}
 use Rattle.seen_network.proofs.ReadLemmas.{seen_on}
 use Rattle.seen_windows.specs.EventEntries.{HasNoEvent}
-use Rattle.seen_windows.specs.Past.{AmongWindows, AreOpen, AreOwed, Closes, Describes, GoesTo, HasOpened, HasPassed, IsLeftOpen, IsOpen, IsOpened, IsOwed, Lists, Opens, OpensOne, WasOver, flooded_to}
+use Rattle.seen_windows.specs.Past.{AmongWindows, AreWindowsOpen, AreOwed, Closes, Describes, GoesTo, HasOpened, HasPassedWindows, IsLeftOpen, IsOpen, IsOpened, IsOwed, Lists, Opens, OpensOne, WasOver, flooded_to}
 use Rattle.seen_windows.specs.declared.window.Window.{Window}
 use Rattle.seen_windows.proofs.EventLemmas.{CutBefore, CutBehind, IsLast, StandsBefore, begins_on, cut_at, ends_bare, entered_on, event_at, flooded_before, place_on, spared_none, spared_on, append_none}
 
@@ -109,8 +109,8 @@ flooded_of plan before circuit octets during service origin window w d =
 -- ---- one event more
 
 module _ (plan : Plan) (done : List Entry) (event : Event) (rest : List Entry) (bare : HasNoEvent rest) (found : Option Window) (lasting owed lasting2 owed2 : List Window)
-    (are_open : AreOpen plan done lasting) (are_owed : AreOwed plan done owed) (is_opened : IsOpened plan done event rest found)
-    (passed : HasPassed plan done event rest found lasting owed lasting2 owed2) where
+    (are_open : AreWindowsOpen plan done lasting) (are_owed : AreOwed plan done owed) (is_opened : IsOpened plan done event rest found)
+    (passed : HasPassedWindows plan done event rest found lasting owed lasting2 owed2) where
   abbrev last : List Entry
   last = Did event ∷ rest
 
@@ -386,7 +386,7 @@ module _ (plan : Plan) (done : List Entry) (event : Event) (rest : List Entry) (
         (subst (λ (d : List Entry). SeenWindow plan done circuit octets d service origin → Lists plan done circuit octets d service origin owed2) (sym all)
         (owed_here circuit octets service origin (sym l.same)))
 
-  pub still_open : AreOpen plan trace lasting2
+  pub still_open : AreWindowsOpen plan trace lasting2
   still_open = record { only = open_only; each = open_each }
 
   pub still_owed : AreOwed plan trace owed2

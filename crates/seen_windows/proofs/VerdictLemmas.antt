@@ -6,7 +6,7 @@ use Rattle.net_base.specs.declared.plan.circuit_plan.CircuitPlan.{CircuitPlan}
 use Rattle.net_base.specs.declared.plan.places.CircuitId.{CircuitId}
 use Rattle.net_base.specs.declared.plan.places.ServiceId.{ServiceId}
 use Rattle.net_base.specs.declared.trace.entry.Entry.{Entry}
-use Rattle.hvpls_spokes.specs.PortSet.{has}
+use Rattle.hvpls_spokes.specs.PortSet.{holds_port}
 use Rattle.seen_network.specs.Once.{SeenServed, SeenWithin, is_circuit_row_of, is_seen_site, times_seen}
 use Rattle.seen_network.specs.Seen.{seen_in}
 use Rattle.seen_windows.specs.Past.{AreOwed, Describes, IsOwed, Lists}
@@ -22,9 +22,9 @@ no_row (x ∷ xs) (suc n) past = no_row xs n (grind (arith, nat_tests, past))
 -- a site is one of the window's where it is one by the trace
 site_is : (plan : Plan) (before : List Entry) (circuit : CircuitId) (octets : List ℕ) (during : List Entry) (service : ServiceId) (origin : ℕ) (window : Window)
     → Describes plan before circuit octets during service origin window → (site : CircuitId)
-    → nat_lt site.0 (length plan.circuits) && has window.sites site.0 ≡ is_seen_site plan (seen_in before) service site && not (site.0 == circuit.0)
+    → nat_lt site.0 (length plan.circuits) && holds_port window.sites site.0 ≡ is_seen_site plan (seen_in before) service site && not (site.0 == circuit.0)
 site_is plan before circuit octets during service origin window d site = by (nat_lt site.0 (length plan.circuits)) refl where
-  by : (b : Bool) → nat_lt site.0 (length plan.circuits) ≡ b → b && has window.sites site.0 ≡ is_seen_site plan (seen_in before) service site && not (site.0 == circuit.0)
+  by : (b : Bool) → nat_lt site.0 (length plan.circuits) ≡ b → b && holds_port window.sites site.0 ≡ is_seen_site plan (seen_in before) service site && not (site.0 == circuit.0)
   by true within = d.sites site (grind (arith, nat_tests, within))
   by false past = sym (ap (λ (row : Option CircuitPlan). (is_circuit_row_of service row && (seen_in before).on site.0) && not (site.0 == circuit.0)) (no_row plan.circuits site.0 past))
 

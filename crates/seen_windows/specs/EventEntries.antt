@@ -7,9 +7,9 @@ use Rattle.net_base.specs.declared.trace.entry.Entry.TheVariants.{Did, Idle, In}
 use Rattle.net_base.specs.declared.trace.event.Event.{Event}
 
 -- the event that an entry tells of
-abbrev pub event_of : Entry → Option Event
-event_of (Did event) = Some event
-event_of entry = None
+abbrev pub event_of_entry : Entry → Option Event
+event_of_entry (Did event) = Some event
+event_of_entry entry = None
 
 -- none of these tells of an event
 abbrev pub HasNoEvent : List Entry → Type 0
@@ -17,13 +17,13 @@ HasNoEvent [] = Unit {0}
 HasNoEvent (Did event ∷ es) = ⊥
 HasNoEvent (e ∷ es) = HasNoEvent es
 
-abbrev pub is_idle : Entry → Bool
-is_idle Idle = true
-is_idle entry = false
+abbrev pub is_idle_entry : Entry → Bool
+is_idle_entry Idle = true
+is_idle_entry entry = false
 
 -- it is told that the event did not apply
 abbrev pub tells_idle : List Entry → Bool
-tells_idle entries = list_any is_idle entries
+tells_idle entries = list_any is_idle_entry entries
 
 -- so many entries stand before the one by which a frame entered at the circuit
 abbrev pub entered_place : CircuitId → List Entry → ℕ

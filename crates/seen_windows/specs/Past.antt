@@ -12,7 +12,7 @@ use Rattle.net_base.specs.plan.Places.{service_of}
 use Rattle.net_base.specs.trace.Frame.{destination_of, goes_to_group}
 use Rattle.net_base.specs.trace.Isolated.{inner_at}
 use Rattle.net_values.specs.declared.mac.Mac.{Mac}
-use Rattle.hvpls_spokes.specs.PortSet.{has}
+use Rattle.hvpls_spokes.specs.PortSet.{holds_port}
 use Rattle.seen_network.specs.Calm.{is_seen_calm}
 use Rattle.seen_network.specs.Once.{SeenWindow, all_spared, entered_as, has_seen, is_seen_site, is_sourced_by, spares_seen}
 use Rattle.seen_network.specs.Seen.{BeginsEvent, Seen, is_idle_behind, seen_in}
@@ -40,7 +40,7 @@ pub record Describes (plan : Plan) (before : List Entry) (circuit : CircuitId) (
   pub service_is : window.service ≡ service
   pub origin_is : window.origin ≡ origin
   pub goes : (frame : List ℕ) → inner_at plan circuit octets ≡ Ok frame → GoesTo frame window.destination
-  pub sites : (site : CircuitId) → site.0 < length plan.circuits → has window.sites site.0 ≡ is_seen_site plan (seen_in before) service site && not (site.0 == circuit.0)
+  pub sites : (site : CircuitId) → site.0 < length plan.circuits → holds_port window.sites site.0 ≡ is_seen_site plan (seen_in before) service site && not (site.0 == circuit.0)
 
 -- of the entries behind the event each event so far spares the window
 pub record IsOpen (plan : Plan) (trace : List Entry) (window : Window) : Type 0 where
@@ -89,7 +89,7 @@ pub record Lists (plan : Plan) (before : List Entry) (circuit : CircuitId) (octe
   pub listed : AmongWindows window windows
 
 -- the windows that are open: each that opened and was spared, but for those that were over once
-pub record AreOpen (plan : Plan) (trace : List Entry) (windows : List Window) : Type 0 where
+pub record AreWindowsOpen (plan : Plan) (trace : List Entry) (windows : List Window) : Type 0 where
   pub only : (window : Window) → AmongWindows window windows → IsOpen plan trace window
   pub each : (before : List Entry) (circuit : CircuitId) (octets : List ℕ) (during : List Entry) (service : ServiceId) (origin : ℕ)
       → trace ≡ before ++ Did (Frame circuit octets) ∷ during → HasOpened plan before circuit octets during service origin → all_spared origin (seen_in before) during ≡ true
@@ -141,7 +141,7 @@ pub record Closes (seen : Seen) (idle : Bool) (event : Event) (lasting : List Wi
   pub flooded : flooded_to plan window.service window.destination trace ≡ true
 
 -- the windows that are open behind an event, and those that it closed among those that are owed
-pub record HasPassed (plan : Plan) (before : List Entry) (event : Event) (during : List Entry) (found : Option Window) (lasting owed lasting2 owed2 : List Window) : Type 0 where
+pub record HasPassedWindows (plan : Plan) (before : List Entry) (event : Event) (during : List Entry) (found : Option Window) (lasting owed lasting2 owed2 : List Window) : Type 0 where
   pub stays : (window : Window) → IsLeftOpen (seen_in before) (is_idle_behind during) event lasting found window
       → has_seen (seen_in (before ++ Did event ∷ during)) window.origin ≡ true → AmongWindows window lasting2
   pub stayed : (window : Window) → AmongWindows window lasting2

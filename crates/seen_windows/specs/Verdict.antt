@@ -8,7 +8,7 @@ use Rattle.net_base.specs.declared.trace.entry.Entry.TheVariants.{Did}
 use Rattle.net_base.specs.declared.trace.event.Event.TheVariants.{Frame}
 use Rattle.seen_network.specs.Once.{OnceSeen, SeenServed, SeenWindow, SeenWithin, times_seen}
 use Rattle.seen_network.specs.Seen.{BeginsEvent, seen_in}
-use Rattle.hvpls_spokes.specs.PortSet.{has}
+use Rattle.hvpls_spokes.specs.PortSet.{holds_port}
 use Rattle.seen_windows.specs.EventEntries.{entered_place}
 use Rattle.seen_windows.specs.Past.{AmongWindows}
 use Rattle.seen_windows.specs.declared.window.Window.{Window}
@@ -42,7 +42,7 @@ OnceAnswers plan trace (Some place) = FirstUnserved plan trace place
 
 -- the frame left once at each site and nowhere else, each copy within twelve segments
 pub record IsServed (plan : Plan) (trace : List Entry) (window : Window) : Type 0 where
-  pub once : (circuit : CircuitId) → times_seen window.origin circuit trace ≡ (if nat_lt circuit.0 (length plan.circuits) && has window.sites circuit.0 then 1 else 0)
+  pub once : (circuit : CircuitId) → times_seen window.origin circuit trace ≡ (if nat_lt circuit.0 (length plan.circuits) && holds_port window.sites circuit.0 then 1 else 0)
   pub within : SeenWithin 12 window.origin trace
 
 -- the window of a frame that did not

@@ -6,9 +6,9 @@ use Rattle.net_values.proofs.BoolLemmas.{true_clash}
 use Rattle.net_values.proofs.NumberLemmas.{apart_back, two_same, turned_away}
 use Rattle.pw_tlvs.specs.declared.pw_status.PwStatus.{PwStatus}
 use Rattle.status_exchange.specs.declared.wish.Wish.{Wish}
-use Rattle.status_exchange.specs.Exchange.{EdgeStatuses, Exchange, IsWiring, StatusWork, StatusMessage, Wiring, absorb, at, at_two, clears, is_exchange_connected}
+use Rattle.status_exchange.specs.Exchange.{EdgeStatuses, Exchange, IsWiring, StatusWork, StatusMessage, Wiring, exchange_absorb, put_at_place as at, at_two, exchange_clears, is_exchange_connected}
 use Rattle.status_exchange.specs.Laws.{of_wire}
-use Rattle.status_exchange.specs.Line.{IsLine, after}
+use Rattle.status_exchange.specs.Line.{IsLine, status_after}
 use Rattle.status_exchange.proofs.LineLemmas.{turned}
 use Rattle.status_exchange.proofs.StatusLemmas.{AllTold, at_other, at_same}
 
@@ -18,8 +18,8 @@ use Rattle.status_exchange.proofs.StatusLemmas.{AllTold, at_other, at_same}
 -- what is on its way, and what was heard
 pub record PairOf (near far : Wish) (near_knows far_knows : Option PwStatus) (one other : Bool) (out back out_heard back_heard : List StatusMessage) (wire : ℕ) : Type 0 where
   pub line : one ≡ true → IsLine near far near_knows far_knows (of_wire wire out) (of_wire wire back)
-  pub near_last : near_knows ≡ after (of_wire wire back_heard) None
-  pub far_last : far_knows ≡ after (of_wire wire out_heard) None
+  pub near_last : near_knows ≡ status_after (of_wire wire back_heard) None
+  pub far_last : far_knows ≡ status_after (of_wire wire out_heard) None
   pub gone : one ≡ false → (near_knows ≡ None) × (far_knows ≡ None)
   pub both : one ≡ other
 
@@ -182,7 +182,7 @@ one_away a b j k away = grind (arith, away)
 other_away : (a b j k : ℕ) → is_two j k a b ≡ false → (j == b && k == a) ≡ false
 other_away a b j k away = grind (arith, away)
 
-pub clears_frame : (w : Wiring) (a b : ℕ) (x : Exchange) → Frame w a b x (clears a b x)
+pub clears_frame : (w : Wiring) (a b : ℕ) (x : Exchange) → Frame w a b x (exchange_clears a b x)
 clears_frame w a b x = record {
   local = λ e k away. refl;
   remote = λ e k away. refl;
@@ -220,7 +220,7 @@ edge_frame w me peer edge x minds = record {
     next a b away true is = rw is (ap is_some (minds.others b (grind (arith, away, is))) ∙ ap (λ (n : ℕ). is_some ((x.edges n).next b)) (sym (eqb-true a me is)))
     next a b away false is = rw is refl
 
-pub absorb_frame : (w : Wiring) (me peer : ℕ) (t : StatusWork) (x : Exchange) → Minds w me peer (x.edges me) t.edge → Frame w me peer x (absorb me peer t x)
+pub absorb_frame : (w : Wiring) (me peer : ℕ) (t : StatusWork) (x : Exchange) → Minds w me peer (x.edges me) t.edge → Frame w me peer x (exchange_absorb me peer t x)
 absorb_frame w me peer t x minds = record {
   local = frame.local;
   remote = frame.remote;
@@ -236,7 +236,7 @@ absorb_frame w me peer t x minds = record {
 pub absorb_pair : (me peer k : ℕ) (t : StatusWork) (x : Exchange) → (me == peer) ≡ false
     → PairOf (t.edge.local k) ((x.edges peer).local k) (t.edge.remote k) ((x.edges peer).remote k) (is_some (t.edge.next peer)) (is_exchange_connected x peer me) (x.ways me peer ++ t.out)
     (x.ways peer me) (x.heard me peer) (x.heard peer me) k
-    → IsPair (absorb me peer t x) me peer k
+    → IsPair (exchange_absorb me peer t x) me peer k
 absorb_pair me peer k t x apart p =
     rw (
       at_same me t.edge x.edges,
@@ -246,11 +246,11 @@ absorb_pair me peer k t x apart p =
     ) p
 
 pub absorb_way : (w : Wiring) (me peer : ℕ) (t : StatusWork) (x : Exchange) → (me == peer) ≡ false
-    → WayOf (is_some (t.edge.next peer)) (is_exchange_connected x peer me) (x.ways me peer ++ t.out) (λ k. w.joins k me peer) → IsWay w (absorb me peer t x) me peer
+    → WayOf (is_some (t.edge.next peer)) (is_exchange_connected x peer me) (x.ways me peer ++ t.out) (λ k. w.joins k me peer) → IsWay w (exchange_absorb me peer t x) me peer
 absorb_way w me peer t x apart p = rw (at_same me t.edge x.edges, at_other me peer t.edge x.edges (apart_back me peer apart), two_at me peer (x.ways me peer ++ t.out) x.ways) p
 
 pub absorb_back : (w : Wiring) (me peer : ℕ) (t : StatusWork) (x : Exchange) → (me == peer) ≡ false
-    → WayOf (is_exchange_connected x peer me) (is_some (t.edge.next peer)) (x.ways peer me) (λ k. w.joins k peer me) → IsWay w (absorb me peer t x) peer me
+    → WayOf (is_exchange_connected x peer me) (is_some (t.edge.next peer)) (x.ways peer me) (λ k. w.joins k peer me) → IsWay w (exchange_absorb me peer t x) peer me
 absorb_back w me peer t x apart p = rw (
   at_same me t.edge x.edges,
   at_other me peer t.edge x.edges (apart_back me peer apart),

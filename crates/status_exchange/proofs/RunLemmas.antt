@@ -6,10 +6,10 @@ use Rattle.net_values.proofs.NumberLemmas.{equal_turned, apart_back, turned_away
 use Rattle.pw_tlvs.specs.declared.pw_status.PwStatus.{PwStatus}
 use Rattle.status_exchange.specs.declared.wish.Wish.{Wish}
 use Rattle.status_exchange.specs.declared.wish.Wish.TheVariants.{Active, Standby, Ask}
-use Rattle.status_exchange.specs.Exchange.{Applies, Apply, EdgeStatuses, Exchange, IsWiring, Step, StatusWork, StatusMessage, Wiring, absorb, at, at_two, clears, exchange_connects, first, exchange_hears, heard_first, is_exchange_connected, exchange_learns, exchange_loses, run, exchange_sets, silent, step, Connects, Loses, Hears, Sets}
+use Rattle.status_exchange.specs.Exchange.{Applies, Apply, EdgeStatuses, Exchange, IsWiring, Step, StatusWork, StatusMessage, Wiring, exchange_absorb, put_at_place as at, at_two, exchange_clears, exchange_connects, first, exchange_hears, heard_first, is_exchange_connected, exchange_learns, exchange_loses, exchange_run, exchange_sets, silent, exchange_step, Connects, Loses, Hears, Sets}
 use Rattle.status_exchange.specs.Laws.{Agree, ExchangesAgree, IsExchangeAgreed, IsEnd, is_known_active, of_wire}
-use Rattle.status_exchange.specs.Line.{IsLine, answer}
-use Rattle.status_exchange.specs.Wish.{becomes, is_active, is_ask, status_of}
+use Rattle.status_exchange.specs.Line.{IsLine, status_answer}
+use Rattle.status_exchange.specs.Wish.{becomes, is_wished_active, is_ask, status_of}
 use Rattle.status_exchange.proofs.LineLemmas as line
 use Rattle.status_exchange.proofs.PairLemmas.{Frame, Holds, IsPair, Minds, PairOf, WayOf, absorb_back, absorb_frame, absorb_pair, absorb_way, clears_frame, edge_frame, frame_both, frame_turned, kept, two_at, two_away}
 use Rattle.status_exchange.proofs.StatusLemmas.{AllTold, Stays, all_between, all_stay, all_told, at_other, at_same, hears_between, hears_other, hears_stay, hears_this, of_append, tells_between, tells_none, tells_other, tells_stay, tells_this, told_append}
@@ -102,8 +102,8 @@ module _ (w : Wiring) (laws : IsWiring w) where
       between = told_append (λ (k : ℕ). w.joins k me peer) (x.ways me peer) statuses.out (old.ways me peer).between (tells_between (λ (k : ℕ). w.joins k me peer) peer j (silent called) is tt);
     })
 
-    sets_hold : Holds w (absorb me peer statuses x)
-    sets_hold = kept w laws me peer x (absorb me peer statuses x) (absorb_frame w me peer statuses x minds) old
+    sets_hold : Holds w (exchange_absorb me peer statuses x)
+    sets_hold = kept w laws me peer x (exchange_absorb me peer statuses x) (absorb_frame w me peer statuses x minds) old
         (λ k joined. absorb_pair me peer k statuses x apart (elim (cases_Bool (k == j)) [
           | inl same ↦ set_this k joined same
           | inr away ↦ set_other k joined away
@@ -167,8 +167,8 @@ module _ (w : Wiring) (laws : IsWiring w) where
       others = heard_stay.others;
     }
 
-    taken_frame : Frame w to from x (absorb to from answering taken)
-    taken_frame = frame_both w to from x taken (absorb to from answering taken) (frame_turned w laws from to x taken take_frame) (absorb_frame w to from answering taken heard_minds)
+    taken_frame : Frame w to from x (exchange_absorb to from answering taken)
+    taken_frame = frame_both w to from x taken (exchange_absorb to from answering taken) (frame_turned w laws from to x taken take_frame) (absorb_frame w to from answering taken heard_minds)
 
     abbrev HeardPair : ℕ → Type 0
     HeardPair k = PairOf (answering.edge.local k) ((x.edges from).local k) (answering.edge.remote k) ((x.edges from).remote k) (is_some (answering.edge.next from))
@@ -181,7 +181,7 @@ module _ (w : Wiring) (laws : IsWiring w) where
         let back : of_wire k (x.ways from to) ≡ t.wish ∷ of_wire k ts = rw (way, equal_turned t.wire k, same) refl in
         let local : answering.edge.local k ≡ becomes (status_of t.wish) ((x.edges to).local k) = heard_stay.local k ∙ rw (same, wire) refl in
         let remote : answering.edge.remote k ≡ Some (status_of t.wish) = heard_stay.remote k ∙ rw same refl in
-        let said : of_wire k answering.out ≡ answer (status_of t.wish) ((x.edges to).local k) =
+        let said : of_wire k answering.out ≡ status_answer (status_of t.wish) ((x.edges to).local k) =
         hears_this from t.wire k (status_of t.wish) (x.edges to) here (equal_turned t.wire k ∙ same) ∙ rw wire refl in
         rw (local, remote, heard_stay.there) (record {
           line = λ there. rw (of_append k (x.ways to from) answering.out, said)
@@ -209,7 +209,7 @@ module _ (w : Wiring) (laws : IsWiring w) where
           both = p.both;
         })
 
-    heard_pair : (k : ℕ) → w.joins k to from ≡ true → IsPair (absorb to from answering taken) to from k
+    heard_pair : (k : ℕ) → w.joins k to from ≡ true → IsPair (exchange_absorb to from answering taken) to from k
     heard_pair k joined = absorb_pair to from k answering taken to_apart
         (rw (
           two_away from to to from ts x.ways (turned_away from to from_apart),
@@ -233,8 +233,8 @@ module _ (w : Wiring) (laws : IsWiring w) where
     heard_back : WayOf (is_exchange_connected taken from to) (is_some (answering.edge.next from)) (taken.ways from to) (λ k. w.joins k from to)
     heard_back = rw (heard_stay.there, two_at from to ts x.ways) (record { both = (old.ways from to).both; none = λ gone. true_clash (sym connected ∙ gone); between = rest_between })
 
-    hears_hold : Holds w (absorb to from answering taken)
-    hears_hold = kept w laws to from x (absorb to from answering taken) taken_frame old heard_pair (absorb_way w to from answering taken to_apart heard_way)
+    hears_hold : Holds w (exchange_absorb to from answering taken)
+    hears_hold = kept w laws to from x (exchange_absorb to from answering taken) taken_frame old heard_pair (absorb_way w to from answering taken to_apart heard_way)
         (absorb_back w to from answering taken to_apart heard_back)
 
   -- ---- a connection is lost
@@ -256,8 +256,8 @@ module _ (w : Wiring) (laws : IsWiring w) where
     b_is : one_lost.edges b ≡ x.edges b
     b_is = at_other a b (exchange_loses w a b (x.edges a)) x.edges (apart_back a b apart)
 
-    lost_frame : Frame w a b x (clears a b both_lost)
-    lost_frame = frame_both w a b x both_lost (clears a b both_lost)
+    lost_frame : Frame w a b x (exchange_clears a b both_lost)
+    lost_frame = frame_both w a b x both_lost (exchange_clears a b both_lost)
         (frame_both w a b x one_lost both_lost (edge_frame w a b (exchange_loses w a b (x.edges a)) x (loses_minds a b))
         (frame_turned w laws b a one_lost both_lost (edge_frame w b a (exchange_loses w b a (x.edges b)) one_lost (rw b_is (loses_minds b a)))))
         (clears_frame w a b both_lost)
@@ -277,12 +277,12 @@ module _ (w : Wiring) (laws : IsWiring w) where
     none_next : (me peer : ℕ) → (exchange_loses w me peer (x.edges me)).next peer ≡ None
     none_next me peer = at_same peer None (x.edges me).next
 
-    lost_pair : (k : ℕ) → w.joins k a b ≡ true → IsPair (clears a b both_lost) a b k
+    lost_pair : (k : ℕ) → w.joins k a b ≡ true → IsPair (exchange_clears a b both_lost) a b k
     lost_pair k joined = rw (lost_a, lost_b, none_next a b, none_next b a, cleared_out x.ways, cleared_back x.ways, cleared_out x.heard, cleared_back x.heard, joined, laws.turned k a b joined)
         (none_pair ((x.edges a).local k) ((x.edges b).local k) k)
 
-    loses_hold : Holds w (clears a b both_lost)
-    loses_hold = kept w laws a b x (clears a b both_lost) lost_frame old lost_pair
+    loses_hold : Holds w (exchange_clears a b both_lost)
+    loses_hold = kept w laws a b x (exchange_clears a b both_lost) lost_frame old lost_pair
         (rw (lost_a, lost_b, none_next a b, none_next b a, cleared_out x.ways) (none_way (λ (k : ℕ). w.joins k a b)))
         (rw (lost_a, lost_b, none_next a b, none_next b a, cleared_back x.ways) (none_way (λ (k : ℕ). w.joins k b a)))
 
@@ -298,10 +298,10 @@ module _ (w : Wiring) (laws : IsWiring w) where
     opened me peer = record (x.edges me) { next = at peer (Some 1) (x.edges me).next }
 
     abbrev one_up : Exchange
-    one_up = absorb a b one_status (clears a b x)
+    one_up = exchange_absorb a b one_status (exchange_clears a b x)
 
     abbrev both_up : Exchange
-    both_up = absorb b a other_status one_up
+    both_up = exchange_absorb b a other_status one_up
 
     up_stay : (me peer : ℕ) → Stays peer (opened me peer) (exchange_connects w me peer (x.edges me)).edge
     up_stay me peer = all_stay w me peer 0 w.count (silent (opened me peer))
@@ -325,7 +325,7 @@ module _ (w : Wiring) (laws : IsWiring w) where
 
     up_frame : Frame w a b x both_up
     up_frame = frame_both w a b x one_up both_up
-        (frame_both w a b x (clears a b x) one_up (clears_frame w a b x) (absorb_frame w a b one_status (clears a b x) (up_minds a b)))
+        (frame_both w a b x (exchange_clears a b x) one_up (clears_frame w a b x) (absorb_frame w a b one_status (exchange_clears a b x) (up_minds a b)))
         (frame_turned w laws b a one_up both_up (absorb_frame w b a other_status one_up (rw b_still (up_minds b a))))
 
     back_apart : (b == a) ≡ false
@@ -335,10 +335,10 @@ module _ (w : Wiring) (laws : IsWiring w) where
     a_up = at_same a one_status.edge x.edges
 
     one_way : one_up.ways a b ≡ one_status.out
-    one_way = two_at a b ((clears a b x).ways a b ++ one_status.out) (clears a b x).ways ∙ ap (λ (l : List StatusMessage). l ++ one_status.out) (cleared_out x.ways)
+    one_way = two_at a b ((exchange_clears a b x).ways a b ++ one_status.out) (exchange_clears a b x).ways ∙ ap (λ (l : List StatusMessage). l ++ one_status.out) (cleared_out x.ways)
 
     other_way : one_up.ways b a ≡ []
-    other_way = two_away a b b a ((clears a b x).ways a b ++ one_status.out) (clears a b x).ways (turned_away a b apart) ∙ cleared_back x.ways
+    other_way = two_away a b b a ((exchange_clears a b x).ways a b ++ one_status.out) (exchange_clears a b x).ways (turned_away a b apart) ∙ cleared_back x.ways
 
     module _ (gone : is_exchange_connected x a b ≡ false) where
       up_pair : (k : ℕ) → w.joins k b a ≡ true → IsPair both_up b a k
@@ -380,7 +380,7 @@ module _ (w : Wiring) (laws : IsWiring w) where
 
   -- ---- every step
 
-  pub step_holds : (x : Exchange) (s : Step) → Applies w x s → Holds w x → Holds w (step w x s)
+  pub step_holds : (x : Exchange) (s : Step) → Applies w x s → Holds w x → Holds w (exchange_step w x s)
   step_holds x (Connects a b) can old = connects_hold a b x can.0 old can.1
   step_holds x (Loses a b) can old = loses_hold a b x can old
   step_holds x (Hears from to) can old = by (x.ways from to) refl
@@ -390,16 +390,16 @@ module _ (w : Wiring) (laws : IsWiring w) where
       by (t ∷ ts) is = hears_hold from to t ts x is old
   step_holds x (Sets me peer wire wish) can old = sets_hold me peer wire wish x can old
 
-  pub run_holds : (x : Exchange) (steps : List Step) → Apply w x steps → Holds w x → Holds w (run w x steps)
+  pub run_holds : (x : Exchange) (steps : List Step) → Apply w x steps → Holds w x → Holds w (exchange_run w x steps)
   run_holds x [] can old = old
-  run_holds x (s ∷ ss) can old = run_holds (step w x s) ss can.1 (step_holds x s can.0 old)
+  run_holds x (s ∷ ss) can old = run_holds (exchange_step w x s) ss can.1 (step_holds x s can.0 old)
 
   pub first_holds : Holds w first
   first_holds = record { pairs = λ a b k is. none_pair Standby Standby k; ways = λ a b. none_way (λ (k : ℕ). w.joins k a b) }
 
 -- ---- what that says
 
-known_active : (wish : Wish) → is_known_active (Some (status_of wish)) ≡ is_active wish
+known_active : (wish : Wish) → is_known_active (Some (status_of wish)) ≡ is_wished_active wish
 known_active Active = refl
 known_active Standby = refl
 known_active Ask = refl
@@ -418,7 +418,7 @@ agree w x a b k holds joined back = record {
   ends = λ there. (end_of a b p there, end_of b a q (sym p.both ∙ there));
   quiet = λ there out_none back_none. quiet there out_none back_none;
   used = λ is.
-      let them = first_of (is_exchange_connected x a b) (is_active ((x.edges a).local k)) (is_known_active ((x.edges a).remote k)) is in
+      let them = first_of (is_exchange_connected x a b) (is_wished_active ((x.edges a).local k)) (is_known_active ((x.edges a).remote k)) is in
       (them.0, ap is_known_active (sym p.near_last) ∙ them.1);
   gone = λ none. ((holds.ways a b).none none, (p.gone none).0);
 }
@@ -440,11 +440,11 @@ agree w x a b k holds joined back = record {
         let turned_and : (m n : Bool) → ((true && m) && n) ≡ (n && m) = λ m n. grind (arith) in
         let plain_and : (m n : Bool) → ((true && m) && n) ≡ (m && n) = λ m n. grind (arith) in
         record {
-          one = rw (there, l.heard, known_active ((x.edges b).local k)) (plain_and (is_active ((x.edges a).local k)) (is_active ((x.edges b).local k)));
-          other = rw (sym p.both ∙ there, l.told, known_active ((x.edges a).local k)) (turned_and (is_active ((x.edges b).local k)) (is_active ((x.edges a).local k)));
+          one = rw (there, l.heard, known_active ((x.edges b).local k)) (plain_and (is_wished_active ((x.edges a).local k)) (is_wished_active ((x.edges b).local k)));
+          other = rw (sym p.both ∙ there, l.told, known_active ((x.edges a).local k)) (turned_and (is_wished_active ((x.edges b).local k)) (is_wished_active ((x.edges a).local k)));
           asks_not = asks_not ((x.edges a).local k) l.near_asks;
           other_asks_not = asks_not ((x.edges b).local k) l.far_asks;
         }
 
 pub exchanges_agree : ExchangesAgree
-exchanges_agree w laws steps can a b k joined = agree w (run w first steps) a b k (run_holds w laws first steps can (first_holds w laws)) joined (laws.turned k a b joined)
+exchanges_agree w laws steps can a b k joined = agree w (exchange_run w first steps) a b k (run_holds w laws first steps can (first_holds w laws)) joined (laws.turned k a b joined)

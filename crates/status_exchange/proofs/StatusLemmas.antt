@@ -6,8 +6,8 @@ use Rattle.net_values.proofs.NumberLemmas.{same_number as is_same}
 use Rattle.pw_tlvs.specs.declared.pw_status.PwStatus.{PwStatus}
 use Rattle.pw_messages.specs.Sender.{following}
 use Rattle.status_exchange.specs.declared.wish.Wish.{Wish}
-use Rattle.status_exchange.specs.Exchange.{EdgeStatuses, StatusWork, StatusMessage, Wiring, at, exchange_hears, exchange_learns, silent, exchange_tells, tells_as, exchange_tells_from}
-use Rattle.status_exchange.specs.Line.{answer}
+use Rattle.status_exchange.specs.Exchange.{EdgeStatuses, StatusWork, StatusMessage, Wiring, put_at_place as at, exchange_hears, exchange_learns, silent, exchange_tells, tells_as, exchange_tells_from}
+use Rattle.status_exchange.specs.Line.{status_answer}
 use Rattle.status_exchange.specs.Wish.{becomes, is_status_told}
 use Rattle.status_exchange.specs.Laws.{of_wire}
 
@@ -163,7 +163,7 @@ hears_stay peer wire status edge = by (is_status_told status (edge.local wire))
     by false = stays peer (exchange_learns wire status edge)
 
 pub hears_this : (peer wire k : ℕ) (status : PwStatus) (edge : EdgeStatuses) → is_some (edge.next peer) ≡ true → (wire == k) ≡ true → of_wire k (exchange_hears peer wire status edge).out
-    ≡ answer status (edge.local wire)
+    ≡ status_answer status (edge.local wire)
 hears_this peer wire k status edge there is = by (is_status_told status (edge.local wire))
   where
     by : (b : Bool) → of_wire k (if b then exchange_tells peer wire (silent (exchange_learns wire status edge)) else silent (exchange_learns wire status edge)).out ≡ (if b then becomes status (edge.local wire) ∷ [] else [])

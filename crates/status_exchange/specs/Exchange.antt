@@ -37,8 +37,8 @@ pub record Exchange : Type 0 where
   pub heard : ℕ → ℕ → List StatusMessage
 
 -- another value at a place
-abbrev pub at : {A : Type 0} → ℕ → A → (ℕ → A) → ℕ → A
-at place value f k = if k == place then value else f k
+abbrev pub put_at_place : {A : Type 0} → ℕ → A → (ℕ → A) → ℕ → A
+put_at_place place value f k = if k == place then value else f k
 
 abbrev pub at_two : {A : Type 0} → ℕ → ℕ → A → (ℕ → ℕ → A) → ℕ → ℕ → A
 at_two a b value f j k = if j == a && k == b then value else f j k
@@ -56,7 +56,7 @@ silent edge = record { edge = edge; out = [] }
 abbrev pub tells_as : ℕ → ℕ → Option ℕ → StatusWork → StatusWork
 tells_as peer wire None t = t
 tells_as peer wire (Some id) t = record {
-  edge = record t.edge { next = at peer (Some (following id)) t.edge.next };
+  edge = record t.edge { next = put_at_place peer (Some (following id)) t.edge.next };
   out = t.out ++ record { wire = wire; wish = t.edge.local wire; id = id } ∷ [];
 }
 
@@ -70,20 +70,20 @@ exchange_tells_from w me peer wire (suc n) t = exchange_tells_from w me peer (wi
 
 -- a connection stands: all wires with the peer are told
 abbrev pub exchange_connects : Wiring → ℕ → ℕ → EdgeStatuses → StatusWork
-exchange_connects w me peer edge = exchange_tells_from w me peer 0 w.count (silent (record edge { next = at peer (Some 1) edge.next }))
+exchange_connects w me peer edge = exchange_tells_from w me peer 0 w.count (silent (record edge { next = put_at_place peer (Some 1) edge.next }))
 
 -- a connection is lost, and what was known by it
 abbrev pub exchange_loses : Wiring → ℕ → ℕ → EdgeStatuses → EdgeStatuses
 exchange_loses w me peer edge = record edge {
   remote = λ wire. if w.joins wire me peer then None else edge.remote wire;
-  next = at peer None edge.next;
+  next = put_at_place peer None edge.next;
 }
 
 -- a status of a wire with the peer is heard
 abbrev pub exchange_learns : ℕ → PwStatus → EdgeStatuses → EdgeStatuses
 exchange_learns wire status edge = record edge {
-  local = at wire (becomes status (edge.local wire)) edge.local;
-  remote = at wire (Some status) edge.remote;
+  local = put_at_place wire (becomes status (edge.local wire)) edge.local;
+  remote = put_at_place wire (Some status) edge.remote;
 }
 
 abbrev pub exchange_hears : ℕ → ℕ → PwStatus → EdgeStatuses → StatusWork
@@ -92,20 +92,20 @@ exchange_hears peer wire status edge =
 
 -- an end calls its wire something else
 abbrev pub exchange_sets : ℕ → ℕ → Wish → EdgeStatuses → StatusWork
-exchange_sets peer wire wish edge = exchange_tells peer wire (silent (record edge { local = at wire wish edge.local }))
+exchange_sets peer wire wish edge = exchange_tells peer wire (silent (record edge { local = put_at_place wire wish edge.local }))
 
 -- ---- the exchange
 
 -- an edge's work goes into it
-abbrev pub absorb : ℕ → ℕ → StatusWork → Exchange → Exchange
-absorb me peer t x = record x {
-  edges = at me t.edge x.edges;
+abbrev pub exchange_absorb : ℕ → ℕ → StatusWork → Exchange → Exchange
+exchange_absorb me peer t x = record x {
+  edges = put_at_place me t.edge x.edges;
   ways = at_two me peer (x.ways me peer ++ t.out) x.ways;
 }
 
 -- nothing is on its way between two edges, and nothing was heard
-abbrev pub clears : ℕ → ℕ → Exchange → Exchange
-clears a b x = record x {
+abbrev pub exchange_clears : ℕ → ℕ → Exchange → Exchange
+exchange_clears a b x = record x {
   ways = at_two a b [] (at_two b a [] x.ways);
   heard = at_two a b [] (at_two b a [] x.heard);
 }
@@ -128,14 +128,14 @@ is_exchange_connected x a b = is_some ((x.edges a).next b)
 abbrev pub heard_first : ℕ → ℕ → List StatusMessage → Exchange → Exchange
 heard_first from to [] x = x
 heard_first from to (t ∷ ts) x =
-    absorb to from (exchange_hears from t.wire (status_of t.wish) (x.edges to))
+    exchange_absorb to from (exchange_hears from t.wire (status_of t.wish) (x.edges to))
     (record x { ways = at_two from to ts x.ways; heard = at_two from to (x.heard from to ++ t ∷ []) x.heard })
 
-abbrev pub step : Wiring → Exchange → Step → Exchange
-step w x (Connects a b) = absorb b a (exchange_connects w b a (x.edges b)) (absorb a b (exchange_connects w a b (x.edges a)) (clears a b x))
-step w x (Loses a b) = clears a b (record x { edges = at b (exchange_loses w b a (x.edges b)) (at a (exchange_loses w a b (x.edges a)) x.edges) })
-step w x (Hears from to) = heard_first from to (x.ways from to) x
-step w x (Sets me peer wire wish) = absorb me peer (exchange_sets peer wire wish (x.edges me)) x
+abbrev pub exchange_step : Wiring → Exchange → Step → Exchange
+exchange_step w x (Connects a b) = exchange_absorb b a (exchange_connects w b a (x.edges b)) (exchange_absorb a b (exchange_connects w a b (x.edges a)) (exchange_clears a b x))
+exchange_step w x (Loses a b) = exchange_clears a b (record x { edges = put_at_place b (exchange_loses w b a (x.edges b)) (put_at_place a (exchange_loses w a b (x.edges a)) x.edges) })
+exchange_step w x (Hears from to) = heard_first from to (x.ways from to) x
+exchange_step w x (Sets me peer wire wish) = exchange_absorb me peer (exchange_sets peer wire wish (x.edges me)) x
 
 -- the step can be done: two edges are connected once, what is on its way is heard where they are, and a wire is set at an end of it
 abbrev pub Applies : Wiring → Exchange → Step → Type 0
@@ -146,11 +146,11 @@ Applies w x (Sets me peer wire wish) = w.joins wire me peer ≡ true
 
 abbrev pub Apply : Wiring → Exchange → List Step → Type 0
 Apply w x [] = Unit {0}
-Apply w x (s ∷ ss) = Applies w x s × Apply w (step w x s) ss
+Apply w x (s ∷ ss) = Applies w x s × Apply w (exchange_step w x s) ss
 
-abbrev pub run : Wiring → Exchange → List Step → Exchange
-run w x [] = x
-run w x (s ∷ ss) = run w (step w x s) ss
+abbrev pub exchange_run : Wiring → Exchange → List Step → Exchange
+exchange_run w x [] = x
+exchange_run w x (s ∷ ss) = exchange_run w (exchange_step w x s) ss
 
 -- each end stands by, nothing is known, and no connection stands
 abbrev pub fresh_statuses : EdgeStatuses

@@ -12,17 +12,17 @@ status_of Standby = record { 0 = 0x20 }
 status_of Ask = record { 0 = 0x40 }
 
 -- the status asks for a switchover: 0x40 (RFC 6870 section 5)
-abbrev pub asks : PwStatus → Bool
-asks status = is_set status 6
+abbrev pub asks_switchover : PwStatus → Bool
+asks_switchover status = is_set status 6
 
 abbrev pub is_ask : Wish → Bool
 is_ask Ask = true
 is_ask wish = false
 
 -- the end calls the wire active: its status is without 0x20
-abbrev pub is_active : Wish → Bool
-is_active Standby = false
-is_active wish = true
+abbrev pub is_wished_active : Wish → Bool
+is_wished_active Standby = false
+is_wished_active wish = true
 
 abbrev pub is_same_wish : Wish → Wish → Bool
 is_same_wish Active Active = true
@@ -34,15 +34,15 @@ is_same_wish a b = false
 
 -- where the other end asks for a switchover, an end that stands by is active
 abbrev pub yields : PwStatus → Wish → Wish
-yields status wish = if asks status && not (is_active wish) then Active else wish
+yields status wish = if asks_switchover status && not (is_wished_active wish) then Active else wish
 
 -- where the other end does not stand by, an end that asks is active, and asks no more
-abbrev pub rests : PwStatus → Wish → Wish
-rests status wish = if not (is_standby status) && is_ask wish then Active else wish
+abbrev pub rests_active : PwStatus → Wish → Wish
+rests_active status wish = if not (is_standby status) && is_ask wish then Active else wish
 
 abbrev pub becomes : PwStatus → Wish → Wish
-becomes status wish = rests status (yields status wish)
+becomes status wish = rests_active status (yields status wish)
 
 -- what it then calls the wire is told where it was asked, and where that has changed
 abbrev pub is_status_told : PwStatus → Wish → Bool
-is_status_told status wish = asks status || not (is_same_wish (becomes status wish) wish)
+is_status_told status wish = asks_switchover status || not (is_same_wish (becomes status wish) wish)

@@ -14,7 +14,7 @@ use Rattle.pw_messages.specs.Sender.{platform_of}
 use Rattle.status_exchange.specs.Exchange.{EdgeStatuses, StatusMessage}
 use Rattle.status_exchange.specs.Laws as exchange_laws
 use Rattle.status_exchange.specs.Laws.{Agree, is_known_active, of_wire}
-use Rattle.status_exchange.specs.Line.{after}
+use Rattle.status_exchange.specs.Line.{status_after as after}
 use Rattle.status_exchange.specs.Wish.{status_of}
 use Rattle.status_exchange.proofs.RunLemmas.{agree}
 use Rattle.status_exchange.proofs.StatusLemmas.{AllTold}
@@ -23,7 +23,7 @@ use Rattle.independent_model.specs.Tell.{notification}
 use Rattle.independent_model.specs.Wires.{is_between, wire_named, wiring}
 use Rattle.switchover_model.specs.After.{known_after_all}
 use Rattle.switchover_model.specs.Laws.{AgreesOn, HasSwitchTypes, IsAgreed, KnowsAfter, ScriptsAgree}
-use Rattle.switchover_model.specs.Network.{SwitchState, done_all, first_network, flight, held_by, switches_stand}
+use Rattle.switchover_model.specs.Network.{SwitchState, done_all, first_network, switch_flight, octets_held_by, switches_stand}
 use Rattle.switchover_model.proofs.FlightLemmas.{AreTold, message_in_row, messages_are, messages_told, octets_told, told_is}
 use Rattle.switchover_model.proofs.RunLemmas.{Follows, all_follow, first_follows, stands_is}
 use Rattle.switchover_model.proofs.TwoLemmas.{edge_there, named_is, other_end_is, wiring_is}
@@ -108,7 +108,7 @@ module _ (plan : Plan) (checked : IsChecked plan) (types : HasSwitchTypes plan) 
               ∙ rw (remote_is a, local_is b) end.after_way;
         }
 
-    quiet : switches_stand x a b ≡ true → flight x a b ≡ [] → flight x b a ≡ [] → IsAgreed plan x a b wire
+    quiet : switches_stand x a b ≡ true → switch_flight x a b ≡ [] → switch_flight x b a ≡ [] → IsAgreed plan x a b wire
     quiet there out_none back_none =
         let one = edge_there plan wire a b checked joined in
         let two = edge_there plan wire b a checked back in
@@ -132,7 +132,7 @@ module _ (plan : Plan) (checked : IsChecked plan) (types : HasSwitchTypes plan) 
       quiet = quiet;
       last = record {
         messages = messages_told plan b (f.y.heard b a);
-        octets = f.matches.came b a ∙ ap (λ (l : List ℕ). l ++ held_by ((x.edges a).connection b)) (messages_are plan b (f.y.heard b a));
+        octets = f.matches.came b a ∙ ap (λ (l : List ℕ). l ++ octets_held_by ((x.edges a).connection b)) (messages_are plan b (f.y.heard b a));
         knows = remote_is a ∙ (last_is ∙ sym (known_is plan checked b a wire row row_is back (f.y.heard b a) None (f.matches.past b a).1 (f.matches.past b a).0));
       };
       used = λ is.

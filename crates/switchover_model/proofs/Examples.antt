@@ -13,7 +13,7 @@ use Rattle.independent_model.specs.Tell.{octets_on}
 use Rattle.independent_model.specs.Wires.{is_between}
 use Rattle.switchover_model.specs.declared.switch_line.SwitchLine.{SwitchLine}
 use Rattle.switchover_model.specs.declared.switch_line.SwitchLine.TheVariants.{Connect}
-use Rattle.switchover_model.specs.Network.{SwitchState, done_all, first_network, flight}
+use Rattle.switchover_model.specs.Network.{SwitchState, done_all, first_network, switch_flight as flight}
 
 abbrev an_edge : ℕ → EdgePlan
 an_edge last = record { name = codes "pe"; address = record { 0 = 10 ∷ 0 ∷ 0 ∷ last ∷ [] }; first_label = 16; keepalive = 180; max_pdu = 4096 }

@@ -26,7 +26,7 @@ use Rattle.status_exchange.specs.declared.wish.Wish.{Wish}
 use Rattle.status_exchange.specs.declared.wish.Wish.TheVariants.{Active, Standby, Ask}
 use Rattle.status_exchange.specs.Exchange.{StatusMessage}
 use Rattle.status_exchange.specs.Wish.{status_of}
-use Rattle.switchover_model.specs.After.{octets_of_all}
+use Rattle.switchover_model.specs.After.{octets_of_messages}
 use Rattle.switchover_model.specs.Laws.{HasGroups, HasSwitchTypes, IsRouter}
 use Rattle.independent_model.specs.Tell.{notification, octets_by, octets_on}
 
@@ -116,12 +116,12 @@ abbrev pub messages_told : Plan → ℕ → List StatusMessage → List Message
 messages_told plan from [] = []
 messages_told plan from (t ∷ ts) = message_in_row from t (slice_get plan.wires t.wire) ++ messages_told plan from ts
 
-pub messages_are : (plan : Plan) (from : ℕ) (ts : List StatusMessage) → octets_told plan from ts ≡ octets_of_all plan from (messages_told plan from ts)
+pub messages_are : (plan : Plan) (from : ℕ) (ts : List StatusMessage) → octets_told plan from ts ≡ octets_of_messages plan from (messages_told plan from ts)
 messages_are plan from [] = refl
 messages_are plan from (t ∷ ts) = by (slice_get plan.wires t.wire) (messages_are plan from ts)
   where
-    by : (o : Option WirePlan) → octets_told plan from ts ≡ octets_of_all plan from (messages_told plan from ts) → octets_in_row plan from t o ++ octets_told plan from ts
-        ≡ octets_of_all plan from (message_in_row from t o ++ messages_told plan from ts)
+    by : (o : Option WirePlan) → octets_told plan from ts ≡ octets_of_messages plan from (messages_told plan from ts) → octets_in_row plan from t o ++ octets_told plan from ts
+        ≡ octets_of_messages plan from (message_in_row from t o ++ messages_told plan from ts)
     by None rest = rest
     by (Some row) rest = ap (λ (l : List ℕ). octets_on plan from row t.wish t.id ++ l) rest
 

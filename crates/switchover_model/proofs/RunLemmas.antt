@@ -16,22 +16,22 @@ use Rattle.ldp_stream.specs.State.{place_behind}
 use Rattle.ldp_stream.proofs.CommonLemmas.{none_front}
 use Rattle.pw_messages.specs.Sender.{platform_of}
 use Rattle.status_exchange.specs.declared.wish.Wish.{Wish}
-use Rattle.status_exchange.specs.Exchange.{EdgeStatuses, Exchange, IsWiring, StatusWork, StatusMessage, Wiring, absorb, at, at_two, clears, first, heard_first, step, Connects, Hears, Loses, Sets}
+use Rattle.status_exchange.specs.Exchange.{EdgeStatuses, Exchange, IsWiring, StatusWork, StatusMessage, Wiring, exchange_absorb, put_at_place as at, at_two, exchange_clears, first, heard_first, exchange_step, Connects, Hears, Loses, Sets}
 use Rattle.status_exchange.specs.Exchange as exchange
 use Rattle.status_exchange.specs.Wish.{is_same_wish, status_of}
 use Rattle.status_exchange.proofs.PairLemmas.{Holds, two_at, two_away}
 use Rattle.status_exchange.proofs.RunLemmas.{first_holds, step_holds}
 use Rattle.status_exchange.proofs.StatusLemmas.{AllTold, at_other, at_same, told_append}
-use Rattle.independent_model.specs.Calls.{independent_connects, independent_hears, hears_on, is_connected, loses, sets}
-use Rattle.independent_model.specs.Hear.{hears_all, hears_by, hears_few, hears_front, hears_message}
+use Rattle.independent_model.specs.Calls.{independent_connects, independent_hears, independent_hears_on, is_connected, loses, sets}
+use Rattle.independent_model.specs.Hear.{hears_all, hears_by, independent_hears_few, independent_hears_front, independent_hears_message}
 use Rattle.switchover_model.specs.Laws.{DeliveriesGoOn, HasSwitchTypes}
 use Rattle.switchover_model.specs.declared.switch_line.SwitchLine.{SwitchLine}
 use Rattle.switchover_model.specs.declared.switch_line.SwitchLine.TheVariants as line
-use Rattle.switchover_model.specs.Network.{IsGoing, SwitchState, absorbs, connecting, connects_one, cutting, delivering, delivers, delivers_next, delivers_one, does, done, done_all, first_network, flight, held_by, held_with, edge_numbered, is_idle, is_waiting, next_pair, said_to, setting, settling, some_between, switches_stand, taken_all}
+use Rattle.switchover_model.specs.Network.{IsGoing, SwitchState, absorbs, switch_connecting, connects_one, cutting, switch_delivering, switch_delivers, delivers_next, delivers_one, does, done, done_all, first_network, switch_flight, octets_held_by, held_with, edge_numbered, is_line_idle, is_waiting, next_pair, put_to, setting, settling, some_between, switches_stand, takes_all}
 use Rattle.independent_model.specs.State.{ConnectionState, Stopped, Receiver, IndepState, Receiving, Broken, receiver_set, fresh_connection, id_next, statuses_of, with_connection, with_receiver, without_remotes}
 use Rattle.independent_model.specs.Tell.{notification}
 use Rattle.independent_model.specs.Wires.{is_between, other_end, wiring}
-use Rattle.independent_model.specs.Work.{Goes, Outcome, and_then}
+use Rattle.independent_model.specs.Work.{Goes, IndepOutcome as Outcome, and_works}
 use Rattle.switchover_model.proofs.DoesLemmas.{Does, connect_does, receiver_part, hear_does, set_does}
 use Rattle.switchover_model.proofs.FlightLemmas.{AreTold, HasNext, IsTold, are_both, front_is, octets_in_row, octets_told, told_both}
 use Rattle.switchover_model.proofs.NetworkLemmas.{AreOpen, IsDone, IsOpen, Matches, done_matches, held_in, held_is, is_pair, same_held}
@@ -40,13 +40,13 @@ use Rattle.switchover_model.proofs.TwoLemmas.{HasRow, edge_there, other_is, wiri
 -- ---- an edge's work for a peer
 
 module _ (plan : Plan) (me peer : ℕ) (x : SwitchState) (y : Exchange) (t : StatusWork) (o : Outcome) (start : IndepState) (apart : (me == peer) ≡ false) (m : Matches plan x y) (d : Does plan me peer start [] t o)
-    (held : held_by (start.connection peer) ≡ held_by ((x.edges me).connection peer)) (receivers : (b : ℕ) → (b == peer) ≡ false → option_map receiver_part (start.connection b) ≡ option_map receiver_part ((x.edges me).connection b))
+    (held : octets_held_by (start.connection peer) ≡ octets_held_by ((x.edges me).connection peer)) (receivers : (b : ℕ) → (b == peer) ≡ false → option_map receiver_part (start.connection b) ≡ option_map receiver_part ((x.edges me).connection b))
     (open_peer : AreOpen (option_map receiver_part (start.connection peer))) where
   abbrev work : StatusWork
   work = record { edge = statuses_of d.edge; out = d.out }
 
   abbrev y_after : Exchange
-  y_after = absorb me peer work y
+  y_after = exchange_absorb me peer work y
 
   told_at : (a b : ℕ) (s : Bool) → AreTold plan (if s then y.ways me peer ++ d.out else y.ways a b)
   told_at a b true = are_both plan (y.ways me peer) d.out (m.told me peer) d.at.told
@@ -58,8 +58,8 @@ module _ (plan : Plan) (me peer : ℕ) (x : SwitchState) (y : Exchange) (t : Sta
     edges = λ k away. m.edges k ∙ sym (at_other me k (statuses_of d.edge) y.edges away);
     comes = ap (λ (l : List ℕ). l ++ x.pipes peer me) (same_held (d.edge.connection peer) (start.connection peer) (d.at.receivers peer) ∙ held)
         ∙ (m.octets peer me ∙ ap (octets_told plan peer) (sym (two_away me peer peer me (y.ways me peer ++ d.out) y.ways (turned_away me peer apart))));
-    goes = sym (append_assoc (held_by ((x.edges peer).connection me)) (x.pipes me peer) (said_to peer d.calls))
-        ∙ (ap (λ (l : List ℕ). l ++ said_to peer d.calls) (m.octets me peer) ∙ (ap (λ (l : List ℕ). octets_told plan me (y.ways me peer) ++ l) d.at.said
+    goes = sym (append_assoc (octets_held_by ((x.edges peer).connection me)) (x.pipes me peer) (put_to peer d.calls))
+        ∙ (ap (λ (l : List ℕ). l ++ put_to peer d.calls) (m.octets me peer) ∙ (ap (λ (l : List ℕ). octets_told plan me (y.ways me peer) ++ l) d.at.said
         ∙ (sym (told_both plan me (y.ways me peer) d.out) ∙ ap (octets_told plan me) (sym (two_at me peer (y.ways me peer ++ d.out) y.ways)))));
     others = λ a b one two. m.octets a b ∙ ap (octets_told plan a) (sym (two_away me peer a b (y.ways me peer ++ d.out) y.ways one));
     silent = λ b away. d.at.others b away;
@@ -74,9 +74,9 @@ module _ (plan : Plan) (me peer : ℕ) (x : SwitchState) (y : Exchange) (t : Sta
     past = m.past;
   }
 
-  pub absorbed : Matches plan (absorbs me o x) (absorb me peer t y)
-  absorbed = subst (λ (p : Outcome). Matches plan (absorbs me p x) (absorb me peer t y)) (sym d.is)
-      (subst (λ (u : StatusWork). Matches plan (absorbs me (Goes d.edge d.calls) x) (absorb me peer u y)) (sym d.statuses) (done_matches plan me peer x d.edge d.calls y_after apart is_done))
+  pub absorbed : Matches plan (absorbs me o x) (exchange_absorb me peer t y)
+  absorbed = subst (λ (p : Outcome). Matches plan (absorbs me p x) (exchange_absorb me peer t y)) (sym d.is)
+      (subst (λ (u : StatusWork). Matches plan (absorbs me (Goes d.edge d.calls) x) (exchange_absorb me peer u y)) (sym d.statuses) (done_matches plan me peer x d.edge d.calls y_after apart is_done))
 
 module _ (plan : Plan) (checked : IsChecked plan) (types : HasSwitchTypes plan) where
   abbrev w : Wiring
@@ -106,10 +106,10 @@ module _ (plan : Plan) (checked : IsChecked plan) (types : HasSwitchTypes plan) 
   set_follows me peer wire row wish x row_is joined other away f =
       let d = set_does plan me peer wire row wish (x.edges me) [] row_is other away (f.matches.small me) in
       record {
-        y = absorb me peer (exchange.exchange_sets peer wire wish (statuses_of (x.edges me))) f.y;
-        matches = absorbed plan me peer x f.y (exchange.exchange_sets peer wire wish (statuses_of (x.edges me))) (sets plan taken_all me wire wish (x.edges me) []) (x.edges me)
+        y = exchange_absorb me peer (exchange.exchange_sets peer wire wish (statuses_of (x.edges me))) f.y;
+        matches = absorbed plan me peer x f.y (exchange.exchange_sets peer wire wish (statuses_of (x.edges me))) (sets plan takes_all me wire wish (x.edges me) []) (x.edges me)
             (laws.apart wire me peer joined) f.matches d refl (λ b away. refl) (f.matches.open_all me peer);
-        holds = subst (λ (e : EdgeStatuses). Holds w (absorb me peer (exchange.exchange_sets peer wire wish e) f.y)) (sym (f.matches.edges me)) (step_holds w laws f.y (Sets me peer wire wish) joined f.holds);
+        holds = subst (λ (e : EdgeStatuses). Holds w (exchange_absorb me peer (exchange.exchange_sets peer wire wish e) f.y)) (sym (f.matches.edges me)) (step_holds w laws f.y (Sets me peer wire wish) joined f.holds);
       }
 
   -- ---- both are connected
@@ -132,7 +132,7 @@ module _ (plan : Plan) (checked : IsChecked plan) (types : HasSwitchTypes plan) 
       by false true is to = same j k b a to other
       by false false is to = refl
 
-  started : (me peer : ℕ) (e : IndepState) → is_connected e peer ≡ false → held_by ((with_connection peer (Some fresh_connection) e).connection peer) ≡ held_by (e.connection peer)
+  started : (me peer : ℕ) (e : IndepState) → is_connected e peer ≡ false → octets_held_by ((with_connection peer (Some fresh_connection) e).connection peer) ≡ octets_held_by (e.connection peer)
   unfolding with_connection
   started me peer e none = rw (self peer, none_there (e.connection peer) none) refl
 
@@ -145,11 +145,11 @@ module _ (plan : Plan) (checked : IsChecked plan) (types : HasSwitchTypes plan) 
   unfolding with_connection
   started_open peer e = rw (self peer) tt
 
-  connect_follows : (a b : ℕ) (x : SwitchState) → (a == b) ≡ false → is_connected (x.edges a) b ≡ false → Follows x → Follows (connecting plan a b x)
-  connect_follows a b x apart gone f = record { y = absorb b a t2 (absorb a b t1 y0); matches = m2; holds = up }
+  connect_follows : (a b : ℕ) (x : SwitchState) → (a == b) ≡ false → is_connected (x.edges a) b ≡ false → Follows x → Follows (switch_connecting plan a b x)
+  connect_follows a b x apart gone f = record { y = exchange_absorb b a t2 (exchange_absorb a b t1 y0); matches = m2; holds = up }
     where
       y0 : Exchange
-      y0 = clears a b f.y
+      y0 = exchange_clears a b f.y
 
       other_gone : is_connected (x.edges b) a ≡ false
       other_gone = sym (stands_is x f b a) ∙ (sym (f.holds.ways a b).both ∙ (stands_is x f a b ∙ gone))
@@ -161,7 +161,7 @@ module _ (plan : Plan) (checked : IsChecked plan) (types : HasSwitchTypes plan) 
       x0 = record x { came = at_two a b [] (at_two b a [] x.came) }
 
       none_came : (j k : ℕ) (s t : Bool) → (j == a && k == b) ≡ s → (j == b && k == a) ≡ t → (if s then [] else if t then [] else x.came j k)
-          ≡ octets_told plan j (if s then [] else if t then [] else f.y.heard j k) ++ held_by ((x.edges k).connection j)
+          ≡ octets_told plan j (if s then [] else if t then [] else f.y.heard j k) ++ octets_held_by ((x.edges k).connection j)
       none_came j k true t is to = let one : j ≡ a = grind (arith, nat_tests, is) in let two : k ≡ b = grind (arith, nat_tests, is) in
           rw (one, two, none_there ((x.edges b).connection a) other_gone) refl
       none_came j k false true is to = let one : j ≡ b = grind (arith, nat_tests, to) in let two : k ≡ a = grind (arith, nat_tests, to) in
@@ -190,31 +190,31 @@ module _ (plan : Plan) (checked : IsChecked plan) (types : HasSwitchTypes plan) 
       t2 : StatusWork
       t2 = exchange.exchange_connects w b a (f.y.edges b)
 
-      up : Holds w (absorb b a t2 (absorb a b t1 y0))
+      up : Holds w (exchange_absorb b a t2 (exchange_absorb a b t1 y0))
       up = step_holds w laws f.y (Connects a b) (apart, stands_is x f a b ∙ gone) f.holds
 
       x1 : SwitchState
       x1 = connects_one plan a b x0
 
-      d1 : Does plan a b (with_connection b (Some fresh_connection) (x.edges a)) [] t1 (independent_connects plan taken_all a (edge_numbered b) (x.edges a) [])
-      d1 = subst (λ (e : EdgeStatuses). Does plan a b (with_connection b (Some fresh_connection) (x.edges a)) [] (exchange.exchange_connects w a b e) (independent_connects plan taken_all a (edge_numbered b) (x.edges a) []))
+      d1 : Does plan a b (with_connection b (Some fresh_connection) (x.edges a)) [] t1 (independent_connects plan takes_all a (edge_numbered b) (x.edges a) [])
+      d1 = subst (λ (e : EdgeStatuses). Does plan a b (with_connection b (Some fresh_connection) (x.edges a)) [] (exchange.exchange_connects w a b e) (independent_connects plan takes_all a (edge_numbered b) (x.edges a) []))
           (f.matches.edges a)
           (connect_does plan a b (x.edges a) [] checked (f.matches.small a))
 
-      m1 : Matches plan x1 (absorb a b t1 y0)
-      m1 = absorbed plan a b x0 y0 t1 (independent_connects plan taken_all a (edge_numbered b) (x.edges a) []) (with_connection b (Some fresh_connection) (x.edges a)) apart m0 d1 (started a b (x.edges a) gone)
+      m1 : Matches plan x1 (exchange_absorb a b t1 y0)
+      m1 = absorbed plan a b x0 y0 t1 (independent_connects plan takes_all a (edge_numbered b) (x.edges a) []) (with_connection b (Some fresh_connection) (x.edges a)) apart m0 d1 (started a b (x.edges a) gone)
           (started_receivers b (x.edges a)) (started_open b (x.edges a))
 
       b_is : x1.edges b ≡ x.edges b
       b_is = rw (apart_back a b apart) refl
 
-      d2 : Does plan b a (with_connection a (Some fresh_connection) (x1.edges b)) [] t2 (independent_connects plan taken_all b (edge_numbered a) (x1.edges b) [])
+      d2 : Does plan b a (with_connection a (Some fresh_connection) (x1.edges b)) [] t2 (independent_connects plan takes_all b (edge_numbered a) (x1.edges b) [])
       d2 = subst (λ (e : EdgeStatuses). Does plan b a (with_connection a (Some fresh_connection) (x1.edges b)) [] (exchange.exchange_connects w b a e)
-          (independent_connects plan taken_all b (edge_numbered a) (x1.edges b) [])) (ap statuses_of b_is ∙ f.matches.edges b)
+          (independent_connects plan takes_all b (edge_numbered a) (x1.edges b) [])) (ap statuses_of b_is ∙ f.matches.edges b)
           (connect_does plan b a (x1.edges b) [] checked (m1.small b))
 
-      m2 : Matches plan (connecting plan a b x) (absorb b a t2 (absorb a b t1 y0))
-      m2 = absorbed plan b a x1 (absorb a b t1 y0) t2 (independent_connects plan taken_all b (edge_numbered a) (x1.edges b) []) (with_connection a (Some fresh_connection) (x1.edges b)) (apart_back a b apart) m1 d2
+      m2 : Matches plan (switch_connecting plan a b x) (exchange_absorb b a t2 (exchange_absorb a b t1 y0))
+      m2 = absorbed plan b a x1 (exchange_absorb a b t1 y0) t2 (independent_connects plan takes_all b (edge_numbered a) (x1.edges b) []) (with_connection a (Some fresh_connection) (x1.edges b)) (apart_back a b apart) m1 d2
           (started b a (x1.edges b) (ap (λ (e : IndepState). is_connected e a) b_is ∙ other_gone)) (started_receivers a (x1.edges b)) (started_open a (x1.edges b))
 
   -- ---- both lose the connection
@@ -235,7 +235,7 @@ module _ (plan : Plan) (checked : IsChecked plan) (types : HasSwitchTypes plan) 
   cut_follows a b x apart f = record { y = y2; matches = m; holds = step_holds w laws f.y (Loses a b) apart f.holds }
     where
       y2 : Exchange
-      y2 = step w f.y (Loses a b)
+      y2 = exchange_step w f.y (Loses a b)
 
       edge_is : (k : ℕ) (s t : Bool) → (k == b) ≡ s → (k == a) ≡ t
           → statuses_of (if s then loses plan b (edge_numbered a) (x.edges b) else if t then loses plan a (edge_numbered b) (x.edges a) else x.edges k)
@@ -261,7 +261,7 @@ module _ (plan : Plan) (checked : IsChecked plan) (types : HasSwitchTypes plan) 
 
       -- no octets are left between the two
       gone_at : (j k : ℕ) (s t : Bool) → (j == a && k == b) ≡ s → (j == b && k == a) ≡ t
-          → held_by (((cutting plan a b x).edges k).connection j) ++ (if s then [] else if t then [] else x.pipes j k) ≡ octets_told plan j (if s then [] else if t then [] else f.y.ways j k)
+          → octets_held_by (((cutting plan a b x).edges k).connection j) ++ (if s then [] else if t then [] else x.pipes j k) ≡ octets_told plan j (if s then [] else if t then [] else f.y.ways j k)
       gone_at j k true t is to =
           let one : j ≡ a = grind (arith, nat_tests, is) in
           let two : k ≡ b = grind (arith, nat_tests, is) in
@@ -270,7 +270,7 @@ module _ (plan : Plan) (checked : IsChecked plan) (types : HasSwitchTypes plan) 
           let one : j ≡ b = grind (arith, nat_tests, to) in
           let two : k ≡ a = grind (arith, nat_tests, to) in
           rw (one, two, apart, self a, lost_connection a b (x.edges a) b, self b) refl
-      gone_at j k false false is to = ap (λ (l : List ℕ). l ++ x.pipes j k) (ap held_by (still (k == b) (k == a) refl refl)) ∙ f.matches.octets j k
+      gone_at j k false false is to = ap (λ (l : List ℕ). l ++ x.pipes j k) (ap octets_held_by (still (k == b) (k == a) refl refl)) ∙ f.matches.octets j k
         where
           still : (s t : Bool) → (k == b) ≡ s → (k == a) ≡ t
               → (if s then loses plan b (edge_numbered a) (x.edges b) else if t then loses plan a (edge_numbered b) (x.edges a) else x.edges k).connection j ≡ (x.edges k).connection j
@@ -287,8 +287,8 @@ module _ (plan : Plan) (checked : IsChecked plan) (types : HasSwitchTypes plan) 
       told_at j k false true = tt
       told_at j k false false = f.matches.told j k
 
-      held_still : (j k : ℕ) → (j == a && k == b) ≡ false → (j == b && k == a) ≡ false → held_by (((cutting plan a b x).edges k).connection j) ≡ held_by ((x.edges k).connection j)
-      held_still j k is to = ap held_by (still (k == b) (k == a) refl refl)
+      held_still : (j k : ℕ) → (j == a && k == b) ≡ false → (j == b && k == a) ≡ false → octets_held_by (((cutting plan a b x).edges k).connection j) ≡ octets_held_by ((x.edges k).connection j)
+      held_still j k is to = ap octets_held_by (still (k == b) (k == a) refl refl)
         where
           still : (s t : Bool) → (k == b) ≡ s → (k == a) ≡ t
               → (if s then loses plan b (edge_numbered a) (x.edges b) else if t then loses plan a (edge_numbered b) (x.edges a) else x.edges k).connection j ≡ (x.edges k).connection j
@@ -301,7 +301,7 @@ module _ (plan : Plan) (checked : IsChecked plan) (types : HasSwitchTypes plan) 
           still false false e g = refl
 
       came_at : (j k : ℕ) (s t : Bool) → (j == a && k == b) ≡ s → (j == b && k == a) ≡ t → (if s then [] else if t then [] else x.came j k)
-          ≡ octets_told plan j (if s then [] else if t then [] else f.y.heard j k) ++ held_by (((cutting plan a b x).edges k).connection j)
+          ≡ octets_told plan j (if s then [] else if t then [] else f.y.heard j k) ++ octets_held_by (((cutting plan a b x).edges k).connection j)
       came_at j k true t is to =
           let one : j ≡ a = grind (arith, nat_tests, is) in
           let two : k ≡ b = grind (arith, nat_tests, is) in
@@ -337,9 +337,9 @@ module _ (plan : Plan) (checked : IsChecked plan) (types : HasSwitchTypes plan) 
     here : statuses_of edge ≡ now.edges to
     others : (k : ℕ) → (k == to) ≡ false → now.edges k ≡ f.y.edges k
     way : now.ways from to ≡ ms
-    back : flight x to from ++ said_to from calls ≡ octets_told plan to (now.ways to from)
+    back : switch_flight x to from ++ put_to from calls ≡ octets_told plan to (now.ways to from)
     away : (a b : ℕ) → is_pair a b to from ≡ false → is_pair a b from to ≡ false → now.ways a b ≡ f.y.ways a b
-    silent : (b : ℕ) → (b == from) ≡ false → said_to b calls ≡ []
+    silent : (b : ℕ) → (b == from) ≡ false → put_to b calls ≡ []
     receivers : (b : ℕ) → option_map receiver_part (edge.connection b) ≡ option_map receiver_part (start.connection b)
     small : (p id : ℕ) → option_map id_next (edge.connection p) ≡ Some id → id < 2 ^ 32
     told : (a b : ℕ) → AreTold plan (now.ways a b)
@@ -376,7 +376,7 @@ module _ (plan : Plan) (checked : IsChecked plan) (types : HasSwitchTypes plan) 
     rest_told = (subst (AreTold plan) h.way (h.told from to)).1
 
     heard_does : Does plan to from edge calls (exchange.exchange_hears from t.wire (status_of t.wish) (statuses_of edge))
-        (hears_message plan taken_all to (edge_numbered from) (notification is_told.row from t.wish t.id) edge calls)
+        (independent_hears_message plan takes_all to (edge_numbered from) (notification is_told.row from t.wish t.id) edge calls)
     heard_does = hear_does plan to from t.wire is_told.row t.wish t.id edge calls checked is_told.row_is joined_back h.small
 
     abbrev taken : Exchange
@@ -386,10 +386,10 @@ module _ (plan : Plan) (checked : IsChecked plan) (types : HasSwitchTypes plan) 
     heard_work = record { edge = statuses_of heard_does.edge; out = heard_does.out }
 
     abbrev heard_now : Exchange
-    heard_now = absorb to from heard_work taken
+    heard_now = exchange_absorb to from heard_work taken
 
     heard_holds : Holds w heard_now
-    heard_holds = subst (λ (u : StatusWork). Holds w (absorb to from u taken)) (ap (exchange.exchange_hears from t.wire (status_of t.wish)) (sym h.here) ∙ heard_does.statuses)
+    heard_holds = subst (λ (u : StatusWork). Holds w (exchange_absorb to from u taken)) (ap (exchange.exchange_hears from t.wire (status_of t.wish)) (sym h.here) ∙ heard_does.statuses)
         (subst (λ (l : List StatusMessage). Holds w (heard_first from to l h.now)) h.way (step_holds w laws h.now (Hears from to) tt h.holds))
 
     back_way : at_two from to ts h.now.ways to from ≡ h.now.ways to from
@@ -411,7 +411,7 @@ module _ (plan : Plan) (checked : IsChecked plan) (types : HasSwitchTypes plan) 
         )
     heard_past a b false is = h.past a b
 
-    hear_one : HeardOne x f from to start t ts (h.now.heard from to) (hears_message plan taken_all to (edge_numbered from) (notification is_told.row from t.wish t.id) edge calls)
+    hear_one : HeardOne x f from to start t ts (h.now.heard from to) (independent_hears_message plan takes_all to (edge_numbered from) (notification is_told.row from t.wish t.id) edge calls)
     hear_one = record {
       edge = heard_does.edge;
       calls = heard_does.calls;
@@ -422,8 +422,8 @@ module _ (plan : Plan) (checked : IsChecked plan) (types : HasSwitchTypes plan) 
         here = sym (at_same to (statuses_of heard_does.edge) h.now.edges);
         others = λ k away. at_other to k (statuses_of heard_does.edge) h.now.edges away ∙ h.others k away;
         way = two_away to from from to (at_two from to ts h.now.ways to from ++ heard_does.out) (at_two from to ts h.now.ways) (turned_away to from to_from) ∙ two_at from to ts h.now.ways;
-        back = ap (λ (l : List ℕ). flight x to from ++ l) heard_does.at.said
-            ∙ (sym (append_assoc (flight x to from) (said_to from calls) (octets_told plan to heard_does.out))
+        back = ap (λ (l : List ℕ). switch_flight x to from ++ l) heard_does.at.said
+            ∙ (sym (append_assoc (switch_flight x to from) (put_to from calls) (octets_told plan to heard_does.out))
             ∙ (ap (λ (l : List ℕ). l ++ octets_told plan to heard_does.out) h.back
             ∙ (sym (told_both plan to (h.now.ways to from) heard_does.out)
             ∙ ap (octets_told plan to) (ap (λ (l : List StatusMessage). l ++ heard_does.out) (sym back_way)
@@ -455,7 +455,7 @@ module _ (plan : Plan) (checked : IsChecked plan) (types : HasSwitchTypes plan) 
     heard_is : hearing.now.heard from to ≡ past ++ gone
 
   few_heard : (x : SwitchState) (f : Follows x) (from to : ℕ) (start : IndepState) (n base : ℕ) (octets more : List ℕ) (ms : List StatusMessage) (edge : IndepState) (calls : List LinkCall) → octets ++ more ≡ octets_told plan from ms
-      → (h : Hearing x f from to start ms edge calls) → HeardSome x f from to start octets more (h.now.heard from to) (hears_few plan taken_all to (edge_numbered from) n base octets edge calls)
+      → (h : Hearing x f from to start ms edge calls) → HeardSome x f from to start octets more (h.now.heard from to) (independent_hears_few plan takes_all to (edge_numbered from) n base octets edge calls)
   few_heard x f from to start zero base octets more ms edge calls e h =
       record { left = ms; gone = []; base = base; rest = octets; edge = edge; calls = calls; is = refl; behind = e; split = refl; hearing = h; heard_is = sym (append-nil (h.now.heard from to)) }
   few_heard x f from to start (suc n) base octets more [] edge calls e h = record {
@@ -465,7 +465,7 @@ module _ (plan : Plan) (checked : IsChecked plan) (types : HasSwitchTypes plan) 
     rest = octets;
     edge = edge;
     calls = calls;
-    is = ap (λ (g : Front). hears_front plan taken_all to (edge_numbered from) (hears_few plan taken_all to (edge_numbered from) n) base octets g edge calls)
+    is = ap (λ (g : Front). independent_hears_front plan takes_all to (edge_numbered from) (independent_hears_few plan takes_all to (edge_numbered from) n) base octets g edge calls)
         (ap (front_of 4096) (front_empty octets more e) ∙ none_front);
     behind = e;
     split = refl;
@@ -485,11 +485,11 @@ module _ (plan : Plan) (checked : IsChecked plan) (types : HasSwitchTypes plan) 
       there : HasRow plan from
       there = edge_there plan t.wire from to checked (joined x f from to start t ts edge calls h)
 
-      by_front : (g : Front) → front_of 4096 octets ≡ g → hears_few plan taken_all to (edge_numbered from) (suc n) base octets edge calls
-          ≡ hears_front plan taken_all to (edge_numbered from) (hears_few plan taken_all to (edge_numbered from) n) base octets g edge calls
-      by_front g is = ap (λ (g : Front). hears_front plan taken_all to (edge_numbered from) (hears_few plan taken_all to (edge_numbered from) n) base octets g edge calls) is
+      by_front : (g : Front) → front_of 4096 octets ≡ g → independent_hears_few plan takes_all to (edge_numbered from) (suc n) base octets edge calls
+          ≡ independent_hears_front plan takes_all to (edge_numbered from) (independent_hears_few plan takes_all to (edge_numbered from) n) base octets g edge calls
+      by_front g is = ap (λ (g : Front). independent_hears_front plan takes_all to (edge_numbered from) (independent_hears_few plan takes_all to (edge_numbered from) n) base octets g edge calls) is
 
-      waits : front_of 4096 octets ≡ More → HeardSome x f from to start octets more (h.now.heard from to) (hears_few plan taken_all to (edge_numbered from) (suc n) base octets edge calls)
+      waits : front_of 4096 octets ≡ More → HeardSome x f from to start octets more (h.now.heard from to) (independent_hears_few plan takes_all to (edge_numbered from) (suc n) base octets edge calls)
       waits is = record {
         left = t ∷ ts;
         gone = [];
@@ -504,11 +504,11 @@ module _ (plan : Plan) (checked : IsChecked plan) (types : HasSwitchTypes plan) 
         heard_is = sym (append-nil (h.now.heard from to));
       }
 
-      gets : ((rest : List ℕ) (one : HeardOne x f from to start t ts (h.now.heard from to) (hears_message plan taken_all to (edge_numbered from) (notification told.row from t.wish t.id) edge calls)) → rest ++ more ≡ octets_told plan from ts
+      gets : ((rest : List ℕ) (one : HeardOne x f from to start t ts (h.now.heard from to) (independent_hears_message plan takes_all to (edge_numbered from) (notification told.row from t.wish t.id) edge calls)) → rest ++ more ≡ octets_told plan from ts
           → HeardSome x f from to start rest more (one.hearing.now.heard from to)
-          (hears_few plan taken_all to (edge_numbered from) n (place_behind base (length octets - length rest)) rest one.edge one.calls))
+          (independent_hears_few plan takes_all to (edge_numbered from) n (place_behind base (length octets - length rest)) rest one.edge one.calls))
           → HasNext plan checked types from there.row there.is t told ts octets more
-          → HeardSome x f from to start octets more (h.now.heard from to) (hears_few plan taken_all to (edge_numbered from) (suc n) base octets edge calls)
+          → HeardSome x f from to start octets more (h.now.heard from to) (independent_hears_few plan takes_all to (edge_numbered from) (suc n) base octets edge calls)
       gets again next =
           let one = hear_one x f from to start t ts edge calls h in
           let on = again next.rest one next.behind in
@@ -520,8 +520,8 @@ module _ (plan : Plan) (checked : IsChecked plan) (types : HasSwitchTypes plan) 
             edge = on.edge;
             calls = on.calls;
             is = by_front (Got (record { id = platform_of there.row.address; messages = notification told.row from t.wish t.id ∷ [] }) next.rest) next.front
-                ∙ (ap (λ (o : Outcome). and_then (and_then o (λ e c. Goes e c))
-                (λ e c. hears_few plan taken_all to (edge_numbered from) n (place_behind base (length octets - length next.rest)) next.rest e c)) one.is ∙ on.is);
+                ∙ (ap (λ (o : Outcome). and_works (and_works o (λ e c. Goes e c))
+                (λ e c. independent_hears_few plan takes_all to (edge_numbered from) n (place_behind base (length octets - length next.rest)) next.rest e c)) one.is ∙ on.is);
             behind = on.behind;
             split = next.split ∙ (ap (λ (l : List ℕ). octets_in_row plan from t (slice_get plan.wires t.wire) ++ l) on.split
                 ∙ sym (append_assoc (octets_in_row plan from t (slice_get plan.wires t.wire)) (octets_told plan from on.gone) on.rest));
@@ -586,7 +586,7 @@ module _ (plan : Plan) (checked : IsChecked plan) (types : HasSwitchTypes plan) 
         by false is =
             let both : is_some ((f.y.edges from).next to) ≡ false = (f.holds.ways from to).both ∙ (stands_is x f to from ∙ is) in
             let none : f.y.ways from to ≡ [] = (f.holds.ways from to).none both in
-            true_clash (sym some ∙ waiting_none (x.pipes from to) (held_by ((x.edges to).connection from)) (f.matches.octets from to ∙ ap (octets_told plan from) none))
+            true_clash (sym some ∙ waiting_none (x.pipes from to) (octets_held_by ((x.edges to).connection from)) (f.matches.octets from to ∙ ap (octets_told plan from) none))
 
     here : IsOpenAt ((x.edges to).connection from)
     here = open_at ((x.edges to).connection from) connected_to (f.matches.open_all to from)
@@ -600,12 +600,12 @@ module _ (plan : Plan) (checked : IsChecked plan) (types : HasSwitchTypes plan) 
     whole : (here.held ++ take count (x.pipes from to)) ++ drop count (x.pipes from to) ≡ octets_told plan from (f.y.ways from to)
     whole = append_assoc here.held (take count (x.pipes from to)) (drop count (x.pipes from to))
         ∙ (ap (λ (l : List ℕ). here.held ++ l) (take-append-drop count (x.pipes from to))
-        ∙ (ap (λ (l : List ℕ). l ++ x.pipes from to) (sym (ap held_by here.is ∙ ap held_with here.opened)) ∙ f.matches.octets from to))
+        ∙ (ap (λ (l : List ℕ). l ++ x.pipes from to) (sym (ap octets_held_by here.is ∙ ap held_with here.opened)) ∙ f.matches.octets from to))
 
-    hears_is : independent_hears plan taken_all to (edge_numbered from) (take count (x.pipes from to)) (x.edges to) []
-        ≡ hears_all plan taken_all to (edge_numbered from) here.base (here.held ++ take count (x.pipes from to)) start []
-    hears_is = ap (λ (o : Option ConnectionState). hears_on plan taken_all to (edge_numbered from) (take count (x.pipes from to)) o (x.edges to) []) here.is
-        ∙ ap (λ (receiver : Receiver). hears_by plan taken_all to (edge_numbered from) (take count (x.pipes from to)) receiver (x.edges to) []) here.opened
+    hears_is : independent_hears plan takes_all to (edge_numbered from) (take count (x.pipes from to)) (x.edges to) []
+        ≡ hears_all plan takes_all to (edge_numbered from) here.base (here.held ++ take count (x.pipes from to)) start []
+    hears_is = ap (λ (o : Option ConnectionState). independent_hears_on plan takes_all to (edge_numbered from) (take count (x.pipes from to)) o (x.edges to) []) here.is
+        ∙ ap (λ (receiver : Receiver). hears_by plan takes_all to (edge_numbered from) (take count (x.pipes from to)) receiver (x.edges to) []) here.opened
 
     start_statuses : statuses_of start ≡ f.y.edges to
     start_statuses = receiver_statuses from Stopped (x.edges to) ∙ f.matches.edges to
@@ -617,7 +617,7 @@ module _ (plan : Plan) (checked : IsChecked plan) (types : HasSwitchTypes plan) 
       here = start_statuses;
       others = λ k away. refl;
       way = refl;
-      back = append-nil (flight x to from) ∙ f.matches.octets to from;
+      back = append-nil (switch_flight x to from) ∙ f.matches.octets to from;
       away = λ a b one two. refl;
       silent = λ b away. refl;
       receivers = λ b. refl;
@@ -628,7 +628,7 @@ module _ (plan : Plan) (checked : IsChecked plan) (types : HasSwitchTypes plan) 
     }
 
     heard : HeardSome x f from to start (here.held ++ take count (x.pipes from to)) (drop count (x.pipes from to)) (f.y.heard from to)
-        (hears_all plan taken_all to (edge_numbered from) here.base (here.held ++ take count (x.pipes from to)) start [])
+        (hears_all plan takes_all to (edge_numbered from) here.base (here.held ++ take count (x.pipes from to)) start [])
     unfolding first_hearing
     heard = few_heard x f from to start (suc (length (here.held ++ take count (x.pipes from to)))) here.base (here.held ++ take count (x.pipes from to)) (drop count (x.pipes from to))
         (f.y.ways from to) start [] whole first_hearing
@@ -654,7 +654,7 @@ module _ (plan : Plan) (checked : IsChecked plan) (types : HasSwitchTypes plan) 
         waiting_none (o ∷ l) (p ∷ held) e = absurd (cc (e))
 
         by : (ts : List StatusMessage) → f.y.ways from to ≡ ts → (to == from) ≡ false
-        by [] is = true_clash (sym some ∙ waiting_none (x.pipes from to) (held_by ((x.edges to).connection from)) (f.matches.octets from to ∙ ap (octets_told plan from) is))
+        by [] is = true_clash (sym some ∙ waiting_none (x.pipes from to) (octets_held_by ((x.edges to).connection from)) (f.matches.octets from to ∙ ap (octets_told plan from) is))
         by (t ∷ ts) is = laws.apart t.wire to from (laws.turned t.wire from to (between_first f.y from to t ts f.holds is))
 
     is_delivered : IsDone plan to from x1 last heard.calls heard.hearing.now
@@ -663,10 +663,10 @@ module _ (plan : Plan) (checked : IsChecked plan) (types : HasSwitchTypes plan) 
       edges = λ k away. f.matches.edges k ∙ sym (heard.hearing.others k away);
       comes = ap (λ (l : List ℕ). l ++ at_two from to (drop count (x.pipes from to)) x.pipes from to) (held_is (last.connection from) ∙ ap held_in last_receiver)
           ∙ (ap (λ (l : List ℕ). heard.rest ++ l) (two_at from to (drop count (x.pipes from to)) x.pipes) ∙ (heard.behind ∙ ap (octets_told plan from) (sym heard.hearing.way)));
-      goes = ap (λ (l : List ℕ). held_by ((x.edges from).connection to) ++ (l ++ said_to from heard.calls))
+      goes = ap (λ (l : List ℕ). octets_held_by ((x.edges from).connection to) ++ (l ++ put_to from heard.calls))
           (two_away from to to from (drop count (x.pipes from to)) x.pipes (turned_away from to (apart_back to from from_to_apart)))
-          ∙ (sym (append_assoc (held_by ((x.edges from).connection to)) (x.pipes to from) (said_to from heard.calls)) ∙ heard.hearing.back);
-      others = λ a b one two. ap (λ (l : List ℕ). held_by ((x.edges b).connection a) ++ l) (two_away from to a b (drop count (x.pipes from to)) x.pipes two)
+          ∙ (sym (append_assoc (octets_held_by ((x.edges from).connection to)) (x.pipes to from) (put_to from heard.calls)) ∙ heard.hearing.back);
+      others = λ a b one two. ap (λ (l : List ℕ). octets_held_by ((x.edges b).connection a) ++ l) (two_away from to a b (drop count (x.pipes from to)) x.pipes two)
           ∙ (f.matches.octets a b ∙ ap (octets_told plan a) (sym (heard.hearing.away a b one two)));
       silent = heard.hearing.silent;
       receivers = λ b away. ap (option_map receiver_part) (receiver_other from (Receiving heard.base heard.rest) heard.edge b away)
@@ -677,18 +677,18 @@ module _ (plan : Plan) (checked : IsChecked plan) (types : HasSwitchTypes plan) 
       small = f.matches.small;
       told = heard.hearing.told;
       came_here = two_at from to (x.came from to ++ take count (x.pipes from to)) x.came ∙ (ap (λ (l : List ℕ). l ++ take count (x.pipes from to)) (f.matches.came from to)
-          ∙ (append_assoc (octets_told plan from (f.y.heard from to)) (held_by ((x.edges to).connection from)) (take count (x.pipes from to))
-          ∙ (ap (λ (l : List ℕ). octets_told plan from (f.y.heard from to) ++ (l ++ take count (x.pipes from to))) (ap held_by here.is ∙ ap held_with here.opened)
+          ∙ (append_assoc (octets_told plan from (f.y.heard from to)) (octets_held_by ((x.edges to).connection from)) (take count (x.pipes from to))
+          ∙ (ap (λ (l : List ℕ). octets_told plan from (f.y.heard from to) ++ (l ++ take count (x.pipes from to))) (ap octets_held_by here.is ∙ ap held_with here.opened)
           ∙ (ap (λ (l : List ℕ). octets_told plan from (f.y.heard from to) ++ l) heard.split
           ∙ (sym (append_assoc (octets_told plan from (f.y.heard from to)) (octets_told plan from heard.gone) heard.rest)
           ∙ (ap (λ (l : List ℕ). l ++ heard.rest) (sym (told_both plan from (f.y.heard from to) heard.gone) ∙ ap (octets_told plan from) (sym heard.heard_is))
           ∙ ap (λ (l : List ℕ). octets_told plan from (heard.hearing.now.heard from to) ++ l) (sym (held_is (last.connection from) ∙ ap held_in last_receiver))))))));
       came = λ a b away. two_away from to a b (x.came from to ++ take count (x.pipes from to)) x.came away
-          ∙ (f.matches.came a b ∙ ap (λ (ts : List StatusMessage). octets_told plan a ts ++ held_by ((x.edges b).connection a)) (sym (heard.hearing.heard_away a b away)));
+          ∙ (f.matches.came a b ∙ ap (λ (ts : List StatusMessage). octets_told plan a ts ++ octets_held_by ((x.edges b).connection a)) (sym (heard.hearing.heard_away a b away)));
       past = heard.hearing.past;
     }
 
-    deliver_follows : Follows (delivering plan from to count x)
+    deliver_follows : Follows (switch_delivering plan from to count x)
     deliver_follows = record {
       y = heard.hearing.now;
       matches = subst (λ (o : Outcome). Matches plan (absorbs to o x1) heard.hearing.now) (sym (hears_is ∙ heard.is))
@@ -697,7 +697,7 @@ module _ (plan : Plan) (checked : IsChecked plan) (types : HasSwitchTypes plan) 
     }
 
     -- what comes is not refused
-    goes : IsGoing (independent_hears plan taken_all to (edge_numbered from) (take count (x.pipes from to)) (x.edges to) [])
+    goes : IsGoing (independent_hears plan takes_all to (edge_numbered from) (take count (x.pipes from to)) (x.edges to) [])
     goes = subst IsGoing (sym (hears_is ∙ heard.is)) tt
 
   -- ---- every line
@@ -705,11 +705,11 @@ module _ (plan : Plan) (checked : IsChecked plan) (types : HasSwitchTypes plan) 
   one_follows : (from to : ℕ) (x : SwitchState) → Follows x → Follows (delivers_one plan from to x)
   one_follows from to x f = by (is_waiting (x.pipes from to)) refl
     where
-      by : (b : Bool) → is_waiting (x.pipes from to) ≡ b → Follows (if b then delivering plan from to 1 x else x)
+      by : (b : Bool) → is_waiting (x.pipes from to) ≡ b → Follows (if b then switch_delivering plan from to 1 x else x)
       by true is = deliver_follows from to 1 x f is
       by false is = f
 
-  delivers_follow : (from to : ℕ) (octets : List ℕ) (x : SwitchState) → Follows x → Follows (delivers plan from to octets x)
+  delivers_follow : (from to : ℕ) (octets : List ℕ) (x : SwitchState) → Follows x → Follows (switch_delivers plan from to octets x)
   delivers_follow from to [] x f = f
   delivers_follow from to (octet ∷ octets) x f = delivers_follow from to octets (delivers_one plan from to x) (one_follows from to x f)
 
@@ -719,7 +719,7 @@ module _ (plan : Plan) (checked : IsChecked plan) (types : HasSwitchTypes plan) 
     where
       by : (o : Option (ℕ × ℕ)) → next_pair plan x ≡ o → ((z : SwitchState) → Follows z → Follows (settling plan n z)) → Follows (delivers_next plan (settling plan n) o x)
       by None is again = f
-      by (Some pair) is again = again (delivers plan pair.0 pair.1 (take 65535 (x.pipes pair.0 pair.1)) x) (delivers_follow pair.0 pair.1 (take 65535 (x.pipes pair.0 pair.1)) x f)
+      by (Some pair) is again = again (switch_delivers plan pair.0 pair.1 (take 65535 (x.pipes pair.0 pair.1)) x) (delivers_follow pair.0 pair.1 (take 65535 (x.pipes pair.0 pair.1)) x f)
 
   some_joins : (a b n : ℕ) → some_between plan a b n ≡ true → (a == b) ≡ false
   some_joins a b zero is = true_clash (sym is)
@@ -732,7 +732,7 @@ module _ (plan : Plan) (checked : IsChecked plan) (types : HasSwitchTypes plan) 
   not_or : (p q : Bool) → (not p || q) ≡ false → (p ≡ true) × (q ≡ false)
   not_or p q is = (grind (arith, is), grind (arith, is))
 
-  line_follows : (line : SwitchLine) (x : SwitchState) → is_idle plan x line ≡ false → Follows x → Follows (does plan line x)
+  line_follows : (line : SwitchLine) (x : SwitchState) → is_line_idle plan x line ≡ false → Follows x → Follows (does plan line x)
   line_follows (line.Connect a b) x runs f = let both = not_or (some_between plan a.0 b.0 (length plan.wires)) (switches_stand x a.0 b.0) runs in
       connect_follows a.0 b.0 x (some_joins a.0 b.0 (length plan.wires) both.0) both.1 f
   line_follows (line.Cut a b) x runs f = let both = not_or (some_between plan a.0 b.0 (length plan.wires)) (not (switches_stand x a.0 b.0)) runs in
@@ -750,9 +750,9 @@ module _ (plan : Plan) (checked : IsChecked plan) (types : HasSwitchTypes plan) 
           (not_or (is_some (other_end plan me.0 wire.0)) (is_same_wish ((x.edges me.0).local wire.0) wish) runs).1 f
 
   done_follows : (line : SwitchLine) (x : SwitchState) → Follows x → Follows (done plan line x)
-  done_follows line x f = by (is_idle plan x line) refl
+  done_follows line x f = by (is_line_idle plan x line) refl
     where
-      by : (b : Bool) → is_idle plan x line ≡ b → Follows (if b then x else does plan line x)
+      by : (b : Bool) → is_line_idle plan x line ≡ b → Follows (if b then x else does plan line x)
       by true is = f
       by false is = line_follows line x is f
 

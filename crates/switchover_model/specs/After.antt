@@ -18,15 +18,15 @@ known_by pw_id code None fec known = known
 known_by pw_id code (Some status) None known = known
 known_by pw_id code (Some status) (Some fec) known = if code == pw_status_code && is_id pw_id fec.pw_id then Some status else known
 
-abbrev pub known_after : ℕ → Message → Option PwStatus → Option PwStatus
-known_after pw_id (Notification id code status fec) known = known_by pw_id code.code status fec known
-known_after pw_id message known = known
+abbrev pub status_known_after : ℕ → Message → Option PwStatus → Option PwStatus
+status_known_after pw_id (Notification id code status fec) known = known_by pw_id code.code status fec known
+status_known_after pw_id message known = known
 
 abbrev pub known_after_all : ℕ → List Message → Option PwStatus → Option PwStatus
 known_after_all pw_id [] known = known
-known_after_all pw_id (message ∷ messages) known = known_after_all pw_id messages (known_after pw_id message known)
+known_after_all pw_id (message ∷ messages) known = known_after_all pw_id messages (status_known_after pw_id message known)
 
 -- the octets of messages of one edge, each in a PDU of its own
-abbrev pub octets_of_all : Plan → ℕ → List Message → List ℕ
-octets_of_all plan from [] = []
-octets_of_all plan from (message ∷ messages) = octets_by (slice_get plan.edges from) message ++ octets_of_all plan from messages
+abbrev pub octets_of_messages : Plan → ℕ → List Message → List ℕ
+octets_of_messages plan from [] = []
+octets_of_messages plan from (message ∷ messages) = octets_by (slice_get plan.edges from) message ++ octets_of_messages plan from messages

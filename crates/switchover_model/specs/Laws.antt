@@ -11,14 +11,14 @@ use Rattle.net_values.specs.Octets.{AreOctets}
 use Rattle.ldp_grammar.specs.declared.message.Message.{Message}
 use Rattle.pw_messages.specs.LinkAnswers.{Answers}
 use Rattle.status_exchange.specs.Laws.{is_known_active}
-use Rattle.status_exchange.specs.Wish.{is_active, is_ask, status_of}
+use Rattle.status_exchange.specs.Wish.{is_wished_active, is_ask, status_of}
 use Rattle.independent_model.specs.Calls.{independent_hears, uses}
 use Rattle.independent_model.specs.State.{IndepState}
-use Rattle.independent_model.specs.Work.{and_then}
+use Rattle.independent_model.specs.Work.{and_works}
 use Rattle.independent_model.specs.Wires.{is_between}
 use Rattle.switchover_model.specs.declared.switch_line.SwitchLine.{SwitchLine}
-use Rattle.switchover_model.specs.After.{known_after_all, octets_of_all}
-use Rattle.switchover_model.specs.Network.{IsGoing, SwitchState, done_all, first_network, flight, held_by, edge_numbered, is_waiting, switches_stand, taken_all}
+use Rattle.switchover_model.specs.After.{known_after_all, octets_of_messages}
+use Rattle.switchover_model.specs.Network.{IsGoing, SwitchState, done_all, first_network, switch_flight, octets_held_by, edge_numbered, is_waiting, switches_stand, takes_all}
 
 -- the numbers of a plan are those that their types hold
 pub record IsRouter (row : EdgePlan) : Type 0 where
@@ -37,20 +37,20 @@ pub record HasSwitchTypes (plan : Plan) : Type 0 where
 -- calls the wire
 pub record KnowsAfter (plan : Plan) (x : SwitchState) (me peer wire : ℕ) (row : WirePlan) : Type 0 where
   pub messages : List Message
-  pub octets : flight x peer me ≡ octets_of_all plan peer messages
+  pub octets : switch_flight x peer me ≡ octets_of_messages plan peer messages
   pub knows : known_after_all row.pw_id messages ((x.edges me).remote wire) ≡ Some (status_of ((x.edges peer).local wire))
 
 -- Of the octets that have come by the connection the whole messages were heard, and the last of them that tells the status of the wire
 -- is what the edge knows of it; none does where it knows nothing.
 pub record KnowsLast (plan : Plan) (x : SwitchState) (me peer wire : ℕ) (row : WirePlan) : Type 0 where
   pub messages : List Message
-  pub octets : x.came peer me ≡ octets_of_all plan peer messages ++ held_by ((x.edges me).connection peer)
+  pub octets : x.came peer me ≡ octets_of_messages plan peer messages ++ octets_held_by ((x.edges me).connection peer)
   pub knows : (x.edges me).remote wire ≡ known_after_all row.pw_id messages None
 
 -- both use the wire where both call it active, and none asks
 pub record IsAgreed (plan : Plan) (x : SwitchState) (a b wire : ℕ) : Type 0 where
-  pub one : uses plan a (x.edges a) wire ≡ (is_active ((x.edges a).local wire) && is_active ((x.edges b).local wire))
-  pub other : uses plan b (x.edges b) wire ≡ (is_active ((x.edges a).local wire) && is_active ((x.edges b).local wire))
+  pub one : uses plan a (x.edges a) wire ≡ (is_wished_active ((x.edges a).local wire) && is_wished_active ((x.edges b).local wire))
+  pub other : uses plan b (x.edges b) wire ≡ (is_wished_active ((x.edges a).local wire) && is_wished_active ((x.edges b).local wire))
   pub asks_not : is_ask ((x.edges a).local wire) ≡ false
   pub other_asks_not : is_ask ((x.edges b).local wire) ≡ false
 
@@ -58,11 +58,11 @@ pub record IsAgreed (plan : Plan) (x : SwitchState) (a b wire : ℕ) : Type 0 wh
 pub record AgreesOn (plan : Plan) (x : SwitchState) (a b wire : ℕ) (row : WirePlan) : Type 0 where
   pub both : switches_stand x a b ≡ switches_stand x b a
   pub after : switches_stand x a b ≡ true → KnowsAfter plan x a b wire row
-  pub quiet : switches_stand x a b ≡ true → flight x a b ≡ [] → flight x b a ≡ [] → IsAgreed plan x a b wire
+  pub quiet : switches_stand x a b ≡ true → switch_flight x a b ≡ [] → switch_flight x b a ≡ [] → IsAgreed plan x a b wire
   -- what is known is the last that was heard on this connection, and a wire is used only where that, and the edge itself, calls it active
   pub last : KnowsLast plan x a b wire row
-  pub used : uses plan a (x.edges a) wire ≡ true → (is_active ((x.edges a).local wire) ≡ true) × (is_known_active ((x.edges a).remote wire) ≡ true)
-  pub gone : switches_stand x a b ≡ false → (flight x a b ≡ []) × ((x.edges a).remote wire ≡ None)
+  pub used : uses plan a (x.edges a) wire ≡ true → (is_wished_active ((x.edges a).local wire) ≡ true) × (is_known_active ((x.edges a).remote wire) ≡ true)
+  pub gone : switches_stand x a b ≡ false → (switch_flight x a b ≡ []) × ((x.edges a).remote wire ≡ None)
 
 abbrev pub ScriptsAgree : Type 0
 ScriptsAgree = (plan : Plan) → IsChecked plan → HasSwitchTypes plan → (lines : List SwitchLine) → (a b wire : ℕ) (row : WirePlan) → slice_get plan.wires wire ≡ Some row → is_between plan wire a b ≡ true
@@ -71,10 +71,10 @@ ScriptsAgree = (plan : Plan) → IsChecked plan → HasSwitchTypes plan → (lin
 -- A joined piece is heard like its two parts in turn, over every answer of a link; where something stops the first part, the second is not
 -- heard.
 abbrev pub SwitchHeardInParts : Type 0
-SwitchHeardInParts = (plan : Plan) (told : Answers) (me : ℕ) (peer : EdgeId) (first more : List ℕ) (edge : IndepState) (calls : List LinkCall) → AreOctets (held_by (edge.connection peer.0) ++ (first ++ more))
-    → independent_hears plan told me peer (first ++ more) edge calls ≡ and_then (independent_hears plan told me peer first edge calls) (λ e c. independent_hears plan told me peer more e c)
+SwitchHeardInParts = (plan : Plan) (told : Answers) (me : ℕ) (peer : EdgeId) (first more : List ℕ) (edge : IndepState) (calls : List LinkCall) → AreOctets (octets_held_by (edge.connection peer.0) ++ (first ++ more))
+    → independent_hears plan told me peer (first ++ more) edge calls ≡ and_works (independent_hears plan told me peer first edge calls) (λ e c. independent_hears plan told me peer more e c)
 
 -- No octets of the network are refused: whatever is on its way after any lines, an edge to which some of it comes goes on.
 abbrev pub DeliveriesGoOn : Type 0
 DeliveriesGoOn = (plan : Plan) → IsChecked plan → HasSwitchTypes plan → (lines : List SwitchLine) (from to count : ℕ) → is_waiting ((done_all plan lines first_network).pipes from to) ≡ true
-    → IsGoing (independent_hears plan taken_all to (edge_numbered from) (take count ((done_all plan lines first_network).pipes from to)) ((done_all plan lines first_network).edges to) [])
+    → IsGoing (independent_hears plan takes_all to (edge_numbered from) (take count ((done_all plan lines first_network).pipes from to)) ((done_all plan lines first_network).edges to) [])

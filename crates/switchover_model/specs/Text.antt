@@ -8,12 +8,12 @@ use Rattle.net_base.specs.declared.plan.places.WireId.{WireId}
 use Rattle.status_exchange.specs.declared.wish.Wish.{Wish}
 use Rattle.independent_model.specs.Calls.{independent_connects, independent_hears, loses, sets, uses}
 use Rattle.independent_model.specs.State.{IndepState}
-use Rattle.independent_model.specs.Work.{Goes, Outcome}
+use Rattle.independent_model.specs.Work.{Goes, IndepOutcome}
 use Rattle.switchover_model.specs.declared.switch_entry.SwitchEntry.{SwitchEntry}
 use Rattle.switchover_model.specs.declared.switch_entry.SwitchEntry.TheVariants.{Said, Uses, Idle}
 use Rattle.switchover_model.specs.declared.switch_line.SwitchLine.{SwitchLine}
 use Rattle.switchover_model.specs.declared.switch_line.SwitchLine.TheVariants.{Connect, Cut, Deliver, Settle, Set}
-use Rattle.switchover_model.specs.Network.{SwitchState, calls_of, connects_one, delivers, delivers_one, done, edge_after, edge_numbered, is_idle, is_waiting, loses_one, next_pair, taken_all}
+use Rattle.switchover_model.specs.Network.{SwitchState, calls_of, connects_one, switch_delivers, delivers_one, done, edge_after, edge_numbered, is_line_idle, is_waiting, loses_one, next_pair, takes_all}
 
 -- ---- after a call of an edge
 
@@ -35,36 +35,36 @@ abbrev pub wire_of : ℕ → WireId
 wire_of place = record { 0 = place }
 
 -- one wire, which the edge used before or not, and uses now or not
-abbrev pub turned : ℕ → ℕ → Bool → Bool → List SwitchEntry
-turned me wire true true = []
-turned me wire false false = []
-turned me wire true false = Uses (edge_numbered me) (wire_of wire) false ∷ []
-turned me wire false true = Uses (edge_numbered me) (wire_of wire) true ∷ []
+abbrev pub turned_switch : ℕ → ℕ → Bool → Bool → List SwitchEntry
+turned_switch me wire true true = []
+turned_switch me wire false false = []
+turned_switch me wire true false = Uses (edge_numbered me) (wire_of wire) false ∷ []
+turned_switch me wire false true = Uses (edge_numbered me) (wire_of wire) true ∷ []
 
 -- the wires from this one on that the edge uses otherwise than before
 abbrev pub turned_all : ℕ → ℕ → List Bool → List Bool → List SwitchEntry
 turned_all me wire [] now = []
 turned_all me wire (was ∷ before) [] = []
-turned_all me wire (was ∷ before) (is ∷ now) = turned me wire was is ++ turned_all me (wire + 1) before now
+turned_all me wire (was ∷ before) (is ∷ now) = turned_switch me wire was is ++ turned_all me (wire + 1) before now
 
-abbrev pub moment : Plan → ℕ → Outcome → IndepState → List SwitchEntry
+abbrev pub moment : Plan → ℕ → IndepOutcome → IndepState → List SwitchEntry
 moment plan me outcome before = said_entries me (calls_of outcome) ++ turned_all me 0 (used plan me before) (used plan me (edge_after outcome))
 
 -- ---- of the steps of a line
 
 abbrev pub connect_entries : Plan → ℕ → ℕ → SwitchState → List SwitchEntry
-connect_entries plan me peer x = moment plan me (independent_connects plan taken_all me (edge_numbered peer) (x.edges me) []) (x.edges me)
+connect_entries plan me peer x = moment plan me (independent_connects plan takes_all me (edge_numbered peer) (x.edges me) []) (x.edges me)
 
 abbrev pub lose_entries : Plan → ℕ → ℕ → SwitchState → List SwitchEntry
 lose_entries plan me peer x = moment plan me (Goes (loses plan me (edge_numbered peer) (x.edges me)) []) (x.edges me)
 
 abbrev pub set_entries : Plan → ℕ → ℕ → Wish → SwitchState → List SwitchEntry
-set_entries plan me wire wish x = moment plan me (sets plan taken_all me wire wish (x.edges me) []) (x.edges me)
+set_entries plan me wire wish x = moment plan me (sets plan takes_all me wire wish (x.edges me) []) (x.edges me)
 
 -- of one octet that comes
 abbrev pub hear_entries : Plan → ℕ → ℕ → SwitchState → List SwitchEntry
 hear_entries plan from to x =
-    if is_waiting (x.pipes from to) then moment plan to (independent_hears plan taken_all to (edge_numbered from) (take 1 (x.pipes from to)) (x.edges to) []) (x.edges to) else []
+    if is_waiting (x.pipes from to) then moment plan to (independent_hears plan takes_all to (edge_numbered from) (take 1 (x.pipes from to)) (x.edges to) []) (x.edges to) else []
 
 abbrev pub deliver_entries : Plan → ℕ → ℕ → List ℕ → SwitchState → List SwitchEntry
 deliver_entries plan from to [] x = []
@@ -73,7 +73,7 @@ deliver_entries plan from to (octet ∷ octets) x = hear_entries plan from to x 
 abbrev pub next_entries : Plan → (SwitchState → List SwitchEntry) → Option (ℕ × ℕ) → SwitchState → List SwitchEntry
 next_entries plan more None x = []
 next_entries plan more (Some pair) x =
-    deliver_entries plan pair.0 pair.1 (take 65535 (x.pipes pair.0 pair.1)) x ++ more (delivers plan pair.0 pair.1 (take 65535 (x.pipes pair.0 pair.1)) x)
+    deliver_entries plan pair.0 pair.1 (take 65535 (x.pipes pair.0 pair.1)) x ++ more (switch_delivers plan pair.0 pair.1 (take 65535 (x.pipes pair.0 pair.1)) x)
 
 abbrev pub settle_entries : Plan → ℕ → SwitchState → List SwitchEntry
 settle_entries plan zero x = []
@@ -90,7 +90,7 @@ entries plan (Settle count) x = settle_entries plan count x
 entries plan (Set me wire wish) x = set_entries plan me.0 wire.0 wish x
 
 abbrev pub line_entries : Plan → SwitchLine → SwitchState → List SwitchEntry
-line_entries plan line x = if is_idle plan x line then Idle ∷ [] else entries plan line x
+line_entries plan line x = if is_line_idle plan x line then Idle ∷ [] else entries plan line x
 
 -- of all lines of a script, one list a line
 abbrev pub script_entries : Plan → List SwitchLine → SwitchState → List (List SwitchEntry)

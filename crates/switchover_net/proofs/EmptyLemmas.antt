@@ -2,17 +2,17 @@
 use Rattle.std.proofs.Common.{◌≡◌, [], ℕ, suc, zero, refl, ap, length, slice_index_or, replicate, ◌∙◌}
 use Rattle.std.proofs.lemmas.List.{replicate_more}
 use Rattle.net_values.proofs.RowLemmas.{replicate_length, replicate_default, replicate_at}
-use Rattle.switchover_net.specs.Pipes.{IsSquare, pipes_of, no_octets}
+use Rattle.switchover_net.specs.Pipes.{IsPipeSquare, octets_between as pipes_of, no_octets_between}
 
-none_at : (n m : ℕ) (i j : ℕ) → slice_index_or (slice_index_or (replicate n (replicate m [])) i []) j [] ≡ no_octets i j
+none_at : (n m : ℕ) (i j : ℕ) → slice_index_or (slice_index_or (replicate n (replicate m [])) i []) j [] ≡ no_octets_between i j
 none_at zero m i j = refl
 none_at (suc n) m zero j = replicate_default m [] j
 none_at (suc n) m (suc i) j = none_at n m i j
 
-pub square : (n : ℕ) → IsSquare n (replicate n (replicate n []))
+pub square : (n : ℕ) → IsPipeSquare n (replicate n (replicate n []))
 square n = record { count = replicate_length n (replicate n []); each = λ k h. ap length (replicate_at n (replicate n []) [] k h) ∙ replicate_length n [] }
 
-pub empty : (n : ℕ) → pipes_of (record { size = n; rows = replicate n (replicate n []) }) ≡ no_octets
+pub empty : (n : ℕ) → pipes_of (record { size = n; rows = replicate n (replicate n []) }) ≡ no_octets_between
 unfolding pipes_of
 empty n = λ k i j. none_at n n i j k
 

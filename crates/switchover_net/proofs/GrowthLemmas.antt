@@ -15,22 +15,22 @@ use Rattle.ldp_stream.specs.Front.{size_of}
 use Rattle.ldp_stream.specs.FrontOf.{Front, More, Got, Bad, front_in, front_of, length_front, whole_front}
 use Rattle.ldp_stream.specs.State.{place_behind}
 use Rattle.pw_messages.specs.LinkAnswers.{Answers}
-use Rattle.status_exchange.specs.Exchange.{at, at_two}
+use Rattle.status_exchange.specs.Exchange.{put_at_place as at, at_two}
 use Rattle.status_exchange.specs.Laws.{is_known_active}
-use Rattle.status_exchange.specs.Wish.{is_active}
+use Rattle.status_exchange.specs.Wish.{is_wished_active}
 use Rattle.status_exchange.proofs.StatusLemmas.{at_same}
-use Rattle.independent_mode.specs.Receiver.{Holds, HoldsBy}
-use Rattle.independent_model.specs.Calls.{independent_hears, hears_on, is_connected, uses, uses_with}
-use Rattle.independent_model.specs.Hear.{hears_by, hears_few, hears_front, hears_messages}
+use Rattle.independent_mode.specs.Receiver.{HoldsSoMany, HoldsBy}
+use Rattle.independent_model.specs.Calls.{independent_hears, independent_hears_on, is_connected, uses, uses_with}
+use Rattle.independent_model.specs.Hear.{hears_by, independent_hears_few, independent_hears_front, independent_hears_messages}
 use Rattle.independent_model.specs.State.{ConnectionState, Stopped, Receiver, IndepState, Receiving, Broken, receiver_set, with_connection, with_receiver}
 use Rattle.independent_model.specs.Wires.{other_end}
-use Rattle.independent_model.specs.Work.{Goes, Outcome, Stops, and_then}
+use Rattle.independent_model.specs.Work.{Goes, IndepOutcome, Stops, and_works}
 use Rattle.switchover_model.specs.declared.switch_entry.SwitchEntry.{SwitchEntry}
-use Rattle.switchover_model.specs.Network.{IsGoing, calls_of, delivers_one, edge_after, is_waiting, taken_all}
+use Rattle.switchover_model.specs.Network.{IsGoing, calls_of, delivers_one, edge_after, is_waiting, takes_all}
 use Rattle.switchover_model.specs.Text.{hear_entries, turned_all, used, used_from}
-use Rattle.switchover_net.specs.Net.{Makes, NetLists}
-use Rattle.switchover_net.specs.Pipes.{pipes_of}
-use Rattle.switchover_net.specs.Rows.{HasDone, seen_row}
+use Rattle.switchover_net.specs.Net.{Makes, SwitchLists}
+use Rattle.switchover_net.specs.Pipes.{octets_between}
+use Rattle.switchover_net.specs.Rows.{HasDoneWork, seen_row}
 use Rattle.switchover_net.proofs.NetLemmas.{was_heard}
 
 -- ---- a PDU has octets
@@ -91,7 +91,7 @@ connected_deaf peer k r edge = by (k == peer) refl
 uses_deaf : (peer : ℕ) (r : Receiver) (edge : IndepState) (wire : ℕ) (other : Option EdgeId) → uses_with (with_receiver peer r edge) wire other ≡ uses_with edge wire other
 unfolding with_connection
 uses_deaf peer r edge wire None = refl
-uses_deaf peer r edge wire (Some p) = ap (λ (b : Bool). (b && is_active (edge.local wire)) && is_known_active (edge.remote wire)) (connected_deaf peer p.0 r edge)
+uses_deaf peer r edge wire (Some p) = ap (λ (b : Bool). (b && is_wished_active (edge.local wire)) && is_known_active (edge.remote wire)) (connected_deaf peer p.0 r edge)
 
 used_deaf : (plan : Plan) (me peer : ℕ) (r : Receiver) (edge : IndepState) (wire n : ℕ) → used_from plan me (with_receiver peer r edge) wire n ≡ used_from plan me edge wire n
 used_deaf plan me peer r edge wire zero = refl
@@ -110,27 +110,27 @@ module _ (plan : Plan) (told : Answers) (me : ℕ) (peer : EdgeId) (e : IndepSta
   waits base held edge calls is = let at : with_receiver peer.0 (Receiving base held) edge ≡ e = cc (is) in
       received peer.0 base held edge count (subst (λ (s : IndepState). HoldsBy count (s.connection peer.0)) (sym at) holds)
 
-  behind : (o : Outcome) (rest : List ℕ) (on : IndepState → List LinkCall → Outcome) → ((edge : IndepState) (calls : List LinkCall) → on edge calls ≡ Goes e c → count ≤ length rest)
-      → and_then o on ≡ Goes e c → count ≤ length rest
+  behind : (o : IndepOutcome) (rest : List ℕ) (on : IndepState → List LinkCall → IndepOutcome) → ((edge : IndepState) (calls : List LinkCall) → on edge calls ≡ Goes e c → count ≤ length rest)
+      → and_works o on ≡ Goes e c → count ≤ length rest
   behind (Goes edge calls) rest on again is = again edge calls is
   behind (Stops why edge calls) rest on again is = absurd (cc (is))
 
-  front_at : (n base : ℕ) (held : List ℕ) (edge : IndepState) (calls : List LinkCall) (front : Front) → front_of 4096 held ≡ front → hears_few plan told me peer (suc n) base held edge calls ≡ Goes e c
-      → hears_front plan told me peer (hears_few plan told me peer n) base held front edge calls ≡ Goes e c
-  front_at n base held edge calls front at is = sym (ap (λ (f : Front). hears_front plan told me peer (hears_few plan told me peer n) base held f edge calls) at) ∙ is
+  front_at : (n base : ℕ) (held : List ℕ) (edge : IndepState) (calls : List LinkCall) (front : Front) → front_of 4096 held ≡ front → independent_hears_few plan told me peer (suc n) base held edge calls ≡ Goes e c
+      → independent_hears_front plan told me peer (independent_hears_few plan told me peer n) base held front edge calls ≡ Goes e c
+  front_at n base held edge calls front at is = sym (ap (λ (f : Front). independent_hears_front plan told me peer (independent_hears_few plan told me peer n) base held f edge calls) at) ∙ is
 
-  few_held : (n base : ℕ) (held : List ℕ) (edge : IndepState) (calls : List LinkCall) → hears_few plan told me peer n base held edge calls ≡ Goes e c → count ≤ length held
+  few_held : (n base : ℕ) (held : List ℕ) (edge : IndepState) (calls : List LinkCall) → independent_hears_few plan told me peer n base held edge calls ≡ Goes e c → count ≤ length held
   few_held zero base held edge calls is = waits base held edge calls is
   few_held (suc n) base held edge calls is = by (λ b rest s l. few_held n b rest s l) (front_of 4096 held) refl
     where
-      by : ((b : ℕ) (rest : List ℕ) (s : IndepState) (l : List LinkCall) → hears_few plan told me peer n b rest s l ≡ Goes e c → count ≤ length rest) → (front : Front)
+      by : ((b : ℕ) (rest : List ℕ) (s : IndepState) (l : List LinkCall) → independent_hears_few plan told me peer n b rest s l ≡ Goes e c → count ≤ length rest) → (front : Front)
           → front_of 4096 held ≡ front → count ≤ length held
       by again More at = waits base held edge calls (front_at n base held edge calls More at is)
       by again (Bad wrong) at = absurd (cc (front_at n base held edge calls (Bad wrong) at is))
       by again (Got pdu rest) at =
           let less : length rest < length held = got_shorter held rest pdu at in
-          let few : count ≤ length rest = behind (hears_messages plan told me peer pdu.messages edge calls) rest
-          (λ s l. hears_few plan told me peer n (place_behind base (length held - length rest)) rest s l)
+          let few : count ≤ length rest = behind (independent_hears_messages plan told me peer pdu.messages edge calls) rest
+          (λ s l. independent_hears_few plan told me peer n (place_behind base (length held - length rest)) rest s l)
           (λ s l. again (place_behind base (length held - length rest)) rest s l) (front_at n base held edge calls (Got pdu rest) at is) in
           omega (arith, less, few)
 
@@ -159,17 +159,17 @@ module _ (plan : Plan) (told : Answers) (me : ℕ) (peer : EdgeId) (e : IndepSta
         by (Bad wrong) at = absurd (cc (front_at n base (held ++ octets) deaf calls (Bad wrong) at is))
         by (Got pdu rest) at =
             let less : length rest < length (held ++ octets) = got_shorter (held ++ octets) rest pdu at in
-            let left : count ≤ length rest = behind (hears_messages plan told me peer pdu.messages deaf calls) rest
-            (λ s l. hears_few plan told me peer n (place_behind base (length (held ++ octets) - length rest)) rest s l)
+            let left : count ≤ length rest = behind (independent_hears_messages plan told me peer pdu.messages deaf calls) rest
+            (λ s l. independent_hears_few plan told me peer n (place_behind base (length (held ++ octets) - length rest)) rest s l)
             (λ s l. few_held n (place_behind base (length (held ++ octets) - length rest)) rest s l) (front_at n base (held ++ octets) deaf calls (Got pdu rest) at is) in
             absurd (omega (arith, less, left, few, more, holds_now, length-append held octets))
 
-    by_receiver : (r : Receiver) → Holds before r → hears_by plan told me peer octets r edge calls ≡ Goes e c → IsSilent plan me edge e calls c
+    by_receiver : (r : Receiver) → HoldsSoMany before r → hears_by plan told me peer octets r edge calls ≡ Goes e c → IsSilent plan me edge e calls c
     by_receiver (Receiving base held) holds_now is = receives base held holds_now is
     by_receiver (Broken base wrong) holds_now is = absurd (cc (is))
     by_receiver Stopped holds_now is = nothing is
 
-    by_connection : (o : Option ConnectionState) → HoldsBy before o → hears_on plan told me peer octets o edge calls ≡ Goes e c → IsSilent plan me edge e calls c
+    by_connection : (o : Option ConnectionState) → HoldsBy before o → independent_hears_on plan told me peer octets o edge calls ≡ Goes e c → IsSilent plan me edge e calls c
     by_connection None holds_now is = nothing is
     by_connection (Some kept) holds_now is = by_receiver kept.receiver holds_now is
 
@@ -178,7 +178,7 @@ module _ (plan : Plan) (told : Answers) (me : ℕ) (peer : EdgeId) (e : IndepSta
 
 -- ---- of the network
 
-going_is : (o : Outcome) → IsGoing o → o ≡ Goes (edge_after o) (calls_of o)
+going_is : (o : IndepOutcome) → IsGoing o → o ≡ Goes (edge_after o) (calls_of o)
 going_is (Goes edge calls) going = refl
 going_is (Stops why edge calls) going = absurd going
 
@@ -198,29 +198,29 @@ put_nothing a b p = λ i x y. by x y (x == a) (y == b) refl refl i
     by x y true false one two = refl
     by x y false t one two = refl
 
-module _ (plan : Plan) (me : ℕ) (peer : EdgeId) (old new : NetLists) (calls : List LinkCall) (before after : ℕ)
-    (going : IsGoing (independent_hears plan taken_all me peer (take 1 (pipes_of old.pipes peer.0 me)) (seen_row old.row me) []))
-    (done : HasDone me old.row new.row calls (independent_hears plan taken_all me peer (take 1 (pipes_of old.pipes peer.0 me)) (seen_row old.row me) []))
+module _ (plan : Plan) (me : ℕ) (peer : EdgeId) (old new : SwitchLists) (calls : List LinkCall) (before after : ℕ)
+    (going : IsGoing (independent_hears plan takes_all me peer (take 1 (octets_between old.pipes peer.0 me)) (seen_row old.row me) []))
+    (done : HasDoneWork me old.row new.row calls (independent_hears plan takes_all me peer (take 1 (octets_between old.pipes peer.0 me)) (seen_row old.row me) []))
     (held : HoldsBy before ((seen_row old.row me).connection peer.0)) (held_now : HoldsBy after ((seen_row new.row me).connection peer.0)) (more : before < after) where
-  abbrev outcome : Outcome
-  outcome = independent_hears plan taken_all me peer (take 1 (pipes_of old.pipes peer.0 me)) (seen_row old.row me) []
+  abbrev outcome : IndepOutcome
+  outcome = independent_hears plan takes_all me peer (take 1 (octets_between old.pipes peer.0 me)) (seen_row old.row me) []
 
   state : seen_row new.row me ≡ edge_after outcome
   state = ap (λ (f : ℕ → IndepState). f me) done.state ∙ at_same me (edge_after outcome) (seen_row old.row)
 
   silent : IsSilent plan me (seen_row old.row me) (edge_after outcome) [] (calls_of outcome)
-  silent = grown plan taken_all me peer (edge_after outcome) (calls_of outcome) after (subst (λ (s : IndepState). HoldsBy after (s.connection peer.0)) state held_now)
-      (take 1 (pipes_of old.pipes peer.0 me)) before (seen_row old.row me) []
-      (omega (arith, length-take 1 (pipes_of old.pipes peer.0 me))) more held (going_is outcome going)
+  silent = grown plan takes_all me peer (edge_after outcome) (calls_of outcome) after (subst (λ (s : IndepState). HoldsBy after (s.connection peer.0)) state held_now)
+      (take 1 (octets_between old.pipes peer.0 me)) before (seen_row old.row me) []
+      (omega (arith, length-take 1 (octets_between old.pipes peer.0 me))) more held (going_is outcome going)
 
   same_used : used plan me (seen_row new.row me) ≡ used plan me (seen_row old.row me)
   same_used = ap (used plan me) state ∙ silent.same
 
-  pub was_silent : (out : List SwitchEntry) → is_waiting (pipes_of old.pipes peer.0 me) ≡ true → pipes_of new.pipes ≡ at_two peer.0 me (drop 1 (pipes_of old.pipes peer.0 me)) (pipes_of old.pipes)
+  pub was_silent : (out : List SwitchEntry) → is_waiting (octets_between old.pipes peer.0 me) ≡ true → octets_between new.pipes ≡ at_two peer.0 me (drop 1 (octets_between old.pipes peer.0 me)) (octets_between old.pipes)
       → Makes old new out out (delivers_one plan peer.0 me) (hear_entries plan peer.0 me)
   was_silent out waiting left =
       was_heard plan me peer old new new.row [] (used plan me (seen_row old.row me)) out out waiting (record { state = done.state; put = sym silent.put }) refl refl
-      (left ∙ put_nothing me peer.0 (at_two peer.0 me (drop 1 (pipes_of old.pipes peer.0 me)) (pipes_of old.pipes)))
+      (left ∙ put_nothing me peer.0 (at_two peer.0 me (drop 1 (octets_between old.pipes peer.0 me)) (octets_between old.pipes)))
       (sym (ap (λ (l : List SwitchEntry). (out ++ []) ++ l)
       (ap (turned_all me 0 (used plan me (seen_row old.row me))) same_used ∙ turned_none me 0 (used plan me (seen_row old.row me))) ∙ (append-nil (out ++ []) ∙ append-nil out)))
 

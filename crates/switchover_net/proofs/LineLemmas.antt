@@ -7,7 +7,7 @@ use Rattle.net_base.specs.declared.plan.Plan.{Plan}
 use Rattle.net_base.specs.declared.plan.places.EdgeId.{EdgeId}
 use Rattle.net_base.specs.declared.plan.places.WireId.{WireId}
 use Rattle.status_exchange.specs.declared.wish.Wish.{Wish}
-use Rattle.status_exchange.specs.Exchange.{IsWiring, at, at_two}
+use Rattle.status_exchange.specs.Exchange.{IsWiring, put_at_place, at_two}
 use Rattle.status_exchange.specs.Wish.{is_same_wish}
 use Rattle.status_exchange.proofs.StatusLemmas.{at_other}
 use Rattle.independent_model.specs.Calls.{is_connected, loses}
@@ -17,11 +17,11 @@ use Rattle.switchover_model.specs.declared.switch_entry.SwitchEntry.{SwitchEntry
 use Rattle.switchover_model.specs.declared.switch_entry.SwitchEntry.TheVariants.{Idle}
 use Rattle.switchover_model.specs.declared.switch_line.SwitchLine.{SwitchLine}
 use Rattle.switchover_model.specs.declared.switch_line.SwitchLine.TheVariants as line
-use Rattle.switchover_model.specs.Network.{SwitchState, connecting, connects_one, cutting, delivers, delivers_next, delivers_one, delivering, does, done, done_all, first_network, first_pair, is_idle, is_waiting, loses_one, next_pair, settling, some_between, switches_stand}
+use Rattle.switchover_model.specs.Network.{SwitchState, switch_connecting, connects_one, cutting, switch_delivers, delivers_next, delivers_one, switch_delivering, does, done, done_all, first_network, first_differing_pair, is_line_idle, is_waiting, loses_one, next_pair, settling, some_between, switches_stand}
 use Rattle.switchover_model.specs.Text.{connect_entries, deliver_entries, entries, hear_entries, line_entries, lose_entries, next_entries, settle_entries}
 use Rattle.switchover_model.proofs.TwoLemmas.{wiring_is}
-use Rattle.switchover_net.specs.Net.{IsReached, Makes, NetLists, ShowsSwitchState as Shows, cut_entries, pair_entries}
-use Rattle.switchover_net.specs.Pipes.{pipes_of}
+use Rattle.switchover_net.specs.Net.{IsReached, Makes, SwitchLists, ShowsSwitchState as Shows, cut_entries, pair_entries}
+use Rattle.switchover_net.specs.Pipes.{octets_between}
 use Rattle.switchover_net.specs.Rows.{seen_row}
 use Rattle.switchover_net.proofs.ReachedLemmas.{reached_more}
 
@@ -30,9 +30,9 @@ use Rattle.switchover_net.proofs.ReachedLemmas.{reached_more}
 cleared : ℕ → ℕ → SwitchState → SwitchState
 cleared a b x = record x { came = at_two a b [] (at_two b a [] x.came) }
 
-pub both_connect : (plan : Plan) (a b : ℕ) (old mid new : NetLists) (first next last : List SwitchEntry)
+pub both_connect : (plan : Plan) (a b : ℕ) (old mid new : SwitchLists) (first next last : List SwitchEntry)
     → Makes old mid first next (connects_one plan a b) (connect_entries plan a b) → Makes mid new next last (connects_one plan b a) (connect_entries plan b a)
-    → Makes old new first last (connecting plan a b) (pair_entries plan a b)
+    → Makes old new first last (switch_connecting plan a b) (pair_entries plan a b)
 both_connect plan a b old mid new first next last one two = record {
   shows = λ x sh. two.shows (connects_one plan a b (record x { came = at_two a b [] (at_two b a [] x.came) }))
       (one.shows (record x { came = at_two a b [] (at_two b a [] x.came) }) (record { edges = sh.edges; pipes = sh.pipes }));
@@ -40,12 +40,12 @@ both_connect plan a b old mid new first next last one two = record {
       ∙ append_assoc first (connect_entries plan a b x) (connect_entries plan b a (connects_one plan a b x)));
 }
 
-pub both_lose : (plan : Plan) (a b : EdgeId) (old mid left new : NetLists) (first next last : List SwitchEntry) → (b.0 == a.0) ≡ false
+pub both_lose : (plan : Plan) (a b : EdgeId) (old mid left new : SwitchLists) (first next last : List SwitchEntry) → (b.0 == a.0) ≡ false
     → Makes old mid first next (loses_one plan a.0 b.0) (lose_entries plan a.0 b.0) → Makes mid left next last (loses_one plan b.0 a.0) (lose_entries plan b.0 a.0)
-    → new.row ≡ left.row → pipes_of new.pipes ≡ at_two a.0 b.0 [] (at_two b.0 a.0 [] (pipes_of left.pipes)) → Makes old new first last (cutting plan a.0 b.0) (cut_entries plan a.0 b.0)
+    → new.row ≡ left.row → octets_between new.pipes ≡ at_two a.0 b.0 [] (at_two b.0 a.0 [] (octets_between left.pipes)) → Makes old new first last (cutting plan a.0 b.0) (cut_entries plan a.0 b.0)
 both_lose plan a b old mid left new first next last apart one two row pipes = record {
   shows = λ x sh. let after : Shows left (loses_one plan b.0 a.0 (loses_one plan a.0 b.0 x)) = two.shows (loses_one plan a.0 b.0 x) (one.shows x sh) in record {
-    edges = ap seen_row row ∙ (after.edges ∙ ap (λ (e : IndepState). at b.0 (loses plan b.0 a e) (at a.0 (loses plan a.0 b (x.edges a.0)) x.edges))
+    edges = ap seen_row row ∙ (after.edges ∙ ap (λ (e : IndepState). put_at_place b.0 (loses plan b.0 a e) (put_at_place a.0 (loses plan a.0 b (x.edges a.0)) x.edges))
         (at_other a.0 b.0 (loses plan a.0 b (x.edges a.0)) x.edges apart));
     pipes = pipes ∙ ap (λ (p : ℕ → ℕ → List ℕ). at_two a.0 b.0 [] (at_two b.0 a.0 [] p)) after.pipes;
   };
@@ -56,29 +56,29 @@ both_lose plan a b old mid left new first next last apart one two row pipes = re
 -- ---- octets that come one by one
 
 -- so many octets of the piece have come
-pub record Delivered (plan : Plan) (from to : ℕ) (piece : List ℕ) (place : ℕ) (x : SwitchState) (now : NetLists) (first out : List SwitchEntry) : Type 0 where
+pub record Delivered (plan : Plan) (from to : ℕ) (piece : List ℕ) (place : ℕ) (x : SwitchState) (now : SwitchLists) (first out : List SwitchEntry) : Type 0 where
   pub y : SwitchState
   pub shows : Shows now y
-  pub state : delivers plan from to (drop place piece) y ≡ delivers plan from to piece x
+  pub state : switch_delivers plan from to (drop place piece) y ≡ switch_delivers plan from to piece x
   pub tells : out ++ deliver_entries plan from to (drop place piece) y ≡ first ++ deliver_entries plan from to piece x
 
 abbrev pub piece_of : ℕ → ℕ → ℕ → SwitchState → List ℕ
 piece_of count from to x = take count (x.pipes from to)
 
 -- the same of each state that the network has shown
-pub record AreDelivered (plan : Plan) (from to count place : ℕ) (old now : NetLists) (first out : List SwitchEntry) : Type 0 where
+pub record AreDelivered (plan : Plan) (from to count place : ℕ) (old now : SwitchLists) (first out : List SwitchEntry) : Type 0 where
   pub plan_is : now.row.plan ≡ plan
   pub reached : IsReached now
   pub each : (x : SwitchState) → Shows old x → Delivered plan from to (piece_of count from to x) place x now first out
 
-pub none_delivered : (plan : Plan) (from to count : ℕ) (old : NetLists) (first : List SwitchEntry) → old.row.plan ≡ plan → IsReached old → AreDelivered plan from to count 0 old old first first
+pub none_delivered : (plan : Plan) (from to count : ℕ) (old : SwitchLists) (first : List SwitchEntry) → old.row.plan ≡ plan → IsReached old → AreDelivered plan from to count 0 old old first first
 none_delivered plan from to count old first is reached = record { plan_is = is; reached = reached; each = λ x sh. record { y = x; shows = sh; state = refl; tells = refl } }
 
 pub one_line : (plan : Plan) (from to : EdgeId) (x : SwitchState) → delivers_one plan from.0 to.0 x ≡ done plan (line.Deliver from to 1) x
 one_line plan from to x = by (x.pipes from.0 to.0) refl
   where
-    by : (p : List ℕ) → x.pipes from.0 to.0 ≡ p → delivers_one plan from.0 to.0 x ≡ (if not (is_waiting p) then x else delivers plan from.0 to.0 (take 1 p) x)
-    by [] is = ap (λ (q : List ℕ). if is_waiting q then delivering plan from.0 to.0 1 x else x) is
+    by : (p : List ℕ) → x.pipes from.0 to.0 ≡ p → delivers_one plan from.0 to.0 x ≡ (if not (is_waiting p) then x else switch_delivers plan from.0 to.0 (take 1 p) x)
+    by [] is = ap (λ (q : List ℕ). if is_waiting q then switch_delivering plan from.0 to.0 1 x else x) is
     by (o ∷ p) is = refl
 
 record HasMore (l : List ℕ) (k : ℕ) : Type 0 where
@@ -99,8 +99,8 @@ none_left (o ∷ l) (suc k) past = none_left l k (omega (arith, past))
 pub piece_long : (count : ℕ) (l : List ℕ) → length (take count l) ≡ min (length l) count
 piece_long count l = length-take count l ∙ omega arith
 
-pub more_delivered : (plan : Plan) (from to : EdgeId) (count place most : ℕ) (old now next : NetLists) (first out last : List SwitchEntry) → most
-    ≡ min (length (pipes_of old.pipes from.0 to.0)) count → place < most
+pub more_delivered : (plan : Plan) (from to : EdgeId) (count place most : ℕ) (old now next : SwitchLists) (first out last : List SwitchEntry) → most
+    ≡ min (length (octets_between old.pipes from.0 to.0)) count → place < most
     → next.row.plan ≡ now.row.plan → Makes now next out last (delivers_one now.row.plan from.0 to.0) (hear_entries now.row.plan from.0 to.0)
     → AreDelivered plan from.0 to.0 count place old now first out → AreDelivered plan from.0 to.0 count (place + 1) old next first last
 more_delivered plan from to count place most old now next first out last most_is below same made are = record {
@@ -118,42 +118,42 @@ more_delivered plan from to count place most old now next first out last most_is
     one x sh d more = record {
       y = delivers_one plan from.0 to.0 d.y;
       shows = here.shows d.y d.shows;
-      state = sym (ap (λ (l : List ℕ). delivers plan from.0 to.0 l d.y) more.is) ∙ d.state;
+      state = sym (ap (λ (l : List ℕ). switch_delivers plan from.0 to.0 l d.y) more.is) ∙ d.state;
       tells = ap (λ (l : List SwitchEntry). l ++ deliver_entries plan from.0 to.0 (drop (place + 1) (piece_of count from.0 to.0 x)) (delivers_one plan from.0 to.0 d.y)) (here.tells d.y d.shows)
           ∙ (append_assoc out (hear_entries plan from.0 to.0 d.y) (deliver_entries plan from.0 to.0 (drop (place + 1) (piece_of count from.0 to.0 x)) (delivers_one plan from.0 to.0 d.y))
           ∙ (ap (λ (l : List ℕ). out ++ deliver_entries plan from.0 to.0 l d.y) (sym more.is) ∙ d.tells));
     }
 
-pub all_delivered : (plan : Plan) (from to : ℕ) (count place most : ℕ) (old now : NetLists) (first out : List SwitchEntry) → most ≡ min (length (pipes_of old.pipes from to)) count → most ≤ place
+pub all_delivered : (plan : Plan) (from to : ℕ) (count place most : ℕ) (old now : SwitchLists) (first out : List SwitchEntry) → most ≡ min (length (octets_between old.pipes from to)) count → most ≤ place
     → AreDelivered plan from to count place old now first out
-    → Makes old now first out (λ x. delivers plan from to (take count (x.pipes from to)) x) (λ x. deliver_entries plan from to (take count (x.pipes from to)) x)
+    → Makes old now first out (λ x. switch_delivers plan from to (take count (x.pipes from to)) x) (λ x. deliver_entries plan from to (take count (x.pipes from to)) x)
 all_delivered plan from to count place most old now first out most_is past are = record {
-  shows = λ x sh. let d = are.each x sh in subst (Shows now) (sym (ap (λ (l : List ℕ). delivers plan from to l d.y) (gone x sh)) ∙ d.state) d.shows;
+  shows = λ x sh. let d = are.each x sh in subst (Shows now) (sym (ap (λ (l : List ℕ). switch_delivers plan from to l d.y) (gone x sh)) ∙ d.state) d.shows;
   tells = λ x sh. let d = are.each x sh in sym (append-nil out) ∙ (ap (λ (l : List ℕ). out ++ deliver_entries plan from to l d.y) (sym (gone x sh)) ∙ d.tells);
 }
   where
     gone : (x : SwitchState) → Shows old x → drop place (piece_of count from to x) ≡ []
     gone x sh = none_left (piece_of count from to x) place (omega (arith, past, most_is, piece_long count (x.pipes from to), ap (λ (p : ℕ → ℕ → List ℕ). length (p from to)) sh.pipes))
 
-pub still_reached : (plan : Plan) (from to : ℕ) (count place : ℕ) (old now : NetLists) (first out : List SwitchEntry) → AreDelivered plan from to count place old now first out → IsReached now
+pub still_reached : (plan : Plan) (from to : ℕ) (count place : ℕ) (old now : SwitchLists) (first out : List SwitchEntry) → AreDelivered plan from to count place old now first out → IsReached now
 still_reached plan from to count place old now first out are = are.reached
 
 pub ruleset delivered_steps = (none_delivered, more_delivered, all_delivered, still_reached)
 
 -- ---- the first pair, again and again
 
-pub record Settled (plan : Plan) (count place : ℕ) (x : SwitchState) (now : NetLists) (first out : List SwitchEntry) : Type 0 where
+pub record Settled (plan : Plan) (count place : ℕ) (x : SwitchState) (now : SwitchLists) (first out : List SwitchEntry) : Type 0 where
   pub y : SwitchState
   pub shows : Shows now y
   pub state : settling plan (count - place) y ≡ settling plan count x
   pub tells : out ++ settle_entries plan (count - place) y ≡ first ++ settle_entries plan count x
 
-pub record AreSettled (plan : Plan) (count place : ℕ) (old now : NetLists) (first out : List SwitchEntry) : Type 0 where
+pub record AreSettled (plan : Plan) (count place : ℕ) (old now : SwitchLists) (first out : List SwitchEntry) : Type 0 where
   pub plan_is : now.row.plan ≡ plan
   pub reached : IsReached now
   pub each : (x : SwitchState) → Shows old x → Settled plan count place x now first out
 
-pub none_settled : (plan : Plan) (count : ℕ) (old : NetLists) (first : List SwitchEntry) → old.row.plan ≡ plan → IsReached old → AreSettled plan count 0 old old first first
+pub none_settled : (plan : Plan) (count : ℕ) (old : SwitchLists) (first : List SwitchEntry) → old.row.plan ≡ plan → IsReached old → AreSettled plan count 0 old old first first
 none_settled plan count old first is reached = record {
   plan_is = is;
   reached = reached;
@@ -164,15 +164,15 @@ none_settled plan count old first is reached = record {
     all = omega arith
 
 -- the next pair of the network is that of each state that it shows
-pair_shown : (plan : Plan) (now : NetLists) (y : SwitchState) (found : Option (ℕ × ℕ)) → Shows now y → now.pipes.size ≡ length plan.edges → found
-    ≡ first_pair (λ from to. is_waiting (pipes_of now.pipes from to)) now.pipes.size 0 now.pipes.size → next_pair plan y ≡ found
-pair_shown plan now y found sh size is = sym (is ∙ (ap (λ (n : ℕ). first_pair (λ from to. is_waiting (pipes_of now.pipes from to)) n 0 n) size
-    ∙ ap (λ (p : ℕ → ℕ → List ℕ). first_pair (λ from to. is_waiting (p from to)) (length plan.edges) 0 (length plan.edges)) sh.pipes))
+pair_shown : (plan : Plan) (now : SwitchLists) (y : SwitchState) (found : Option (ℕ × ℕ)) → Shows now y → now.pipes.size ≡ length plan.edges → found
+    ≡ first_differing_pair (λ from to. is_waiting (octets_between now.pipes from to)) now.pipes.size 0 now.pipes.size → next_pair plan y ≡ found
+pair_shown plan now y found sh size is = sym (is ∙ (ap (λ (n : ℕ). first_differing_pair (λ from to. is_waiting (octets_between now.pipes from to)) n 0 n) size
+    ∙ ap (λ (p : ℕ → ℕ → List ℕ). first_differing_pair (λ from to. is_waiting (p from to)) (length plan.edges) 0 (length plan.edges)) sh.pipes))
 
-pub settled_more : (plan : Plan) (count place : ℕ) (from to : EdgeId) (old now next : NetLists) (first out last : List SwitchEntry) → place < count → now.pipes.size ≡ length now.row.plan.edges
-    → Some (from.0, to.0) ≡ first_pair (λ from to. is_waiting (pipes_of now.pipes from to)) now.pipes.size 0 now.pipes.size
+pub settled_more : (plan : Plan) (count place : ℕ) (from to : EdgeId) (old now next : SwitchLists) (first out last : List SwitchEntry) → place < count → now.pipes.size ≡ length now.row.plan.edges
+    → Some (from.0, to.0) ≡ first_differing_pair (λ from to. is_waiting (octets_between now.pipes from to)) now.pipes.size 0 now.pipes.size
     → next.row.plan ≡ now.row.plan → IsReached next
-    → Makes now next out last (λ x. delivers now.row.plan from.0 to.0 (take 65535 (x.pipes from.0 to.0)) x) (λ x. deliver_entries now.row.plan from.0 to.0 (take 65535 (x.pipes from.0 to.0)) x)
+    → Makes now next out last (λ x. switch_delivers now.row.plan from.0 to.0 (take 65535 (x.pipes from.0 to.0)) x) (λ x. deliver_entries now.row.plan from.0 to.0 (take 65535 (x.pipes from.0 to.0)) x)
     → AreSettled plan count place old now first out → AreSettled plan count (place + 1) old next first last
 settled_more plan count place from to old now next first out last below size found same reached made are = record {
   plan_is = same ∙ are.plan_is;
@@ -183,8 +183,8 @@ settled_more plan count place from to old now next first out last below size fou
     one_more : count - place ≡ suc (count - (place + 1))
     one_more = omega (arith, below)
 
-    here : Makes now next out last (λ x. delivers plan from.0 to.0 (take 65535 (x.pipes from.0 to.0)) x) (λ x. deliver_entries plan from.0 to.0 (take 65535 (x.pipes from.0 to.0)) x)
-    here = subst (λ (p : Plan). Makes now next out last (λ x. delivers p from.0 to.0 (take 65535 (x.pipes from.0 to.0)) x)
+    here : Makes now next out last (λ x. switch_delivers plan from.0 to.0 (take 65535 (x.pipes from.0 to.0)) x) (λ x. deliver_entries plan from.0 to.0 (take 65535 (x.pipes from.0 to.0)) x)
+    here = subst (λ (p : Plan). Makes now next out last (λ x. switch_delivers p from.0 to.0 (take 65535 (x.pipes from.0 to.0)) x)
         (λ x. deliver_entries p from.0 to.0 (take 65535 (x.pipes from.0 to.0)) x)) are.plan_is made
 
     one : (x : SwitchState) → Settled plan count place x now first out → Settled plan count (place + 1) x next first last
@@ -193,18 +193,18 @@ settled_more plan count place from to old now next first out last below size fou
         let state : settling plan (suc (count - (place + 1))) d.y ≡ settling plan count x = ap (λ (n : ℕ). settling plan n d.y) (sym one_more) ∙ d.state in
         let tells : out ++ settle_entries plan (suc (count - (place + 1))) d.y ≡ first ++ settle_entries plan count x = ap (λ (n : ℕ). out ++ settle_entries plan n d.y) (sym one_more) ∙ d.tells in
         record {
-          y = delivers plan from.0 to.0 (take 65535 (d.y.pipes from.0 to.0)) d.y;
+          y = switch_delivers plan from.0 to.0 (take 65535 (d.y.pipes from.0 to.0)) d.y;
           shows = here.shows d.y d.shows;
           state = ap (λ (o : Option (ℕ × ℕ)). delivers_next plan (settling plan (count - (place + 1))) o d.y) (sym pair) ∙ state;
-          tells = ap (λ (l : List SwitchEntry). l ++ settle_entries plan (count - (place + 1)) (delivers plan from.0 to.0 (take 65535 (d.y.pipes from.0 to.0)) d.y)) (here.tells d.y d.shows)
+          tells = ap (λ (l : List SwitchEntry). l ++ settle_entries plan (count - (place + 1)) (switch_delivers plan from.0 to.0 (take 65535 (d.y.pipes from.0 to.0)) d.y)) (here.tells d.y d.shows)
               ∙ (append_assoc out (deliver_entries plan from.0 to.0 (take 65535 (d.y.pipes from.0 to.0)) d.y)
-              (settle_entries plan (count - (place + 1)) (delivers plan from.0 to.0 (take 65535 (d.y.pipes from.0 to.0)) d.y))
+              (settle_entries plan (count - (place + 1)) (switch_delivers plan from.0 to.0 (take 65535 (d.y.pipes from.0 to.0)) d.y))
               ∙ (ap (λ (o : Option (ℕ × ℕ)). out ++ next_entries plan (settle_entries plan (count - (place + 1))) o d.y) (sym pair) ∙ tells));
         }
 
 -- where no pair is left, nothing more is done
-pub settled_none : (plan : Plan) (count place : ℕ) (old now : NetLists) (first out : List SwitchEntry) → place < count → now.pipes.size ≡ length now.row.plan.edges
-    → None ≡ first_pair (λ from to. is_waiting (pipes_of now.pipes from to)) now.pipes.size 0 now.pipes.size → AreSettled plan count place old now first out
+pub settled_none : (plan : Plan) (count place : ℕ) (old now : SwitchLists) (first out : List SwitchEntry) → place < count → now.pipes.size ≡ length now.row.plan.edges
+    → None ≡ first_differing_pair (λ from to. is_waiting (octets_between now.pipes from to)) now.pipes.size 0 now.pipes.size → AreSettled plan count place old now first out
     → Makes old now first out (settling plan count) (settle_entries plan count)
 settled_none plan count place old now first out below size found are = record {
   shows = λ x sh. let d = are.each x sh in subst (Shows now)
@@ -220,7 +220,7 @@ settled_none plan count place old now first out below size found are = record {
     pair : {x : SwitchState} (d : Settled plan count place x now first out) → next_pair plan d.y ≡ None
     pair d = pair_shown plan now d.y None d.shows (size ∙ ap (λ (p : Plan). length p.edges) are.plan_is) found
 
-pub settled_all : (plan : Plan) (count place : ℕ) (old now : NetLists) (first out : List SwitchEntry) → count ≤ place → AreSettled plan count place old now first out
+pub settled_all : (plan : Plan) (count place : ℕ) (old now : SwitchLists) (first out : List SwitchEntry) → count ≤ place → AreSettled plan count place old now first out
     → Makes old now first out (settling plan count) (settle_entries plan count)
 settled_all plan count place old now first out past are = record {
   shows = λ x sh. let d = are.each x sh in subst (Shows now) (ap (λ (n : ℕ). settling plan n d.y) (sym none) ∙ d.state) d.shows;
@@ -265,7 +265,7 @@ some_apart plan a b (suc n) laws is = by (is_between plan n a b) refl is (λ e. 
 
 -- ---- lines
 
-pub cut_apart : (net : NetLists) (a b : EdgeId) → IsReached net → ((x : SwitchState) → Shows net x → is_idle net.row.plan x (line.Cut a b) ≡ false) → (b.0 == a.0) ≡ false
+pub cut_apart : (net : SwitchLists) (a b : EdgeId) → IsReached net → ((x : SwitchState) → Shows net x → is_line_idle net.row.plan x (line.Cut a b) ≡ false) → (b.0 == a.0) ≡ false
 cut_apart net a b reached runs = some_apart net.row.plan a.0 b.0 (length net.row.plan.wires) (wiring_is net.row.plan reached.checked)
     (joined (some_between net.row.plan a.0 b.0 (length net.row.plan.wires)) (not (switches_stand (done_all net.row.plan reached.lines first_network) a.0 b.0))
     (runs (done_all net.row.plan reached.lines first_network) reached.shows))
@@ -274,7 +274,7 @@ cut_apart net a b reached runs = some_apart net.row.plan a.0 b.0 (length net.row
     joined true q is = refl
     joined false q is = absurd (cc (is))
 
-pub set_ends : (net : NetLists) (me : EdgeId) (wire : WireId) (wish : Wish) → IsReached net → ((x : SwitchState) → Shows net x → is_idle net.row.plan x (line.Set me wire wish) ≡ false)
+pub set_ends : (net : SwitchLists) (me : EdgeId) (wire : WireId) (wish : Wish) → IsReached net → ((x : SwitchState) → Shows net x → is_line_idle net.row.plan x (line.Set me wire wish) ≡ false)
     → None ≡ other_end net.row.plan me.0 wire.0 → ⊥
 set_ends net me wire wish reached runs none = no (is_same_wish (((done_all net.row.plan reached.lines first_network).edges me.0).local wire.0) wish)
     (other_end net.row.plan me.0 wire.0) (sym none) (runs (done_all net.row.plan reached.lines first_network) reached.shows)
@@ -286,7 +286,7 @@ set_ends net me wire wish reached runs none = no (is_same_wish (((done_all net.r
 pub ruleset apply_steps = (cut_apart, set_ends)
 
 -- what a part of the network has done is what the line does
-pub made_as : (plan : Plan) (line : SwitchLine) (old new : NetLists) (first last : List SwitchEntry) (next : SwitchState → SwitchState) (told : SwitchState → List SwitchEntry)
+pub made_as : (plan : Plan) (line : SwitchLine) (old new : SwitchLists) (first last : List SwitchEntry) (next : SwitchState → SwitchState) (told : SwitchState → List SwitchEntry)
     → ((x : SwitchState) → next x ≡ does plan line x)
     → ((x : SwitchState) → told x ≡ entries plan line x) → Makes old new first last next told → Makes old new first last (does plan line) (entries plan line)
 made_as plan line old new first last next told one two made =
@@ -294,18 +294,18 @@ made_as plan line old new first last next told one two made =
 
 -- ---- whether a line applies
 
-pub shown_connected : (net : NetLists) (x : SwitchState) (a b : ℕ) → Shows net x → is_connected (seen_row net.row a) b ≡ is_connected (x.edges a) b
+pub shown_connected : (net : SwitchLists) (x : SwitchState) (a b : ℕ) → Shows net x → is_connected (seen_row net.row a) b ≡ is_connected (x.edges a) b
 shown_connected net x a b sh = ap (λ (e : ℕ → IndepState). is_connected (e a) b) sh.edges
 
-pub shown_waits : (net : NetLists) (x : SwitchState) (from to : ℕ) → Shows net x → is_waiting (pipes_of net.pipes from to) ≡ is_waiting (x.pipes from to)
+pub shown_waits : (net : SwitchLists) (x : SwitchState) (from to : ℕ) → Shows net x → is_waiting (octets_between net.pipes from to) ≡ is_waiting (x.pipes from to)
 shown_waits net x from to sh = ap (λ (p : ℕ → ℕ → List ℕ). is_waiting (p from to)) sh.pipes
 
-pub shown_wish : (net : NetLists) (x : SwitchState) (me wire : ℕ) (wish : Wish) → Shows net x → is_same_wish ((seen_row net.row me).local wire) wish ≡ is_same_wish ((x.edges me).local wire) wish
+pub shown_wish : (net : SwitchLists) (x : SwitchState) (me wire : ℕ) (wish : Wish) → Shows net x → is_same_wish ((seen_row net.row me).local wire) wish ≡ is_same_wish ((x.edges me).local wire) wish
 shown_wish net x me wire wish sh = ap (λ (e : ℕ → IndepState). is_same_wish ((e me).local wire) wish) sh.edges
 
-pub shown_pair : (net : NetLists) (x : SwitchState) → Shows net x → net.pipes.size ≡ length net.row.plan.edges
-    → first_pair (λ from to. is_waiting (pipes_of net.pipes from to)) net.pipes.size 0 net.pipes.size ≡ next_pair net.row.plan x
-shown_pair net x sh size = sym (pair_shown net.row.plan net x (first_pair (λ from to. is_waiting (pipes_of net.pipes from to)) net.pipes.size 0 net.pipes.size) sh size refl)
+pub shown_pair : (net : SwitchLists) (x : SwitchState) → Shows net x → net.pipes.size ≡ length net.row.plan.edges
+    → first_differing_pair (λ from to. is_waiting (octets_between net.pipes from to)) net.pipes.size 0 net.pipes.size ≡ next_pair net.row.plan x
+shown_pair net x sh size = sym (pair_shown net.row.plan net x (first_differing_pair (λ from to. is_waiting (octets_between net.pipes from to)) net.pipes.size 0 net.pipes.size) sh size refl)
 
 -- a test of what is there by a test of what is not
 pub turned_test : (some none : Bool) → some ≡ not none → none ≡ not some
@@ -316,28 +316,28 @@ pub ruleset idle_steps = (shown_connected, shown_waits, shown_wish, shown_pair)
 
 -- ---- a line
 
-pub idle_done : (net : NetLists) (line : SwitchLine) (idle : Bool) → idle ≡ true → ((x : SwitchState) → Shows net x → idle ≡ is_idle net.row.plan x line) → (x : SwitchState)
+pub idle_done : (net : SwitchLists) (line : SwitchLine) (idle : Bool) → idle ≡ true → ((x : SwitchState) → Shows net x → idle ≡ is_line_idle net.row.plan x line) → (x : SwitchState)
     → Shows net x → Shows net (done net.row.plan line x)
 idle_done net line idle is all x sh = subst (λ (b : Bool). Shows net (if b then x else does net.row.plan line x)) (sym is ∙ all x sh) sh
 
-pub idle_told : (net : NetLists) (line : SwitchLine) (idle : Bool) → idle ≡ true → ((x : SwitchState) → Shows net x → idle ≡ is_idle net.row.plan x line) → (x : SwitchState)
+pub idle_told : (net : SwitchLists) (line : SwitchLine) (idle : Bool) → idle ≡ true → ((x : SwitchState) → Shows net x → idle ≡ is_line_idle net.row.plan x line) → (x : SwitchState)
     → Shows net x → Idle ∷ [] ≡ line_entries net.row.plan line x
 idle_told net line idle is all x sh = ap (λ (b : Bool). if b then Idle ∷ [] else entries net.row.plan line x) (sym is ∙ all x sh)
 
-pub line_runs : (net : NetLists) (line : SwitchLine) (idle : Bool) → idle ≡ false → ((x : SwitchState) → Shows net x → idle ≡ is_idle net.row.plan x line) → (x : SwitchState)
-    → Shows net x → is_idle net.row.plan x line ≡ false
+pub line_runs : (net : SwitchLists) (line : SwitchLine) (idle : Bool) → idle ≡ false → ((x : SwitchState) → Shows net x → idle ≡ is_line_idle net.row.plan x line) → (x : SwitchState)
+    → Shows net x → is_line_idle net.row.plan x line ≡ false
 line_runs net line idle is all x sh = sym (all x sh) ∙ is
 
-pub runs_done : (old new : NetLists) (line : SwitchLine) (first last : List SwitchEntry) (idle : Bool) → idle ≡ false → ((x : SwitchState) → Shows old x → idle ≡ is_idle old.row.plan x line)
+pub runs_done : (old new : SwitchLists) (line : SwitchLine) (first last : List SwitchEntry) (idle : Bool) → idle ≡ false → ((x : SwitchState) → Shows old x → idle ≡ is_line_idle old.row.plan x line)
     → Makes old new first last (does old.row.plan line) (entries old.row.plan line) → (x : SwitchState) → Shows old x → Shows new (done old.row.plan line x)
 runs_done old new line first last idle is all made x sh = subst (λ (b : Bool). Shows new (if b then x else does old.row.plan line x)) (sym is ∙ all x sh) (made.shows x sh)
 
-pub runs_told : (old new : NetLists) (line : SwitchLine) (last : List SwitchEntry) (idle : Bool) → idle ≡ false → ((x : SwitchState) → Shows old x → idle ≡ is_idle old.row.plan x line)
+pub runs_told : (old new : SwitchLists) (line : SwitchLine) (last : List SwitchEntry) (idle : Bool) → idle ≡ false → ((x : SwitchState) → Shows old x → idle ≡ is_line_idle old.row.plan x line)
     → Makes old new [] last (does old.row.plan line) (entries old.row.plan line) → (x : SwitchState) → Shows old x → last ≡ line_entries old.row.plan line x
 runs_told old new line last idle is all made x sh = made.tells x sh ∙ ap (λ (b : Bool). if b then Idle ∷ [] else entries old.row.plan line x) (sym is ∙ all x sh)
 
-pub runs_reached : (old new : NetLists) (line : SwitchLine) (first last : List SwitchEntry) (idle : Bool) → idle ≡ false
-    → ((x : SwitchState) → Shows old x → idle ≡ is_idle old.row.plan x line) → new.row.plan ≡ old.row.plan → IsReached old
+pub runs_reached : (old new : SwitchLists) (line : SwitchLine) (first last : List SwitchEntry) (idle : Bool) → idle ≡ false
+    → ((x : SwitchState) → Shows old x → idle ≡ is_line_idle old.row.plan x line) → new.row.plan ≡ old.row.plan → IsReached old
     → Makes old new first last (does old.row.plan line) (entries old.row.plan line) → IsReached new
 runs_reached old new line first last idle is all same reached made = reached_more old new line same reached (λ x sh. runs_done old new line first last idle is all made x sh)
 

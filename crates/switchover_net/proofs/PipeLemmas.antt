@@ -3,8 +3,8 @@ use Rattle.std.proofs.Common.{◌≡◌, ◌==◌, ◌<◌, ◌≤◌, ◌+◌, 
 use Rattle.std.proofs.lemmas.Bool.Decides.{nat_tests}
 use Rattle.net_base.specs.declared.outside.link_call.LinkCall.{LinkCall}
 use Rattle.status_exchange.specs.Exchange.{at_two}
-use Rattle.switchover_model.specs.Network.{first_of, first_pair, first_place, is_waiting}
-use Rattle.switchover_net.specs.Pipes.{bytes_of, pipes_of, PipeLists}
+use Rattle.switchover_model.specs.Network.{earlier_pair, first_differing_pair, first_place, is_waiting}
+use Rattle.switchover_net.specs.Pipes.{bytes_of, octets_between as pipes_of, SwitchPipeLists}
 
 pub view_set : {X : Type 0} (d : X) (xs : List X) (i : ℕ) (v : X) (k : ℕ) → i < length xs → slice_index_or (slice_set xs i v) k d ≡ cond (k == i) v (slice_index_or xs k d)
 view_set d (x ∷ xs) zero v zero h = refl
@@ -13,7 +13,7 @@ view_set d (x ∷ xs) (suc i) v zero h = grind (arith, nat_tests)
 view_set d (x ∷ xs) (suc i) v (suc k) h = grind (arith, nat_tests, view_set d xs i v k (grind arith))
 view_set d [] i v k h = grind arith
 
-pub seen_set : (p : PipeLists) (from to : ℕ) (v : List ℕ) → from < length p.rows → to < length (slice_index_or p.rows from [])
+pub seen_set : (p : SwitchPipeLists) (from to : ℕ) (v : List ℕ) → from < length p.rows → to < length (slice_index_or p.rows from [])
     → pipes_of (record p { rows = slice_set p.rows from (slice_set (slice_index_or p.rows from []) to v) }) ≡ at_two from to v (pipes_of p)
 unfolding pipes_of
 seen_set p from to v h g = λ z i j. at_each i j z
@@ -52,19 +52,19 @@ pub ruleset place_steps = (goes_first, goes_on, hits, ends)
 -- ---- the first pair
 
 pub record PairsFrom (test : ℕ → ℕ → Bool) (size place count : ℕ) (all : Option (ℕ × ℕ)) : Type 0 where
-  pub rest : (n : ℕ) → place + n ≡ count → first_pair test size place n ≡ all
+  pub rest : (n : ℕ) → place + n ≡ count → first_differing_pair test size place n ≡ all
 
-pub pairs_first : (test : ℕ → ℕ → Bool) (size count : ℕ) → PairsFrom test size 0 count (first_pair test size 0 count)
-pairs_first test size count = record { rest = λ n is. ap (first_pair test size 0) (omega (arith, is)) }
+pub pairs_first : (test : ℕ → ℕ → Bool) (size count : ℕ) → PairsFrom test size 0 count (first_differing_pair test size 0 count)
+pairs_first test size count = record { rest = λ n is. ap (first_differing_pair test size 0) (omega (arith, is)) }
 
 pub pairs_on : (test : ℕ → ℕ → Bool) (size place count : ℕ) (all : Option (ℕ × ℕ)) → place < count → None ≡ first_place (test place) 0 size → PairsFrom test size place count all
     → PairsFrom test size (place + 1) count all
-pairs_on test size place count all below none goes = record { rest = λ n is. ap (λ (o : Option ℕ). first_of o place (first_pair test size (place + 1) n)) none ∙ goes.rest (suc n) (omega (arith, is)) }
+pairs_on test size place count all below none goes = record { rest = λ n is. ap (λ (o : Option ℕ). earlier_pair o place (first_differing_pair test size (place + 1) n)) none ∙ goes.rest (suc n) (omega (arith, is)) }
 
 pub pairs_hit : (test : ℕ → ℕ → Bool) (size place count other : ℕ) (all : Option (ℕ × ℕ)) → place < count → Some other ≡ first_place (test place) 0 size
     → PairsFrom test size place count all → Some (place, other) ≡ all
 pairs_hit test size place count other all below some goes =
-    ap (λ (o : Option ℕ). first_of o place (first_pair test size (place + 1) (count - (place + 1)))) some ∙ goes.rest (suc (count - (place + 1))) (omega (arith, below))
+    ap (λ (o : Option ℕ). earlier_pair o place (first_differing_pair test size (place + 1) (count - (place + 1)))) some ∙ goes.rest (suc (count - (place + 1))) (omega (arith, below))
 
 pub pairs_end : (test : ℕ → ℕ → Bool) (size place count : ℕ) (all : Option (ℕ × ℕ)) → count ≤ place → place ≤ count → PairsFrom test size place count all → None ≡ all
 pairs_end test size place count all past within goes = goes.rest 0 (omega (arith, past, within))

@@ -7,18 +7,18 @@ use Rattle.independent_model.specs.Calls.{independent_hears}
 use Rattle.independent_model.specs.State.{IndepState}
 use Rattle.switchover_model.specs.declared.switch_line.SwitchLine.{SwitchLine}
 use Rattle.switchover_model.specs.Laws.{HasSwitchTypes}
-use Rattle.switchover_model.specs.Network.{IsGoing, SwitchState, done, done_all, first_network, is_waiting, taken_all}
+use Rattle.switchover_model.specs.Network.{IsGoing, SwitchState, done, done_all, first_network, is_waiting, takes_all}
 use Rattle.switchover_model.proofs.RunLemmas.{deliveries_go_on}
-use Rattle.switchover_net.specs.Net.{IsReached, NetLists, ShowsSwitchState}
-use Rattle.switchover_net.specs.Pipes.{pipes_of}
+use Rattle.switchover_net.specs.Net.{IsReached, SwitchLists, ShowsSwitchState}
+use Rattle.switchover_net.specs.Pipes.{octets_between}
 use Rattle.switchover_net.specs.Rows.{seen_row}
 
 -- what comes is not refused
-pub hears_on : (net : NetLists) (from to : EdgeId) → IsChecked net.row.plan → HasSwitchTypes net.row.plan → IsReached net → is_waiting (pipes_of net.pipes from.0 to.0) ≡ true
-    → IsGoing (independent_hears net.row.plan taken_all to.0 from (take 1 (pipes_of net.pipes from.0 to.0)) (seen_row net.row to.0) [])
+pub hears_on : (net : SwitchLists) (from to : EdgeId) → IsChecked net.row.plan → HasSwitchTypes net.row.plan → IsReached net → is_waiting (octets_between net.pipes from.0 to.0) ≡ true
+    → IsGoing (independent_hears net.row.plan takes_all to.0 from (take 1 (octets_between net.pipes from.0 to.0)) (seen_row net.row to.0) [])
 hears_on net from to checked types reached waits =
-    subst (λ (e : ℕ → IndepState). IsGoing (independent_hears net.row.plan taken_all to.0 from (take 1 (pipes_of net.pipes from.0 to.0)) (e to.0) [])) (sym reached.shows.edges)
-    (subst (λ (p : ℕ → ℕ → List ℕ). IsGoing (independent_hears net.row.plan taken_all to.0 from (take 1 (p from.0 to.0)) ((done_all net.row.plan reached.lines first_network).edges to.0) []))
+    subst (λ (e : ℕ → IndepState). IsGoing (independent_hears net.row.plan takes_all to.0 from (take 1 (octets_between net.pipes from.0 to.0)) (e to.0) [])) (sym reached.shows.edges)
+    (subst (λ (p : ℕ → ℕ → List ℕ). IsGoing (independent_hears net.row.plan takes_all to.0 from (take 1 (p from.0 to.0)) ((done_all net.row.plan reached.lines first_network).edges to.0) []))
     (sym reached.shows.pipes)
     (deliveries_go_on net.row.plan checked types reached.lines from.0 to.0 1 (ap (λ (p : ℕ → ℕ → List ℕ). is_waiting (p from.0 to.0)) (sym reached.shows.pipes) ∙ waits)))
 
@@ -27,7 +27,7 @@ pub all_more : (plan : Plan) (lines : List SwitchLine) (line : SwitchLine) (x : 
 all_more plan [] line x = refl
 all_more plan (l ∷ lines) line x = all_more plan lines line (done plan l x)
 
-pub reached_more : (old new : NetLists) (line : SwitchLine) → new.row.plan ≡ old.row.plan → IsReached old → ((x : SwitchState) → ShowsSwitchState old x → ShowsSwitchState new (done old.row.plan line x)) → IsReached new
+pub reached_more : (old new : SwitchLists) (line : SwitchLine) → new.row.plan ≡ old.row.plan → IsReached old → ((x : SwitchState) → ShowsSwitchState old x → ShowsSwitchState new (done old.row.plan line x)) → IsReached new
 reached_more old new line same reached does = record {
   checked = subst IsChecked (sym same) reached.checked;
   lines = reached.lines ++ line ∷ [];
@@ -36,5 +36,5 @@ reached_more old new line same reached does = record {
 }
 
 -- nothing was done yet
-pub reached_first : (net : NetLists) → IsChecked net.row.plan → ShowsSwitchState net first_network → IsReached net
+pub reached_first : (net : SwitchLists) → IsChecked net.row.plan → ShowsSwitchState net first_network → IsReached net
 reached_first net checked shows = record { checked = checked; lines = []; shows = shows }

@@ -9,13 +9,13 @@ use Rattle.independent_model.specs.Calls.{loses}
 use Rattle.independent_model.specs.State.{IndepState}
 use Rattle.independent_model.specs.declared.indep_stop.IndepStop.{IndepStop}
 use Rattle.independent_model.specs.declared.indep_stop.IndepStop.TheVariants as stop
-use Rattle.independent_model.specs.Work.{Comes, Goes, NeverRefused, Outcome}
-use Rattle.switchover_model.specs.Network.{IsGoing, calls_of, edge_after, taken_all}
+use Rattle.independent_model.specs.Work.{Comes, Goes, NeverRefused, IndepOutcome as Outcome}
+use Rattle.switchover_model.specs.Network.{IsGoing, calls_of, edge_after, takes_all}
 use Rattle.independent_model.specs.Stops.{EndsAs}
 use Rattle.independent_mode.specs.Lists.{IndepLists, KeepsIndependent, independent_seen}
 use Rattle.independent_mode.proofs.ListLemmas.{set_at}
-use Rattle.status_exchange.specs.Exchange.{at}
-use Rattle.switchover_net.specs.Rows.{HasDone, IsRow, NeverLink, RowLists, edge_lists, edge_past, seen_row}
+use Rattle.status_exchange.specs.Exchange.{put_at_place as at}
+use Rattle.switchover_net.specs.Rows.{HasDoneWork as HasDone, IsRow, NeverLink, RowLists, switch_edge_lists as edge_lists, edge_past, seen_row}
 
 -- an edge is put into its place
 pub row_set : (row : RowLists) (me : ℕ) (now : IndepLists) (state : IndepState) → me < length row.edges → independent_seen now ≡ state
@@ -91,9 +91,9 @@ pub found_place : (row : RowLists) (me : ℕ) (found : IndepLists) → IsRow row
 found_place row me found is below at = ap (λ (e : IndepLists). e.me) (found_is row me found below at) ∙ is.placed me
 
 -- a link that takes all stops no call
-pub never_link : (T U : Type 0) (why : IndepStop) (edge : IndepState) (calls : List LinkCall) (outcome : Outcome) (from : ℕ) → EndsAs taken_all from outcome
+pub never_link : (T U : Type 0) (why : IndepStop) (edge : IndepState) (calls : List LinkCall) (outcome : Outcome) (from : ℕ) → EndsAs takes_all from outcome
     → Comes {T = T} (Err why) edge calls outcome → NeverLink {T = U} (Err why)
-never_link T U stop.Link edge calls outcome from ends comes = let last = subst (λ (o : Outcome). EndsAs taken_all from o) comes ends in absurd (cc (last.failed))
+never_link T U stop.Link edge calls outcome from ends comes = let last = subst (λ (o : Outcome). EndsAs takes_all from o) comes ends in absurd (cc (last.failed))
 never_link T U (stop.Refused fault) edge calls outcome from ends comes = tt
 never_link T U stop.NoMemory edge calls outcome from ends comes = tt
 

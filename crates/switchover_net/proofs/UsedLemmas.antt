@@ -7,7 +7,7 @@ use Rattle.independent_model.specs.State.{IndepState}
 use Rattle.switchover_model.specs.declared.switch_entry.SwitchEntry.{SwitchEntry}
 use Rattle.switchover_model.specs.declared.switch_entry.SwitchEntry.TheVariants.{Said}
 use Rattle.switchover_model.specs.Network.{edge_numbered}
-use Rattle.switchover_model.specs.Text.{said_entries, turned, turned_all, used_from}
+use Rattle.switchover_model.specs.Text.{said_entries, turned_switch, turned_all, used_from}
 
 -- ---- wires that are used
 
@@ -67,7 +67,7 @@ pub ruleset said_steps = (said_goes, said_ends)
 
 turned_more : (plan : Plan) (me i n : ℕ) (edge : IndepState) (before : List Bool) (was : Bool) → i < n → length before ≡ n → was ≡ slice_index_or before i was
     → turned_all me i (drop i before) (used_from plan me edge i (n - i))
-    ≡ turned me i was (uses plan me edge i) ++ turned_all me (i + 1) (drop (i + 1) before) (used_from plan me edge (i + 1) (n - (i + 1)))
+    ≡ turned_switch me i was (uses plan me edge i) ++ turned_all me (i + 1) (drop (i + 1) before) (used_from plan me edge (i + 1) (n - (i + 1)))
 turned_more plan me i n edge before was less long at =
     ap (λ (m : ℕ). turned_all me i (drop i before) (used_from plan me edge i m)) one_more
     ∙ ap (λ (l : List Bool). turned_all me i l (uses plan me edge i ∷ used_from plan me edge (i + 1) (n - (i + 1)))) (front before i within at)
@@ -85,11 +85,11 @@ turned_more plan me i n edge before was less long at =
 
 pub turned_goes : (plan : Plan) (me i n : ℕ) (edge : IndepState) (before : List Bool) (was is : Bool) (so_far now all : List SwitchEntry) → i < n → length before ≡ n → was
     ≡ slice_index_or before i was → is ≡ uses plan me edge i
-    → now ≡ so_far ++ turned me i was is → so_far ++ turned_all me i (drop i before) (used_from plan me edge i (n - i)) ≡ all
+    → now ≡ so_far ++ turned_switch me i was is → so_far ++ turned_all me i (drop i before) (used_from plan me edge i (n - i)) ≡ all
     → now ++ turned_all me (i + 1) (drop (i + 1) before) (used_from plan me edge (i + 1) (n - (i + 1))) ≡ all
 turned_goes plan me i n edge before was is so_far now all less long at here pushed goes =
-    ap (λ (l : List SwitchEntry). l ++ turned_all me (i + 1) (drop (i + 1) before) (used_from plan me edge (i + 1) (n - (i + 1)))) (pushed ∙ ap (λ (b : Bool). so_far ++ turned me i was b) here)
-    ∙ (append_assoc so_far (turned me i was (uses plan me edge i)) (turned_all me (i + 1) (drop (i + 1) before) (used_from plan me edge (i + 1) (n - (i + 1))))
+    ap (λ (l : List SwitchEntry). l ++ turned_all me (i + 1) (drop (i + 1) before) (used_from plan me edge (i + 1) (n - (i + 1)))) (pushed ∙ ap (λ (b : Bool). so_far ++ turned_switch me i was b) here)
+    ∙ (append_assoc so_far (turned_switch me i was (uses plan me edge i)) (turned_all me (i + 1) (drop (i + 1) before) (used_from plan me edge (i + 1) (n - (i + 1))))
     ∙ (ap (λ (l : List SwitchEntry). so_far ++ l) (sym (turned_more plan me i n edge before was less long at)) ∙ goes))
 
 pub turned_ends : (plan : Plan) (me i n : ℕ) (edge : IndepState) (before : List Bool) (so_far all : List SwitchEntry) → n ≤ i → length before ≡ n

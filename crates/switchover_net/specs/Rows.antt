@@ -6,9 +6,9 @@ use Rattle.net_base.specs.declared.outside.link_call.LinkCall.{LinkCall}
 use Rattle.net_base.specs.declared.plan.Plan.{Plan}
 use Rattle.net_base.specs.plan.Accepted.{IsChecked}
 use Rattle.independent_model.specs.State.{IndepState, first_state}
-use Rattle.independent_model.specs.Work.{Outcome}
+use Rattle.independent_model.specs.Work.{IndepOutcome}
 use Rattle.independent_mode.specs.Lists.{IndepLists, independent_seen}
-use Rattle.status_exchange.specs.Exchange.{at}
+use Rattle.status_exchange.specs.Exchange.{put_at_place}
 use Rattle.switchover_model.specs.Network.{calls_of, edge_after}
 
 pub record RowLists : Type 0 where
@@ -19,18 +19,18 @@ pub record RowLists : Type 0 where
 abbrev pub edge_past : Plan → ℕ → IndepLists
 edge_past plan k = record { plan = plan; me = record { 0 = k }; wishes = []; remotes = []; connections = [] }
 
-abbrev pub edge_lists : RowLists → ℕ → IndepLists
-edge_lists row k = slice_index_or row.edges k (edge_past row.plan k)
+abbrev pub switch_edge_lists : RowLists → ℕ → IndepLists
+switch_edge_lists row k = slice_index_or row.edges k (edge_past row.plan k)
 
 unfoldable pub seen_row : RowLists → ℕ → IndepState
-seen_row row k = independent_seen (edge_lists row k)
+seen_row row k = independent_seen (switch_edge_lists row k)
 
 -- what always holds of it
 pub record IsRow (row : RowLists) : Type 0 where
   pub checked : IsChecked row.plan
   pub count : length row.edges ≡ length row.plan.edges
-  pub planned : (k : ℕ) → k < length row.edges → (edge_lists row k).plan ≡ row.plan
-  pub placed : (k : ℕ) → (edge_lists row k).me ≡ record { 0 = k }
+  pub planned : (k : ℕ) → k < length row.edges → (switch_edge_lists row k).plan ≡ row.plan
+  pub placed : (k : ℕ) → (switch_edge_lists row k).me ≡ record { 0 = k }
 
 -- so many edges of a plan before their first call
 pub record AreFresh (plan : Plan) (count : ℕ) (edges : List IndepLists) : Type 0 where
@@ -40,8 +40,8 @@ pub record AreFresh (plan : Plan) (count : ℕ) (edges : List IndepLists) : Type
   pub first : (k : ℕ) → independent_seen (slice_index_or edges k (edge_past plan k)) ≡ first_state
 
 -- an edge did this work, and what it put was given out
-pub record HasDone (me : ℕ) (old new : RowLists) (calls : List LinkCall) (outcome : Outcome) : Type 0 where
-  pub state : seen_row new ≡ at me (edge_after outcome) (seen_row old)
+pub record HasDoneWork (me : ℕ) (old new : RowLists) (calls : List LinkCall) (outcome : IndepOutcome) : Type 0 where
+  pub state : seen_row new ≡ put_at_place me (edge_after outcome) (seen_row old)
   pub put : calls ≡ calls_of outcome
 
 -- it is not the link that stopped it

@@ -6,11 +6,11 @@ ghost use Rattle.independent_model.specs.Calls.{independent_connects, independen
 ghost use Rattle.independent_model.specs.State.{first_state};
 ghost use Rattle.independent_model.specs.Wires.{other_end};
 ghost use Rattle.independent_model.specs.Work.{NeverRefused};
-ghost use Rattle.status_exchange.specs.Exchange.{at};
+ghost use Rattle.status_exchange.specs.Exchange.{put_at_place};
 ghost use Rattle.status_exchange.specs.Wish.{is_same_wish};
-ghost use Rattle.switchover_model.specs.Network.{IsGoing, taken_all};
+ghost use Rattle.switchover_model.specs.Network.{IsGoing, takes_all};
 ghost use Rattle.switchover_model.specs.Text.{used as used_by};
-ghost use Rattle.switchover_net.specs.Rows.{AreFresh, HasDone, NeverLink, seen_row};
+ghost use Rattle.switchover_net.specs.Rows.{AreFresh, HasDoneWork, NeverLink, seen_row};
 
 use crate::taking_link::TakingLink;
 use independent_mode::{IndepEdge, IndepStop, Wish};
@@ -111,7 +111,7 @@ impl EdgeRow {
         requires me { me.0 < length self.old.plan.edges }
         requires peer { peer.0 < length self.old.plan.edges }
         ensures plan { self.new.plan ≡ self.old.plan }
-        ensures state { seen_row self.new ≡ at me.0 (loses self.old.plan me.0 peer (seen_row self.old me.0)) (seen_row self.old) }
+        ensures state { seen_row self.new ≡ put_at_place me.0 (loses self.old.plan me.0 peer (seen_row self.old me.0)) (seen_row self.old) }
     {
         self.edges[me.0 as usize].lost(peer);
     }
@@ -130,7 +130,7 @@ impl EdgeRow {
         ensures plan { self.new.plan ≡ self.old.plan }
         ensures link { NeverLink result }
         ensures refused { NeverRefused result }
-        ensures step { IfOk result (λ calls. HasDone me.0 self.old self.new calls (sets self.old.plan taken_all me.0 wire.0 to (seen_row self.old me.0) [])) }
+        ensures step { IfOk result (λ calls. HasDoneWork me.0 self.old self.new calls (sets self.old.plan takes_all me.0 wire.0 to (seen_row self.old me.0) [])) }
     {
         let mut link = TakingLink::new(alloc);
         let done = self.edges[me.0 as usize].set(alloc, wire, to, &mut link);
@@ -155,7 +155,7 @@ impl EdgeRow {
         ensures plan { self.new.plan ≡ self.old.plan }
         ensures link { NeverLink result }
         ensures refused { NeverRefused result }
-        ensures step { IfOk result (λ calls. HasDone me.0 self.old self.new calls (independent_connects self.old.plan taken_all me.0 peer (seen_row self.old me.0) [])) }
+        ensures step { IfOk result (λ calls. HasDoneWork me.0 self.old self.new calls (independent_connects self.old.plan takes_all me.0 peer (seen_row self.old me.0) [])) }
     {
         let mut link = TakingLink::new(alloc);
         let done = self.edges[me.0 as usize].connected(alloc, peer, &mut link);
@@ -179,8 +179,8 @@ impl EdgeRow {
         requires peer { peer.0 < length self.old.plan.edges }
         ensures plan { self.new.plan ≡ self.old.plan }
         ensures link { NeverLink result }
-        ensures refused { IsGoing (independent_hears self.old.plan taken_all me.0 peer bytes.now (seen_row self.old me.0) []) → NeverRefused result }
-        ensures step { IfOk result (λ calls. HasDone me.0 self.old self.new calls (independent_hears self.old.plan taken_all me.0 peer bytes.now (seen_row self.old me.0) [])) }
+        ensures refused { IsGoing (independent_hears self.old.plan takes_all me.0 peer bytes.now (seen_row self.old me.0) []) → NeverRefused result }
+        ensures step { IfOk result (λ calls. HasDoneWork me.0 self.old self.new calls (independent_hears self.old.plan takes_all me.0 peer bytes.now (seen_row self.old me.0) [])) }
     {
         let mut link = TakingLink::new(alloc);
         let done = self.edges[me.0 as usize].hear(alloc, peer, bytes, &mut link);

@@ -1,8 +1,8 @@
 //! The pipes between edges.
 ghost use Rattle.std.specs.Prelude.{◌≡◌, ◌++◌, ◌<◌, [], drop, take, IfOk, IfSome, OnOk};
 ghost use Rattle.status_exchange.specs.Exchange.{at_two};
-ghost use Rattle.switchover_model.specs.Network.{first_pair, first_place, is_waiting};
-ghost use Rattle.switchover_net.specs.Pipes.{bytes_of, no_octets, pipes_of};
+ghost use Rattle.switchover_model.specs.Network.{first_differing_pair, first_place, is_waiting};
+ghost use Rattle.switchover_net.specs.Pipes.{bytes_of, no_octets_between, octets_between};
 
 use crate::pipe_row::PipeRow;
 use net_base::{EdgeId, LinkCall, NoMemory};
@@ -17,13 +17,13 @@ pub struct Pipes {
 }
 
 impl Model for Pipes {
-    ghost use Rattle.switchover_net.specs.Pipes.{PipeLists, IsSquare};
+    ghost use Rattle.switchover_net.specs.Pipes.{SwitchPipeLists, IsPipeSquare};
 
-    ghost Value = { PipeLists };
+    ghost Value = { SwitchPipeLists };
 
     ghost view = { λ p. record { size = p.size; rows = p.rows.items } };
 
-    ghost invariant = { λ p. IsSquare p.size p.rows.items };
+    ghost invariant = { λ p. IsPipeSquare p.size p.rows.items };
 }
 
 impl Pipes {
@@ -31,7 +31,7 @@ impl Pipes {
     #[tactic(auto, using(crate::proofs::EmptyLemmas::square_steps))]
     pub fn open(alloc: Global, size: usize) -> Result<Pipes, NoMemory>
         ensures size { IfOk result (λ pipes. pipes.size ≡ size) }
-        ensures empty { IfOk result (λ pipes. pipes_of pipes ≡ no_octets) }
+        ensures empty { IfOk result (λ pipes. octets_between pipes ≡ no_octets_between) }
     {
         let mut rows = Vec::new(alloc);
         for _place in 0..size {
@@ -41,12 +41,12 @@ impl Pipes {
     }
 
     /// Puts octets into the pipe from an edge to another one. After `NoMemory` the pipes are as they were.
-    #[tactic(auto, using(crate::proofs::PipeLemmas::seen_set), unfolding(crate::specs::Pipes::pipes_of))]
+    #[tactic(auto, using(crate::proofs::PipeLemmas::seen_set), unfolding(crate::specs::Pipes::octets_between))]
     pub fn put(&mut self, from: EdgeId, to: EdgeId, piece: &[u8]) -> Result<(), NoMemory>
         requires from { from.0 < self.old.size }
         requires to { to.0 < self.old.size }
         ensures size { self.new.size ≡ self.old.size }
-        ensures ok { OnOk result (pipes_of self.new ≡ at_two from.0 to.0 (pipes_of self.old from.0 to.0 ++ piece.now) (pipes_of self.old)) }
+        ensures ok { OnOk result (octets_between self.new ≡ at_two from.0 to.0 (octets_between self.old from.0 to.0 ++ piece.now) (octets_between self.old)) }
     {
         self.rows[from.0 as usize].pipes[to.0 as usize].put(piece)
     }
@@ -57,7 +57,7 @@ impl Pipes {
         requires from { from.0 < self.old.size }
         requires to { to.0 < self.old.size }
         ensures size { self.new.size ≡ self.old.size }
-        ensures ok { OnOk result (pipes_of self.new ≡ at_two from.0 to.0 (pipes_of self.old from.0 to.0 ++ bytes_of calls.now) (pipes_of self.old)) }
+        ensures ok { OnOk result (octets_between self.new ≡ at_two from.0 to.0 (octets_between self.old from.0 to.0 ++ bytes_of calls.now) (octets_between self.old)) }
     {
         for place in 0..calls.len() {
             self.put(from, to, calls[place].bytes.as_slice())?;
@@ -66,43 +66,43 @@ impl Pipes {
     }
 
     /// The first `count` octets on their way from an edge to another one, or all where there are fewer.
-    #[tactic(auto, unfolding(crate::specs::Pipes::pipes_of))]
+    #[tactic(auto, unfolding(crate::specs::Pipes::octets_between))]
     pub fn front(&self, from: EdgeId, to: EdgeId, count: usize) -> &[u8]
         requires from { from.0 < self.now.size }
         requires to { to.0 < self.now.size }
-        ensures { result.now ≡ take count (pipes_of self.now from.0 to.0) }
+        ensures { result.now ≡ take count (octets_between self.now from.0 to.0) }
     {
         self.rows[from.0 as usize].pipes[to.0 as usize].front(count)
     }
 
     /// Gives up the first `count` octets on their way from an edge to another one, or all where there are fewer.
-    #[tactic(auto, using(crate::proofs::PipeLemmas::seen_set), unfolding(crate::specs::Pipes::pipes_of))]
+    #[tactic(auto, using(crate::proofs::PipeLemmas::seen_set), unfolding(crate::specs::Pipes::octets_between))]
     pub fn skip(&mut self, from: EdgeId, to: EdgeId, count: usize)
         requires from { from.0 < self.old.size }
         requires to { to.0 < self.old.size }
         ensures size { self.new.size ≡ self.old.size }
-        ensures rest { pipes_of self.new ≡ at_two from.0 to.0 (drop count (pipes_of self.old from.0 to.0)) (pipes_of self.old) }
+        ensures rest { octets_between self.new ≡ at_two from.0 to.0 (drop count (octets_between self.old from.0 to.0)) (octets_between self.old) }
     {
         self.rows[from.0 as usize].pipes[to.0 as usize].skip(count);
     }
 
     /// Empties the pipe from an edge to another one.
-    #[tactic(auto, using(crate::proofs::PipeLemmas::seen_set), unfolding(crate::specs::Pipes::pipes_of))]
+    #[tactic(auto, using(crate::proofs::PipeLemmas::seen_set), unfolding(crate::specs::Pipes::octets_between))]
     pub fn clear(&mut self, from: EdgeId, to: EdgeId)
         requires from { from.0 < self.old.size }
         requires to { to.0 < self.old.size }
         ensures size { self.new.size ≡ self.old.size }
-        ensures empty { pipes_of self.new ≡ at_two from.0 to.0 [] (pipes_of self.old) }
+        ensures empty { octets_between self.new ≡ at_two from.0 to.0 [] (octets_between self.old) }
     {
         self.rows[from.0 as usize].pipes[to.0 as usize].clear();
     }
 
     /// Whether octets are on their way from an edge to another one, by their places.
-    #[tactic(auto, using(crate::proofs::PipeLemmas::waits_by_length), unfolding(crate::specs::Pipes::pipes_of))]
+    #[tactic(auto, using(crate::proofs::PipeLemmas::waits_by_length), unfolding(crate::specs::Pipes::octets_between))]
     pub fn is_waiting(&self, from: usize, to: usize) -> bool
         requires from { from < self.now.size }
         requires to { to < self.now.size }
-        ensures { result ≡ is_waiting (pipes_of self.now from to) }
+        ensures { result ≡ is_waiting (octets_between self.now from to) }
     {
         self.rows[from].pipes[to].len() > 0
     }
@@ -111,7 +111,7 @@ impl Pipes {
     #[tactic(auto, using(crate::proofs::PipeLemmas::place_steps))]
     fn first_from(&self, from: usize) -> Option<usize>
         requires from { from < self.now.size }
-        ensures first { result ≡ first_place (λ to. is_waiting (pipes_of self.now from to)) 0 self.now.size }
+        ensures first { result ≡ first_place (λ to. is_waiting (octets_between self.now from to)) 0 self.now.size }
         ensures within { IfSome result (λ to. to < self.now.size) }
     {
         for to in 0..self.size {
@@ -125,7 +125,7 @@ impl Pipes {
     /// The first pair of edges between which octets are on their way, by the place of the sender and then by that of the receiver.
     #[tactic(auto, using(crate::proofs::PipeLemmas::pair_steps))]
     pub fn first_pair(&self) -> Option<(usize, usize)>
-        ensures first { result ≡ first_pair (λ from to. is_waiting (pipes_of self.now from to)) self.now.size 0 self.now.size }
+        ensures first { result ≡ first_differing_pair (λ from to. is_waiting (octets_between self.now from to)) self.now.size 0 self.now.size }
         ensures within { IfSome result (λ pair. (pair.0 < self.now.size) × (pair.1 < self.now.size)) }
     {
         for from in 0..self.size {

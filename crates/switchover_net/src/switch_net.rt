@@ -24,9 +24,9 @@ pub struct SwitchNet {
 }
 
 impl Model for SwitchNet {
-    ghost use Rattle.switchover_net.specs.Net.{IsNet, NetLists};
+    ghost use Rattle.switchover_net.specs.Net.{IsNet, SwitchLists};
 
-    ghost Value = { NetLists };
+    ghost Value = { SwitchLists };
 
     ghost view = { λ n. record { row = n.row; pipes = n.pipes } };
 

@@ -2,7 +2,7 @@
 ghost use Rattle.std.specs.Prelude.{◌≡◌, []};
 ghost use Rattle.net_base.specs.outside.Link.{Counts, IsCallAnswer};
 ghost use Rattle.pw_messages.specs.LinkAnswers.{Agrees};
-ghost use Rattle.switchover_model.specs.Network.{taken_all};
+ghost use Rattle.switchover_model.specs.Network.{takes_all};
 
 use net_base::{EdgeId, Link, LinkCall, LinkStop, List};
 use std::alloc::Global;
@@ -19,13 +19,13 @@ impl Model for TakingLink {
     ghost use Rattle.std.specs.Prelude.{List};
     ghost use Rattle.net_base.specs.declared.outside.link_call.LinkCall.{LinkCall};
     ghost use Rattle.pw_messages.specs.LinkAnswers.{Agrees};
-    ghost use Rattle.switchover_model.specs.Network.{taken_all};
+    ghost use Rattle.switchover_model.specs.Network.{takes_all};
 
     ghost Value = { List LinkCall };
 
     ghost view = { λ l. l.calls };
 
-    ghost invariant = { λ l. Agrees taken_all l.calls };
+    ghost invariant = { λ l. Agrees takes_all l.calls };
 }
 
 impl TakingLink {
@@ -43,7 +43,7 @@ impl TakingLink {
     /// The calls in order, which the link gives up.
     pub fn into_calls(self) -> List<LinkCall>
         ensures calls { result ≡ self }
-        ensures taken { Agrees taken_all self }
+        ensures taken { Agrees takes_all self }
     {
         self.calls
     }

@@ -19,8 +19,8 @@ use Rattle.switchover_model.specs.declared.switch_line.SwitchLine.TheVariants as
 -- ---- what a line names
 
 -- an edge of the plan
-abbrev pub edge_at : Plan → ℕ → ℕ → List (List ℕ) → Result ℕ ScriptFault
-edge_at plan number word words = said_at (place_in (edge_names plan.edges)) number word words
+abbrev pub script_edge_at : Plan → ℕ → ℕ → List (List ℕ) → Result ℕ ScriptFault
+script_edge_at plan number word words = said_at (place_in (edge_names plan.edges)) number word words
 
 abbrev pub has_two_edges : Option WirePlan → Bool
 has_two_edges None = false
@@ -42,24 +42,24 @@ wire_at plan number word words = said_at (short_wire plan) number word words
 -- connect E P
 unfoldable pub connect_line : Plan → ℕ → List (List ℕ) → Result SwitchLine ScriptFault
 connect_line plan number words = do
-  edge ← edge_at plan number 2 words
-  peer ← edge_at plan number 3 words
+  edge ← script_edge_at plan number 2 words
+  peer ← script_edge_at plan number 3 words
   end ← ends_behind number 3 words
   Ok (line.Connect (record { 0 = edge }) (record { 0 = peer }))
 
 -- cut E P
 unfoldable pub cut_in : Plan → ℕ → List (List ℕ) → Result SwitchLine ScriptFault
 cut_in plan number words = do
-  edge ← edge_at plan number 2 words
-  peer ← edge_at plan number 3 words
+  edge ← script_edge_at plan number 2 words
+  peer ← script_edge_at plan number 3 words
   end ← ends_behind number 3 words
   Ok (line.Cut (record { 0 = edge }) (record { 0 = peer }))
 
 -- deliver E P N
 unfoldable pub deliver_line : Plan → ℕ → List (List ℕ) → Result SwitchLine ScriptFault
 deliver_line plan number words = do
-  from ← edge_at plan number 2 words
-  to ← edge_at plan number 3 words
+  from ← script_edge_at plan number 2 words
+  to ← script_edge_at plan number 3 words
   count ← said_at (decimal_from 1 65535) number 4 words
   end ← ends_behind number 4 words
   Ok (line.Deliver (record { 0 = from }) (record { 0 = to }) count)
@@ -74,7 +74,7 @@ settle_in number words = do
 -- active E W, standby E W, ask E W
 unfoldable pub set_in : Plan → Wish → ℕ → List (List ℕ) → Result SwitchLine ScriptFault
 set_in plan wish number words = do
-  edge ← edge_at plan number 2 words
+  edge ← script_edge_at plan number 2 words
   wire ← wire_at plan number 3 words
   end ← ends_behind number 3 words
   Ok (line.Set (record { 0 = edge }) (record { 0 = wire }) wish)
@@ -82,8 +82,8 @@ set_in plan wish number words = do
 -- ---- any line, by its first word
 
 -- what an edge may call a wire
-abbrev pub wish_of : List ℕ → Option Wish
-wish_of word =
+abbrev pub script_wish_of : List ℕ → Option Wish
+script_wish_of word =
     if bytes_eq word (codes "active") then Some Active
     else if bytes_eq word (codes "standby") then Some Standby
     else if bytes_eq word (codes "ask") then Some Ask
@@ -99,7 +99,7 @@ switchover_line_by plan number word words =
     else if bytes_eq word (codes "cut") then cut_in plan number words
     else if bytes_eq word (codes "deliver") then deliver_line plan number words
     else if bytes_eq word (codes "settle") then settle_in number words
-    else set_by plan (wish_of word) number words
+    else set_by plan (script_wish_of word) number words
 
 unfoldable pub switch_line_of : Plan → ℕ → List (List ℕ) → Result SwitchLine ScriptFault
 switch_line_of plan number words = switchover_line_by plan number (first_of words) words

@@ -4,7 +4,7 @@ ghost use Rattle.command_text.specs.Planned.{names_of};
 ghost use Rattle.net_base.specs.plan.NameFaults.{wire_names};
 ghost use Rattle.script_words.specs.Reading.{said_at};
 ghost use Rattle.switchover_model.specs.Planned.{IsLineOf};
-ghost use Rattle.switchover_script.specs.Lines.{between_two, connect_line, cut_in, deliver_line, edge_at, has_two_edges, set_in, settle_in, short_wire, switch_line_of, wire_at, wish_of};
+ghost use Rattle.switchover_script.specs.Lines.{between_two, connect_line, cut_in, deliver_line, script_edge_at, has_two_edges, set_in, settle_in, short_wire, switch_line_of, wire_at, script_wish_of};
 
 use command_text::{PlanNames, is_same};
 use net_base::{EdgeId, Plan, WireId};
@@ -23,7 +23,7 @@ fn edge(
 ) -> Result<u16, ScriptFault>
     requires names { names.now ≡ names_of plan.now }
     requires word { 1 ≤ word }
-    ensures exact { result ≡ edge_at plan.now number word line.now }
+    ensures exact { result ≡ script_edge_at plan.now number word line.now }
     ensures within { IfOk result (λ place. place < length plan.now.edges) }
 {
     place_at(&names.edges, number, word, line)
@@ -181,7 +181,7 @@ fn set(
 
 // What an edge calls a wire by a line of this first word.
 fn wish_of(word: &str) -> Option<Wish>
-    ensures { result ≡ wish_of word.now }
+    ensures { result ≡ script_wish_of word.now }
 {
     if is_same(word, "active") {
         Some(Wish::Active)

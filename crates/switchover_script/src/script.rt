@@ -2,7 +2,7 @@
 ghost use Rattle.std.specs.Prelude.{◌≡◌, ◌<◌, ◌^◌, ◌-◌, All, IfOk, length};
 ghost use Rattle.command_text.specs.Planned.{names_of};
 ghost use Rattle.net_base.specs.plan.Accepted.{IsChecked};
-ghost use Rattle.script_text.specs.Reading.{Gives};
+ghost use Rattle.script_text.specs.Reading.{GivesScript};
 ghost use Rattle.switchover_model.specs.Planned.{IsLineOf};
 ghost use Rattle.switchover_script.specs.Lines.{switch_lines_in, switch_lines_of};
 
@@ -23,7 +23,7 @@ fn lines(
 ) -> Result<List<SwitchLine>, ScriptFault>
     requires names { names.now ≡ names_of plan.now }
     requires few { length texts.now < 2 ^ 32 - 1 }
-    ensures exact { Gives result (switch_lines_of plan.now 1 texts.now) }
+    ensures exact { GivesScript result (switch_lines_of plan.now 1 texts.now) }
     ensures planned { IfOk result (All (IsLineOf plan.now)) }
 {
     let mut lines = List::new(alloc);
@@ -44,7 +44,7 @@ fn read_with(
 ) -> Result<List<SwitchLine>, ScriptFault>
     requires names { names.now ≡ names_of plan.now }
     requires few { length octets.now < 2 ^ 32 - 2 }
-    ensures exact { Gives result (switch_lines_in plan.now octets.now) }
+    ensures exact { GivesScript result (switch_lines_in plan.now octets.now) }
     ensures planned { IfOk result (All (IsLineOf plan.now)) }
 {
     match read_lines(alloc, octets) {
@@ -64,7 +64,7 @@ pub fn read_switch_script(
 ) -> Result<List<SwitchLine>, ScriptFault>
     requires checked { IsChecked plan.now }
     requires few { length octets.now < 2 ^ 32 - 2 }
-    ensures exact { Gives result (switch_lines_in plan.now octets.now) }
+    ensures exact { GivesScript result (switch_lines_in plan.now octets.now) }
     ensures planned { IfOk result (All (IsLineOf plan.now)) }
 {
     let Ok(lists) = NameLists::of(alloc, plan) else {

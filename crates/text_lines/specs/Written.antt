@@ -8,8 +8,8 @@ pub record Written : Type 0 where
   pub faults : ℕ
   pub waiting : List ℕ
 
-abbrev pub written : Option (List ℕ) → ℕ → List ℕ → Written
-written taken faults waiting = record { taken = taken; faults = faults; waiting = waiting }
+abbrev pub lines_written : Option (List ℕ) → ℕ → List ℕ → Written
+lines_written taken faults waiting = record { taken = taken; faults = faults; waiting = waiting }
 
 -- the text went on by these octets: the sink took a front of what waited and of them, and the rest waits; where there are none, all
 -- is as it was
@@ -38,7 +38,7 @@ Puts (Err fault) old now octets = IsCut old now octets
 
 -- octets were put on a page before a sink, of which it tells what it took and how many of its calls failed
 abbrev pub PutsOn : {K T E : Type 0} → (K → Option (List ℕ)) → (K → ℕ) → List ℕ → List ℕ → K → K → Result T E → List ℕ → Type 0
-PutsOn taken faults page page_now sink sink_now result octets = Puts result (written (taken sink) (faults sink) page) (written (taken sink_now) (faults sink_now) page_now) octets
+PutsOn taken faults page page_now sink sink_now result octets = Puts result (lines_written (taken sink) (faults sink) page) (lines_written (taken sink_now) (faults sink_now) page_now) octets
 
 -- the whole text was taken: what was taken goes on by it, where it is told, and of an empty text nothing is taken
 abbrev pub Writes : Option (List ℕ) → Option (List ℕ) → List ℕ → Type 0

@@ -3,7 +3,7 @@ ghost use Rattle.std.specs.Prelude.{◌≡◌, ◌<◌, ◌≤◌, ◌+◌, ◌*
 ghost use Rattle.std.specs.Fmt.{decimal};
 ghost use Rattle.text_pieces.specs.Pieces.{hex, spaced};
 ghost use Rattle.text_lines.specs.Lines.{line_of, word_octets};
-ghost use Rattle.text_lines.specs.Written.{written, IsCut, Moves, PutsOn, Writes};
+ghost use Rattle.text_lines.specs.Written.{lines_written, IsCut, Moves, PutsOn, Writes};
 
 use crate::whole::write_text;
 use crate::word::Word;
@@ -65,7 +65,7 @@ impl Page {
     pub fn flush<K: Sink>(&mut self, sink: &mut K) -> Result<(), Failed>
         ensures whole { OnOk result (Writes (K.taken sink.old) (K.taken sink.new) self.old) }
         ensures none { OnOk result (self.new ≡ []) }
-        ensures cut { OnErr result (IsCut (written (K.taken sink.old) (K.faults sink.old) self.old) (written (K.taken sink.new) (K.faults sink.new) self.new) []) }
+        ensures cut { OnErr result (IsCut (lines_written (K.taken sink.old) (K.faults sink.old) self.old) (lines_written (K.taken sink.new) (K.faults sink.new) self.new) []) }
         ensures never_falls { K.faults sink.old ≤ K.faults sink.new }
     {
         match write_text(sink, &self.room[..self.len]) {
@@ -80,9 +80,9 @@ impl Page {
     // Makes room for an octet at least.
     #[tactic(auto, using(crate::proofs::WrittenLemmas::moves_all, crate::proofs::WrittenLemmas::moves_none))]
     fn make_room<K: Sink>(&mut self, sink: &mut K) -> Result<(), Failed>
-        ensures moves { OnOk result (Moves (written (K.taken sink.old) (K.faults sink.old) self.old) (written (K.taken sink.new) (K.faults sink.new) self.new)) }
+        ensures moves { OnOk result (Moves (lines_written (K.taken sink.old) (K.faults sink.old) self.old) (lines_written (K.taken sink.new) (K.faults sink.new) self.new)) }
         ensures room { OnOk result (length self.new < 65536) }
-        ensures cut { OnErr result (IsCut (written (K.taken sink.old) (K.faults sink.old) self.old) (written (K.taken sink.new) (K.faults sink.new) self.new) []) }
+        ensures cut { OnErr result (IsCut (lines_written (K.taken sink.old) (K.faults sink.old) self.old) (lines_written (K.taken sink.new) (K.faults sink.new) self.new) []) }
     {
         if self.len < ROOM {
             return Ok(());

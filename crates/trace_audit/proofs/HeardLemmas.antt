@@ -9,7 +9,7 @@ use Rattle.trace_audit.specs.declared.audit_stop.AuditStop.{AuditStop}
 use Rattle.trace_audit.specs.declared.audit_stop.AuditStop.TheVariants as stop
 use Rattle.trace_audit.specs.declared.ears.Ears.{Ears}
 use Rattle.trace_audit.specs.Audited.{IsAudited}
-use Rattle.trace_audit.specs.Heard.{Answers, HasHeardAll, Hears, HearsOn, IsBehind, IsHeard, WasTold, with_front_entries}
+use Rattle.trace_audit.specs.Heard.{AnswersRule, HasHeardAll, HearsReport, HearsLine, IsBehind, IsHeard, WereHeard, with_front_entries}
 
 entry_behind : (front : List Entry) (entry : Entry) (told : Result (List Entry) ℕ) → with_front_entries front (with_entry entry told) ≡ with_front_entries (front ++ entry ∷ []) told
 entry_behind front entry (Ok entries) = ap Ok (sym (append_assoc front (entry ∷ []) entries))
@@ -54,18 +54,18 @@ no_line plan text left reader ears none is = is.told ∙ ap (λ (n : ℕ). with_
 
 -- the last line was heard
 pub heard_on : (plan : Plan) (text : List ℕ) (left : ℕ) (old : ReadSoFar) (ears : Ears) (new : ReadSoFar) (heard : Ears) (result : Result Bool AuditStop)
-    → HearsOn plan old ears new heard result → result ≡ Ok true → 0 < left
+    → HearsLine plan old ears new heard result → result ≡ Ok true → 0 < left
     → IsBehind plan text left old ears → IsBehind plan text (left - 1) new heard
-heard_on plan text left old ears new heard result hears is some behind = subst (HearsOn plan old ears new heard) is hears text (left - 1) (one_less plan text left old ears some behind)
+heard_on plan text left old ears new heard result hears is some behind = subst (HearsLine plan old ears new heard) is hears text (left - 1) (one_less plan text left old ears some behind)
 
 pub heard_last : (plan : Plan) (text : List ℕ) (left : ℕ) (old : ReadSoFar) (ears : Ears) (new : ReadSoFar) (heard : Ears) (result : Result Bool AuditStop)
-    → HearsOn plan old ears new heard result → result ≡ Ok false → 0 < left → IsBehind plan text left old ears
+    → HearsLine plan old ears new heard result → result ≡ Ok false → 0 < left → IsBehind plan text left old ears
     → IsHeard plan text heard
-heard_last plan text left old ears new heard result hears is some behind = subst (HearsOn plan old ears new heard) is hears text (left - 1) (one_less plan text left old ears some behind)
+heard_last plan text left old ears new heard result hears is some behind = subst (HearsLine plan old ears new heard) is hears text (left - 1) (one_less plan text left old ears some behind)
 
 -- a line could not be heard
-heard_stop : (plan : Plan) (text : List ℕ) (left : ℕ) (old : ReadSoFar) (ears : Ears) (new : ReadSoFar) (heard : Ears) (why : AuditStop) → HearsOn plan old ears new heard (Err why)
-    → IsBehind plan text (suc left) old ears → Hears plan text (Err why)
+heard_stop : (plan : Plan) (text : List ℕ) (left : ℕ) (old : ReadSoFar) (ears : Ears) (new : ReadSoFar) (heard : Ears) (why : AuditStop) → HearsLine plan old ears new heard (Err why)
+    → IsBehind plan text (suc left) old ears → HearsReport plan text (Err why)
 heard_stop plan text left old ears new heard (stop.Form line) hears behind = hears text left behind
 heard_stop plan text left old ears new heard (stop.Isolated line) hears behind = absurd hears
 heard_stop plan text left old ears new heard (stop.Split line) hears behind = absurd hears
@@ -73,18 +73,18 @@ heard_stop plan text left old ears new heard (stop.Once line) hears behind = abs
 heard_stop plan text left old ears new heard stop.NoMemory hears behind = tt
 
 pub heard_err : (plan : Plan) (text : List ℕ) (left : ℕ) (old : ReadSoFar) (ears : Ears) (new : ReadSoFar) (heard : Ears) (result : Result Bool AuditStop) (why : AuditStop)
-    → HearsOn plan old ears new heard result → result ≡ Err why → 0 < left → IsBehind plan text left old ears
-    → Hears plan text (Err why)
+    → HearsLine plan old ears new heard result → result ≡ Err why → 0 < left → IsBehind plan text left old ears
+    → HearsReport plan text (Err why)
 heard_err plan text left old ears new heard result why hears is some behind =
-    heard_stop plan text (left - 1) old ears new heard why (subst (HearsOn plan old ears new heard) is hears) (one_less plan text left old ears some behind)
+    heard_stop plan text (left - 1) old ears new heard why (subst (HearsLine plan old ears new heard) is hears) (one_less plan text left old ears some behind)
 
 -- what was heard was some trace
-pub was_told : (plan : Plan) (text : List ℕ) (ears : Ears) → IsHeard plan text ears → WasTold plan ears
+pub was_told : (plan : Plan) (text : List ℕ) (ears : Ears) → IsHeard plan text ears → WereHeard plan ears
 was_told plan text ears is = record { trace = is.trace; heard = is.heard }
 
 -- the first rule that fails is told
 pub audited : (plan : Plan) (text : List ℕ) (ears : Ears) (result : Result (Unit {0}) AuditStop) → IsHeard plan text ears
-    → ((trace : List Entry) → HasHeardAll plan trace ears → Answers plan trace result) → IsAudited plan text result
+    → ((trace : List Entry) → HasHeardAll plan trace ears → AnswersRule plan trace result) → IsAudited plan text result
 audited plan text ears (Ok done) is answers = record { trace = is.trace; told = is.told; is = answers is.trace is.heard }
 audited plan text ears (Err (stop.Form line)) is answers = absurd (answers is.trace is.heard)
 audited plan text ears (Err (stop.Isolated line)) is answers = record { trace = is.trace; told = is.told; is = answers is.trace is.heard }

@@ -4,7 +4,7 @@ use Rattle.net_base.specs.declared.trace.entry.Entry.{Entry}
 use Rattle.net_base.specs.declared.trace.entry.Entry.TheVariants as entry
 use Rattle.net_base.specs.declared.trace.event.Event.{Event}
 use Rattle.net_base.specs.declared.trace.event.Event.TheVariants as event
-use Rattle.report_reading.specs.Named.{IsNamed, IsNamedEvent}
+use Rattle.report_reading.specs.Named.{IsEntryNamed, IsNamedEvent}
 use Rattle.seen_state.specs.Placed.{IsEventWithin, IsPlaced}
 use Rattle.seen_state.specs.Sight.{sizes_of}
 
@@ -24,7 +24,7 @@ event_placed plan (event.Status edge wire bits) is = tt
 event_placed plan (event.Priority edge wire priority) is = tt
 event_placed plan (event.Ping edge wire) is = tt
 
-pub placed : (plan : Plan) (x : Entry) → IsNamed plan x → IsPlaced plan x
+pub placed : (plan : Plan) (x : Entry) → IsEntryNamed plan x → IsPlaced plan x
 placed plan (entry.Did event) is = event_placed plan event is
 placed plan entry.Idle is = tt
 placed plan (entry.Said from to octets) is = (is.0, is.1.0)

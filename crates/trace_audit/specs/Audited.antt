@@ -56,12 +56,12 @@ pub record TellsTraceHolding (plan : Plan) (text : List ℕ) (holds : List Entry
   pub is : holds trace
 
 -- the report is good
-abbrev pub IsGood : Plan → List ℕ → Type 0
-IsGood plan text = TellsTraceHolding plan text (IsGoodTrace plan)
+abbrev pub IsGoodReport : Plan → List ℕ → Type 0
+IsGoodReport plan text = TellsTraceHolding plan text (IsGoodTrace plan)
 
 -- a report is good, its form is broken first at a line, or the first rule that fails of its trace is told at the first line where it does
 abbrev pub IsAudited : Plan → List ℕ → Result (Unit {0}) AuditStop → Type 0
-IsAudited plan text (Ok done) = IsGood plan text
+IsAudited plan text (Ok done) = IsGoodReport plan text
 IsAudited plan text (Err (stop.Form line)) = told_of plan text ≡ Err line
 IsAudited plan text (Err (stop.Isolated line)) = TellsTraceHolding plan text (λ trace. FirstStray plan trace line)
 IsAudited plan text (Err (stop.Split line)) = TellsTraceHolding plan text (λ trace. FirstOfSplit plan trace line)

@@ -32,7 +32,7 @@ pub record HasHeardAll (plan : Plan) (trace : List Entry) (ears : Ears) : Type 0
   pub windows : HasHeard plan trace ears.windows
 
 -- some entries were heard
-pub record WasTold (plan : Plan) (ears : Ears) : Type 0 where
+pub record WereHeard (plan : Plan) (ears : Ears) : Type 0 where
   pub trace : List Entry
   pub heard : HasHeardAll plan trace ears
 
@@ -49,29 +49,29 @@ pub record IsHeard (plan : Plan) (text : List ℕ) (ears : Ears) : Type 0 where
   pub heard : HasHeardAll plan trace ears
 
 -- a line more: it tells an entry, it was the last one, or it breaks the form
-abbrev pub HearsOn : Plan → ReadSoFar → Ears → ReadSoFar → Ears → Result Bool AuditStop → Type 0
-HearsOn plan old ears new heard (Ok true) = (text : List ℕ) (left : ℕ) → IsBehind plan text (suc left) old ears → IsBehind plan text left new heard
-HearsOn plan old ears new heard (Ok false) = (text : List ℕ) (left : ℕ) → IsBehind plan text (suc left) old ears → IsHeard plan text heard
-HearsOn plan old ears new heard (Err (Form line)) = (text : List ℕ) (left : ℕ) → IsBehind plan text (suc left) old ears → told_of plan text ≡ Err line
-HearsOn plan old ears new heard (Err (Isolated line)) = ⊥
-HearsOn plan old ears new heard (Err (Split line)) = ⊥
-HearsOn plan old ears new heard (Err (Once line)) = ⊥
-HearsOn plan old ears new heard (Err NoMemory) = Unit {0}
+abbrev pub HearsLine : Plan → ReadSoFar → Ears → ReadSoFar → Ears → Result Bool AuditStop → Type 0
+HearsLine plan old ears new heard (Ok true) = (text : List ℕ) (left : ℕ) → IsBehind plan text (suc left) old ears → IsBehind plan text left new heard
+HearsLine plan old ears new heard (Ok false) = (text : List ℕ) (left : ℕ) → IsBehind plan text (suc left) old ears → IsHeard plan text heard
+HearsLine plan old ears new heard (Err (Form line)) = (text : List ℕ) (left : ℕ) → IsBehind plan text (suc left) old ears → told_of plan text ≡ Err line
+HearsLine plan old ears new heard (Err (Isolated line)) = ⊥
+HearsLine plan old ears new heard (Err (Split line)) = ⊥
+HearsLine plan old ears new heard (Err (Once line)) = ⊥
+HearsLine plan old ears new heard (Err NoMemory) = Unit {0}
 
 -- a whole report is heard
-abbrev pub Hears : Plan → List ℕ → Result Ears AuditStop → Type 0
-Hears plan text (Ok ears) = AreEarsOf plan ears × IsHeard plan text ears
-Hears plan text (Err (Form line)) = told_of plan text ≡ Err line
-Hears plan text (Err (Isolated line)) = ⊥
-Hears plan text (Err (Split line)) = ⊥
-Hears plan text (Err (Once line)) = ⊥
-Hears plan text (Err NoMemory) = Unit {0}
+abbrev pub HearsReport : Plan → List ℕ → Result Ears AuditStop → Type 0
+HearsReport plan text (Ok ears) = AreEarsOf plan ears × IsHeard plan text ears
+HearsReport plan text (Err (Form line)) = told_of plan text ≡ Err line
+HearsReport plan text (Err (Isolated line)) = ⊥
+HearsReport plan text (Err (Split line)) = ⊥
+HearsReport plan text (Err (Once line)) = ⊥
+HearsReport plan text (Err NoMemory) = Unit {0}
 
 -- the first rule of a trace that fails
-abbrev pub Answers : Plan → List Entry → Result (Unit {0}) AuditStop → Type 0
-Answers plan trace (Ok done) = IsGoodTrace plan trace
-Answers plan trace (Err (Form line)) = ⊥
-Answers plan trace (Err (Isolated line)) = FirstStray plan trace line
-Answers plan trace (Err (Split line)) = FirstOfSplit plan trace line
-Answers plan trace (Err (Once line)) = FirstOfOnce plan trace line
-Answers plan trace (Err NoMemory) = Unit {0}
+abbrev pub AnswersRule : Plan → List Entry → Result (Unit {0}) AuditStop → Type 0
+AnswersRule plan trace (Ok done) = IsGoodTrace plan trace
+AnswersRule plan trace (Err (Form line)) = ⊥
+AnswersRule plan trace (Err (Isolated line)) = FirstStray plan trace line
+AnswersRule plan trace (Err (Split line)) = FirstOfSplit plan trace line
+AnswersRule plan trace (Err (Once line)) = FirstOfOnce plan trace line
+AnswersRule plan trace (Err NoMemory) = Unit {0}

@@ -3,7 +3,7 @@ use Rattle.std.specs.Prelude.{ℕ, List, Result, Ok, Err}
 use Rattle.net_base.specs.declared.plan.Plan.{Plan}
 use Rattle.trace_audit.specs.declared.audit_stop.AuditStop.{AuditStop}
 use Rattle.trace_audit.specs.declared.audit_stop.AuditStop.TheVariants as stop
-use Rattle.trace_audit.specs.Audited.{IsAudited, IsGood}
+use Rattle.trace_audit.specs.Audited.{IsAudited, IsGoodReport}
 
 -- a report is good, or memory was refused
 abbrev pub IsYes : Result (Unit {0}) AuditStop → Type 0
@@ -16,4 +16,4 @@ IsYes (Err stop.NoMemory) = Unit {0}
 
 -- no rule is told of a report that meets all
 abbrev pub GoodReportsGetYes : Type 0
-GoodReportsGetYes = (plan : Plan) (text : List ℕ) (answer : Result (Unit {0}) AuditStop) → IsGood plan text → IsAudited plan text answer → IsYes answer
+GoodReportsGetYes = (plan : Plan) (text : List ℕ) (answer : Result (Unit {0}) AuditStop) → IsGoodReport plan text → IsAudited plan text answer → IsYes answer

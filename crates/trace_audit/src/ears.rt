@@ -3,7 +3,7 @@ ghost use Rattle.std.specs.Prelude.{◌≡◌, ◌<◌, ◌+◌, ◌++◌, ◌�
 ghost use Rattle.net_base.specs.declared.trace.entry.Entry.{Entry as Told};
 ghost use Rattle.net_base.specs.plan.Accepted.{IsChecked};
 ghost use Rattle.seen_state.specs.Placed.{IsPlaced};
-ghost use Rattle.trace_audit.specs.Heard.{Answers, AreEarsOf, HasHeardAll, WasTold};
+ghost use Rattle.trace_audit.specs.Heard.{AnswersRule, AreEarsOf, HasHeardAll, WereHeard};
 
 use crate::AuditStop;
 use crate::judge::Judge;
@@ -57,8 +57,8 @@ impl Ears {
     pub fn answer(self, plan: &Plan) -> Result<(), AuditStop>
         requires checked { IsChecked plan.now }
         requires ready { AreEarsOf plan.now self }
-        requires told { WasTold plan.now self }
-        ensures { (trace : List Told) → HasHeardAll plan.now trace self → Answers plan.now trace result }
+        requires told { WereHeard plan.now self }
+        ensures { (trace : List Told) → HasHeardAll plan.now trace self → AnswersRule plan.now trace result }
     {
         let Ears { judge, windows } = self;
         match judge.stray {

@@ -4,7 +4,7 @@ ghost use Rattle.net_base.specs.plan.Accepted.{IsChecked};
 ghost use Rattle.command_text.specs.Planned.{names_of};
 ghost use Rattle.report_entries.specs.Answers.{HasBegun};
 ghost use Rattle.trace_audit.specs.Audited.{IsAudited};
-ghost use Rattle.trace_audit.specs.Heard.{AreEarsOf, Hears, HearsOn};
+ghost use Rattle.trace_audit.specs.Heard.{AreEarsOf, HearsReport, HearsLine};
 
 use crate::AuditStop;
 use crate::ears::Ears;
@@ -32,7 +32,7 @@ fn hear_next(
     ensures begun { OnOk result (AreEarsOf plan.now ears.new) }
     ensures lines { OnOk result (reader.new.tally.lines ≤ reader.old.tally.lines + 1) }
     ensures line { OnOk result (ears.new.judge.line ≤ ears.old.judge.line + 1) }
-    ensures hears { HearsOn plan.now reader.old ears.old reader.new ears.new result }
+    ensures hears { HearsLine plan.now reader.old ears.old reader.new ears.new result }
 {
     match reader.next(alloc, plan, names) {
         Ok(Some(entry)) => match ears.hear(alloc, plan, entry) {
@@ -56,7 +56,7 @@ fn hear_lines(
     requires checked { IsChecked plan.now }
     requires names { names.now ≡ names_of plan.now }
     requires begun { HasBegun text.now reader }
-    ensures { Hears plan.now text.now result }
+    ensures { HearsReport plan.now text.now result }
 {
     let mut reader = reader;
     let mut ears = Ears::new(alloc, plan)?;
@@ -83,7 +83,7 @@ fn hear_report(
 ) -> Result<Ears, AuditStop>
     requires checked { IsChecked plan.now }
     requires names { names.now ≡ names_of plan.now }
-    ensures { Hears plan.now text.now result }
+    ensures { HearsReport plan.now text.now result }
 {
     match ReportReader::begin(alloc, text) {
         Ok(reader) => hear_lines(alloc, plan, names, text, reader),

@@ -14,7 +14,7 @@ use Rattle.ldp_stream.specs.Parsed.{Ending, Pending, Refused}
 use Rattle.ldp_stream.proofs.ParsedLemmas.{one_parsing}
 use Rattle.scenario_text.specs.declared.scenario.Scenario.{Scenario}
 use Rattle.scenario_text.specs.Document.{document}
-use Rattle.text_lines.specs.Written.{Written, written}
+use Rattle.text_lines.specs.Written.{Written, lines_written}
 use Rattle.trace_audit.specs.Yes.{IsYes}
 use Rattle.trace_audit.proofs.YesLemmas.{good_yes}
 use Rattle.vplsnet.specs.declared.audit_rule.AuditRule.{AuditRule}
@@ -113,10 +113,10 @@ whole_answers around asked network NoMemory own whole = absurd (cc own)
 
 -- what the sink took by a call, and how its count of faults stands
 abbrev pub old_of : Around → Written
-old_of around = written around.taken_before around.sink_before []
+old_of around = lines_written around.taken_before around.sink_before []
 
 abbrev pub now_of : Around → Written
-now_of around = written around.taken_after around.sink_after []
+now_of around = lines_written around.taken_after around.sink_after []
 
 pub none_answers : (around : Around) (asked : Asked) (network : Option NetLists) (outcome : Outcome) → WritesNone (old_of around) (now_of around) network outcome
     → SaysOutcome around asked network outcome
@@ -143,7 +143,7 @@ run_made asked scenario captures left (Some reason) run = record { left = left; 
 
 pub run_answers : (around : Around) (asked : Asked) (scenario : Scenario) (captures : List (List (List ℕ))) (network : Option NetLists) (outcome : Outcome)
     → ComesTo (Has around.files) asked (Works (Run scenario captures))
-    → EndsRun scenario captures asked (written around.taken_before around.sink_before []) (written around.taken_after around.sink_after []) network outcome → SaysOutcome around asked network outcome
+    → EndsRun scenario captures asked (lines_written around.taken_before around.sink_before []) (lines_written around.taken_after around.sink_after []) network outcome → SaysOutcome around asked network outcome
 run_answers around asked scenario captures network outcome come (inl run) =
     text_answers around asked (run_text asked run.left run.reason) (Some run.left) (outcome_by run.reason) network outcome (run_own run.reason)
     (record { work = Run scenario captures; come = come; makes = run_made asked scenario captures run.left run.reason run.is_run }) run.ends
@@ -193,7 +193,7 @@ told_answers around file text made network outcome own is (inr gives) =
     (inr (record { text = text; outcome = made; made = is; taken = gives.taken })))
 
 stream_answers : (around : Around) (file octets : List ℕ) (network : Option NetLists) (outcome : Outcome) → Has around.files file octets → length octets ≤ stream_limit
-    → EndsStream octets (written around.taken_before around.sink_before []) (written around.taken_after around.sink_after []) network outcome → SaysOutcome around (Decode file) network outcome
+    → EndsStream octets (lines_written around.taken_before around.sink_before []) (lines_written around.taken_after around.sink_after []) network outcome → SaysOutcome around (Decode file) network outcome
 stream_answers around file octets network outcome has fits (inl told) =
     told_answers around file told.text told.made network outcome (ap is_own told.is_decoding.ends ∙ stream_own told.is_decoding.ending)
     (record {
@@ -206,7 +206,7 @@ stream_answers around file octets network outcome has fits (inr none) = none_ans
 -- the same of octets that were lent
 pub stream_ended : (around : Around) (file octets lent : List ℕ) (network : Option NetLists) (made outcome : Outcome) → lent ≡ octets → network ≡ None → outcome ≡ made
     → Has around.files file octets → length octets ≤ stream_limit
-    → EndsStream lent (written around.taken_before around.sink_before []) (written around.taken_after around.sink_after []) None made → SaysOutcome around (Decode file) network outcome
+    → EndsStream lent (lines_written around.taken_before around.sink_before []) (lines_written around.taken_after around.sink_after []) None made → SaysOutcome around (Decode file) network outcome
 stream_ended around file octets lent network made outcome same none is has fits ends =
     subst (λ (n : Option NetLists). SaysOutcome around (Decode file) n outcome) (sym none)
     (subst (λ (o : Outcome). SaysOutcome around (Decode file) None o) (sym is)
@@ -235,7 +235,7 @@ migration_answers around file scenario network outcome of (inr none) = none_answ
 
 pub migration_ended : (around : Around) (file : List ℕ) (scenario : Scenario) (network : Option NetLists) (made outcome : Outcome) → network ≡ None → outcome ≡ made
     → IsOfFile around.files file scenario
-    → EndsMigration scenario (written around.taken_before around.sink_before []) (written around.taken_after around.sink_after []) None made → SaysOutcome around (Migrate file) network outcome
+    → EndsMigration scenario (lines_written around.taken_before around.sink_before []) (lines_written around.taken_after around.sink_after []) None made → SaysOutcome around (Migrate file) network outcome
 migration_ended around file scenario network made outcome none is of ends =
     subst (λ (n : Option NetLists). SaysOutcome around (Migrate file) n outcome) (sym none)
     (subst (λ (o : Outcome). SaysOutcome around (Migrate file) None o) (sym is) (migration_answers around file scenario None made of ends))

@@ -4,10 +4,10 @@ use Rattle.net_base.specs.declared.plan.Plan.{Plan}
 use Rattle.net_base.specs.outside.Outside.{ReadCall, Rose}
 use Rattle.psn_net.specs.Lists.{NetLists}
 use Rattle.scenario_text.specs.declared.scenario.Scenario.{Scenario}
-use Rattle.text_lines.specs.Written.{Written, AppendsFront, Writes, written}
+use Rattle.text_lines.specs.Written.{Written, AppendsFront, Writes, lines_written}
 use Rattle.trace_audit.specs.declared.audit_stop.AuditStop.{AuditStop}
 use Rattle.trace_audit.specs.declared.audit_stop.AuditStop.TheVariants as stop
-use Rattle.trace_audit.specs.Audited.{IsAudited, IsGood}
+use Rattle.trace_audit.specs.Audited.{IsAudited, IsGoodReport}
 use Rattle.vplsnet.specs.declared.audit_rule.AuditRule.TheVariants as rule
 use Rattle.vplsnet.specs.declared.outcome.Outcome.{Outcome}
 use Rattle.vplsnet.specs.declared.outcome.Outcome.TheVariants.{Done, WriteFault, ScenarioRefused}
@@ -25,12 +25,12 @@ use Rattle.vplsnet.proofs.WritingLemmas.{ends_front, ends_whole}
 
 -- ---- the judgement
 
-pub yes_whole : (plan : Plan) (octets text : List ℕ) (old now : Written) (outcome : Outcome) → IsGood plan octets → text ≡ yes → outcome ≡ Done → Writes old.taken now.taken text
+pub yes_whole : (plan : Plan) (octets text : List ℕ) (old now : Written) (outcome : Outcome) → IsGoodReport plan octets → text ≡ yes → outcome ≡ Done → Writes old.taken now.taken text
     → EndsAudit plan octets old now None outcome
 yes_whole plan octets text old now outcome good same ends taken =
     inl (record { good = good; ends = ends_whole yes None Done old now None outcome ends refl (subst (λ (l : List ℕ). Writes old.taken now.taken l) same taken) })
 
-pub yes_front : (plan : Plan) (octets text : List ℕ) (old now : Written) (outcome : Outcome) → IsGood plan octets → text ≡ yes → outcome ≡ WriteFault
+pub yes_front : (plan : Plan) (octets text : List ℕ) (old now : Written) (outcome : Outcome) → IsGoodReport plan octets → text ≡ yes → outcome ≡ WriteFault
     → AppendsFront old.taken now.taken text → Rose old.faults now.faults
     → EndsAudit plan octets old now None outcome
 yes_front plan octets text old now outcome good same ends taken cause =
@@ -94,7 +94,7 @@ audit_answers around file report octets scenario network outcome both (inr (inr 
 
 pub audit_ended : (around : Around) (file report octets lent : List ℕ) (scenario : Scenario) (network : Option NetLists) (made outcome : Outcome) → lent ≡ octets → network ≡ None → outcome ≡ made
     → HasBoth around.files file (report_wanted report) scenario octets
-    → EndsAudit scenario.plan lent (written around.taken_before around.sink_before []) (written around.taken_after around.sink_after []) None made
+    → EndsAudit scenario.plan lent (lines_written around.taken_before around.sink_before []) (lines_written around.taken_after around.sink_after []) None made
     → SaysOutcome around (Audit file report) network outcome
 audit_ended around file report octets lent scenario network made outcome same none is both ends =
     subst (λ (n : Option NetLists). SaysOutcome around (Audit file report) n outcome) (sym none)

@@ -27,7 +27,7 @@ use Rattle.discovery_script.specs.declared.placed_note.PlacedNote.{PlacedNote}
 use Rattle.discovery_script.specs.declared.script_line.ScriptLine.{ScriptLine}
 use Rattle.discovery_script.specs.declared.script_line.ScriptLine.TheVariants as line
 use Rattle.discovery_script.specs.Lines.{discovery_lines_in}
-use Rattle.discovery_script.specs.Planned.{IsLineOf}
+use Rattle.discovery_script.specs.Planned.{IsDiscoveryLineOf}
 use Rattle.flight_laws.specs.Ends.{HasTypes}
 use Rattle.network_model.specs.State.{NetworkState, empty_network, stands}
 use Rattle.network_model.specs.Step.{step}
@@ -37,8 +37,8 @@ use Rattle.psn_net.specs.Runs.{ended, ran}
 use Rattle.scenario_text.specs.declared.scenario.Scenario.{Scenario}
 use Rattle.scenario_text.specs.Document.{document}
 use Rattle.script_text.specs.declared.script_fault.ScriptFault.{ScriptFault}
-use Rattle.script_text.specs.Reading.{Fails}
-use Rattle.text_lines.specs.Written.{Written, written}
+use Rattle.script_text.specs.Reading.{FailsScript}
+use Rattle.text_lines.specs.Written.{Written, lines_written}
 use Rattle.vplsnet.specs.declared.outcome.Outcome.{Outcome}
 use Rattle.vplsnet.specs.declared.outcome.Outcome.TheVariants.{ScenarioRefused, NoMemory}
 use Rattle.vplsnet.specs.Answers.{SaysOutcome}
@@ -99,7 +99,7 @@ downs_planned plan (lapse ∷ lapses) network are = by (stands network lapse.edg
   by true behind = All-cons (IsEventOf plan) (Lose lapse.edge lapse.peer) (events_in (downs plan lost lapses)) are.0 (behind lost)
   by false behind = behind network
 
-line_planned : (plan : Plan) (d : DiscoveryState) (l : ScriptLine) → IsLineOf plan l → All (IsEventOf plan) (events_in (acts_of plan d l))
+line_planned : (plan : Plan) (d : DiscoveryState) (l : ScriptLine) → IsDiscoveryLineOf plan l → All (IsEventOf plan) (events_in (acts_of plan d l))
 line_planned plan d (line.Hello from to hold) of = by (are_joined plan from.0 to.0) where
   by : (joined : Bool) → All (IsEventOf plan) (events_in (if joined then Tells (note.Hello (length d.hellos + 1) from to (octets_of_hello plan (next_hello d from to hold))) ∷ [] else Tells note.Idle ∷ []))
   by true = All-nil (IsEventOf plan)
@@ -125,18 +125,18 @@ line_planned plan d (line.Do command) of =
     made_planned plan d.network [] (command ∷ []) (All-nil (All IsFrame)) (All-cons (IsPlanned plan) command [] of.0 (All-nil (IsPlanned plan))) in
     subst (All (IsEventOf plan)) (append-nil made ∙ sym (done_alone made)) one
 
-acts_planned : (plan : Plan) (d : DiscoveryState) (lines : List ScriptLine) → All (IsLineOf plan) lines → All (IsEventOf plan) (events_in (script_acts plan d lines))
+acts_planned : (plan : Plan) (d : DiscoveryState) (lines : List ScriptLine) → All (IsDiscoveryLineOf plan) lines → All (IsEventOf plan) (events_in (script_acts plan d lines))
 acts_planned plan d [] are = All-nil (IsEventOf plan)
 acts_planned plan d (l ∷ lines) are =
     let here : List Act = acts_of plan d l in
     let later : List Act = script_acts plan (after_line plan d l) lines in
     subst (All (IsEventOf plan)) (sym (events_joined here later))
-    (All-append (IsEventOf plan) (events_in here) (events_in later) (line_planned plan d l (All-head (IsLineOf plan) l lines are))
-    (acts_planned plan (after_line plan d l) lines (All-tail (IsLineOf plan) l lines are)))
+    (All-append (IsEventOf plan) (events_in here) (events_in later) (line_planned plan d l (All-head (IsDiscoveryLineOf plan) l lines are))
+    (acts_planned plan (after_line plan d l) lines (All-tail (IsDiscoveryLineOf plan) l lines are)))
 
 -- ---- the run of a script
 
-discovery_run : (plan : Plan) (lines : List ScriptLine) (net : DiscoveryLists) (reason : Option NetStop) → IsChecked plan → All (IsLineOf plan) lines → HasTypes plan → net.network.plan
+discovery_run : (plan : Plan) (lines : List ScriptLine) (net : DiscoveryLists) (reason : Option NetStop) → IsChecked plan → All (IsDiscoveryLineOf plan) lines → HasTypes plan → net.network.plan
     ≡ plan → net.network.failed ≡ false
     → ended_at net reason ≡ script_course plan lines → ended net.network reason ≡ ran plan (empty_network plan) [] (events_made plan lines) → HoldsBehindEach plan lines
     → IsDiscoveryRun plan lines net.network net.notes reason
@@ -148,7 +148,7 @@ discovery_run plan lines net reason checked are types kept going course ends sta
 
 -- how the writing of its report ended
 pub ends_script : (plan : Plan) (lines : List ScriptLine) (net : DiscoveryLists) (reason : Option NetStop) (old now : Written) (network : Option NetLists) (outcome : Outcome)
-    → IsChecked plan → All (IsLineOf plan) lines → HasTypes plan
+    → IsChecked plan → All (IsDiscoveryLineOf plan) lines → HasTypes plan
     → net.network.plan ≡ plan → net.network.failed ≡ false → ended_at net reason ≡ script_course plan lines → ended net.network reason
     ≡ ran plan (empty_network plan) [] (events_made plan lines) → HoldsBehindEach plan lines
     → EndsText (discovery_text net.network net.notes reason) (Some net.network) (outcome_by reason) old now network outcome → EndsDiscovery plan lines old now network outcome
@@ -209,8 +209,8 @@ lines_answer around file script plan lines network outcome come (inr none) = non
 pub discovery_answers : (around : Around) (file script octets lent : List ℕ) (scenario : Scenario) (network : Option NetLists) (outcome : Outcome) → lent ≡ octets
     → HasBoth around.files file (script_wanted script) scenario octets
     → EndsScript (discovery_lines_in (names_of scenario.plan) lent)
-    (λ lines. EndsDiscovery scenario.plan lines (written around.taken_before around.sink_before []) (written around.taken_after around.sink_after []) network outcome)
-    (written around.taken_before around.sink_before []) (written around.taken_after around.sink_after []) network outcome
+    (λ lines. EndsDiscovery scenario.plan lines (lines_written around.taken_before around.sink_before []) (lines_written around.taken_after around.sink_after []) network outcome)
+    (lines_written around.taken_before around.sink_before []) (lines_written around.taken_after around.sink_after []) network outcome
     → SaysOutcome around (Discover file script) network outcome
 discovery_answers around file script octets lent scenario network outcome same both ends =
     script_ended around (Discover file script) file octets (script_wanted script) scenario (discovery_lines_in (names_of scenario.plan) octets) (Discovery scenario.plan)
@@ -229,7 +229,7 @@ pub lines_end : (plan : Plan) (octets : List ℕ) (lines : List ScriptLine) (old
 lines_end plan octets lines old now network outcome is ends = inl (record { lines = lines; is = is; ends = ends })
 
 pub refused_end : (plan : Plan) (octets : List ℕ) (fault : ScriptFault) (old : Written) (network : Option NetLists) (made outcome : Outcome)
-    → Fails fault (discovery_lines_in (names_of plan) octets) → made ≡ outcome_of_script fault → network ≡ None
+    → FailsScript fault (discovery_lines_in (names_of plan) octets) → made ≡ outcome_of_script fault → network ≡ None
     → outcome ≡ made → EndsScript (discovery_lines_in (names_of plan) octets) (λ ls. EndsDiscovery plan ls old old network outcome) old old network outcome
 refused_end plan octets fault old network made outcome fails is none same =
     inr (record { why = no_lines (discovery_lines_in (names_of plan) octets) fault outcome fails (same ∙ is); taken = refl; no_run = none })

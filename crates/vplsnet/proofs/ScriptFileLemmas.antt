@@ -5,7 +5,7 @@ use Rattle.scenario_text.specs.declared.scenario.Scenario.{Scenario}
 use Rattle.scenario_text.specs.Document.{document}
 use Rattle.script_text.specs.declared.script_fault.ScriptFault.{ScriptFault}
 use Rattle.script_text.specs.declared.script_fault.ScriptFault.TheVariants as script_fault
-use Rattle.script_text.specs.Reading.{Fails}
+use Rattle.script_text.specs.Reading.{FailsScript}
 use Rattle.vplsnet.specs.declared.outcome.Outcome.{Outcome}
 use Rattle.vplsnet.specs.declared.outcome.Outcome.TheVariants.{Done, Usage, ReadFault, WriteFault, TooLong, ScenarioRefused, NoCircuit, CaptureRefused, ScriptRefused, AuditRefused, Stopped, DecodeRefused, Unfinished, NoMemory}
 use Rattle.vplsnet.specs.Answers.{IsRefused, SaysOutcome}
@@ -18,9 +18,9 @@ use Rattle.vplsnet.proofs.AnswerLemmas.{now_of, old_of, refused_answers}
 use Rattle.vplsnet.proofs.PlanFileLemmas.{comes_behind_both}
 
 -- the outcome of a fault that is told by its place
-pub no_lines : {Lines : Type 0} (read : Result Lines ScriptFault) (fault : ScriptFault) (outcome : Outcome) → Fails fault read → outcome ≡ outcome_of_script fault → IsNoScript read outcome
+pub no_lines : {Lines : Type 0} (read : Result Lines ScriptFault) (fault : ScriptFault) (outcome : Outcome) → FailsScript fault read → outcome ≡ outcome_of_script fault → IsNoScript read outcome
 no_lines read fault outcome fails is = subst (λ (o : Outcome). IsNoScript read o) (sym is) (by fault fails) where
-  by : (f : ScriptFault) → Fails f read → IsNoScript read (outcome_of_script f)
+  by : (f : ScriptFault) → FailsScript f read → IsNoScript read (outcome_of_script f)
   by (script_fault.Bad line word) fails = fails
   by script_fault.NoMemory fails = tt
 

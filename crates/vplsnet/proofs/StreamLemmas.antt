@@ -24,7 +24,7 @@ use Rattle.message_text.specs.Lent.{AddsLines}
 use Rattle.message_text.specs.Line.{decoded_lines}
 use Rattle.net_base.specs.outside.Outside.{Appends}
 use Rattle.net_values.specs.Octets.{AreOctets}
-use Rattle.text_lines.specs.Written.{Written, written, WritingGoesOn, IsCut}
+use Rattle.text_lines.specs.Written.{Written, lines_written as written, WritingGoesOn, IsCut}
 use Rattle.text_lines.proofs.WrittenLemmas.{cut_first, cut_later, cut_text, goes_none, puts_two, whole_text, writes_appends}
 use Rattle.vplsnet.specs.declared.outcome.Outcome.{Outcome}
 use Rattle.vplsnet.specs.declared.outcome.Outcome.TheVariants.{Done, DecodeRefused, NoMemory, Unfinished, WriteFault}

@@ -11,13 +11,13 @@ use Rattle.session_core.specs.Laws.{IsAddress}
 use Rattle.scenario_text.specs.declared.scenario.Scenario.{Scenario}
 use Rattle.scenario_text.specs.Document.{document}
 use Rattle.script_text.specs.declared.script_fault.ScriptFault.{ScriptFault}
-use Rattle.script_text.specs.Reading.{Fails}
+use Rattle.script_text.specs.Reading.{FailsScript}
 use Rattle.switchover_model.specs.declared.switch_line.SwitchLine.{SwitchLine}
 use Rattle.switchover_model.specs.Laws.{HasGroups, HasSwitchTypes, IsRouter}
 use Rattle.switchover_model.proofs.AgreeLemmas.{scripts_agree}
 use Rattle.switchover_script.specs.Lines.{switch_lines_in}
 use Rattle.switchover_text.specs.Text.{switchover_report}
-use Rattle.text_lines.specs.Written.{Written, AppendsFront, Writes, written}
+use Rattle.text_lines.specs.Written.{Written, AppendsFront, Writes, lines_written}
 use Rattle.vplsnet.specs.declared.outcome.Outcome.{Outcome}
 use Rattle.vplsnet.specs.declared.outcome.Outcome.TheVariants.{Done, WriteFault, ScenarioRefused, NoMemory}
 use Rattle.vplsnet.specs.Answers.{SaysOutcome}
@@ -83,7 +83,7 @@ pub lines_end : (plan : Plan) (octets : List ℕ) (lines lent : List SwitchLine)
     → EndsScript (switch_lines_in plan octets) (λ ls. EndsExchange plan ls old now None outcome) old now None outcome
 lines_end plan octets lines lent old now outcome same is ends = inl (record { lines = lines; is = is; ends = subst (λ (ls : List SwitchLine). EndsExchange plan ls old now None outcome) same ends })
 
-pub refused_end : (plan : Plan) (octets : List ℕ) (fault : ScriptFault) (old : Written) (outcome : Outcome) → Fails fault (switch_lines_in plan octets) → outcome ≡ outcome_of_script fault
+pub refused_end : (plan : Plan) (octets : List ℕ) (fault : ScriptFault) (old : Written) (outcome : Outcome) → FailsScript fault (switch_lines_in plan octets) → outcome ≡ outcome_of_script fault
     → EndsScript (switch_lines_in plan octets) (λ ls. EndsExchange plan ls old old None outcome) old old None outcome
 refused_end plan octets fault old outcome fails is = inr (record { why = no_lines (switch_lines_in plan octets) fault outcome fails is; taken = refl; no_run = refl })
 
@@ -141,8 +141,8 @@ exchange_answers around file script octets scenario network outcome both ends =
 pub exchange_ended : (around : Around) (file script octets lent : List ℕ) (scenario : Scenario) (network : Option NetLists) (made outcome : Outcome) → lent ≡ octets → network ≡ None → outcome ≡ made
     → HasBoth around.files file (script_wanted script) scenario octets
     → EndsScript (switch_lines_in scenario.plan lent)
-    (λ lines. EndsExchange scenario.plan lines (written around.taken_before around.sink_before []) (written around.taken_after around.sink_after []) None made)
-    (written around.taken_before around.sink_before []) (written around.taken_after around.sink_after []) None made
+    (λ lines. EndsExchange scenario.plan lines (lines_written around.taken_before around.sink_before []) (lines_written around.taken_after around.sink_after []) None made)
+    (lines_written around.taken_before around.sink_before []) (lines_written around.taken_after around.sink_after []) None made
     → SaysOutcome around (Switchover file script) network outcome
 exchange_ended around file script octets lent scenario network made outcome same none is both ends =
     subst (λ (n : Option NetLists). SaysOutcome around (Switchover file script) n outcome) (sym none)

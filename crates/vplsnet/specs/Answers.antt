@@ -8,7 +8,7 @@ use Rattle.psn_net.specs.declared.net_stop.NetStop.{NetStop}
 use Rattle.psn_net.specs.Lists.{NetLists}
 use Rattle.scenario_text.specs.declared.scenario.Scenario.{Scenario}
 use Rattle.text_lines.specs.Written.{AppendsFront, Writes}
-use Rattle.trace_audit.specs.Audited.{IsAudited, IsGood}
+use Rattle.trace_audit.specs.Audited.{IsAudited, IsGoodReport}
 use Rattle.vplsnet.specs.declared.audit_rule.AuditRule.{AuditRule}
 use Rattle.vplsnet.specs.declared.outcome.Outcome.{Outcome}
 use Rattle.vplsnet.specs.declared.outcome.Outcome.TheVariants.{Done, Usage, ReadFault, WriteFault, TooLong, ScenarioRefused, NoCircuit, CaptureRefused, ScriptRefused, AuditRefused, Stopped, NoMemory}
@@ -71,7 +71,7 @@ IsEndOf (Stream octets) outcome = IsDecodedAs octets outcome
 IsEndOf (Migration scenario) outcome = outcome ≡ Done
 IsEndOf (Discovery plan lines) outcome = outcome ≡ outcome_by (run_of plan (events_made plan lines)).stop
 IsEndOf (Exchange plan lines) outcome = outcome ≡ Done
-IsEndOf (Report plan octets) outcome = (outcome ≡ Done) × IsGood plan octets
+IsEndOf (Report plan octets) outcome = (outcome ≡ Done) × IsGoodReport plan octets
 
 -- the files were read, and the command had its work, and makes this text, the network of this run and this outcome of it
 pub record IsMade (around : Around) (asked : Asked) (text : List ℕ) (network : Option NetLists) (outcome : Outcome) : Type 0 where

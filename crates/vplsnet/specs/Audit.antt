@@ -4,7 +4,7 @@ use Rattle.net_base.specs.declared.plan.Plan.{Plan}
 use Rattle.psn_net.specs.Lists.{NetLists}
 use Rattle.trace_audit.specs.declared.audit_stop.AuditStop.{AuditStop}
 use Rattle.trace_audit.specs.declared.audit_stop.AuditStop.TheVariants as stop
-use Rattle.trace_audit.specs.Audited.{IsGood}
+use Rattle.trace_audit.specs.Audited.{IsGoodReport}
 use Rattle.vplsnet.specs.declared.audit_rule.AuditRule.{AuditRule}
 use Rattle.vplsnet.specs.declared.audit_rule.AuditRule.TheVariants as rule
 use Rattle.vplsnet.specs.declared.outcome.Outcome.{Outcome}
@@ -30,7 +30,7 @@ yes = codes "audit yes\n"
 
 -- the text that is written of a report which meets all rules; no run begins
 pub record IsReportPassed (plan : Plan) (octets text : List ℕ) (network : Option NetLists) (outcome : Outcome) : Type 0 where
-  pub good : IsGood plan octets
+  pub good : IsGoodReport plan octets
   pub text_is : text ≡ yes
   pub ends : outcome ≡ Done
   pub no_run : network ≡ None

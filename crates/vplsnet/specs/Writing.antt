@@ -11,7 +11,7 @@ use Rattle.scenario_text.specs.declared.scenario.Scenario.{Scenario}
 use Rattle.switchover_model.specs.declared.switch_line.SwitchLine.{SwitchLine}
 use Rattle.switchover_text.specs.Text.{switchover_report}
 use Rattle.text_lines.specs.Written.{Written, AppendsFront, Writes}
-use Rattle.trace_audit.specs.Audited.{IsAudited, IsGood}
+use Rattle.trace_audit.specs.Audited.{IsAudited, IsGoodReport}
 use Rattle.vplsnet.specs.declared.audit_rule.AuditRule.{AuditRule}
 use Rattle.vplsnet.specs.declared.outcome.Outcome.{Outcome}
 use Rattle.vplsnet.specs.declared.outcome.Outcome.TheVariants.{Done, WriteFault, AuditRefused, NoMemory}
@@ -104,7 +104,7 @@ EndsExchange plan lines old now network outcome = TellsExchange plan lines old n
 
 -- a report that meets all rules, of which that is written
 pub record TellsYes (plan : Plan) (octets : List ℕ) (old now : Written) (network : Option NetLists) (outcome : Outcome) : Type 0 where
-  pub good : IsGood plan octets
+  pub good : IsGoodReport plan octets
   pub ends : EndsText yes None Done old now network outcome
 
 -- one that breaks a rule, of which nothing is written

@@ -1,7 +1,7 @@
 //! The command `audit`: whether a report meets the rules.
 ghost use Rattle.std.specs.Prelude.{◌≡◌, [], None};
 ghost use Rattle.net_base.specs.plan.Accepted.{IsChecked};
-ghost use Rattle.text_lines.specs.Written.{written};
+ghost use Rattle.text_lines.specs.Written.{lines_written};
 ghost use Rattle.vplsnet.specs.Answers.{SaysOutcome};
 ghost use Rattle.vplsnet.specs.Around.{Has, around};
 ghost use Rattle.vplsnet.specs.Asked.{Audit};
@@ -50,7 +50,7 @@ pub fn audit_files<F: Shelf, K: Sink>(
 #[tactic(auto, using(crate::proofs::AuditLemmas::judge_steps))]
 fn judge<K: Sink>(alloc: Global, plan: &Plan, report: &[u8], sink: &mut K) -> Outcome
     requires { IsChecked plan.now }
-    ensures { EndsAudit plan.now report.now (written (K.taken sink.old) (K.faults sink.old) []) (written (K.taken sink.new) (K.faults sink.new) []) None result }
+    ensures { EndsAudit plan.now report.now (lines_written (K.taken sink.old) (K.faults sink.old) []) (lines_written (K.taken sink.new) (K.faults sink.new) []) None result }
 {
     match audit(alloc, plan, report) {
         Ok(()) => match write_text(sink, b"audit yes\n") {

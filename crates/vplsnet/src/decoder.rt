@@ -2,7 +2,7 @@
 ghost use Rattle.std.specs.Prelude.{◌≡◌, ◌<◌, ◌^◌, [], None, length, IfErr, IfOk, OnOk};
 ghost use Rattle.ldp_stream.specs.Front.{IsPending};
 ghost use Rattle.ldp_stream.specs.State.{empty};
-ghost use Rattle.text_lines.specs.Written.{written};
+ghost use Rattle.text_lines.specs.Written.{lines_written};
 ghost use Rattle.vplsnet.specs.StreamSteps.{IsStreamGoing, IsStopped, LeavesSome, StopsIn, TakesOne, TextGoesOn};
 ghost use Rattle.vplsnet.specs.StreamText.{largest_pdu};
 ghost use Rattle.vplsnet.specs.Writing.{EndsStream};
@@ -49,8 +49,8 @@ impl Decoder {
         sink: &mut K,
     ) -> Result<bool, StreamStop>
         requires going { IsStreamGoing self.old.stream fed }
-        ensures taken { IfOk result (λ more. TakesOne more self.old.stream self.new.stream (written (K.taken sink.old) (K.faults sink.old) self.old.page) (written (K.taken sink.new) (K.faults sink.new) self.new.page)) }
-        ensures stopped { IfErr result (λ stop. IsStopped stop self.old.stream (written (K.taken sink.old) (K.faults sink.old) self.old.page) (written (K.taken sink.new) (K.faults sink.new) self.new.page)) }
+        ensures taken { IfOk result (λ more. TakesOne more self.old.stream self.new.stream (lines_written (K.taken sink.old) (K.faults sink.old) self.old.page) (lines_written (K.taken sink.new) (K.faults sink.new) self.new.page)) }
+        ensures stopped { IfErr result (λ stop. IsStopped stop self.old.stream (lines_written (K.taken sink.old) (K.faults sink.old) self.old.page) (lines_written (K.taken sink.new) (K.faults sink.new) self.new.page)) }
     {
         self.lines.truncate(0);
         match put_front(alloc, &self.stream, fed, &mut self.lines) {
@@ -81,8 +81,8 @@ impl Decoder {
         requires few { fed < 2 ^ 63 }
         ensures going { OnOk result (IsStreamGoing self.new.stream fed) }
         ensures pending { OnOk result (IsPending largest_pdu self.new.stream.held) }
-        ensures on { OnOk result (TextGoesOn self.old.stream self.new.stream (written (K.taken sink.old) (K.faults sink.old) self.old.page) (written (K.taken sink.new) (K.faults sink.new) self.new.page)) }
-        ensures stopped { IfErr result (λ stop. IsStopped stop self.old.stream (written (K.taken sink.old) (K.faults sink.old) self.old.page) (written (K.taken sink.new) (K.faults sink.new) self.new.page)) }
+        ensures on { OnOk result (TextGoesOn self.old.stream self.new.stream (lines_written (K.taken sink.old) (K.faults sink.old) self.old.page) (lines_written (K.taken sink.new) (K.faults sink.new) self.new.page)) }
+        ensures stopped { IfErr result (λ stop. IsStopped stop self.old.stream (lines_written (K.taken sink.old) (K.faults sink.old) self.old.page) (lines_written (K.taken sink.new) (K.faults sink.new) self.new.page)) }
     {
         'taking: loop {
             if !self.take_pdu(alloc, fed, sink)? {
@@ -102,8 +102,8 @@ impl Decoder {
     ) -> Result<usize, StreamStop>
         requires few { length octets.now < 2 ^ 62 }
         requires none { self.old.stream ≡ empty }
-        ensures left { IfOk result (LeavesSome octets.now (written (K.taken sink.old) (K.faults sink.old) self.old.page) (written (K.taken sink.new) (K.faults sink.new) self.new.page)) }
-        ensures stopped { IfErr result (λ stop. StopsIn stop octets.now (written (K.taken sink.old) (K.faults sink.old) self.old.page) (written (K.taken sink.new) (K.faults sink.new) self.new.page)) }
+        ensures left { IfOk result (LeavesSome octets.now (lines_written (K.taken sink.old) (K.faults sink.old) self.old.page) (lines_written (K.taken sink.new) (K.faults sink.new) self.new.page)) }
+        ensures stopped { IfErr result (λ stop. StopsIn stop octets.now (lines_written (K.taken sink.old) (K.faults sink.old) self.old.page) (lines_written (K.taken sink.new) (K.faults sink.new) self.new.page)) }
     {
         let mut at = 0;
         'feeding: while at < octets.len() {
@@ -123,7 +123,7 @@ impl Decoder {
         requires few { length octets.now < 2 ^ 62 }
         requires none { self.old.stream ≡ empty }
         requires empty { self.old.page ≡ [] }
-        ensures { EndsStream octets.now (written (K.taken sink.old) (K.faults sink.old) []) (written (K.taken sink.new) (K.faults sink.new) []) None result }
+        ensures { EndsStream octets.now (lines_written (K.taken sink.old) (K.faults sink.old) []) (lines_written (K.taken sink.new) (K.faults sink.new) []) None result }
     {
         match self.take_all(alloc, octets, sink) {
             Ok(left) => flush_page(&mut self.page, sink, outcome_with(octets.len(), left)),

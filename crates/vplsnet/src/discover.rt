@@ -2,9 +2,9 @@
 ghost use Rattle.std.specs.Prelude.{◌≡◌, ◌<◌, ◌^◌, ◌-◌, [], All, length};
 ghost use Rattle.command_text.specs.Planned.{names_of};
 ghost use Rattle.discovery_script.specs.Lines.{discovery_lines_in};
-ghost use Rattle.discovery_script.specs.Planned.{IsLineOf};
+ghost use Rattle.discovery_script.specs.Planned.{IsDiscoveryLineOf};
 ghost use Rattle.net_base.specs.plan.Accepted.{IsChecked};
-ghost use Rattle.text_lines.specs.Written.{PutsOn, written};
+ghost use Rattle.text_lines.specs.Written.{PutsOn, lines_written};
 ghost use Rattle.vplsnet.specs.Answers.{SaysOutcome};
 ghost use Rattle.vplsnet.specs.Around.{Has, around};
 ghost use Rattle.vplsnet.specs.Asked.{Discover};
@@ -55,7 +55,7 @@ fn discover<K: Sink>(alloc: Global, plan: &Plan, script: &[u8], sink: &mut K) ->
     requires checked { IsChecked plan.now }
     requires few { length script.now < 2 ^ 32 - 2 }
     ensures status { result.status ≡ exit_status result.outcome }
-    ensures ends { EndsScript (discovery_lines_in (names_of plan.now) script.now) (λ lines. EndsDiscovery plan.now lines (written (K.taken sink.old) (K.faults sink.old) []) (written (K.taken sink.new) (K.faults sink.new) []) result.network result.outcome) (written (K.taken sink.old) (K.faults sink.old) []) (written (K.taken sink.new) (K.faults sink.new) []) result.network result.outcome }
+    ensures ends { EndsScript (discovery_lines_in (names_of plan.now) script.now) (λ lines. EndsDiscovery plan.now lines (lines_written (K.taken sink.old) (K.faults sink.old) []) (lines_written (K.taken sink.new) (K.faults sink.new) []) result.network result.outcome) (lines_written (K.taken sink.old) (K.faults sink.old) []) (lines_written (K.taken sink.new) (K.faults sink.new) []) result.network result.outcome }
 {
     match read_script(alloc, plan, script) {
         Ok(lines) => finish_lines(alloc, plan, lines, sink),
@@ -72,9 +72,9 @@ fn finish_lines<K: Sink>(
     sink: &mut K,
 ) -> Finish
     requires checked { IsChecked plan.now }
-    requires planned { All (IsLineOf plan.now) lines }
+    requires planned { All (IsDiscoveryLineOf plan.now) lines }
     ensures status { result.status ≡ exit_status result.outcome }
-    ensures ends { EndsDiscovery plan.now lines (written (K.taken sink.old) (K.faults sink.old) []) (written (K.taken sink.new) (K.faults sink.new) []) result.network result.outcome }
+    ensures ends { EndsDiscovery plan.now lines (lines_written (K.taken sink.old) (K.faults sink.old) []) (lines_written (K.taken sink.new) (K.faults sink.new) []) result.network result.outcome }
 {
     see_types(plan);
     let mut page = match Page::new(alloc) {

@@ -1,7 +1,7 @@
 //! The command `migrate`: the scenario of a file as a text of version 2.
 ghost use Rattle.std.specs.Prelude.{◌≡◌, [], None};
 ghost use Rattle.migration.specs.Law.{WasRead};
-ghost use Rattle.text_lines.specs.Written.{written};
+ghost use Rattle.text_lines.specs.Written.{lines_written};
 ghost use Rattle.vplsnet.specs.Answers.{SaysOutcome};
 ghost use Rattle.vplsnet.specs.Around.{Has, around};
 ghost use Rattle.vplsnet.specs.Asked.{Migrate};
@@ -43,7 +43,7 @@ pub fn migrate_file<F: Shelf, K: Sink>(
 #[tactic(auto, using(crate::proofs::WritingLemmas::migrated_steps))]
 fn write_migrated<K: Sink>(alloc: Global, scenario: &Scenario, sink: &mut K) -> Outcome
     requires { WasRead scenario.now }
-    ensures { EndsMigration scenario.now (written (K.taken sink.old) (K.faults sink.old) []) (written (K.taken sink.new) (K.faults sink.new) []) None result }
+    ensures { EndsMigration scenario.now (lines_written (K.taken sink.old) (K.faults sink.old) []) (lines_written (K.taken sink.new) (K.faults sink.new) []) None result }
 {
     let text = match migrate(alloc, scenario) {
         Ok(text) => text,

@@ -3,7 +3,7 @@ ghost use Rattle.std.specs.Prelude.{◌≡◌, ◌↔◌, [], All, None, Some, m
 ghost use Rattle.net_base.specs.plan.Accepted.{IsChecked};
 ghost use Rattle.net_base.specs.plan.Planned.{IsFrame};
 ghost use Rattle.command_text.specs.Planned.{IsPlanned};
-ghost use Rattle.text_lines.specs.Written.{written};
+ghost use Rattle.text_lines.specs.Written.{lines_written};
 ghost use Rattle.vplsnet.specs.Answers.{Completes, Finishes, IsRefused};
 ghost use Rattle.vplsnet.specs.Around.{Has, around};
 ghost use Rattle.vplsnet.specs.Asked.{asked, asked_by};
@@ -145,7 +145,7 @@ fn finish_work<K: Sink>(alloc: Global, request: Request<'_>, work: Work, sink: &
     requires planned { All (IsPlanned work.scenario.plan) work.scenario.commands }
     requires frames { All (All IsFrame) work.captures }
     ensures status { result.status ≡ exit_status result.outcome }
-    ensures ends { EndsRun work.scenario work.captures (asked_by request.entry) (written (K.taken sink.old) (K.faults sink.old) []) (written (K.taken sink.new) (K.faults sink.new) []) result.network result.outcome }
+    ensures ends { EndsRun work.scenario work.captures (asked_by request.entry) (lines_written (K.taken sink.old) (K.faults sink.old) []) (lines_written (K.taken sink.new) (K.faults sink.new) []) result.network result.outcome }
 {
     let mut page = match Page::new(alloc) {
         Ok(page) => page,

@@ -1,6 +1,6 @@
 //! The steps by which the text of a stream is written.
 ghost use Rattle.std.specs.Prelude.{◌≡◌, ◌==◌, ◌≤◌, ◌-◌, [], drop, length, min, take, if◌then◌else◌, IfErr, IfOk, OnOk};
-ghost use Rattle.text_lines.specs.Written.{PutsOn, written};
+ghost use Rattle.text_lines.specs.Written.{PutsOn, lines_written};
 ghost use Rattle.vplsnet.specs.StreamSteps.{AddsPdu, Flushes, IsFrontStop, IsStreamGoing, PutsFront, PutsOne, outcome_at};
 
 use crate::outcome::Outcome;
@@ -94,7 +94,7 @@ pub fn outcome_at(fault: StreamFault) -> Outcome
 
 /// Writes what waits, of a call that ends so where it is taken.
 pub fn flush_page<K: Sink>(page: &mut Page, sink: &mut K, outcome: Outcome) -> Outcome
-    ensures { Flushes outcome result (written (K.taken sink.old) (K.faults sink.old) page.old) (written (K.taken sink.new) (K.faults sink.new) []) }
+    ensures { Flushes outcome result (lines_written (K.taken sink.old) (K.faults sink.old) page.old) (lines_written (K.taken sink.new) (K.faults sink.new) []) }
 {
     match page.flush(sink) {
         Ok(()) => outcome,

@@ -3,7 +3,7 @@ ghost use Rattle.std.specs.Prelude.{◌≡◌, ◌<◌, ◌^◌, ◌-◌, [], Al
 ghost use Rattle.net_base.specs.plan.Accepted.{IsChecked};
 ghost use Rattle.switchover_model.specs.Planned.{IsLineOf};
 ghost use Rattle.switchover_script.specs.Lines.{switch_lines_in};
-ghost use Rattle.text_lines.specs.Written.{written};
+ghost use Rattle.text_lines.specs.Written.{lines_written};
 ghost use Rattle.vplsnet.specs.Answers.{SaysOutcome};
 ghost use Rattle.vplsnet.specs.Around.{Has, around};
 ghost use Rattle.vplsnet.specs.Asked.{Switchover};
@@ -53,7 +53,7 @@ pub fn switchover_files<F: Shelf, K: Sink>(
 fn exchange<K: Sink>(alloc: Global, plan: &Plan, script: &[u8], sink: &mut K) -> Outcome
     requires checked { IsChecked plan.now }
     requires few { length script.now < 2 ^ 32 - 2 }
-    ensures { EndsScript (switch_lines_in plan.now script.now) (λ lines. EndsExchange plan.now lines (written (K.taken sink.old) (K.faults sink.old) []) (written (K.taken sink.new) (K.faults sink.new) []) None result) (written (K.taken sink.old) (K.faults sink.old) []) (written (K.taken sink.new) (K.faults sink.new) []) None result }
+    ensures { EndsScript (switch_lines_in plan.now script.now) (λ lines. EndsExchange plan.now lines (lines_written (K.taken sink.old) (K.faults sink.old) []) (lines_written (K.taken sink.new) (K.faults sink.new) []) None result) (lines_written (K.taken sink.old) (K.faults sink.old) []) (lines_written (K.taken sink.new) (K.faults sink.new) []) None result }
 {
     match read_switch_script(alloc, plan, script) {
         Ok(lines) => write_exchange(alloc, plan, lines.as_slice(), sink),
@@ -71,7 +71,7 @@ fn write_exchange<K: Sink>(
 ) -> Outcome
     requires checked { IsChecked plan.now }
     requires planned { All (IsLineOf plan.now) lines.now }
-    ensures { EndsExchange plan.now lines.now (written (K.taken sink.old) (K.faults sink.old) []) (written (K.taken sink.new) (K.faults sink.new) []) None result }
+    ensures { EndsExchange plan.now lines.now (lines_written (K.taken sink.old) (K.faults sink.old) []) (lines_written (K.taken sink.new) (K.faults sink.new) []) None result }
 {
     see_types(plan);
     let mut page = match Page::new(alloc) {

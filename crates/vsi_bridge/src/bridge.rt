@@ -1,7 +1,7 @@
 //! Virtual switch instances.
 ghost use Rattle.std.specs.Prelude.{◌≡◌, ◌==◌, ◌<◌, ◌&&◌, ℕ, [], filter, not, true, length, IfOk};
 ghost use Rattle.hvpls_spokes.specs.Flood.{is_in_flood};
-ghost use Rattle.hvpls_spokes.specs.PortSet.{has};
+ghost use Rattle.hvpls_spokes.specs.PortSet.{holds_port};
 ghost use Rattle.mac_table.specs.Addresses.{NoneAfter, entry_stays, is_young};
 ghost use Rattle.vsi_bridge.specs.BridgeState.{table_of, most_addresses};
 ghost use Rattle.vsi_bridge.specs.Targets.{heard, is_target, known_port};
@@ -58,11 +58,11 @@ impl Bridge {
         now: u64,
         forwarding: &PortSet,
     ) -> PortSet
-        requires ports { (p : ℕ) → has forwarding.now p ≡ true → p < length self.old.ports }
-        requires arrival { has forwarding.now arrival ≡ true }
+        requires ports { (p : ℕ) → holds_port forwarding.now p ≡ true → p < length self.old.ports }
+        requires arrival { holds_port forwarding.now arrival ≡ true }
         requires ticks { NoneAfter now self.old.entries }
         ensures learns { self.new ≡ record self.old { entries = heard self.old.entries source arrival now } }
-        ensures targets { (p : ℕ) → has result p ≡ is_target self.old.ports (has forwarding.now) arrival (known_port self.new.entries destination) p }
+        ensures targets { (p : ℕ) → holds_port result p ≡ is_target self.old.ports (holds_port forwarding.now) arrival (known_port self.new.entries destination) p }
         ensures ticks { NoneAfter now self.new.entries }
     {
         self.hear(source, arrival, now);
@@ -143,8 +143,8 @@ impl Bridge {
 
 // The port alone, where a frame that came by the port `arrival` may go to it.
 fn only(ports: &Ports, forwarding: &PortSet, arrival: u16, port: u16) -> PortSet
-    requires { (p : ℕ) → has forwarding.now p ≡ true → p < length ports.now }
-    ensures { (p : ℕ) → has result p ≡ (is_in_flood ports.now (has forwarding.now) arrival p && p == port) }
+    requires { (p : ℕ) → holds_port forwarding.now p ≡ true → p < length ports.now }
+    ensures { (p : ℕ) → holds_port result p ≡ (is_in_flood ports.now (holds_port forwarding.now) arrival p && p == port) }
 {
     let mut one = PortSet::empty();
     if is_in_flood_set(ports, forwarding, arrival, port) {

@@ -8,9 +8,9 @@ use Rattle.net_base.specs.declared.trace.entry.Entry.{Entry}
 use Rattle.net_base.specs.declared.trace.entry.Entry.TheVariants as entry
 use Rattle.net_base.specs.declared.trace.event.Event.{Event}
 use Rattle.net_base.specs.declared.trace.event.Event.TheVariants as event
-use Rattle.hvpls_spokes.specs.PortSet.{has}
+use Rattle.hvpls_spokes.specs.PortSet.{holds_port}
 use Rattle.seen_network.specs.Calm.{is_seen_calm}
-use Rattle.seen_network.specs.Seen.{Seen, SeenCopy, happened, happened_or, origin_among, repeats, seen_from, told, with_copies, with_on}
+use Rattle.seen_network.specs.Seen.{Seen, SeenCopy, happened, happened_or, origin_among, repeats, seen_from, told_by_itself, with_copies, with_on}
 use Rattle.seen_windows.specs.EventEntries.{HasNoEvent}
 use Rattle.window_audit.specs.CalmMemory.{Remembers, some_stirs, stirs, stirs_by}
 use Rattle.window_audit.specs.declared.calm_memory.CalmMemory.{CalmMemory}
@@ -18,20 +18,20 @@ use Rattle.window_audit.specs.declared.calm_memory.CalmMemory.{CalmMemory}
 -- ---- one service more
 
 -- a set with a service more has it, or had it
-in_set : (old new : List ℕ) (k p : ℕ) → ((q : ℕ) → q ≢ k → has new q ≡ has old q) → has new p ≡ true → (holds : ℕ → Type 0) → holds k → (has old p ≡ true → holds p) → holds p
+in_set : (old new : List ℕ) (k p : ℕ) → ((q : ℕ) → q ≢ k → holds_port new q ≡ holds_port old q) → holds_port new p ≡ true → (holds : ℕ → Type 0) → holds k → (holds_port old p ≡ true → holds p) → holds p
 in_set old new k p others is holds here there = by (p == k) refl where
   by : (b : Bool) → (p == k) ≡ b → holds p
   by true same = subst holds (sym (eqb-true p k same)) here
   by false away = there (sym (others p (eqb-false p k away)) ∙ is)
 
-pub calm_kept : (plan : Plan) (seen : Seen) (calm calm2 restless : List ℕ) (service : ServiceId) → ((q : ℕ) → q ≢ service.0 → has calm2 q ≡ has calm q) → is_seen_calm plan seen service ≡ true
+pub calm_kept : (plan : Plan) (seen : Seen) (calm calm2 restless : List ℕ) (service : ServiceId) → ((q : ℕ) → q ≢ service.0 → holds_port calm2 q ≡ holds_port calm q) → is_seen_calm plan seen service ≡ true
     → Remembers plan seen (record { calm = calm; restless = restless }) → Remembers plan seen (record { calm = calm2; restless = restless })
 calm_kept plan seen calm calm2 restless service others is known = record {
   calm = λ s h. in_set calm calm2 service.0 s.0 others h (λ n. is_seen_calm plan seen (record { 0 = n }) ≡ true) is (λ was. known.calm s was);
   restless = known.restless;
 }
 
-pub restless_kept : (plan : Plan) (seen : Seen) (calm restless restless2 : List ℕ) (service : ServiceId) → ((q : ℕ) → q ≢ service.0 → has restless2 q ≡ has restless q)
+pub restless_kept : (plan : Plan) (seen : Seen) (calm restless restless2 : List ℕ) (service : ServiceId) → ((q : ℕ) → q ≢ service.0 → holds_port restless2 q ≡ holds_port restless q)
     → is_seen_calm plan seen service ≡ false
     → Remembers plan seen (record { calm = calm; restless = restless }) → Remembers plan seen (record { calm = calm; restless = restless2 })
 restless_kept plan seen calm restless restless2 service others is known = record {
@@ -80,7 +80,7 @@ pub event_kept : (plan : Plan) (seen : Seen) (e : Event) (idle : Bool) (memory :
 event_kept plan seen e true memory still known = known
 event_kept plan seen e false memory still known = alike_kept plan seen (happened e seen) memory (event_alike plan seen e (still refl)) known
 
-entry_alike : (plan : Plan) (seen : Seen) (e : Entry) → stirs e ≡ false → AreAlike plan seen (told e seen)
+entry_alike : (plan : Plan) (seen : Seen) (e : Entry) → stirs e ≡ false → AreAlike plan seen (told_by_itself e seen)
 entry_alike plan seen (entry.Did event) still service = refl
 entry_alike plan seen entry.Idle still service = refl
 entry_alike plan seen (entry.Said from to octets) still service = absurd (cc still)
@@ -97,7 +97,7 @@ entry_alike plan seen (entry.Session edge peer name) still service = absurd (cc 
 entry_alike plan seen (entry.Wire edge wire down) still service = absurd (cc still)
 entry_alike plan seen (entry.Pong edge wire sequence) still service = refl
 
-seen_on_told : (seen : Seen) (e : Entry) (es : List Entry) → HasNoEvent (e ∷ es) → seen_from seen (e ∷ es) ≡ seen_from (told e seen) es
+seen_on_told : (seen : Seen) (e : Entry) (es : List Entry) → HasNoEvent (e ∷ es) → seen_from seen (e ∷ es) ≡ seen_from (told_by_itself e seen) es
 seen_on_told seen (entry.Did event) es bare = absurd bare
 seen_on_told seen entry.Idle es bare = refl
 seen_on_told seen (entry.Said from to octets) es bare = refl
@@ -129,7 +129,7 @@ entries_alike : (plan : Plan) (es : List Entry) (seen : Seen) → HasNoEvent es 
 entries_alike plan [] seen bare still service = refl
 entries_alike plan (e ∷ es) seen bare still service =
     ap (λ (s : Seen). is_seen_calm plan s service) (seen_on_told seen e es bare)
-    ∙ (entries_alike plan es (told e seen) (bare_rest e es bare) (second_fails (stirs e) (some_stirs es) still) service ∙ entry_alike plan seen e (first_fails (stirs e) (some_stirs es) still) service)
+    ∙ (entries_alike plan es (told_by_itself e seen) (bare_rest e es bare) (second_fails (stirs e) (some_stirs es) still) service ∙ entry_alike plan seen e (first_fails (stirs e) (some_stirs es) still) service)
 
 pub entries_kept : (plan : Plan) (es : List Entry) (seen : Seen) (memory : CalmMemory) → HasNoEvent es → some_stirs es ≡ false → Remembers plan seen memory → Remembers plan (seen_from seen es) memory
 entries_kept plan es seen memory bare still known = alike_kept plan seen (seen_from seen es) memory (entries_alike plan es seen bare still) known

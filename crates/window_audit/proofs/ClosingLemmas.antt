@@ -9,7 +9,7 @@ use Rattle.seen_network.specs.Once.{has_seen}
 use Rattle.seen_network.specs.Seen.{Seen}
 use Rattle.seen_windows.specs.Past.{AmongWindows}
 use Rattle.seen_windows.specs.declared.window.Window.{Window}
-use Rattle.window_audit.specs.Lasting.{ClosesOne, HasClosed, is_one_of, is_over}
+use Rattle.window_audit.specs.Lasting.{ClosesOne, HasClosed, is_one_of, are_copies_over}
 use Rattle.window_audit.proofs.LastingLemmas.{among_either, among_filter, among_left, among_right, from_filter}
 
 none_over : (gone : ℕ → Bool) (flooded : Window → Bool) (old new : ℕ → List Window) (owed : List Window) → ((q : ℕ) → gone q ≡ false) → ((q : ℕ) → new q ≡ old q)
@@ -22,14 +22,14 @@ none_over gone flooded old new owed none same = record {
 }
 
 -- no frame at all
-pub closed_none : (seen : Seen) (flooded : Window → Bool) (old : ℕ → List Window) (owed : List Window) → HasClosed (is_over seen []) flooded old old owed owed
-closed_none seen flooded old owed = none_over (is_over seen []) flooded old old owed (λ q. refl) (λ q. refl)
+pub closed_none : (seen : Seen) (flooded : Window → Bool) (old : ℕ → List Window) (owed : List Window) → HasClosed (are_copies_over seen []) flooded old old owed owed
+closed_none seen flooded old owed = none_over (are_copies_over seen []) flooded old old owed (λ q. refl) (λ q. refl)
 
 -- a frame of which a copy is under way
 pub closed_not : (seen : Seen) (origin : ℕ) (flooded : Window → Bool) (old : ℕ → List Window) (owed : List Window) → has_seen seen origin ≡ true
-    → HasClosed (is_over seen (origin ∷ [])) flooded old old owed owed
-closed_not seen origin flooded old owed has = none_over (is_over seen (origin ∷ [])) flooded old old owed none (λ q. refl) where
-  none : (q : ℕ) → is_over seen (origin ∷ []) q ≡ false
+    → HasClosed (are_copies_over seen (origin ∷ [])) flooded old old owed owed
+closed_not seen origin flooded old owed has = none_over (are_copies_over seen (origin ∷ [])) flooded old old owed none (λ q. refl) where
+  none : (q : ℕ) → are_copies_over seen (origin ∷ []) q ≡ false
   none q = by (origin == q) refl where
     by : (b : Bool) → (origin == q) ≡ b → (b || false) && not (has_seen seen q) ≡ false
     by true at = ap (λ (o : ℕ). not (has_seen seen o)) (sym (eqb-true origin q at)) ∙ ap not has
@@ -39,7 +39,7 @@ closed_not seen origin flooded old owed has = none_over (is_over seen (origin �
 pub closed_one : (seen : Seen) (origin : ℕ) (flooded : Window → Bool) (old new : ℕ → List Window) (owed owed2 : List Window) → has_seen seen origin ≡ false
     → ((q : ℕ) → new q ≡ cond (q == origin) [] (old q))
     → owed2 ≡ owed ++ filter flooded (old origin)
-    → HasClosed (is_over seen (origin ∷ [])) flooded old new owed owed2
+    → HasClosed (are_copies_over seen (origin ∷ [])) flooded old new owed owed2
 closed_one seen origin flooded old new owed owed2 none taken owes = record {
   left = λ q. taken q ∙ ap (λ (b : Bool). cond b [] (old q)) (at_one q);
   kept = λ w h. subst (AmongWindows w) (sym owes) (among_left w owed (filter flooded (old origin)) h);
@@ -47,22 +47,22 @@ closed_one seen origin flooded old new owed owed2 none taken owes = record {
       one.over) one.was) one.flooded_is));
   closed = λ w h. of w (among_either w owed (filter flooded (old origin)) (subst (AmongWindows w) owes h));
 } where
-  at_one : (q : ℕ) → (q == origin) ≡ is_over seen (origin ∷ []) q
+  at_one : (q : ℕ) → (q == origin) ≡ are_copies_over seen (origin ∷ []) q
   at_one q = equal_turned q origin ∙ by (origin == q) refl where
     by : (b : Bool) → (origin == q) ≡ b → b ≡ (b || false) && not (has_seen seen q)
     by true at = sym (ap (λ (o : ℕ). not (has_seen seen o)) (sym (eqb-true origin q at)) ∙ ap not none)
     by false away = refl
 
-  is_it : (q : ℕ) → is_over seen (origin ∷ []) q ≡ true → q ≡ origin
+  is_it : (q : ℕ) → are_copies_over seen (origin ∷ []) q ≡ true → q ≡ origin
   is_it q over = eqb-true q origin (at_one q ∙ over)
 
-  itself : is_over seen (origin ∷ []) origin ≡ true
+  itself : are_copies_over seen (origin ∷ []) origin ≡ true
   itself = sym (at_one origin) ∙ same_number origin
 
-  made : (w : Window) → AmongWindows w (old origin) × (flooded w ≡ true) → ClosesOne (is_over seen (origin ∷ [])) flooded old w
+  made : (w : Window) → AmongWindows w (old origin) × (flooded w ≡ true) → ClosesOne (are_copies_over seen (origin ∷ [])) flooded old w
   made w p = record { origin = origin; over = itself; was = p.0; flooded_is = p.1 }
 
-  of : (w : Window) → AmongWindows w owed ⊎ AmongWindows w (filter flooded (old origin)) → AmongWindows w owed ⊎ ClosesOne (is_over seen (origin ∷ [])) flooded old w
+  of : (w : Window) → AmongWindows w owed ⊎ AmongWindows w (filter flooded (old origin)) → AmongWindows w owed ⊎ ClosesOne (are_copies_over seen (origin ∷ [])) flooded old w
   of w (inl h) = inl h
   of w (inr h) = inr (made w (from_filter flooded w (old origin) h))
 
@@ -111,10 +111,10 @@ closed_on g1 g2 g flooded a b c o o1 o2 both first then = record {
   back w (inr one) = inr (late w one)
 
 pub closed_more : (seen : Seen) (losses : List ℕ) (place : ℕ) (flooded : Window → Bool) (a b c : ℕ → List Window) (o o1 o2 : List Window) → place < length losses
-    → HasClosed (is_over seen (take place losses)) flooded a b o o1 → HasClosed (is_over seen (get_or losses place 0 ∷ [])) flooded b c o1 o2
-    → HasClosed (is_over seen (take (place + 1) losses)) flooded a c o o2
+    → HasClosed (are_copies_over seen (take place losses)) flooded a b o o1 → HasClosed (are_copies_over seen (get_or losses place 0 ∷ [])) flooded b c o1 o2
+    → HasClosed (are_copies_over seen (take (place + 1) losses)) flooded a c o o2
 closed_more seen losses place flooded a b c o o1 o2 within first then =
-    closed_on (is_over seen (take place losses)) (is_over seen (get_or losses place 0 ∷ [])) (is_over seen (take (place + 1) losses)) flooded a b c o o1 o2 both first then where
+    closed_on (are_copies_over seen (take place losses)) (are_copies_over seen (get_or losses place 0 ∷ [])) (are_copies_over seen (take (place + 1) losses)) flooded a b c o o1 o2 both first then where
       split : (x y z : Bool) → (x || y) && z ≡ (x && z) || (y && z)
       split true true true = refl
       split true true false = refl
@@ -122,15 +122,15 @@ closed_more seen losses place flooded a b c o o1 o2 within first then =
       split true false false = refl
       split false y z = refl
 
-      both : (q : ℕ) → is_over seen (take (place + 1) losses) q ≡ is_over seen (take place losses) q || is_over seen (get_or losses place 0 ∷ []) q
+      both : (q : ℕ) → are_copies_over seen (take (place + 1) losses) q ≡ are_copies_over seen (take place losses) q || are_copies_over seen (get_or losses place 0 ∷ []) q
       both q =
-          ap (λ (xs : List ℕ). is_over seen xs q) (take_more losses place 0 within)
+          ap (λ (xs : List ℕ). are_copies_over seen xs q) (take_more losses place 0 within)
           ∙ (ap (λ (t : Bool). t && not (has_seen seen q)) (list_any-append (λ n. n == q) (take place losses) (get_or losses place 0 ∷ []))
           ∙ split (is_one_of (take place losses) q) (is_one_of (get_or losses place 0 ∷ []) q) (not (has_seen seen q)))
 
 pub closed_whole : (seen : Seen) (losses : List ℕ) (place : ℕ) (flooded : Window → Bool) (a b : ℕ → List Window) (o o1 : List Window) → length losses ≤ place
-    → HasClosed (is_over seen (take place losses)) flooded a b o o1 → HasClosed (is_over seen losses) flooded a b o o1
-closed_whole seen losses place flooded a b o o1 past h = subst (λ (xs : List ℕ). HasClosed (is_over seen xs) flooded a b o o1) (take_all place losses past) h
+    → HasClosed (are_copies_over seen (take place losses)) flooded a b o o1 → HasClosed (are_copies_over seen losses) flooded a b o o1
+closed_whole seen losses place flooded a b o o1 past h = subst (λ (xs : List ℕ). HasClosed (are_copies_over seen xs) flooded a b o o1) (take_all place losses past) h
 
 -- ---- those that are owed, one by one
 

@@ -8,7 +8,7 @@ use Rattle.std.specs.Map.{lookup}
 use Rattle.std.specs.Ordering.{nat_cmp}
 use Rattle.net_values.proofs.BoolLemmas.{first_fails, or_none}
 use Rattle.net_values.proofs.NumberLemmas.{equal_turned, is_none}
-use Rattle.hvpls_spokes.specs.PortSet.{has}
+use Rattle.hvpls_spokes.specs.PortSet.{holds_port}
 use Rattle.net_base.specs.declared.plan.Plan.{Plan}
 use Rattle.net_base.specs.declared.plan.places.CircuitId.{CircuitId}
 use Rattle.net_base.specs.declared.trace.entry.Entry.{Entry}
@@ -44,8 +44,8 @@ same_number : (a x : ℕ) → is_at (nat_cmp a) x ≡ (x == a)
 same_number a x = grind (arith, nat_tests)
 
 pub left_once : (at : CircuitId) (from hops : ℕ) (old new : List (ℕ × Leavings)) (first last : Leavings)
-    → ((c : ℕ) → has first.at c ≡ has_left (leavings_of old from) c) → first.again ≡ is_again (leavings_of old from) → first.far ≡ is_far (leavings_of old from)
-    → has last.at at.0 ≡ true → ((c : ℕ) → (c ≡ at.0 → ⊥) → has last.at c ≡ has first.at c) → last.again ≡ first.again || has first.at at.0 → last.far ≡ first.far || nat_lt 12 hops
+    → ((c : ℕ) → holds_port first.at c ≡ has_left (leavings_of old from) c) → first.again ≡ is_again (leavings_of old from) → first.far ≡ is_far (leavings_of old from)
+    → holds_port last.at at.0 ≡ true → ((c : ℕ) → (c ≡ at.0 → ⊥) → holds_port last.at c ≡ holds_port first.at c) → last.again ≡ first.again || holds_port first.at at.0 → last.far ≡ first.far || nat_lt 12 hops
     → ((q : ℕ) → lookup (is_at (nat_cmp q)) new ≡ cond (is_at (nat_cmp from) q) (Some last) (lookup (is_at (nat_cmp q)) old))
     → HasLeft at from hops old new
 left_once at from hops old new first last first_at first_again first_far here others again far put = record {
@@ -61,12 +61,12 @@ left_once at from hops old new first last first_at first_again first_far here ot
 
   at_by : (o c : ℕ) (a : Bool) → (o == from) ≡ a → (b : Bool) → (c == at.0) ≡ b → has_left (cond a (Some last) (leavings_of old o)) c ≡ cond (a && b) true (has_left (leavings_of old o) c)
   at_by o c false is b g = refl
-  at_by o c true is true g = ap (has last.at) (eqb-true c at.0 g) ∙ here
+  at_by o c true is true g = ap (holds_port last.at) (eqb-true c at.0 g) ∙ here
   at_by o c true is false g = others c (apart c g) ∙ (first_at c ∙ ap (λ k. has_left (leavings_of old k) c) (sym (eqb-true o from is)))
 
   again_by : (o : ℕ) (a : Bool) → (o == from) ≡ a → is_again (cond a (Some last) (leavings_of old o)) ≡ is_again (leavings_of old o) || (a && has_left (leavings_of old o) at.0)
   again_by o false is = or_none (is_again (leavings_of old o))
-  again_by o true is = again ∙ (ap (λ b. b || has first.at at.0) first_again
+  again_by o true is = again ∙ (ap (λ b. b || holds_port first.at at.0) first_again
       ∙ (ap (λ b. is_again (leavings_of old from) || b) (first_at at.0) ∙ ap (λ k. is_again (leavings_of old k) || has_left (leavings_of old k) at.0) (sym (eqb-true o from is))))
 
   far_by : (o : ℕ) (a : Bool) → (o == from) ≡ a → is_far (cond a (Some last) (leavings_of old o)) ≡ is_far (leavings_of old o) || (a && nat_lt 12 hops)

@@ -9,9 +9,9 @@ use Rattle.net_base.specs.declared.trace.entry.Entry.TheVariants.{Did}
 use Rattle.net_base.specs.declared.trace.event.Event.{Event}
 use Rattle.seen_network.specs.Once.{has_seen, spares_seen}
 use Rattle.seen_network.specs.Seen.{Seen, is_idle_behind, seen_in}
-use Rattle.seen_windows.specs.Past.{AmongWindows, AreOpen, AreOwed, Closes, HasPassed, IsLeftOpen}
+use Rattle.seen_windows.specs.Past.{AmongWindows, AreWindowsOpen, AreOwed, Closes, HasPassedWindows, IsLeftOpen}
 use Rattle.seen_windows.specs.declared.window.Window.{Window}
-use Rattle.window_audit.specs.Lasting.{AreLasting, ClosesOne, HasClosed, is_one_of, is_over, was_flooded, with_found}
+use Rattle.window_audit.specs.Lasting.{AreLasting, ClosesOne, HasClosed, is_one_of, are_copies_over, was_flooded, with_found}
 
 -- ---- members of lists
 
@@ -62,7 +62,7 @@ module _ (plan : Plan) (done : List Entry) (event : Event) (rest : List Entry) (
     (before : AreLasting plan done f0)
     (spared : (origin : ℕ) → f1 origin ≡ cond (spares_seen (seen_in done) origin (is_idle_behind rest) event) (f0 origin) [])
     (opened : (origin : ℕ) → f2 origin ≡ with_found found f1 origin)
-    (closed : HasClosed (is_over (seen_in (done ++ Did event ∷ rest)) losses) (was_flooded plan (done ++ Did event ∷ rest)) f2 f3 owed owed2)
+    (closed : HasClosed (are_copies_over (seen_in (done ++ Did event ∷ rest)) losses) (was_flooded plan (done ++ Did event ∷ rest)) f2 f3 owed owed2)
     (lost : (origin : ℕ) → has_seen (seen_in done) origin ≡ true → has_seen (seen_in (done ++ Did event ∷ rest)) origin ≡ false → is_one_of losses origin ≡ true)
     (noted : (window : Window) → found ≡ Some window → is_one_of losses window.origin ≡ true) where
   abbrev now : Seen
@@ -126,17 +126,17 @@ module _ (plan : Plan) (done : List Entry) (event : Event) (rest : List Entry) (
     of (inl old) = lost origin (before.under_way origin w old.0) none
     of (inr new) = ap (is_one_of losses) (sym new.1) ∙ noted w new.0
 
-  gone_at : (origin : ℕ) (w : Window) → AmongWindows w (f2 origin) → has_seen now origin ≡ false → is_over now losses origin ≡ true
+  gone_at : (origin : ℕ) (w : Window) → AmongWindows w (f2 origin) → has_seen now origin ≡ false → are_copies_over now losses origin ≡ true
   gone_at origin w h none = ap (λ (b : Bool). b && not (has_seen now origin)) (is_noted origin w h none) ∙ ap not none
 
   -- what still stands in the index
   still_in : (origin : ℕ) (w : Window) → AmongWindows w (f3 origin) → AmongWindows w (f2 origin) × (has_seen now origin ≡ true)
-  still_in origin w h = by (is_over now losses origin) refl (subst (AmongWindows w) (closed.left origin) h) where
-    on : AmongWindows w (f2 origin) → is_over now losses origin ≡ false → (b : Bool) → has_seen now origin ≡ b → b ≡ true
+  still_in origin w h = by (are_copies_over now losses origin) refl (subst (AmongWindows w) (closed.left origin) h) where
+    on : AmongWindows w (f2 origin) → are_copies_over now losses origin ≡ false → (b : Bool) → has_seen now origin ≡ b → b ≡ true
     on a fails true is = refl
     on a fails false is = absurd (cc (sym fails ∙ gone_at origin w a is))
 
-    by : (b : Bool) → is_over now losses origin ≡ b → AmongWindows w (cond b [] (f2 origin)) → AmongWindows w (f2 origin) × (has_seen now origin ≡ true)
+    by : (b : Bool) → are_copies_over now losses origin ≡ b → AmongWindows w (cond b [] (f2 origin)) → AmongWindows w (f2 origin) × (has_seen now origin ≡ true)
     by true is a = absurd a
     by false is a = (a, on a is (has_seen now origin) refl)
 
@@ -178,7 +178,7 @@ module _ (plan : Plan) (done : List Entry) (event : Event) (rest : List Entry) (
     of : AmongWindows w (filter spared_now before.windows ++ one_list found) × (under_way_now w ≡ true) → Left w × (has_seen now w.origin ≡ true)
     of p = (either (among_either w (filter spared_now before.windows) (one_list found) p.0), p.1)
 
-  has_passed : HasPassed plan done event rest found before.windows owed still owed2
+  has_passed : HasPassedWindows plan done event rest found before.windows owed still owed2
   has_passed = record {
     stays = to_still;
     stayed = λ w h. (from_still w h).0;
@@ -186,19 +186,19 @@ module _ (plan : Plan) (done : List Entry) (event : Event) (rest : List Entry) (
     closes = λ w left none flooded. closed.closes w (record { origin = w.origin; over = gone_at w.origin w (left_in w left) none; was = left_in w left; flooded_is = flooded });
     closed = λ w h. of w (closed.closed w h);
   } where
-    over_of : (w : Window) (origin : ℕ) → is_over now losses origin ≡ true → w.origin ≡ origin → has_seen now w.origin ≡ false
+    over_of : (w : Window) (origin : ℕ) → are_copies_over now losses origin ≡ true → w.origin ≡ origin → has_seen now w.origin ≡ false
     over_of w origin over at = ap (has_seen now) at ∙ by (is_one_of losses origin) (has_seen now origin) over where
       by : (a b : Bool) → a && not b ≡ true → b ≡ false
       by true false h = refl
       by true true h = absurd (cc (h))
       by false b h = absurd (cc (h))
 
-    of : (w : Window) → AmongWindows w owed ⊎ ClosesOne (is_over now losses) (was_flooded plan (done ++ Did event ∷ rest)) f2 w
+    of : (w : Window) → AmongWindows w owed ⊎ ClosesOne (are_copies_over now losses) (was_flooded plan (done ++ Did event ∷ rest)) f2 w
         → AmongWindows w owed ⊎ Closes (seen_in done) (is_idle_behind rest) event before.windows found now plan (done ++ Did event ∷ rest) w
     of w (inl h) = inl h
     of w (inr one) = inr (record { left = is_left one.origin w one.was; over = over_of w one.origin one.over (home_in one.origin w one.was); flooded = one.flooded_is })
 
-  still_lasting : AreOpen plan (done ++ Did event ∷ rest) still → AreLasting plan (done ++ Did event ∷ rest) f3
+  still_lasting : AreWindowsOpen plan (done ++ Did event ∷ rest) still → AreLasting plan (done ++ Did event ∷ rest) f3
   still_lasting are = record {
     windows = still;
     are_open = are;
@@ -208,7 +208,7 @@ module _ (plan : Plan) (done : List Entry) (event : Event) (rest : List Entry) (
     under_way = λ origin w h. (still_in origin w h).1;
   }
 
-  pub goes_on : (AreOpen plan done before.windows → HasPassed plan done event rest found before.windows owed still owed2
-      → AreOpen plan (done ++ Did event ∷ rest) still × AreOwed plan (done ++ Did event ∷ rest) owed2)
+  pub goes_on : (AreWindowsOpen plan done before.windows → HasPassedWindows plan done event rest found before.windows owed still owed2
+      → AreWindowsOpen plan (done ++ Did event ∷ rest) still × AreOwed plan (done ++ Did event ∷ rest) owed2)
       → AreLasting plan (done ++ Did event ∷ rest) f3 × AreOwed plan (done ++ Did event ∷ rest) owed2
   goes_on law = (still_lasting (law before.are_open has_passed).0, (law before.are_open has_passed).1)

@@ -8,7 +8,7 @@ use Rattle.net_base.specs.declared.trace.entry.Entry.{Entry}
 use Rattle.net_base.specs.declared.trace.entry.Entry.TheVariants as entry
 use Rattle.net_base.specs.declared.trace.state_name.StateName.TheVariants as state
 use Rattle.seen_network.specs.Once.{has_seen}
-use Rattle.seen_network.specs.Seen.{Seen, SeenCopy, copy_comes, copy_goes, delivers, end_goes, origin_among, repeats, seen_from, told, with_copies, with_octets, with_on, with_rest, with_standing, with_up, without_copy, without_edge}
+use Rattle.seen_network.specs.Seen.{Seen, SeenCopy, copy_comes, copy_goes, delivers, end_goes, origin_among, repeats, seen_from, told_by_itself as told, with_copies, with_octets, with_on, with_rest, with_standing, with_up, without_copy, without_edge}
 use Rattle.seen_state.specs.Copies.{CopyMaps, TellsPackets, origin_under}
 use Rattle.seen_state.specs.SeenState.{Knows}
 use Rattle.seen_state.specs.declared.seen_state.SeenState.{SeenState}

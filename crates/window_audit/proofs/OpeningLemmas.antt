@@ -15,7 +15,7 @@ use Rattle.net_base.specs.trace.Isolated.{inner_at, inner_by, mtu_by}
 use Rattle.net_values.specs.Mac.{is_group_address}
 use Rattle.net_values.specs.declared.mac.Mac.{Mac}
 use Rattle.net_values.proofs.NumberLemmas.{lt_next}
-use Rattle.hvpls_spokes.specs.PortSet.{has}
+use Rattle.hvpls_spokes.specs.PortSet.{holds_port}
 use Rattle.seen_network.specs.Once.{is_circuit_row_of}
 use Rattle.seen_network.specs.Seen.{Seen}
 use Rattle.seen_windows.specs.Past.{GoesTo}
@@ -32,17 +32,17 @@ due_is plan seen service sender place row within is =
 -- the sites up to one more
 pub sites_more : (plan : Plan) (seen : Seen) (service : ServiceId) (sender : CircuitId) (place : ℕ) (row : CircuitPlan) (old new : List ℕ) → place < length plan.circuits
     → row ≡ get_or plan.circuits place row
-    → ((p : ℕ) → has old p ≡ nat_lt p place && is_due plan seen service sender p)
-    → has new place ≡ ((row.service.0 == service.0 && seen.on place) && not (place == sender.0))
-    → ((p : ℕ) → (p == place) ≡ false → has new p ≡ has old p)
-    → (p : ℕ) → has new p ≡ nat_lt p (place + 1) && is_due plan seen service sender p
+    → ((p : ℕ) → holds_port old p ≡ nat_lt p place && is_due plan seen service sender p)
+    → holds_port new place ≡ ((row.service.0 == service.0 && seen.on place) && not (place == sender.0))
+    → ((p : ℕ) → (p == place) ≡ false → holds_port new p ≡ holds_port old p)
+    → (p : ℕ) → holds_port new p ≡ nat_lt p (place + 1) && is_due plan seen service sender p
 sites_more plan seen service sender place row old new within is upto here others p = by (p == place) refl where
   now : nat_lt place (place + 1) ≡ true
   now = grind (arith, nat_tests)
 
-  by : (b : Bool) → (p == place) ≡ b → has new p ≡ nat_lt p (place + 1) && is_due plan seen service sender p
+  by : (b : Bool) → (p == place) ≡ b → holds_port new p ≡ nat_lt p (place + 1) && is_due plan seen service sender p
   by true at =
-      ap (has new) (eqb-true p place at)
+      ap (holds_port new) (eqb-true p place at)
       ∙ (here ∙ (sym (due_is plan seen service sender place row within is)
       ∙ (ap (λ (b : Bool). b && is_due plan seen service sender place) (sym now) ∙ ap (λ (k : ℕ). nat_lt k (place + 1) && is_due plan seen service sender k) (sym (eqb-true p place at)))))
   by false away = others p away ∙ (upto p ∙ ap (λ (b : Bool). b && is_due plan seen service sender p) (sym (lt_next p place away)))

@@ -13,14 +13,14 @@ use Rattle.seen_network.specs.Seen.{Seen, happened_or, is_idle_behind, nothing_s
 use Rattle.seen_network.proofs.ReadLemmas.{seen_on}
 use Rattle.seen_state.specs.SeenState.{Knows}
 use Rattle.seen_state.specs.declared.seen_state.SeenState.{SeenState}
-use Rattle.seen_windows.specs.EventEntries.{HasNoEvent, event_of, tells_idle}
+use Rattle.seen_windows.specs.EventEntries.{HasNoEvent, event_of_entry, tells_idle}
 use Rattle.seen_windows.specs.Past.{AmongWindows, AreOwed, IsOpen, IsOpened, IsOwed}
 use Rattle.seen_windows.specs.declared.window.Window.{Window}
 use Rattle.seen_windows.proofs.EventLemmas.{idle_told, no_event_in}
 use Rattle.seen_windows.proofs.PastLemmas.{still_open, still_owed}
 use Rattle.window_audit.specs.CalmMemory.{Remembers}
 use Rattle.window_audit.specs.Exits.{HasExits}
-use Rattle.window_audit.specs.Lasting.{AreLasting, HasClosed, is_one_of, is_over, was_flooded, windows_at, with_found}
+use Rattle.window_audit.specs.Lasting.{AreLasting, HasClosed, is_one_of, are_copies_over, was_flooded, windows_at, with_found}
 use Rattle.window_audit.specs.Losses.{Follows}
 use Rattle.window_audit.specs.Past.{AreAtPorts, AreOfOne, ArePlaced, HasSeen, HasWindows}
 use Rattle.window_audit.specs.Sources.{HasSources}
@@ -69,7 +69,7 @@ pub passed_on : (plan : Plan) (done : List Entry) (event : Event) (rest : List E
     → ((origin : ℕ) → windows_at m2 origin ≡ with_found found (windows_at m1) origin)
     → ((origin : ℕ) → is_one_of losses2 origin ≡ true → is_one_of losses3 origin ≡ true)
     → ((window : Window) → found ≡ Some window → is_one_of losses3 window.origin ≡ true)
-    → ((seen : Seen) → Knows state2 seen → HasClosed (is_over seen losses3) (was_flooded plan (done ++ entry.Did event ∷ rest)) (windows_at m2) (windows_at m3) owed owed2)
+    → ((seen : Seen) → Knows state2 seen → HasClosed (are_copies_over seen losses3) (was_flooded plan (done ++ entry.Did event ∷ rest)) (windows_at m2) (windows_at m3) owed owed2)
     → Knows state2 (seen_in (done ++ entry.Did event ∷ rest)) × Remembers plan (seen_in (done ++ entry.Did event ∷ rest)) calm2 × AreLasting plan (done ++ entry.Did event ∷ rest) (windows_at m3)
     × AreOwed plan (done ++ entry.Did event ∷ rest) owed2
 passed_on plan done event rest found idle state1 state2 calm2 losses0 losses1 losses2 losses3 m0 m1 m2 m3 owed owed2 bare idle_is lasting are_owed is_opened spared happened told calm opened kept
@@ -139,7 +139,7 @@ owes_none plan trace owed bare are = owed_none plan trace owed bare (λ w h. not
 
 -- ---- the first entry
 
-pub is_did : (e : Entry) (event : Event) → event_of e ≡ Some event → e ≡ entry.Did event
+pub is_did : (e : Entry) (event : Event) → event_of_entry e ≡ Some event → e ≡ entry.Did event
 is_did (entry.Did other) event is = ap entry.Did (cc (is))
 is_did entry.Idle event is = absurd (cc (is))
 is_did (entry.Said from to octets) event is = absurd (cc (is))
@@ -153,7 +153,7 @@ is_did (entry.Session edge peer name) event is = absurd (cc (is))
 is_did (entry.Wire edge wire down) event is = absurd (cc (is))
 is_did (entry.Pong edge wire sequence) event is = absurd (cc (is))
 
-pub bare_more : (e : Entry) (es : List Entry) → event_of e ≡ None → HasNoEvent es → HasNoEvent (e ∷ es)
+pub bare_more : (e : Entry) (es : List Entry) → event_of_entry e ≡ None → HasNoEvent es → HasNoEvent (e ∷ es)
 bare_more (entry.Did other) es is bare = absurd (cc (is))
 bare_more entry.Idle es is bare = bare
 bare_more (entry.Said from to octets) es is bare = bare
@@ -167,7 +167,7 @@ bare_more (entry.Session edge peer name) es is bare = bare
 bare_more (entry.Wire edge wire down) es is bare = bare
 bare_more (entry.Pong edge wire sequence) es is bare = bare
 
-first_of_all : (before : List Entry) (e : Entry) (es : List Entry) → event_of e ≡ None → AreOfOne before (e ∷ es) → before ≡ []
+first_of_all : (before : List Entry) (e : Entry) (es : List Entry) → event_of_entry e ≡ None → AreOfOne before (e ∷ es) → before ≡ []
 first_of_all before (entry.Did other) es is one = absurd (cc (is))
 first_of_all before entry.Idle es is one = one.0
 first_of_all before (entry.Said from to octets) es is one = one.0
@@ -184,7 +184,7 @@ first_of_all before (entry.Pong edge wire sequence) es is one = one.0
 -- ---- the whole
 
 pub seen_first : (plan : Plan) (trace entries : List Entry) (e : Entry) (es : List Entry) (old new : Past) (sources2 : List Source) (exits2 : List (ℕ × Leavings)) → entries ≡ e ∷ es
-    → event_of e ≡ None → HasNoEvent es → AreOfOne trace entries
+    → event_of_entry e ≡ None → HasNoEvent es → AreOfOne trace entries
     → HasSeen plan trace old
     → new.place ≡ old.place + length entries
     → ((seen : Seen) → Knows old.state seen → Knows new.state (seen_from seen entries))
@@ -215,7 +215,7 @@ seen_first plan trace entries e es old new sources2 exits2 split is bare one see
       at_first = subst (λ (t : List Entry). HasSeen plan t old) first seen
 
 pub seen_event : (plan : Plan) (trace entries : List Entry) (e : Entry) (es : List Entry) (event : Event) (old new : Past) (sources2 : List Source) (exits2 : List (ℕ × Leavings))
-    → entries ≡ e ∷ es → event_of e ≡ Some event
+    → entries ≡ e ∷ es → event_of_entry e ≡ Some event
     → HasSeen plan trace old
     → new.place ≡ old.place + length entries
     → new.sources ≡ sources2

@@ -15,7 +15,7 @@ use Rattle.net_base.specs.plan.Places.{circuit_row}
 use Rattle.net_base.specs.trace.Frame.{source_of}
 use Rattle.net_values.specs.declared.mac.Mac.{Mac}
 use Rattle.seen_network.specs.Once.{is_circuit_row_of, is_sourced_by}
-use Rattle.window_audit.specs.Sources.{HasEntered, HasSources, comes_from, has_source}
+use Rattle.window_audit.specs.Sources.{HasEnteredOnce, HasSources, comes_from, has_source}
 use Rattle.window_audit.specs.declared.source.Source.{Source}
 
 pub any_more : (test : Entry → Bool) (es : List Entry) (e : Entry) → list_any test (es ++ e ∷ []) ≡ list_any test es || test e
@@ -45,19 +45,19 @@ pub put_one : (old new : List Source) (s : Source)
     → (other : ServiceId) (address : Mac) → has_source new other.0 address.0 ≡ cond (s.service == other.0 && bytes_eq s.address.0 address.0) true (has_source old other.0 address.0)
 put_one old new s put other address = put (record { service = other.0; address = address })
 
-pub entered_short : (plan : Plan) (circuit : CircuitId) (octets : List ℕ) (sources : List Source) → length octets < 12 → HasEntered plan circuit octets sources sources
+pub entered_short : (plan : Plan) (circuit : CircuitId) (octets : List ℕ) (sources : List Source) → length octets < 12 → HasEnteredOnce plan circuit octets sources sources
 entered_short plan circuit octets sources few = λ service address six.
     or_false (has_source sources service.0 address.0) (comes_from plan circuit octets service address.0)
     (and_right (is_circuit_row_of service (circuit_row plan circuit)) (bytes_eq (source_of octets) address.0) (short_source octets address.0 few six))
 
-pub entered_nowhere : (plan : Plan) (circuit : CircuitId) (octets : List ℕ) (sources : List Source) → circuit_row plan circuit ≡ None → HasEntered plan circuit octets sources sources
+pub entered_nowhere : (plan : Plan) (circuit : CircuitId) (octets : List ℕ) (sources : List Source) → circuit_row plan circuit ≡ None → HasEnteredOnce plan circuit octets sources sources
 entered_nowhere plan circuit octets sources none = λ service address six.
     or_false (has_source sources service.0 address.0) (comes_from plan circuit octets service address.0)
     (ap (λ (row : Option CircuitPlan). is_circuit_row_of service row && bytes_eq (source_of octets) address.0) none)
 
 pub entered_one : (plan : Plan) (circuit : CircuitId) (octets : List ℕ) (row : CircuitPlan) (from : Mac) (old new : List Source) → circuit_row plan circuit ≡ Some row → from.0 ≡ source_of octets
     → ((other : ServiceId) (address : Mac) → has_source new other.0 address.0 ≡ cond (row.service.0 == other.0 && bytes_eq from.0 address.0) true (has_source old other.0 address.0))
-    → HasEntered plan circuit octets old new
+    → HasEnteredOnce plan circuit octets old new
 entered_one plan circuit octets row from old new is same put = λ service address six.
     put service address
     ∙ (ap (λ (octets : List ℕ). cond (row.service.0 == service.0 && bytes_eq octets address.0) true (has_source old service.0 address.0)) same
@@ -69,7 +69,7 @@ entered_one plan circuit octets row from old new is same put = λ service addres
       turn false true = refl
       turn false false = refl
 
-pub told_in : (plan : Plan) (circuit : CircuitId) (number : ℕ) (octets : List ℕ) (old new : List Source) (trace : List Entry) → HasEntered plan circuit octets old new → HasSources plan old trace
+pub told_in : (plan : Plan) (circuit : CircuitId) (number : ℕ) (octets : List ℕ) (old new : List Source) (trace : List Entry) → HasEnteredOnce plan circuit octets old new → HasSources plan old trace
     → HasSources plan new (trace ++ In circuit number octets ∷ [])
 told_in plan circuit number octets old new trace entered has = λ service address six.
     entered service address six

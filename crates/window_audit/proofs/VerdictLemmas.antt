@@ -3,7 +3,7 @@ use Rattle.std.proofs.Common.{◌≡◌, ◌==◌, ◌<◌, ◌≤◌, ◌+◌, 
 use Rattle.std.proofs.lemmas.Bool.{eqb-true, or_parts}
 use Rattle.std.proofs.lemmas.Bool.Decides.{nat_tests}
 use Rattle.std.specs.List.{list_any}
-use Rattle.hvpls_spokes.specs.PortSet.{has}
+use Rattle.hvpls_spokes.specs.PortSet.{holds_port as has}
 use Rattle.net_base.specs.declared.plan.Plan.{Plan}
 use Rattle.net_base.specs.declared.plan.places.CircuitId.{CircuitId}
 use Rattle.net_base.specs.declared.trace.entry.Entry.{Entry}
@@ -14,7 +14,7 @@ use Rattle.seen_windows.specs.Verdict.{IsFirstOwed, IsServed}
 use Rattle.seen_windows.specs.Past.{AmongWindows}
 use Rattle.seen_windows.specs.declared.window.Window.{Window}
 use Rattle.window_audit.specs.Exits.{HasExits, LeftTwice, has_left, is_again, is_far, leavings_of, left_far}
-use Rattle.window_audit.specs.Verdict.{AgreeOrDiffer, Differ, Judges, earlier, is_owed_at}
+use Rattle.window_audit.specs.Verdict.{AgreeOrDiffer, DifferAtSites, Judges, earlier, is_owed_at}
 use Rattle.window_audit.specs.declared.leavings.Leavings.{Leavings}
 
 -- ---- segments
@@ -89,7 +89,7 @@ owed_one false = grind (arith, nat_tests)
 
 pub differ_not : (plan : Plan) (trace : List Entry) (window : Window) (exits : List (ℕ × Leavings)) (at : List ℕ) → HasExits exits trace
     → ((c : ℕ) → has at c ≡ has_left (leavings_of exits window.origin) c)
-    → Differ plan window.sites at → IsServed plan trace window → ⊥
+    → DifferAtSites plan window.sites at → IsServed plan trace window → ⊥
 differ_not plan trace window exits at known at_is differ served = differ.differ
     (at_is differ.circuit ∙ (known.at window.origin (record { 0 = differ.circuit })
     ∙ (ap (nat_lt 0) (served.once (record { 0 = differ.circuit })) ∙ owed_one (is_owed_at plan window.sites differ.circuit))))

@@ -7,15 +7,15 @@ use Rattle.net_base.specs.declared.trace.entry.Entry.{Entry}
 use Rattle.net_base.specs.declared.trace.entry.Entry.TheVariants as entry
 use Rattle.net_base.specs.declared.trace.event.Event.{Event}
 use Rattle.net_base.specs.declared.trace.event.Event.TheVariants as event
-use Rattle.hvpls_spokes.specs.PortSet.{has}
+use Rattle.hvpls_spokes.specs.PortSet.{holds_port}
 use Rattle.seen_network.specs.Calm.{is_seen_calm}
 use Rattle.seen_network.specs.Seen.{Seen}
 use Rattle.window_audit.specs.declared.calm_memory.CalmMemory.{CalmMemory}
 
 -- what is remembered of a plan's services is so
 pub record Remembers (plan : Plan) (seen : Seen) (memory : CalmMemory) : Type 0 where
-  pub calm : (service : ServiceId) → has memory.calm service.0 ≡ true → is_seen_calm plan seen service ≡ true
-  pub restless : (service : ServiceId) → has memory.restless service.0 ≡ true → is_seen_calm plan seen service ≡ false
+  pub calm : (service : ServiceId) → holds_port memory.calm service.0 ≡ true → is_seen_calm plan seen service ≡ true
+  pub restless : (service : ServiceId) → holds_port memory.restless service.0 ≡ true → is_seen_calm plan seen service ≡ false
 
 -- an event that applied may change whether a service is seen calm
 abbrev pub stirs_by : Event → Bool

@@ -4,7 +4,7 @@ use Rattle.std.specs.BTreeMap.{is_at}
 use Rattle.std.specs.List.{list_any}
 use Rattle.std.specs.Map.{lookup}
 use Rattle.std.specs.Ordering.{nat_cmp}
-use Rattle.hvpls_spokes.specs.PortSet.{has}
+use Rattle.hvpls_spokes.specs.PortSet.{holds_port}
 use Rattle.net_base.specs.declared.plan.places.CircuitId.{CircuitId}
 use Rattle.net_base.specs.declared.trace.entry.Entry.{Entry}
 use Rattle.net_base.specs.declared.trace.entry.Entry.TheVariants.{Left}
@@ -18,7 +18,7 @@ leavings_of exits origin = lookup (is_at (nat_cmp origin)) exits
 -- one left at the circuit
 abbrev pub has_left : Option Leavings → ℕ → Bool
 has_left None circuit = false
-has_left (Some leavings) circuit = has leavings.at circuit
+has_left (Some leavings) circuit = holds_port leavings.at circuit
 
 -- two left at one circuit
 abbrev pub is_again : Option Leavings → Bool

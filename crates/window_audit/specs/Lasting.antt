@@ -8,7 +8,7 @@ use Rattle.net_base.specs.declared.plan.Plan.{Plan}
 use Rattle.net_base.specs.declared.trace.entry.Entry.{Entry}
 use Rattle.seen_network.specs.Once.{has_seen}
 use Rattle.seen_network.specs.Seen.{Seen, seen_in}
-use Rattle.seen_windows.specs.Past.{AmongWindows, AreOpen, flooded_to}
+use Rattle.seen_windows.specs.Past.{AmongWindows, AreWindowsOpen, flooded_to}
 use Rattle.seen_windows.specs.declared.window.Window.{Window}
 
 -- those of a frame
@@ -25,8 +25,8 @@ abbrev pub is_one_of : List ℕ → ℕ → Bool
 is_one_of numbers number = list_any (λ n. n == number) numbers
 
 -- of these frames, no copy of it is under way
-abbrev pub is_over : Seen → List ℕ → ℕ → Bool
-is_over seen origins origin = is_one_of origins origin && not (has_seen seen origin)
+abbrev pub are_copies_over : Seen → List ℕ → ℕ → Bool
+are_copies_over seen origins origin = is_one_of origins origin && not (has_seen seen origin)
 
 -- a window of such a frame, which was flooded
 pub record ClosesOne (gone : ℕ → Bool) (flooded : Window → Bool) (old : ℕ → List Window) (window : Window) : Type 0 where
@@ -49,7 +49,7 @@ was_flooded plan trace window = flooded_to plan window.service window.destinatio
 -- these are the windows that are open behind entries, each with a copy under way
 pub record AreLasting (plan : Plan) (trace : List Entry) (lasting : ℕ → List Window) : Type 0 where
   pub windows : List Window
-  pub are_open : AreOpen plan trace windows
+  pub are_open : AreWindowsOpen plan trace windows
   pub listed : (window : Window) → AmongWindows window windows → AmongWindows window (lasting window.origin)
   pub lists : (origin : ℕ) (window : Window) → AmongWindows window (lasting origin) → AmongWindows window windows
   pub home : (origin : ℕ) (window : Window) → AmongWindows window (lasting origin) → window.origin ≡ origin

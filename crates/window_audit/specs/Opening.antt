@@ -6,7 +6,7 @@ use Rattle.net_base.specs.declared.plan.places.ServiceId.{ServiceId}
 use Rattle.net_base.specs.declared.trace.drop_cause.DropCause.{DropCause}
 use Rattle.net_base.specs.plan.Places.{service_of}
 use Rattle.net_base.specs.trace.Isolated.{inner_at}
-use Rattle.hvpls_spokes.specs.PortSet.{has}
+use Rattle.hvpls_spokes.specs.PortSet.{holds_port}
 use Rattle.seen_network.specs.Calm.{is_seen_calm}
 use Rattle.seen_network.specs.Once.{is_seen_site}
 use Rattle.seen_network.specs.Seen.{Seen}
@@ -40,7 +40,7 @@ is_due plan seen service sender place = is_seen_site plan seen service (record {
 
 -- the circuits at which it has to leave
 abbrev pub AreSites : Plan → Seen → ServiceId → CircuitId → List ℕ → Type 0
-AreSites plan seen service sender sites = (site : CircuitId) → site.0 < length plan.circuits → has sites site.0 ≡ is_seen_site plan seen service site && not (site.0 == sender.0)
+AreSites plan seen service sender sites = (site : CircuitId) → site.0 < length plan.circuits → holds_port sites site.0 ≡ is_seen_site plan seen service site && not (site.0 == sender.0)
 
 -- where the inner frame goes
 abbrev pub InnerGoes : Plan → CircuitId → List ℕ → Opening → Type 0

@@ -27,6 +27,6 @@ abbrev pub comes_from : Plan → CircuitId → List ℕ → ServiceId → List �
 comes_from plan circuit octets service address = is_circuit_row_of service (circuit_row plan circuit) && bytes_eq (source_of octets) address
 
 -- a frame more entered
-abbrev pub HasEntered : Plan → CircuitId → List ℕ → List Source → List Source → Type 0
-HasEntered plan circuit octets old new = (service : ServiceId) (address : Mac) → length address.0 ≡ 6
+abbrev pub HasEnteredOnce : Plan → CircuitId → List ℕ → List Source → List Source → Type 0
+HasEnteredOnce plan circuit octets old new = (service : ServiceId) (address : Mac) → length address.0 ≡ 6
     → has_source new service.0 address.0 ≡ has_source old service.0 address.0 || comes_from plan circuit octets service address.0

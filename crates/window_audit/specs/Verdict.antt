@@ -1,6 +1,6 @@
 -- Whether frames left where they had to.
 use Rattle.std.specs.Prelude.{◌≡◌, ◌<◌, ◌&&◌, nat_lt, ℕ, Bool, true, false, List, Option, Some, None, length, min}
-use Rattle.hvpls_spokes.specs.PortSet.{has}
+use Rattle.hvpls_spokes.specs.PortSet.{holds_port}
 use Rattle.net_base.specs.declared.plan.Plan.{Plan}
 use Rattle.net_base.specs.declared.trace.entry.Entry.{Entry}
 use Rattle.seen_windows.specs.Verdict.{IsServed}
@@ -8,17 +8,17 @@ use Rattle.seen_windows.specs.declared.window.Window.{Window}
 
 -- the circuit is a site, and one of the plan
 abbrev pub is_owed_at : Plan → List ℕ → ℕ → Bool
-is_owed_at plan sites circuit = nat_lt circuit (length plan.circuits) && has sites circuit
+is_owed_at plan sites circuit = nat_lt circuit (length plan.circuits) && holds_port sites circuit
 
 -- a frame left at a circuit that is no site, or did not leave at a site
-pub record Differ (plan : Plan) (sites at : List ℕ) : Type 0 where
+pub record DifferAtSites (plan : Plan) (sites at : List ℕ) : Type 0 where
   pub circuit : ℕ
-  pub differ : has at circuit ≡ is_owed_at plan sites circuit → ⊥
+  pub differ : holds_port at circuit ≡ is_owed_at plan sites circuit → ⊥
 
 -- whether a frame left at the sites alone
 abbrev pub AgreeOrDiffer : Plan → List ℕ → List ℕ → Bool → Type 0
-AgreeOrDiffer plan sites at true = (circuit : ℕ) → circuit < 512 → has at circuit ≡ is_owed_at plan sites circuit
-AgreeOrDiffer plan sites at false = Differ plan sites at
+AgreeOrDiffer plan sites at true = (circuit : ℕ) → circuit < 512 → holds_port at circuit ≡ is_owed_at plan sites circuit
+AgreeOrDiffer plan sites at false = DifferAtSites plan sites at
 
 -- whether the frame of the window was served
 abbrev pub Judges : Plan → List Entry → Window → Bool → Type 0

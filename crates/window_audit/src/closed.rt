@@ -6,7 +6,7 @@ ghost use Rattle.net_base.specs.declared.trace.entry.Entry.{Entry};
 ghost use Rattle.seen_network.specs.Once.{is_sourced_by};
 ghost use Rattle.seen_network.specs.Seen.{Seen};
 ghost use Rattle.seen_state.specs.SeenState.{Knows};
-ghost use Rattle.window_audit.specs.Lasting.{HasClosed, is_over, was_flooded, windows_at};
+ghost use Rattle.window_audit.specs.Lasting.{HasClosed, are_copies_over, was_flooded, windows_at};
 ghost use Rattle.window_audit.specs.Sources.{HasSources};
 
 use crate::lasting::Lasting;
@@ -24,7 +24,7 @@ pub(crate) fn close(
     sources: &Sources,
     losses: &[u64],
 ) -> Result<(), NoMemory>
-    ensures { OnOk result ((plan : Plan) (trace : Items Entry) (seen : Seen) → Knows state.now seen → HasSources plan sources.now trace → HasClosed (is_over seen losses.now) (was_flooded plan trace) (windows_at lasting.old) (windows_at lasting.new) owed.old.items owed.new.items) }
+    ensures { OnOk result ((plan : Plan) (trace : Items Entry) (seen : Seen) → Knows state.now seen → HasSources plan sources.now trace → HasClosed (are_copies_over seen losses.now) (was_flooded plan trace) (windows_at lasting.old) (windows_at lasting.new) owed.old.items owed.new.items) }
 {
     for origin in losses {
         close_one(lasting, owed, state, sources, *origin)?;
@@ -40,7 +40,7 @@ fn close_one(
     sources: &Sources,
     origin: u64,
 ) -> Result<(), NoMemory>
-    ensures { OnOk result ((plan : Plan) (trace : Items Entry) (seen : Seen) → Knows state.now seen → HasSources plan sources.now trace → HasClosed (is_over seen (origin ∷ [])) (was_flooded plan trace) (windows_at lasting.old) (windows_at lasting.new) owed.old.items owed.new.items) }
+    ensures { OnOk result ((plan : Plan) (trace : Items Entry) (seen : Seen) → Knows state.now seen → HasSources plan sources.now trace → HasClosed (are_copies_over seen (origin ∷ [])) (was_flooded plan trace) (windows_at lasting.old) (windows_at lasting.new) owed.old.items owed.new.items) }
 {
     if state.has(origin) {
         return Ok(());

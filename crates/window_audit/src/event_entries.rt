@@ -1,14 +1,14 @@
 //! The entries of one event.
 ghost use Rattle.std.specs.Prelude.{◌≡◌, option_copied, option_map, IfSome};
 ghost use Rattle.seen_network.specs.Once.{entered_as};
-ghost use Rattle.seen_windows.specs.EventEntries.{HasNoEvent, entered_place, event_of, is_idle, tells_idle};
+ghost use Rattle.seen_windows.specs.EventEntries.{HasNoEvent, entered_place, event_of_entry, is_idle_entry, tells_idle};
 ghost use Rattle.window_audit.specs.EventEntries.{entered_by};
 
 use net_base::{CircuitId, Entry, Event};
 
 /// The event that an entry tells of.
 pub(crate) fn event_of(entry: &Entry) -> Option<&Event>
-    ensures { option_copied result ≡ event_of entry.now }
+    ensures { option_copied result ≡ event_of_entry entry.now }
 {
     match entry {
         Entry::Did { event } => Some(event),
@@ -24,7 +24,7 @@ pub(crate) fn tells_idle(entries: &[Entry]) -> bool
 }
 
 fn is_idle(entry: &Entry) -> bool
-    ensures { result ≡ is_idle entry.now }
+    ensures { result ≡ is_idle_entry entry.now }
 {
     matches!(*entry, Entry::Idle)
 }

@@ -1,6 +1,6 @@
 //! Where frames left.
 ghost use Rattle.std.specs.Prelude.{◌≡◌, ◌<◌, ◌++◌, ◌∷◌, [], ℕ, List, OnOk};
-ghost use Rattle.hvpls_spokes.specs.PortSet.{has};
+ghost use Rattle.hvpls_spokes.specs.PortSet.{holds_port};
 ghost use Rattle.net_base.specs.declared.trace.entry.Entry.{Entry as Told};
 ghost use Rattle.window_audit.specs.Exits.{HasExits, HasLeft, IsAtPort, has_left, is_again, is_far, leavings_of};
 
@@ -38,7 +38,7 @@ impl Exits {
 
     /// Where the copies of a frame left.
     pub fn leavings(&self, origin: u64) -> Leavings
-        ensures at { (c : ℕ) → has result.at c ≡ has_left (leavings_of self.now origin) c }
+        ensures at { (c : ℕ) → holds_port result.at c ≡ has_left (leavings_of self.now origin) c }
         ensures again { result.again ≡ is_again (leavings_of self.now origin) }
         ensures far { result.far ≡ is_far (leavings_of self.now origin) }
     {

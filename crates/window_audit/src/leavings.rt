@@ -1,6 +1,6 @@
 //! Where one frame left.
 ghost use Rattle.std.specs.Prelude.{◌≡◌, ◌≢◌, ◌<◌, ◌||◌, ℕ, true, false, nat_lt};
-ghost use Rattle.hvpls_spokes.specs.PortSet.{has};
+ghost use Rattle.hvpls_spokes.specs.PortSet.{holds_port};
 
 use hvpls_spokes::PortSet;
 
@@ -18,7 +18,7 @@ pub struct Leavings {
 impl Leavings {
     /// None left.
     pub fn none() -> Leavings
-        ensures at { (c : ℕ) → has result.at c ≡ false }
+        ensures at { (c : ℕ) → holds_port result.at c ≡ false }
         ensures again { result.again ≡ false }
         ensures far { result.far ≡ false }
     {
@@ -32,9 +32,9 @@ impl Leavings {
     /// One leaves at a circuit, and has passed so many segments.
     pub fn leave(&mut self, circuit: u16, hops: u64)
         requires { circuit < 512 }
-        ensures here { has self.new.at circuit ≡ true }
-        ensures others { (c : ℕ) → c ≢ circuit → has self.new.at c ≡ has self.old.at c }
-        ensures again { self.new.again ≡ self.old.again || has self.old.at circuit }
+        ensures here { holds_port self.new.at circuit ≡ true }
+        ensures others { (c : ℕ) → c ≢ circuit → holds_port self.new.at c ≡ holds_port self.old.at c }
+        ensures again { self.new.again ≡ self.old.again || holds_port self.old.at circuit }
         ensures far { self.new.far ≡ self.old.far || nat_lt 12 hops }
     {
         self.again = self.again || self.at.contains(circuit);

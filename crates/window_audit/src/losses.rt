@@ -1,7 +1,7 @@
 //! What is seen behind an event and its entries, and the frames of which copies went by them.
 ghost use Rattle.std.specs.Prelude.{◌≡◌, ◌<◌, ◌≤◌, ◌+◌, ◌^◌, ℕ, Some, true, false, length, OnOk};
 ghost use Rattle.seen_network.specs.Once.{has_seen};
-ghost use Rattle.seen_network.specs.Seen.{Seen, happened, happened_or, seen_from, told};
+ghost use Rattle.seen_network.specs.Seen.{Seen, happened, happened_or, seen_from, told_by_itself};
 ghost use Rattle.seen_state.specs.Copies.{TellsPackets};
 ghost use Rattle.seen_state.specs.Placed.{IsEventWithin, IsWithin};
 ghost use Rattle.seen_state.specs.SeenState.{Knows};
@@ -57,7 +57,7 @@ fn tell_one(state: &mut SeenState, entry: &Entry, losses: &mut Vec<u64>) -> Resu
     requires few { state.old.copies.comings < 2 ^ 63 }
     ensures sizes { state.new.sight.sizes ≡ state.old.sight.sizes }
     ensures comings { OnOk result (state.new.copies.comings ≤ state.old.copies.comings + 1) }
-    ensures follows { OnOk result ((seen : Seen) → Knows state.old seen → Follows seen (told entry.now seen) state.new losses.old.items losses.new.items) }
+    ensures follows { OnOk result ((seen : Seen) → Knows state.old seen → Follows seen (told_by_itself entry.now seen) state.new losses.old.items losses.new.items) }
 {
     let going = going_by_entry(&state.copies, entry);
     state.tell(entry)?;
@@ -88,7 +88,7 @@ fn going_by_event(copies: &Copies, event: &Event) -> Option<u64>
 
 // The frame of which a copy goes by an entry: an aged packet, or one in whose place another comes.
 fn going_by_entry(copies: &Copies, entry: &Entry) -> Option<u64>
-    ensures { (seen : Seen) → TellsPackets copies.now seen.under_way → (origin : ℕ) → has_seen seen origin ≡ true → has_seen (told entry.now seen) origin ≡ false → result ≡ Some origin }
+    ensures { (seen : Seen) → TellsPackets copies.now seen.under_way → (origin : ℕ) → has_seen seen origin ≡ true → has_seen (told_by_itself entry.now seen) origin ≡ false → result ≡ Some origin }
 {
     match *entry {
         Entry::Sent { packet, .. } => copies.origin(packet),

@@ -4,7 +4,7 @@ ghost use Rattle.std.specs.Str.{bytes_eq};
 ghost use Rattle.net_base.specs.declared.plan.Plan.{Plan as Planned};
 ghost use Rattle.net_base.specs.declared.trace.entry.Entry.{Entry as Told};
 ghost use Rattle.net_values.specs.declared.mac.Mac.{Mac as Address};
-ghost use Rattle.window_audit.specs.Sources.{HasEntered, HasSources, has_source};
+ghost use Rattle.window_audit.specs.Sources.{HasEnteredOnce, HasSources, has_source};
 
 use crate::address::address_at;
 use crate::source::Source;
@@ -75,7 +75,7 @@ impl Sources {
 
     // A frame entered.
     fn enter(&mut self, plan: &Plan, circuit: CircuitId, octets: &[u8]) -> Result<(), NoMemory>
-        ensures { OnOk result (HasEntered plan.now circuit octets.now self.old self.new) }
+        ensures { OnOk result (HasEnteredOnce plan.now circuit octets.now self.old self.new) }
     {
         if octets.len() < 12 {
             return Ok(());

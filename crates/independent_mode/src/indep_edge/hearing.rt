@@ -2,8 +2,8 @@
 ghost use Rattle.std.specs.Prelude.{◌≡◌, ◌<◌, ◌++◌, ℕ, List, Some, None, Ok, Err, [], true, false, length, drop, IfOk, OnOk, option_copied};
 ghost use Rattle.net_values.specs.Octets.{AreOctets};
 ghost use Rattle.pw_messages.specs.LinkAnswers.{Agrees, Answers};
-ghost use Rattle.independent_mode.specs.Receiver.{IsTakenOut, IsWaiting, receiver_of, kept_after};
-ghost use Rattle.independent_model.specs.Hear.{hears_at, hears_message, hears_messages, hears_notice, hears_status};
+ghost use Rattle.independent_mode.specs.Receiver.{IsTakenOut, IsReceiverWaiting, receiver_of, kept_after};
+ghost use Rattle.independent_model.specs.Hear.{hears_at, independent_hears_message, independent_hears_messages, hears_notice, independent_hears_status};
 ghost use Rattle.independent_mode.specs.Heard.{HearsTo};
 ghost use Rattle.independent_mode.specs.Lists.{KeepsIndependent, independent_seen};
 ghost use Rattle.independent_model.specs.State.{with_receiver, with_remote, without_remotes};
@@ -34,7 +34,7 @@ impl IndepEdge {
         ensures keeps { KeepsIndependent self.old self.new }
         ensures goes { CallsGoOn (L.calls link.old) (L.calls link.new) }
         ensures never { NeverRefused result }
-        ensures step { (told : Answers) → Agrees told (L.calls link.new) → Comes result (independent_seen self.new) (L.calls link.new) (hears_status self.old.plan told self.old.me.0 peer wire status (independent_seen self.old) (L.calls link.old)) }
+        ensures step { (told : Answers) → Agrees told (L.calls link.new) → Comes result (independent_seen self.new) (L.calls link.new) (independent_hears_status self.old.plan told self.old.me.0 peer wire status (independent_seen self.old) (L.calls link.old)) }
     {
         let wish = self.wish(wire);
         self.set_remote(wire, Some(status));
@@ -89,7 +89,7 @@ impl IndepEdge {
         ensures keeps { KeepsIndependent self.old self.new }
         ensures goes { CallsGoOn (L.calls link.old) (L.calls link.new) }
         ensures never { NeverRefused result }
-        ensures step { (told : Answers) → Agrees told (L.calls link.new) → Comes result (independent_seen self.new) (L.calls link.new) (hears_message self.old.plan told self.old.me.0 peer message.now (independent_seen self.old) (L.calls link.old)) }
+        ensures step { (told : Answers) → Agrees told (L.calls link.new) → Comes result (independent_seen self.new) (L.calls link.new) (independent_hears_message self.old.plan told self.old.me.0 peer message.now (independent_seen self.old) (L.calls link.old)) }
     {
         match message {
             Message::Notification {
@@ -115,7 +115,7 @@ impl IndepEdge {
         ensures keeps { KeepsIndependent self.old self.new }
         ensures goes { CallsGoOn (L.calls link.old) (L.calls link.new) }
         ensures never { NeverRefused result }
-        ensures step { (told : Answers) → Agrees told (L.calls link.new) → Comes result (independent_seen self.new) (L.calls link.new) (hears_messages self.old.plan told self.old.me.0 peer messages.now (independent_seen self.old) (L.calls link.old)) }
+        ensures step { (told : Answers) → Agrees told (L.calls link.new) → Comes result (independent_seen self.new) (L.calls link.new) (independent_hears_messages self.old.plan told self.old.me.0 peer messages.now (independent_seen self.old) (L.calls link.old)) }
     {
         for place in 0..messages.len() {
             match self.hear_message(alloc, peer, &messages[place], link) {
@@ -138,7 +138,7 @@ impl IndepEdge {
         requires within { peer.0 < length self.old.plan.edges }
         ensures keeps { KeepsIndependent self.old self.new }
         ensures goes { CallsGoOn (L.calls link.old) (L.calls link.new) }
-        ensures waits { OnOk result (IsWaiting receiver.new) }
+        ensures waits { OnOk result (IsReceiverWaiting receiver.new) }
         ensures step { (told : Answers) (more : List ℕ) → Agrees told (L.calls link.new) → AreOctets more
             → HearsTo self.old.plan told self.old.me.0 peer result receiver.new more (independent_seen self.new) (L.calls link.new) (hears_at self.old.plan told self.old.me.0 peer (receiver_of receiver.old) more (independent_seen self.old) (L.calls link.old)) }
     {

@@ -1,10 +1,10 @@
 //! What an edge keeps, one part a call.
 ghost use Rattle.std.specs.Prelude.{◌≡◌, ◌<◌, ◌&&◌, ℕ, Some, None, length, option_map, slice_get, IfSome, is_some};
-ghost use Rattle.status_exchange.specs.Wish.{is_active};
+ghost use Rattle.status_exchange.specs.Wish.{is_wished_active};
 ghost use Rattle.status_exchange.specs.Laws.{is_known_active};
 ghost use Rattle.independent_model.specs.Calls.{is_connected, uses_with};
 ghost use Rattle.independent_mode.specs.Lists.{KeepsIndependent, independent_seen};
-ghost use Rattle.independent_model.specs.State.{id_next, spoken, with_connection, with_local, with_remote};
+ghost use Rattle.independent_model.specs.State.{id_next, spoken_once, with_connection, with_local, with_remote};
 ghost use Rattle.independent_model.specs.Wires.{is_between, is_row_between, other_end, wire_named};
 
 use crate::connection::Connection;
@@ -123,7 +123,7 @@ impl IndepEdge {
 
 // Whether an end calls its wire active.
 fn is_active(wish: Wish) -> bool
-    ensures { result ≡ is_active wish }
+    ensures { result ≡ is_wished_active wish }
 {
     match wish {
         Wish::Active | Wish::Ask => true,

@@ -4,7 +4,7 @@ ghost use Rattle.net_base.specs.declared.plan.wire_plan.WirePlan.{WirePlan};
 ghost use Rattle.pw_messages.specs.LinkAnswers.{Agrees, Answers};
 ghost use Rattle.independent_model.specs.Calls.{tells_other};
 ghost use Rattle.independent_mode.specs.Lists.{KeepsIndependent, independent_seen};
-ghost use Rattle.independent_model.specs.State.{ConnectionState, spoken, with_connection};
+ghost use Rattle.independent_model.specs.State.{ConnectionState, spoken_once, with_connection};
 ghost use Rattle.independent_model.specs.Tell.{octets_on, tells, tells_from, tells_place};
 ghost use Rattle.independent_model.specs.Wires.{other_end};
 ghost use Rattle.independent_model.specs.Work.{Comes, CallsGoOn, IsPutOnLink, NeverRefused};
@@ -29,7 +29,7 @@ impl IndepEdge {
     fn count(&mut self, peer: EdgeId)
         requires within { peer.0 < length self.old.plan.edges }
         ensures keeps { KeepsIndependent self.old self.new }
-        ensures step { (kept : ConnectionState) → (independent_seen self.old).connection peer.0 ≡ Some kept → independent_seen self.new ≡ with_connection peer.0 (Some (spoken kept)) (independent_seen self.old) }
+        ensures step { (kept : ConnectionState) → (independent_seen self.old).connection peer.0 ≡ Some kept → independent_seen self.new ≡ with_connection peer.0 (Some (spoken_once kept)) (independent_seen self.old) }
     {
         if let Some(connection) = self.take_connection(peer) {
             self.put_connection(peer, Some(connection.spoken()));

@@ -54,19 +54,19 @@ asked_last MeshWires wire = ends_mark wire
 asked_last SpokeStarts wire = start_mark wire.service.0 (edge_number (last_edge wire.path))
 
 -- a mark for which the wire asks was left
-abbrev pub is_marked : WireRule → List Bool → WirePlan → Bool
-is_marked rule marks wire = get_or marks (asked_first rule wire) false || get_or marks (asked_last rule wire) false
+abbrev pub is_wire_marked : WireRule → List Bool → WirePlan → Bool
+is_wire_marked rule marks wire = get_or marks (asked_first rule wire) false || get_or marks (asked_last rule wire) false
 
 -- the marks behind those that the wire leaves
 abbrev pub marks_with : WireRule → List Bool → WirePlan → List Bool
 marks_with rule marks wire = slice_set (slice_set marks (left_first rule wire) true) (left_last rule wire) true
 
 -- the marks that a wire leaves are there
-pub record IsLeft (rule : WireRule) (marks : List Bool) (wire : WirePlan) : Type 0 where
+pub record IsMarkLeft (rule : WireRule) (marks : List Bool) (wire : WirePlan) : Type 0 where
   pub first : get_or marks (left_first rule wire) false ≡ true
   pub last : get_or marks (left_last rule wire) false ≡ true
 
 -- the marks that each wire leaves are there
-abbrev pub AreLeft : WireRule → List Bool → List WirePlan → Type 0
-AreLeft rule marks [] = Unit {0}
-AreLeft rule marks (wire ∷ rest) = IsLeft rule marks wire × AreLeft rule marks rest
+abbrev pub AreMarksLeft : WireRule → List Bool → List WirePlan → Type 0
+AreMarksLeft rule marks [] = Unit {0}
+AreMarksLeft rule marks (wire ∷ rest) = IsMarkLeft rule marks wire × AreMarksLeft rule marks rest

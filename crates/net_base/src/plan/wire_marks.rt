@@ -2,7 +2,7 @@
 ghost use Rattle.std.specs.Prelude.{◌≡◌, ◌<◌, length, if◌then◌else◌};
 ghost use Rattle.net_base.specs.plan.Paths.{first_edge};
 ghost use Rattle.net_base.specs.plan.Places.{is_mesh_class};
-ghost use Rattle.net_base.specs.plan.WireMarks.{edge_number, pw_id_mark, pair_mark, end_mark, start_mark, ends_mark, left_first, left_last, asked_first, asked_last, is_marked, marks_with};
+ghost use Rattle.net_base.specs.plan.WireMarks.{edge_number, pw_id_mark, pair_mark, end_mark, start_mark, ends_mark, left_first, left_last, asked_first, asked_last, is_wire_marked, marks_with};
 
 use crate::plan::paths::{first_of, last_of};
 use crate::plan::wire_rule::WireRule;
@@ -131,7 +131,7 @@ fn asked(rule: WireRule, wire: &WirePlan) -> (usize, usize)
 /// Whether a mark for which the wire asks was left.
 pub(crate) fn is_marked(rule: WireRule, marks: &[bool], wire: &WirePlan) -> bool
     requires { length marks.now ≡ 8192 }
-    ensures { result ≡ is_marked rule marks.now wire.now }
+    ensures { result ≡ is_wire_marked rule marks.now wire.now }
 {
     let (first, last) = asked(rule, wire);
     marks[first] || marks[last]

@@ -1,7 +1,7 @@
 //! The lines of a script.
 ghost use Rattle.std.specs.Prelude.{◌≡◌, ◌<◌, ◌==◌, Some, true, false, length, take, IfOk, OnOk};
 ghost use Rattle.independent_model.specs.Wires.{is_between, other_end};
-ghost use Rattle.switchover_model.specs.Network.{connecting, cutting, delivers, does, done, is_idle, settling, some_between, SwitchState};
+ghost use Rattle.switchover_model.specs.Network.{switch_connecting, cutting, switch_delivers, does, done, is_line_idle, settling, some_between, SwitchState};
 ghost use Rattle.switchover_model.specs.Text.{deliver_entries, entries, line_entries, settle_entries};
 ghost use Rattle.switchover_model.specs.Planned.{IsLineOf};
 ghost use Rattle.switchover_net.specs.Net.{IsReached, Makes, ShowsSwitchState, cut_entries, pair_entries};
@@ -40,7 +40,7 @@ impl SwitchNet {
     #[tactic(auto, using(crate::proofs::LineLemmas::idle_steps))]
     fn is_idle(&self, line: SwitchLine) -> bool
         requires known { IsLineOf self.now.row.plan line }
-        ensures { (x : SwitchState) → ShowsSwitchState self.now x → result ≡ is_idle self.now.row.plan x line }
+        ensures { (x : SwitchState) → ShowsSwitchState self.now x → result ≡ is_line_idle self.now.row.plan x line }
     {
         match line {
             SwitchLine::Connect { edge, peer } => {
@@ -69,7 +69,7 @@ impl SwitchNet {
     ) -> Result<(), NoMemory>
         requires known { IsLineOf self.old.row.plan line }
         requires reached { IsReached self.old }
-        requires runs { (x : SwitchState) → ShowsSwitchState self.old x → is_idle self.old.row.plan x line ≡ false }
+        requires runs { (x : SwitchState) → ShowsSwitchState self.old x → is_line_idle self.old.row.plan x line ≡ false }
         ensures plan { self.new.row.plan ≡ self.old.row.plan }
         ensures step { OnOk result (Makes self.old self.new out.old out.new (does self.old.row.plan line) (entries self.old.row.plan line)) }
     {
@@ -97,7 +97,7 @@ impl SwitchNet {
         requires a { a.0 < length self.old.row.plan.edges }
         requires b { b.0 < length self.old.row.plan.edges }
         ensures plan { self.new.row.plan ≡ self.old.row.plan }
-        ensures step { OnOk result (Makes self.old self.new out.old out.new (connecting self.old.row.plan a.0 b.0) (pair_entries self.old.row.plan a.0 b.0)) }
+        ensures step { OnOk result (Makes self.old self.new out.old out.new (switch_connecting self.old.row.plan a.0 b.0) (pair_entries self.old.row.plan a.0 b.0)) }
     {
         self.connect_one(alloc, a, b, out)?;
         self.connect_one(alloc, b, a, out)
@@ -140,7 +140,7 @@ impl SwitchNet {
         requires reached { IsReached self.old }
         ensures plan { self.new.row.plan ≡ self.old.row.plan }
         ensures reached { OnOk result (IsReached self.new) }
-        ensures step { OnOk result (Makes self.old self.new out.old out.new (λ x. delivers self.old.row.plan from.0 to.0 (take count (x.pipes from.0 to.0)) x) (λ x. deliver_entries self.old.row.plan from.0 to.0 (take count (x.pipes from.0 to.0)) x)) }
+        ensures step { OnOk result (Makes self.old self.new out.old out.new (λ x. switch_delivers self.old.row.plan from.0 to.0 (take count (x.pipes from.0 to.0)) x) (λ x. deliver_entries self.old.row.plan from.0 to.0 (take count (x.pipes from.0 to.0)) x)) }
     {
         let mut used = self.row.used(alloc, to)?;
         let most = self.pipes.front(from, to, count as usize).len();

@@ -1,7 +1,7 @@
 use Rattle.std.proofs.Common.{◌≡◌, ◌∙◌, Some, None, arith, rules}
 use Rattle.std.proofs.lemmas.Grind.{common_steps}
 use Rattle.std.proofs.lemmas.List.Elements.{All-rest}
-use Rattle.discovery_script.specs.Planned.{IsLineOf}
+use Rattle.discovery_script.specs.Planned.{IsDiscoveryLineOf}
 use Rattle.command_run.proofs.GoingLemmas.{limit_going}
 use Rattle.discovery_net.specs.Lists.{ended_at}
 use Rattle.discovery_net.specs.Script.{script_course}
@@ -16,7 +16,7 @@ loop-line-preserved c = (
   record {
     plan = c.in-Ok-take.ensures.plan ∙ c.loop-line.invariant.2.plan;
     going = c.in-Ok-take.ensures.going;
-    lines = All-rest (IsLineOf c.args.plan.now) c.in-Some.line c.next.new.self.rest.items c.loop-line.line-iterator.rest.items c.in-Some.ensures.steps.0 c.loop-line.invariant.2.lines;
+    lines = All-rest (IsDiscoveryLineOf c.args.plan.now) c.in-Some.line c.next.new.self.rest.items c.loop-line.line-iterator.rest.items c.in-Some.ensures.steps.0 c.loop-line.invariant.2.lines;
     way = way_next c.args.plan.now c.args.lines c.loop-line.line-iterator.rest.items c.next.new.self.rest.items c.in-Some.line c.loop-line.net c.take.new.self c.in-Some.ensures.steps.0 c.loop-line.invariant.2.plan
         c.in-Ok-take.ensures.acts c.in-Ok-take.ensures.after c.loop-line.invariant.2.way;
   },

@@ -1,7 +1,7 @@
 -- The lines so far are done.
 use Rattle.std.proofs.Common.{◌≡◌, false}
 use Rattle.std.specs.List.{All}
-use Rattle.discovery_script.specs.Planned.{IsLineOf}
+use Rattle.discovery_script.specs.Planned.{IsDiscoveryLineOf}
 use Rattle.discovery_net.proofs.ScriptLemmas.{IsUnderWay}
 use Rattle.discovery_net.proofs.run.run_script.Given as goal
 
@@ -12,6 +12,6 @@ invariant-loop-line l =
     × record {
       plan : l.net.network.plan ≡ l.fn.plan;
       going : l.net.network.failed ≡ false;
-      lines : All (IsLineOf l.fn.plan) l.line-iterator.rest.items;
+      lines : All (IsDiscoveryLineOf l.fn.plan) l.line-iterator.rest.items;
       way : IsUnderWay l.fn.plan l.fn.lines l.line-iterator.rest.items l.net;
     }

@@ -5,11 +5,11 @@ use Rattle.net_base.specs.declared.plan.Plan.{Plan}
 use Rattle.command_text.specs.Planned.{names_of}
 use Rattle.script_text.specs.Reading.{with_front_lines}
 use Rattle.discovery_script.specs.Lines.{lines_of}
-use Rattle.discovery_script.specs.Planned.{IsLineOf}
+use Rattle.discovery_script.specs.Planned.{IsDiscoveryLineOf}
 use Rattle.discovery_script.proofs.script.lines.Given as goal
 
 abbrev pub invariant-loop-place : goal.invariant-loop-place
 invariant-loop-place l = record {
   read : with_front_lines l.lines (lines_of l.names (l.place + 1) (drop l.place l.texts)) ≡ lines_of l.names 1 l.texts;
-  planned : (plan : Plan) → l.names ≡ names_of plan → All (IsLineOf plan) l.lines;
+  planned : (plan : Plan) → l.names ≡ names_of plan → All (IsDiscoveryLineOf plan) l.lines;
 }

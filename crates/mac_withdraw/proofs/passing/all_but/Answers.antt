@@ -1,5 +1,5 @@
 use Rattle.std.proofs.Common.{◌≤◌, ◌∙◌, ℕ, ap, sym, subst}
-use Rattle.hvpls_spokes.specs.PortSet.{has}
+use Rattle.hvpls_spokes.specs.PortSet.{holds_port}
 use Rattle.hvpls_spokes.specs.declared.port_set.PortSet.{PortSet}
 use Rattle.hvpls_spokes.specs.declared.edge_role.Role.TheVariants as role
 use Rattle.mac_withdraw.specs.Passing.{is_passed_to}
@@ -9,12 +9,12 @@ use Rattle.mac_withdraw.proofs.passing.all_but.Goals as goal
 
 pub loop-port-preserved : goal.loop-port-preserved
 loop-port-preserved c = elim c.if-is_passed.branch [
-  | then-is_passed w ↦ λ p. ap (λ (s : PortSet). has s p) w.passed-is ∙ put_next (is_passed_to role.Core c.args.ports.now c.args.from) (has c.loop-port.passed) (has w.insert.new.self) c.loop-port.port
+  | then-is_passed w ↦ λ p. ap (λ (s : PortSet). holds_port s p) w.passed-is ∙ put_next (is_passed_to role.Core c.args.ports.now c.args.from) (holds_port c.loop-port.passed) (holds_port w.insert.new.self) c.loop-port.port
       c.loop-port.invariant (sym c.is_passed.ensures ∙ w.if-is_passed.true) w.insert.ensures.it w.insert.ensures.others p
-  | else-is_passed w ↦ λ p. ap (λ (s : PortSet). has s p) w.passed-is ∙ pass_over (is_passed_to role.Core c.args.ports.now c.args.from) (has c.loop-port.passed) c.loop-port.port
+  | else-is_passed w ↦ λ p. ap (λ (s : PortSet). holds_port s p) w.passed-is ∙ pass_over (is_passed_to role.Core c.args.ports.now c.args.from) (holds_port c.loop-port.passed) c.loop-port.port
       c.loop-port.invariant (sym c.is_passed.ensures ∙ w.if-is_passed.false) p
 ]
 
 pub returns : goal.returns
-returns c = all_passed c.args.ports.now c.args.from c.loop-port.port (has c.loop-port.passed)
+returns c = all_passed c.args.ports.now c.args.from c.loop-port.port (holds_port c.loop-port.passed)
     (subst (λ (n : ℕ). n ≤ c.loop-port.port) c.len-port-end.ensures.len c.loop-port-test.false) c.loop-port.invariant

@@ -4,7 +4,7 @@ ghost use Rattle.net_base.specs.declared.trace.drop_cause.DropCause.{DropCause a
 ghost use Rattle.pw_messages.specs.LinkAnswers.{Agrees, Answers};
 ghost use Rattle.eth_encap.specs.Fault.{cause_of};
 ghost use Rattle.hvpls_spokes.specs.Port.{ports_of};
-ghost use Rattle.hvpls_spokes.specs.PortSet.{has};
+ghost use Rattle.hvpls_spokes.specs.PortSet.{holds_port};
 ghost use Rattle.edge_model.specs.declared.effect.Effect.TheVariants.{Left};
 ghost use Rattle.edge_model.specs.Ends.{wire_end};
 ghost use Rattle.edge_model.specs.Frame.{copies, copy_by, forwarded, hearing, received, targets_of};
@@ -104,7 +104,7 @@ impl Edge {
         requires header { 14 ≤ length frame.now }
         ensures keeps { Keeps self.old self.new }
         ensures step { seen self.new ≡ hearing service frame.now arrival (seen self.old) }
-        ensures targets { has result ≡ targets_of self.old.plan (seen self.new) service (ports_of self.old.plan service self.old.me) frame.now arrival }
+        ensures targets { holds_port result ≡ targets_of self.old.plan (seen self.new) service (ports_of self.old.plan service self.old.me) frame.now arrival }
     {
         self.forwarding.hear(arrival, service, frame)
     }
@@ -132,7 +132,7 @@ impl Edge {
         ensures goes { WorkGoes L.calls work.old work.new }
         ensures step { OnOk result ((told : Answers) → Agrees told (L.calls work.new.link.now)
             → at_work L.calls self.now work.new
-            ≡ (if has egress.now.targets.now port then copied_by (copy_by self.now.plan told egress.now.came egress.now.frame.now) (slice_get ports.now port) (at_work L.calls self.now work.old) else at_work L.calls self.now work.old)) }
+            ≡ (if holds_port egress.now.targets.now port then copied_by (copy_by self.now.plan told egress.now.came egress.now.frame.now) (slice_get ports.now port) (at_work L.calls self.now work.old) else at_work L.calls self.now work.old)) }
     {
         if !egress.targets.contains(port) {
             return Ok(());

@@ -10,7 +10,7 @@ ghost use Rattle.edge_model.specs.Work.{beginning};
 ghost use Rattle.net_base.specs.declared.outside.link_call.LinkCall.{LinkCall};
 ghost use Rattle.peer_dialogue.specs.Peering.{connection_with, gone, peers_between};
 ghost use Rattle.provider_edge.specs.AtWork.{Takes, Works, at_work, worked_at};
-ghost use Rattle.provider_edge.specs.EndOf.{is_beside};
+ghost use Rattle.provider_edge.specs.EndOf.{is_end_beside};
 ghost use Rattle.provider_edge.specs.Lists.{Keeps, seen, worked};
 
 use crate::Edge;
@@ -157,7 +157,7 @@ fn drop_all(peerings: &mut Vec<Option<Peering>>)
 
 // Whether one of these ends is beside a peer. A test by a closure is proved where it stands alone.
 fn is_beside(places: &[EndPlace], peer: EdgeId) -> bool
-    ensures { result ≡ list_any (is_beside peer.0) places.now }
+    ensures { result ≡ list_any (is_end_beside peer.0) places.now }
 {
     places.iter().any(|place| place.peer == peer)
 }

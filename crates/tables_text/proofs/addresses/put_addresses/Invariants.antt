@@ -1,10 +1,10 @@
 use Rattle.std.proofs.Common.{drop}
 use Rattle.provider_edge.specs.Lists.{seen}
 use Rattle.tables_text.specs.Tables.{service_lines}
-use Rattle.text_lines.specs.Written.{written}
+use Rattle.text_lines.specs.Written.{lines_written}
 use Rattle.text_lines.proofs.WrittenLemmas.{Putting}
 use Rattle.tables_text.proofs.addresses.put_addresses.Given as goal
 
 abbrev pub invariant-loop-place : goal.invariant-loop-place
-invariant-loop-place g l = Putting (written (g.K.Sink.taken l.fn.sink) (g.K.Sink.faults l.fn.sink) l.fn.page) (written (g.K.Sink.taken l.sink) (g.K.Sink.faults l.sink) l.page)
+invariant-loop-place g l = Putting (lines_written (g.K.Sink.taken l.fn.sink) (g.K.Sink.faults l.fn.sink) l.fn.page) (lines_written (g.K.Sink.taken l.sink) (g.K.Sink.faults l.sink) l.page)
     (service_lines l.edge.plan l.edge.me (seen l.edge) l.place (drop l.place l.edge.plan.services)) (service_lines l.edge.plan l.edge.me (seen l.edge) 0 l.edge.plan.services)

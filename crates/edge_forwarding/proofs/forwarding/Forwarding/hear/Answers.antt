@@ -1,6 +1,6 @@
 use Rattle.std.proofs.Common.{◌≡◌, ◌<◌, Some, true, length, sym, subst}
 use Rattle.hvpls_spokes.specs.Port.{ports_of}
-use Rattle.hvpls_spokes.specs.PortSet.{has}
+use Rattle.hvpls_spokes.specs.PortSet.{holds_port}
 use Rattle.vsi_bridge.specs.Targets.{heard, is_target, known_port}
 use Rattle.edge_model.specs.Frame.{destination, hearing, source}
 use Rattle.edge_forwarding.specs.Forwarding.{ForwardingLists, domain_of, entries_of, open_ports, with_forwarding}
@@ -70,7 +70,7 @@ returns-clause-targets c =
     let v : ForwardingLists = the_view c.self.inside in
     let was : WasRead v c.args.service c.index_mut.result.now =
     record { is = c.self.invariant; within = subst (λ (n : ForwardingLists). c.args.service.0 < length n.plan.services) (sym c.self.view_is) c.requires.service; read = c.index_mut.ensures.value } in
-    subst (λ (n : ForwardingLists). has c.hear.result
+    subst (λ (n : ForwardingLists). holds_port c.hear.result
     ≡ is_target (ports_of n.plan c.args.service n.me) (open_ports n c.args.service) c.args.arrival
     (known_port (entries_of (domain_of (put_kept v c.args.service (Some c.hear.new.self)) c.args.service.0)) (destination c.args.frame.now))) c.self.view_is
     (heard_targets v c.args.service c.index_mut.result.now c.in-Some.domain c.hear.new.self c.args.frame.now c.args.arrival c.hear.result was c.in-Some.is c.hear.ensures.targets)

@@ -2,7 +2,7 @@ use Rattle.std.proofs.Common.{◌≡◌, List, Some, Ok, Err, subst}
 use Rattle.net_base.specs.declared.plan.Plan.{Plan}
 use Rattle.net_base.specs.declared.plan.places.EdgeId.{EdgeId}
 use Rattle.ldp_grammar.specs.declared.message.Message.{Message}
-use Rattle.independent_model.specs.Hear.{hears_messages}
+use Rattle.independent_model.specs.Hear.{independent_hears_messages}
 use Rattle.independent_model.specs.Work.{Comes, NeverRefused}
 use Rattle.independent_mode.specs.Receiver.{IsNext}
 use Rattle.independent_mode.specs.Lists.{independent_seen}
@@ -21,13 +21,13 @@ returns-in-Err-hear_messages-clause-step g c = λ told more agrees octets.
     (c.pdus.invariant.step told more (agrees_before told calls after c.hear_messages.ensures.goes agrees) octets)
     (subst (λ r. NeverRefused r) c.in-Err-hear_messages.is c.hear_messages.ensures.never)
     (subst (λ r. Comes r (independent_seen c.hear_messages.new.self) after
-    (hears_messages c.args.self.now.plan told c.args.self.now.me.0 c.args.peer c.in-Ok-Some.pdu.messages (independent_seen c.pdus.self) calls)) c.in-Err-hear_messages.is
+    (independent_hears_messages c.args.self.now.plan told c.args.self.now.me.0 c.args.peer c.in-Ok-Some.pdu.messages (independent_seen c.pdus.self) calls)) c.in-Err-hear_messages.is
     (subst (λ (p : Plan). Comes c.hear_messages.result (independent_seen c.hear_messages.new.self) after
-    (hears_messages p told c.args.self.now.me.0 c.args.peer c.in-Ok-Some.pdu.messages (independent_seen c.pdus.self) calls)) c.pdus.invariant.keeps.plan
+    (independent_hears_messages p told c.args.self.now.me.0 c.args.peer c.in-Ok-Some.pdu.messages (independent_seen c.pdus.self) calls)) c.pdus.invariant.keeps.plan
     (subst (λ (m : EdgeId). Comes c.hear_messages.result (independent_seen c.hear_messages.new.self) after
-    (hears_messages c.pdus.self.plan told m.0 c.args.peer c.in-Ok-Some.pdu.messages (independent_seen c.pdus.self) calls)) c.pdus.invariant.keeps.me
+    (independent_hears_messages c.pdus.self.plan told m.0 c.args.peer c.in-Ok-Some.pdu.messages (independent_seen c.pdus.self) calls)) c.pdus.invariant.keeps.me
     (subst (λ (ms : List Message). Comes c.hear_messages.result (independent_seen c.hear_messages.new.self) after
-    (hears_messages c.pdus.self.plan told c.pdus.self.me.0 c.args.peer ms (independent_seen c.pdus.self) calls)) c.as_slice.ensures
+    (independent_hears_messages c.pdus.self.plan told c.pdus.self.me.0 c.args.peer ms (independent_seen c.pdus.self) calls)) c.as_slice.ensures
     (c.hear_messages.ensures.step told agrees)))))
 
 pub returns-in-Err-clause-step : goal.returns-in-Err-clause-step

@@ -1,7 +1,7 @@
 use Rattle.std.proofs.Common.{◌≡◌, ◌<◌, true, length, sym, subst, ◌∙◌, ap}
 use Rattle.net_base.specs.declared.plan.Plan.{Plan}
 use Rattle.hvpls_spokes.specs.Port.{ports_of}
-use Rattle.hvpls_spokes.specs.PortSet.{has}
+use Rattle.hvpls_spokes.specs.PortSet.{holds_port as has}
 use Rattle.edge_model.specs.Frame.{hearing, targets_of}
 use Rattle.edge_model.specs.Synced.{InSync}
 use Rattle.edge_forwarding.specs.Forwarding.{open_ports}

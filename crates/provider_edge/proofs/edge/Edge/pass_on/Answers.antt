@@ -1,7 +1,7 @@
 use Rattle.std.proofs.Common.{◌<◌, ◌≤◌, ◌∙◌, length, ap, sym, arith}
 use Rattle.net_base.specs.declared.plan.Plan.{Plan}
 use Rattle.hvpls_spokes.specs.Port.{ports_of}
-use Rattle.hvpls_spokes.specs.PortSet.{has}
+use Rattle.hvpls_spokes.specs.PortSet.{holds_port}
 use Rattle.hvpls_spokes.specs.Role.{role_of}
 use Rattle.edge_model.specs.Clear.{tells_at}
 use Rattle.peer_dialogue.proofs.SpeakerLemmas.{agrees_before}
@@ -19,12 +19,12 @@ returns-clause-step g c = λ told agrees.
     let past : length (ports_of c.args.self.now.plan c.args.service c.args.self.now.me) ≤ c.loop-port.port =
     omega (arith, c.len-port-end.ensures.len, ap length c.in-Some-ports.ensures.some, c.loop-port-test.false) in
     passed_to c.args.self.now told c.args.addresses.now c.args.service c.args.from c.in-Some.role c.role.result
-    (role_of c.args.self.now.plan c.args.service c.args.self.now.me) c.in-Some-ports.ports.now (has c.pass_to-passed.result)
+    (role_of c.args.self.now.plan c.args.service c.args.self.now.me) c.in-Some-ports.ports.now (holds_port c.pass_to-passed.result)
     (g.L.Link.calls c.args.work.now.link.now) c.args.work.now.effects.now.list _
     (c.role.ensures.role
     ∙ (ap (λ (p : Plan). role_of p c.args.service c.self.inside.me) c.deref.ensures ∙ ap (λ (n : EdgeLists). role_of n.plan c.args.service n.me) c.self.view_is))
     c.in-Some.is c.in-Some-ports.ensures.some c.pass_to-passed.ensures
-    (sym (copies_end (has c.pass_to-passed.result) (tells_at c.args.self.now.plan told c.args.addresses.now) c.loop-port.port c.loop-port.port
+    (sym (copies_end (holds_port c.pass_to-passed.result) (tells_at c.args.self.now.plan told c.args.addresses.now) c.loop-port.port c.loop-port.port
     (ports_of c.args.self.now.plan c.args.service c.args.self.now.me) _ past) ∙ c.loop-port.invariant.step told agrees)
 
 pub loop-port-preserved : goal.loop-port-preserved
@@ -35,12 +35,12 @@ loop-port-preserved g c =
         step = λ told agrees.
             let within : c.loop-port.port < length (ports_of c.args.self.now.plan c.args.service c.args.self.now.me) =
             omega (arith, c.len-port-end.ensures.len, ap length c.in-Some-ports.ensures.some, c.loop-port-test.true) in
-            copied_next (has c.pass_to-passed.result) (tells_at c.args.self.now.plan told c.args.addresses.now) c.loop-port.port
+            copied_next (holds_port c.pass_to-passed.result) (tells_at c.args.self.now.plan told c.args.addresses.now) c.loop-port.port
             (ports_of c.args.self.now.plan c.args.service c.args.self.now.me) (at_work g.L.Link.calls c.loop-port.self c.loop-port.work)
             (at_work g.L.Link.calls w.tell_at.new.self w.tell_at.new.work) _ within
-            (where_kept c.args.self.now c.loop-port.self told c.args.addresses.now c.args.service c.loop-port.port (has c.pass_to-passed.result c.loop-port.port)
+            (where_kept c.args.self.now c.loop-port.self told c.args.addresses.now c.args.service c.loop-port.port (holds_port c.pass_to-passed.result c.loop-port.port)
             (at_work g.L.Link.calls c.loop-port.self c.loop-port.work) (at_work g.L.Link.calls w.tell_at.new.self w.tell_at.new.work) c.loop-port.invariant.goes.keeps
-            (copied_if (has c.pass_to-passed.result c.loop-port.port) (at_work g.L.Link.calls c.loop-port.self c.loop-port.work) _ _ (sym c.contains.ensures ∙ w.if-contains.true)
+            (copied_if (holds_port c.pass_to-passed.result c.loop-port.port) (at_work g.L.Link.calls c.loop-port.self c.loop-port.work) _ _ (sym c.contains.ensures ∙ w.if-contains.true)
             (w.in_ok-tell_at.ensures.step told agrees)))
             (c.loop-port.invariant.step told (agrees_before told _ _ w.in_ok-tell_at.ensures.goes.on.calls agrees));
       }))
@@ -49,12 +49,12 @@ loop-port-preserved g c =
         step = λ told agrees.
             let within : c.loop-port.port < length (ports_of c.args.self.now.plan c.args.service c.args.self.now.me) =
             omega (arith, c.len-port-end.ensures.len, ap length c.in-Some-ports.ensures.some, c.loop-port-test.true) in
-            copied_next (has c.pass_to-passed.result) (tells_at c.args.self.now.plan told c.args.addresses.now) c.loop-port.port
+            copied_next (holds_port c.pass_to-passed.result) (tells_at c.args.self.now.plan told c.args.addresses.now) c.loop-port.port
             (ports_of c.args.self.now.plan c.args.service c.args.self.now.me) (at_work g.L.Link.calls c.loop-port.self c.loop-port.work)
             (at_work g.L.Link.calls c.loop-port.self c.loop-port.work) _ within
-            (where_kept c.args.self.now c.loop-port.self told c.args.addresses.now c.args.service c.loop-port.port (has c.pass_to-passed.result c.loop-port.port)
+            (where_kept c.args.self.now c.loop-port.self told c.args.addresses.now c.args.service c.loop-port.port (holds_port c.pass_to-passed.result c.loop-port.port)
             (at_work g.L.Link.calls c.loop-port.self c.loop-port.work) (at_work g.L.Link.calls c.loop-port.self c.loop-port.work) c.loop-port.invariant.goes.keeps
-            (copied_else (has c.pass_to-passed.result c.loop-port.port) (at_work g.L.Link.calls c.loop-port.self c.loop-port.work) _ (sym c.contains.ensures ∙ w.if-contains.false)))
+            (copied_else (holds_port c.pass_to-passed.result c.loop-port.port) (at_work g.L.Link.calls c.loop-port.self c.loop-port.work) _ (sym c.contains.ensures ∙ w.if-contains.false)))
             (c.loop-port.invariant.step told agrees);
       }))
     ]

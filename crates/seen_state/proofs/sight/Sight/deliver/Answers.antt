@@ -1,11 +1,11 @@
 use Rattle.seen_network.specs.Seen.{delivers}
-use Rattle.seen_state.specs.PeerEnd.{taken}
+use Rattle.seen_state.specs.PeerEnd.{taken_from_way}
 use Rattle.seen_state.proofs.SightLemmas.{one_end, taken_from}
 use Rattle.seen_state.proofs.sight.Sight.deliver.Goals as goal
 
 pub returns-clause-shows : goal.returns-clause-shows
 returns-clause-shows c =
-    one_end (taken c.args.count) (delivers c.args.from.0 c.args.to.0 c.args.count) c.args.to.0 c.args.from.0 (λ s seen h g shows. taken_from s seen c.args.to.0 c.args.from.0 c.args.count h g shows)
+    one_end (taken_from_way c.args.count) (delivers c.args.from.0 c.args.to.0 c.args.count) c.args.to.0 c.args.from.0 (λ s seen h g shows. taken_from s seen c.args.to.0 c.args.from.0 c.args.count h g shows)
     (record { sizes = c.self.inside.sizes; edges = c.self.inside.edges.items; on = c.self.inside.on.items }) c.args.self.now c.index_mut.result.now
     (record {
       ends = c.behind-self.inside.ends.items;

@@ -1,9 +1,9 @@
 use Rattle.std.proofs.Common.{[], ◌≡◌, ◌<◌, ◌∙◌, length, slice_set, ap, sym, subst, arith}
 use Rattle.net_base.specs.declared.plan.Plan.{Plan}
 use Rattle.independent_model.specs.Calls.{independent_connects}
-use Rattle.switchover_model.specs.Network.{taken_all}
+use Rattle.switchover_model.specs.Network.{takes_all}
 use Rattle.switchover_net.specs.contracts.edge_row.EdgeRow.{the_view}
-use Rattle.switchover_net.specs.Rows.{HasDone, RowLists, seen_row}
+use Rattle.switchover_net.specs.Rows.{HasDoneWork, RowLists, seen_row}
 use Rattle.switchover_net.proofs.RowLemmas.{found_plan, never_link, row_does}
 use Rattle.independent_mode.specs.Lists.{independent_seen}
 use Rattle.independent_model.proofs.StopLemmas.{calls_end}
@@ -19,16 +19,16 @@ connected-done-requires c =
 pub returns-clause-step : goal.returns-clause-step
 returns-clause-step c =
     let below : c.args.me.0 < length (the_view c.self.inside).edges = omega (arith, c.requires.me, ap (λ (n : RowLists). length n.plan.edges) c.self.view_is, c.self.invariant.count) in
-    subst (λ (n : RowLists). HasDone c.args.me.0 n
+    subst (λ (n : RowLists). HasDoneWork c.args.me.0 n
     (record (the_view c.self.inside) { edges = slice_set (the_view c.self.inside).edges c.args.me.0 c.connected-done.new.self }) c.into_calls-calls.result
-    (independent_connects n.plan taken_all c.args.me.0 c.args.peer (seen_row n c.args.me.0) [])) c.self.view_is
+    (independent_connects n.plan takes_all c.args.me.0 c.args.peer (seen_row n c.args.me.0) [])) c.self.view_is
     (row_does (the_view c.self.inside) c.args.me.0
-    (λ p m e s. independent_connects p taken_all m c.args.peer e s) c.index_mut.result.now c.connected-done.new.self c.new-link.result c.connected-done.new.link c.into_calls-calls.result c.self.invariant below c.index_mut.ensures.value c.new-link.ensures
-    (c.in-Ok.ensures.step taken_all c.into_calls-calls.ensures.taken) c.into_calls-calls.ensures.calls)
+    (λ p m e s. independent_connects p takes_all m c.args.peer e s) c.index_mut.result.now c.connected-done.new.self c.new-link.result c.connected-done.new.link c.into_calls-calls.result c.self.invariant below c.index_mut.ensures.value c.new-link.ensures
+    (c.in-Ok.ensures.step takes_all c.into_calls-calls.ensures.taken) c.into_calls-calls.ensures.calls)
 
 pub returns-in-Err-clause-link : goal.returns-in-Err-clause-link
 returns-in-Err-clause-link c =
     never_link (Unit {0}) (Unit {0}) c.in-Err.stop (independent_seen c.connected-done.new.self) c.connected-done.new.link
-    (independent_connects c.index_mut.result.now.plan taken_all c.index_mut.result.now.me.0 c.args.peer (independent_seen c.index_mut.result.now) c.new-link.result) (length c.new-link.result)
-    (calls_end.connected c.index_mut.result.now.plan taken_all c.index_mut.result.now.me.0 c.args.peer (independent_seen c.index_mut.result.now) c.new-link.result)
-    (c.in-Err.ensures.step taken_all c.into_calls-calls.ensures.taken)
+    (independent_connects c.index_mut.result.now.plan takes_all c.index_mut.result.now.me.0 c.args.peer (independent_seen c.index_mut.result.now) c.new-link.result) (length c.new-link.result)
+    (calls_end.connected c.index_mut.result.now.plan takes_all c.index_mut.result.now.me.0 c.args.peer (independent_seen c.index_mut.result.now) c.new-link.result)
+    (c.in-Err.ensures.step takes_all c.into_calls-calls.ensures.taken)

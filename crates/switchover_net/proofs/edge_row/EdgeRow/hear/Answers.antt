@@ -3,9 +3,9 @@ use Rattle.net_base.specs.declared.plan.Plan.{Plan}
 use Rattle.independent_model.specs.Calls.{independent_hears as hears}
 use Rattle.net_base.specs.declared.outside.link_call.LinkCall.{LinkCall}
 use Rattle.independent_model.specs.Work.{NeverRefused}
-use Rattle.switchover_model.specs.Network.{IsGoing, taken_all}
+use Rattle.switchover_model.specs.Network.{IsGoing, takes_all as taken_all}
 use Rattle.switchover_net.specs.contracts.edge_row.EdgeRow.{the_view}
-use Rattle.switchover_net.specs.Rows.{HasDone, RowLists, seen_row}
+use Rattle.switchover_net.specs.Rows.{HasDoneWork, RowLists, seen_row}
 use Rattle.switchover_net.proofs.RowLemmas.{as_of_row, found_plan, never_link, never_refused, row_does}
 use Rattle.independent_mode.specs.Lists.{independent_seen}
 use Rattle.independent_model.proofs.StopLemmas.{calls_end}
@@ -21,7 +21,7 @@ hear-done-requires c =
 pub returns-clause-step : goal.returns-clause-step
 returns-clause-step c =
     let below : c.args.me.0 < length (the_view c.self.inside).edges = omega (arith, c.requires.me, ap (λ (n : RowLists). length n.plan.edges) c.self.view_is, c.self.invariant.count) in
-    subst (λ (n : RowLists). HasDone c.args.me.0 n
+    subst (λ (n : RowLists). HasDoneWork c.args.me.0 n
     (record (the_view c.self.inside) { edges = slice_set (the_view c.self.inside).edges c.args.me.0 c.hear-done.new.self }) c.into_calls-calls.result
     (hears n.plan taken_all c.args.me.0 c.args.peer c.args.bytes.now (seen_row n c.args.me.0) [])) c.self.view_is
     (row_does (the_view c.self.inside) c.args.me.0

@@ -1,7 +1,7 @@
 use Rattle.std.proofs.Common.{◌<◌, ◌≤◌, ◌++◌, ◌∙◌, List, ℕ, length, ap, sym, arith}
 use Rattle.net_base.specs.declared.outside.link_call.LinkCall.{LinkCall}
 use Rattle.status_exchange.specs.Exchange.{at_two}
-use Rattle.switchover_net.specs.Pipes.{pipes_of}
+use Rattle.switchover_net.specs.Pipes.{octets_between}
 use Rattle.switchover_net.proofs.PipeLemmas.{put_end, put_more}
 use Rattle.switchover_net.proofs.pipes.Pipes.put_all.Goals as goal
 
@@ -10,13 +10,13 @@ loop-place-preserved c =
     let within : c.loop-place.place < length c.args.calls.now = omega (arith, c.loop-place-test.true) in
     record {
       size = c.put.ensures.size ∙ c.loop-place.invariant.size;
-      put = put_more c.args.from.0 c.args.to.0 c.args.calls.now c.loop-place.place c.index-calls-place.result (pipes_of c.args.self.now) (pipes_of c.loop-place.self)
-          (pipes_of c.put.new.self) within c.index-calls-place.is
-          (c.in_ok-put.ensures.ok ∙ ap (λ (b : List ℕ). at_two c.args.from.0 c.args.to.0 (pipes_of c.loop-place.self c.args.from.0 c.args.to.0 ++ b) (pipes_of c.loop-place.self))
+      put = put_more c.args.from.0 c.args.to.0 c.args.calls.now c.loop-place.place c.index-calls-place.result (octets_between c.args.self.now) (octets_between c.loop-place.self)
+          (octets_between c.put.new.self) within c.index-calls-place.is
+          (c.in_ok-put.ensures.ok ∙ ap (λ (b : List ℕ). at_two c.args.from.0 c.args.to.0 (octets_between c.loop-place.self c.args.from.0 c.args.to.0 ++ b) (octets_between c.loop-place.self))
           (c.as_slice.ensures ∙ ap (λ (call : LinkCall). call.bytes) (sym c.index-calls-place.is))) c.loop-place.invariant.put;
     }
 
 pub returns-clause-ok : goal.returns-clause-ok
 returns-clause-ok c =
     let past : length c.args.calls.now ≤ c.loop-place.place = omega (arith, c.loop-place-test.false) in
-    put_end c.args.from.0 c.args.to.0 c.args.calls.now c.loop-place.place (pipes_of c.args.self.now) (pipes_of c.loop-place.self) past c.loop-place.invariant.put
+    put_end c.args.from.0 c.args.to.0 c.args.calls.now c.loop-place.place (octets_between c.args.self.now) (octets_between c.loop-place.self) past c.loop-place.invariant.put

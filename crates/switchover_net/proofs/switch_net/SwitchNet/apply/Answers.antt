@@ -2,7 +2,7 @@ use Rattle.std.proofs.Common.{◌≡◌, ◌∙◌, false, OnOk, sym, subst, ref
 use Rattle.independent_model.proofs.WireLemmas.{other_within}
 use Rattle.switchover_model.specs.declared.switch_line.SwitchLine.{SwitchLine}
 use Rattle.switchover_model.specs.declared.switch_line.SwitchLine.TheVariants as line
-use Rattle.switchover_model.specs.Network.{SwitchState, connecting, cutting, does, is_idle, setting}
+use Rattle.switchover_model.specs.Network.{SwitchState, switch_connecting, cutting, does, is_line_idle, setting}
 use Rattle.switchover_model.specs.Text.{entries, set_entries}
 use Rattle.switchover_net.specs.Net.{Makes, ShowsSwitchState, cut_entries, pair_entries}
 use Rattle.switchover_net.proofs.LineLemmas.{cut_apart, made_as, set_ends}
@@ -12,7 +12,7 @@ use Rattle.switchover_net.proofs.switch_net.SwitchNet.apply.Goals as goal
 pub cut-requires-clause-apart : goal.cut-requires-clause-apart
 cut-requires-clause-apart c =
     cut_apart c.args.self.now c.in-Cut.edge c.in-Cut.peer c.requires.reached
-    (subst (λ (l : SwitchLine). (x : SwitchState) → ShowsSwitchState c.args.self.now x → is_idle c.args.self.now.row.plan x l ≡ false) c.in-Cut.is c.requires.runs)
+    (subst (λ (l : SwitchLine). (x : SwitchState) → ShowsSwitchState c.args.self.now x → is_line_idle c.args.self.now.row.plan x l ≡ false) c.in-Cut.is c.requires.runs)
 
 pub set-requires-clause-peer : goal.set-requires-clause-peer
 set-requires-clause-peer c = other_within c.args.self.now.row.plan c.in-Set.edge.0 c.in-Set.wire.0 c.in-Some.peer c.requires.reached.checked (sym c.in-Some.is ∙ c.other_end.ensures)
@@ -20,7 +20,7 @@ set-requires-clause-peer c = other_within c.args.self.now.row.plan c.in-Set.edge
 pub unreachable-requires : goal.unreachable-requires
 unreachable-requires c =
     set_ends c.args.self.now c.in-Set.edge c.in-Set.wire c.in-Set.wish c.requires.reached
-    (subst (λ (l : SwitchLine). (x : SwitchState) → ShowsSwitchState c.args.self.now x → is_idle c.args.self.now.row.plan x l ≡ false) c.in-Set.is c.requires.runs)
+    (subst (λ (l : SwitchLine). (x : SwitchState) → ShowsSwitchState c.args.self.now x → is_line_idle c.args.self.now.row.plan x l ≡ false) c.in-Set.is c.requires.runs)
     (sym c.in-None.is ∙ c.other_end.ensures)
 
 pub returns-in-Connect-clause-step : goal.returns-in-Connect-clause-step
@@ -29,7 +29,7 @@ returns-in-Connect-clause-step c =
     (Makes c.args.self.now c.connect.new.self c.args.out.now c.connect.new.out (does c.args.self.now.row.plan l) (entries c.args.self.now.row.plan l))) (sym c.in-Connect.is)
     (ok_then c.connect.result
     (λ made. made_as c.args.self.now.row.plan (line.Connect c.in-Connect.edge c.in-Connect.peer) c.args.self.now c.connect.new.self c.args.out.now c.connect.new.out
-    (connecting c.args.self.now.row.plan c.in-Connect.edge.0 c.in-Connect.peer.0)
+    (switch_connecting c.args.self.now.row.plan c.in-Connect.edge.0 c.in-Connect.peer.0)
     (pair_entries c.args.self.now.row.plan c.in-Connect.edge.0 c.in-Connect.peer.0) (λ x. refl) (λ x. refl) made)
     c.connect.ensures.step)
 

@@ -4,7 +4,7 @@ use Rattle.independent_model.specs.Wires.{other_end}
 use Rattle.switchover_model.specs.Network.{setting}
 use Rattle.switchover_model.specs.Text.{said_entries, set_entries, turned_all, used}
 use Rattle.switchover_net.specs.contracts.switch_net.SwitchNet.{the_view}
-use Rattle.switchover_net.specs.Net.{Makes, NetLists}
+use Rattle.switchover_net.specs.Net.{Makes, SwitchLists as NetLists}
 use Rattle.switchover_net.specs.Rows.{seen_row}
 use Rattle.switchover_net.proofs.NetLemmas.{ok_both, was_set}
 use Rattle.switchover_net.proofs.switch_net.SwitchNet.set.Goals as goal

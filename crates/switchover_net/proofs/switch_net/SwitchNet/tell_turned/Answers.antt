@@ -2,7 +2,7 @@ use Rattle.std.proofs.Common.{◌<◌, ◌∙◌, ◌++◌, Bool, false, length,
 use Rattle.std.proofs.lemmas.List.{get_or_default}
 use Rattle.independent_model.specs.Calls.{uses}
 use Rattle.switchover_model.specs.Text.{turned_all, used}
-use Rattle.switchover_net.specs.Net.{NetLists}
+use Rattle.switchover_net.specs.Net.{SwitchLists as NetLists}
 use Rattle.switchover_net.specs.Rows.{seen_row}
 use Rattle.switchover_net.proofs.UsedLemmas.{turned_goes}
 use Rattle.switchover_net.proofs.switch_net.SwitchNet.tell_turned.Goals as goal

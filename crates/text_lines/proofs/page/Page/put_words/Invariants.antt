@@ -1,10 +1,10 @@
 use Rattle.std.proofs.Common.{map, drop}
 use Rattle.text_pieces.specs.Pieces.{spaced}
 use Rattle.text_lines.specs.Lines.{word_octets}
-use Rattle.text_lines.specs.Written.{written}
+use Rattle.text_lines.specs.Written.{lines_written}
 use Rattle.text_lines.proofs.WrittenLemmas.{Putting}
 use Rattle.text_lines.proofs.page.Page.put_words.Given as goal
 
 abbrev pub invariant-loop-word : goal.invariant-loop-word
-invariant-loop-word g l = Putting (written (g.K.Sink.taken l.fn.sink) (g.K.Sink.faults l.fn.sink) l.fn.self) (written (g.K.Sink.taken l.sink) (g.K.Sink.faults l.sink) l.self)
+invariant-loop-word g l = Putting (lines_written (g.K.Sink.taken l.fn.sink) (g.K.Sink.faults l.fn.sink) l.fn.self) (lines_written (g.K.Sink.taken l.sink) (g.K.Sink.faults l.sink) l.self)
     (spaced (map word_octets (drop l.word-index l.words))) (spaced (map word_octets l.words))

@@ -2,7 +2,7 @@ use Rattle.std.proofs.lemmas.Result.{on_ok_weaker}
 use Rattle.std.proofs.Common.{◌++◌, ◌∷◌, List, ℕ, subst}
 use Rattle.net_base.specs.declared.trace.entry.Entry.TheVariants.{Did}
 use Rattle.seen_network.specs.Seen.{happened_or, seen_in}
-use Rattle.window_audit.specs.Lasting.{HasClosed, is_over, was_flooded, windows_at}
+use Rattle.window_audit.specs.Lasting.{HasClosed, are_copies_over, was_flooded, windows_at}
 use Rattle.window_audit.proofs.PastLemmas.{passed_on}
 use Rattle.window_audit.proofs.past.Past.pass_event.Goals as goal
 
@@ -18,7 +18,7 @@ returns-clause-windows c = on_ok_weaker c.close.result
     (c.tell.ensures c.args.plan.now _ (c.happen.ensures c.args.plan.now (seen_in done) (c.opened-window.ensures.remembers (seen_in done) has.state has.calm)))
     c.in_ok-open.ensures.opened c.in_ok-open.ensures.kept c.in_ok-open.ensures.noted
     (λ seen knows.
-    subst (λ (losses : List ℕ). HasClosed (is_over seen losses) (was_flooded c.args.plan.now (done ++ Did c.args.event.now ∷ c.args.rest.now)) (windows_at c.open.new.lasting) (windows_at
+    subst (λ (losses : List ℕ). HasClosed (are_copies_over seen losses) (was_flooded c.args.plan.now (done ++ Did c.args.event.now ∷ c.args.rest.now)) (windows_at c.open.new.lasting) (windows_at
     c.close.new.lasting) c.args.self.now.owed.items
     c.close.new.owed.items) c.as_slice.ensures.value (closed c.args.plan.now (done ++ Did c.args.event.now ∷ c.args.rest.now) seen knows sources)) in
     record { state = p.0; calm = p.1; lasting = p.2; owed = p.3 })

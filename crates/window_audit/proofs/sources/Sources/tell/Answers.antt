@@ -2,7 +2,7 @@ use Rattle.std.proofs.Common.{◌++◌, ◌∷◌, ◌≡◌, [], List, ℕ, fal
 use Rattle.std.proofs.lemmas.Result.{on_ok_weaker}
 use Rattle.net_base.specs.declared.trace.entry.Entry.{Entry}
 use Rattle.seen_network.specs.Once.{is_sourced_by}
-use Rattle.window_audit.specs.Sources.{HasEntered, HasSources}
+use Rattle.window_audit.specs.Sources.{HasEnteredOnce, HasSources}
 use Rattle.window_audit.proofs.SourceLemmas.{told_in, told_other}
 use Rattle.window_audit.proofs.sources.Sources.tell.Goals as goal
 
@@ -11,7 +11,7 @@ returns-in-In c =
     on_ok_weaker c.enter.result
     (λ entered. λ trace has. subst (λ (e : Entry). HasSources c.args.plan.now c.enter.new.self (trace ++ e ∷ [])) (sym c.in-In.is)
     (told_in c.args.plan.now c.in-In.circuit c.in-In.number c.in-In.bytes c.args.self.now c.enter.new.self trace
-    (subst (λ (o : List ℕ). HasEntered c.args.plan.now c.in-In.circuit o c.args.self.now c.enter.new.self) c.as_slice.ensures entered) has))
+    (subst (λ (o : List ℕ). HasEnteredOnce c.args.plan.now c.in-In.circuit o c.args.self.now c.enter.new.self) c.as_slice.ensures entered) has))
     c.enter.ensures
 
 pub returns-in-Did : goal.returns-in-Did
