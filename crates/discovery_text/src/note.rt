@@ -10,7 +10,7 @@ ghost use Rattle.discovery_text.specs.Text.{note_line};
 use discovery_script::Note;
 use net_base::{EdgeId, Failed, Plan, Sink};
 use report_text::edge_word;
-use text_lines::{Page, Word};
+use text_lines::{LineWord, Page};
 
 // A Hello by its number, with its octets.
 fn hello<'a>(
@@ -19,25 +19,25 @@ fn hello<'a>(
     from: EdgeId,
     to: EdgeId,
     bytes: &'a [u8],
-) -> [Word<'a>; 4]
+) -> [LineWord<'a>; 4]
     ensures { map word_octets result ≡ decimal number ∷ edge_name plan.now from ∷ edge_name plan.now to ∷ hex bytes.now ∷ [] }
 {
     [
-        Word::Number(number),
+        LineWord::Number(number),
         edge_word(plan, from),
         edge_word(plan, to),
-        Word::Hex(bytes),
+        LineWord::Hex(bytes),
     ]
 }
 
 // An adjacency, and what has become of it.
-fn adjacency<'a>(plan: &'a Plan, edge: EdgeId, peer: EdgeId, state: &'a [u8]) -> [Word<'a>; 3]
+fn adjacency<'a>(plan: &'a Plan, edge: EdgeId, peer: EdgeId, state: &'a [u8]) -> [LineWord<'a>; 3]
     ensures { map word_octets result ≡ edge_name plan.now edge ∷ edge_name plan.now peer ∷ state.now ∷ [] }
 {
     [
         edge_word(plan, edge),
         edge_word(plan, peer),
-        Word::Text(state),
+        LineWord::Text(state),
     ]
 }
 

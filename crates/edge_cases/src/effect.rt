@@ -5,7 +5,7 @@ use net_base::{Failed, Plan, Sink};
 use report_text::{
     arrival_word, cause_text, circuit_word, edge_word, state_text, wire_end_text, wire_word,
 };
-use text_lines::{Page, Word};
+use text_lines::{LineWord, Page};
 
 /// Puts the line; none for a connection that is closed.
 pub fn put_effect<K: Sink>(
@@ -16,7 +16,7 @@ pub fn put_effect<K: Sink>(
 ) -> Result<(), Failed> {
     match *effect {
         Effect::Said { peer, ref bytes } => {
-            let words = [edge_word(plan, peer), Word::Hex(bytes.as_slice())];
+            let words = [edge_word(plan, peer), LineWord::Hex(bytes.as_slice())];
             page.put_line(sink, b"said", &words)
         }
         Effect::Sent {
@@ -29,31 +29,31 @@ pub fn put_effect<K: Sink>(
                 edge_word(plan, peer),
                 wire_word(plan, wire),
                 arrival_word(plan, arrival),
-                Word::Hex(bytes.as_slice()),
+                LineWord::Hex(bytes.as_slice()),
             ];
             page.put_line(sink, b"sent", &words)
         }
         Effect::Left { circuit, ref bytes } => {
-            let words = [circuit_word(plan, circuit), Word::Hex(bytes.as_slice())];
+            let words = [circuit_word(plan, circuit), LineWord::Hex(bytes.as_slice())];
             page.put_line(sink, b"left", &words)
         }
         Effect::Dropped(cause) => {
             page.put_line(
                 sink,
                 b"dropped",
-                &[Word::Text(cause_text(cause).as_bytes())],
+                &[LineWord::Text(cause_text(cause).as_bytes())],
             )
         }
         Effect::Session { peer, state } => {
-            let state = Word::Text(state_text(state).as_bytes());
+            let state = LineWord::Text(state_text(state).as_bytes());
             page.put_line(sink, b"session", &[edge_word(plan, peer), state])
         }
         Effect::Wire { wire, down } => {
-            let down = Word::Text(wire_end_text(down).as_bytes());
+            let down = LineWord::Text(wire_end_text(down).as_bytes());
             page.put_line(sink, b"wire", &[wire_word(plan, wire), down])
         }
         Effect::Pong { wire, sequence } => {
-            let sequence = Word::Number(u64::from(sequence));
+            let sequence = LineWord::Number(u64::from(sequence));
             page.put_line(sink, b"pong", &[wire_word(plan, wire), sequence])
         }
         Effect::Closed { .. } => Ok(()),

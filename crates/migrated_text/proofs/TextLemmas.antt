@@ -18,7 +18,7 @@ use Rattle.net_base.specs.declared.trace.event.Event.TheVariants.{Connect, Deliv
 use Rattle.net_base.specs.plan.Planned.{IsEventOf}
 use Rattle.report_text.specs.Words.{circuit_name, edge_name, event_words, name_or_empty, switch_name, wire_name}
 use Rattle.event_laws.specs.Law.{joined_words, HasNames, IsEventInRange}
-use Rattle.text_lines.specs.declared.word.Word.{Word}
+use Rattle.text_lines.specs.declared.line_word.LineWord.{LineWord}
 use Rattle.text_lines.specs.Lines.{word_octets}
 use Rattle.text_pieces.specs.Pieces.{hex, spaced}
 
@@ -28,12 +28,12 @@ joined_spaced word [] = sym (append-nil word)
 joined_spaced word (next ∷ words) = ap (λ (rest : List ℕ). word ++ (codes " " ++ rest)) (joined_spaced next words)
 
 -- words as they are put
-pub joined_first : (text : List ℕ) (all : List Word) (first : Word) (rest : List Word) → all ≡ first ∷ rest → text ≡ word_octets first ++ spaced (map word_octets rest)
+pub joined_first : (text : List ℕ) (all : List LineWord) (first : LineWord) (rest : List LineWord) → all ≡ first ∷ rest → text ≡ word_octets first ++ spaced (map word_octets rest)
     → text ≡ joined_words (map word_octets all)
 joined_first text all first rest split is =
-    is ∙ sym (joined_spaced (word_octets first) (map word_octets rest)) ∙ ap (λ (words : List Word). joined_words (map word_octets words)) (sym split)
+    is ∙ sym (joined_spaced (word_octets first) (map word_octets rest)) ∙ ap (λ (words : List LineWord). joined_words (map word_octets words)) (sym split)
 
-pub joined_none : (all : List Word) → length all ≡ 0 → [] ≡ joined_words (map word_octets all)
+pub joined_none : (all : List LineWord) → length all ≡ 0 → [] ≡ joined_words (map word_octets all)
 joined_none [] none = refl
 joined_none (word ∷ words) none = absurd (omega (arith, none))
 

@@ -13,32 +13,32 @@ use command_text::Command;
 use net_base::{NoMemory, Plan};
 use report_text::{circuit_word, words_of_event};
 use std::alloc::Global;
-use text_lines::Word;
+use text_lines::LineWord;
 use text_pieces::{put_digits, put_number, put_text};
 use toml::Value;
 use toml_tables::push_text;
 
 // Adds the octets of a word.
-fn put_word(text: &mut Vec<u8>, word: Word<'_>) -> Result<(), NoMemory>
+fn put_word(text: &mut Vec<u8>, word: LineWord<'_>) -> Result<(), NoMemory>
     ensures { OnOk result (text.new.items ≡ text.old.items ++ word_octets word.entry) }
 {
     match word {
-        Word::Text(octets) => put_text(text, octets),
-        Word::Number(number) => put_number(text, number),
-        Word::Labelled(label, number) => {
+        LineWord::Text(octets) => put_text(text, octets),
+        LineWord::Number(number) => put_number(text, number),
+        LineWord::Labelled(label, number) => {
             put_text(text, label)?;
             put_number(text, number)
         }
-        Word::Marked(number, mark) => {
+        LineWord::Marked(number, mark) => {
             put_number(text, number)?;
             put_text(text, mark)
         }
-        Word::Hex(octets) => put_digits(text, octets),
+        LineWord::Hex(octets) => put_digits(text, octets),
     }
 }
 
 // Adds words, with a blank before each.
-fn put_spaced(text: &mut Vec<u8>, words: &[Word<'_>]) -> Result<(), NoMemory>
+fn put_spaced(text: &mut Vec<u8>, words: &[LineWord<'_>]) -> Result<(), NoMemory>
     ensures { OnOk result (text.new.items ≡ text.old.items ++ spaced (map word_octets words.now)) }
 {
     for word in words {
@@ -50,7 +50,7 @@ fn put_spaced(text: &mut Vec<u8>, words: &[Word<'_>]) -> Result<(), NoMemory>
 
 // The octets of words, parted by one blank.
 #[tactic(auto, using(crate::proofs::TextLemmas::joined_first, crate::proofs::TextLemmas::joined_none))]
-fn joined(alloc: Global, words: &[Word<'_>]) -> Result<Vec<u8>, NoMemory>
+fn joined(alloc: Global, words: &[LineWord<'_>]) -> Result<Vec<u8>, NoMemory>
     ensures { IfOk result (λ text. text.items ≡ joined_words (map word_octets words.now)) }
 {
     let mut text = Vec::new(alloc);
@@ -63,7 +63,7 @@ fn joined(alloc: Global, words: &[Word<'_>]) -> Result<Vec<u8>, NoMemory>
 }
 
 // The words as a text, parted by one blank.
-fn line(alloc: Global, words: &[Word<'_>]) -> Result<String, NoMemory>
+fn line(alloc: Global, words: &[LineWord<'_>]) -> Result<String, NoMemory>
     requires { IsUtf8 (joined_words (map word_octets words.now)) }
     ensures { IfOk result (λ t. string_bytes t ≡ joined_words (map word_octets words.now)) }
 {
@@ -81,20 +81,23 @@ fn command_line<'a>(alloc: Global, plan: &'a Plan, command: &'a Command) -> Resu
     match command {
         Command::One(event) => line(alloc, words_of_event(plan, event).as_slice()),
         Command::Settle(count) => {
-            let words = [Word::Text(b"settle"), Word::Number(u64::from(*count))];
+            let words = [
+                LineWord::Text(b"settle"),
+                LineWord::Number(u64::from(*count)),
+            ];
             line(alloc, &words)
         }
         Command::Flow(count) => {
-            let words = [Word::Text(b"flow"), Word::Number(u64::from(*count))];
+            let words = [LineWord::Text(b"flow"), LineWord::Number(u64::from(*count))];
             line(alloc, &words)
         }
         Command::Ticks(count) => {
-            let words = [Word::Text(b"tick"), Word::Number(u64::from(*count))];
+            let words = [LineWord::Text(b"tick"), LineWord::Number(u64::from(*count))];
             line(alloc, &words)
         }
         Command::Play(circuit, file) => {
-            let file = Word::Text(file.as_str().as_bytes());
-            let words = [Word::Text(b"play"), circuit_word(plan, *circuit), file];
+            let file = LineWord::Text(file.as_str().as_bytes());
+            let words = [LineWord::Text(b"play"), circuit_word(plan, *circuit), file];
             line(alloc, &words)
         }
     }

@@ -3,10 +3,10 @@ use Rattle.ldp_codec.specs.declared.decode_fault.DecodeFault.TheVariants as faul
 use Rattle.session_core.specs.Table.{SessionEvent}
 use Rattle.session_core.specs.Table as table
 use Rattle.std.specs.Prelude.{◌≡◌}
-use Rattle.peer_dialogue.specs.declared.event.Event.{Event}
-use Rattle.peer_dialogue.specs.declared.event.Event.TheVariants as event
+use Rattle.peer_dialogue.specs.declared.peer_event.PeerEvent.{PeerEvent}
+use Rattle.peer_dialogue.specs.declared.peer_event.PeerEvent.TheVariants as event
 
-abbrev pub event_of : Event → SessionEvent
+abbrev pub event_of : PeerEvent → SessionEvent
 event_of event.Start = table.Start
 event_of (event.Heard sender) = table.Heard sender
 event_of (event.Received message) = table.Received message.now
@@ -14,6 +14,6 @@ event_of (event.Refused wrong) = table.Refused wrong
 event_of event.Ticked = table.Ticked
 
 -- what is refused is octets, and not for want of memory
-abbrev pub MayHappen : Event → Type 0
+abbrev pub MayHappen : PeerEvent → Type 0
 MayHappen (event.Refused wrong) = wrong ≡ fault.NoMemory → ⊥
 MayHappen other = Unit {0}

@@ -4,11 +4,11 @@
 
 mod advice;
 mod at_work;
-mod event;
 mod front;
 mod held;
 mod moved;
 mod next;
+mod peer_event;
 mod peering;
 mod pw_message;
 mod speaker;
@@ -16,9 +16,9 @@ mod wish;
 
 pub use advice::advice_of;
 pub use at_work::AtWork;
-pub use event::Event;
 pub use held::Held;
 pub use next::Next;
+pub use peer_event::PeerEvent;
 pub use peering::Peering;
 pub use pw_message::PwMessage;
 pub use wish::terminal_wish;

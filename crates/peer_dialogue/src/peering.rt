@@ -17,9 +17,9 @@ ghost use Rattle.peer_dialogue.specs.Peering.{at_peer, connection_with, had_spok
 ghost use Rattle.peer_dialogue.specs.PwMessage.{CanBeSaid, numbered};
 
 use crate::at_work::AtWork;
-use crate::event::Event;
 use crate::held::Held;
 use crate::moved::{Moved, end};
+use crate::peer_event::PeerEvent;
 use crate::pw_message::PwMessage;
 use crate::speaker::Speaker;
 use net_base::{EdgeId, Link, NoMemory, Reason, StateName};
@@ -114,7 +114,7 @@ impl Peering {
     pub fn happens<L: Link>(
         self,
         peer: EdgeId,
-        event: Event<'_>,
+        event: PeerEvent<'_>,
         work: &mut AtWork<'_, L>,
     ) -> Result<Option<Peering>, NoMemory>
         requires { MayHappen event }
@@ -209,16 +209,16 @@ impl Peering {
 }
 
 // The session after an event, and what is put.
-fn after(session: Session, event: Event<'_>) -> (Session, Replies)
+fn after(session: Session, event: PeerEvent<'_>) -> (Session, Replies)
     requires { MayHappen event }
     ensures session { view_of result.0 ≡ view_next (view_of session) (event_of event.entry) }
     ensures replies { result.1 ≡ view_said (view_of session) (event_of event.entry) }
 {
     match event {
-        Event::Start => session.start(),
-        Event::Heard(sender) => session.heard(sender),
-        Event::Received(message) => session.on_message(message),
-        Event::Refused(fault) => session.refused(fault),
-        Event::Ticked => session.tick(),
+        PeerEvent::Start => session.start(),
+        PeerEvent::Heard(sender) => session.heard(sender),
+        PeerEvent::Received(message) => session.on_message(message),
+        PeerEvent::Refused(fault) => session.refused(fault),
+        PeerEvent::Ticked => session.tick(),
     }
 }

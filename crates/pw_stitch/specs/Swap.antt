@@ -3,7 +3,7 @@
 use Rattle.std.specs.Prelude.{◌≡◌, ◌==◌, ◌-◌, not, ℕ, Bool, false, Option, Some, None, Result, Ok, Err, if◌then◌else◌}
 use Rattle.pw_signalling.specs.declared.binding.Binding.{Binding}
 use Rattle.pw_signalling.specs.End.{LocalPart, Idle, Advertised, Withdrawing}
-use Rattle.pw_stitch.specs.declared.next.Next.{Next}
+use Rattle.pw_stitch.specs.declared.swapped.Swapped.{Swapped}
 use Rattle.pw_stitch.specs.declared.side.Side.{Side}
 use Rattle.pw_stitch.specs.declared.side.Side.TheVariants.{Before, After}
 use Rattle.pw_stitch.specs.declared.swap_drop.SwapDrop.{SwapDrop}
@@ -33,13 +33,13 @@ abbrev pub label_onward : Option Binding → ℕ → Result ℕ SwapDrop
 label_onward None ttl = Err NoBinding
 label_onward (Some binding) ttl = if ttl == 1 then Err Expired else Ok binding.label
 
-abbrev pub next_by : Side → ℕ → Result ℕ SwapDrop → Result Next SwapDrop
+abbrev pub next_by : Side → ℕ → Result ℕ SwapDrop → Result Swapped SwapDrop
 next_by side ttl (Err why) = Err why
 next_by side ttl (Ok label) = Ok (record { side = side; label = label; ttl = ttl - 1 })
 
 -- what comes by one side goes on by the other
-abbrev pub next_across : Side → ℕ → StitchState → Result Next SwapDrop
+abbrev pub next_across : Side → ℕ → StitchState → Result Swapped SwapDrop
 next_across side ttl stitch = next_by (opposite side) ttl (label_onward (held_across side stitch) ttl)
 
-abbrev pub swapped : ℕ → ℕ → StitchState → Result Next SwapDrop
+abbrev pub swapped : ℕ → ℕ → StitchState → Result Swapped SwapDrop
 swapped label ttl stitch = next_across (side_taking label stitch) ttl stitch

@@ -8,19 +8,19 @@
 mod accepting;
 mod change;
 mod laws;
-mod next;
 mod passing;
 mod relabelling;
 mod side;
 mod stitch;
 mod swap_drop;
+mod swapped;
 
 pub use accepting::accepts;
 pub use change::is_same_but_status;
 pub use laws::{breaks_loops, carries_both_ways, changes_label_alone};
-pub use next::Next;
 pub use passing::{passed_status, wanted};
 pub use relabelling::relabel;
 pub use side::Side;
 pub use stitch::{Stitch, label_onward};
 pub use swap_drop::SwapDrop;
+pub use swapped::Swapped;

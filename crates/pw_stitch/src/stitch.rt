@@ -8,7 +8,7 @@ ghost use Rattle.pw_stitch.specs.Stitch.{end_on, held_across, unstitched, with_e
 ghost use Rattle.pw_stitch.specs.Swap.{IsOfOneSide, label_onward, side_taking, swapped, takes_label};
 
 use crate::passing::{passed_status, wanted};
-use crate::{Next, Side, SwapDrop};
+use crate::{Side, SwapDrop, Swapped};
 use net_base::{Addr, Label};
 use pw_signalling::{Binding, PwEnd, PwIdle, Told};
 use pw_tlvs::{Point, PwStatus};
@@ -99,7 +99,7 @@ impl Stitch {
     /// How a packet goes on that comes with this label and TTL: by the other side, under the label that is bound there, and with
     /// a TTL that is one less (RFC 6073 section 4, RFC 3032 section 2.4.2). `NoBinding` comes exactly where none is bound there,
     /// and `Expired` exactly where one is and the TTL is 1. Exactly one side advertises the label (`takes`), and the TTL is not 0.
-    pub fn swap(&self, label: Label, ttl: u8) -> Result<Next, SwapDrop>
+    pub fn swap(&self, label: Label, ttl: u8) -> Result<Swapped, SwapDrop>
         requires one { IsOfOneSide label self.now }
         requires living { 1 ≤ ttl }
         ensures next { result ≡ swapped label ttl self.now }
@@ -111,7 +111,7 @@ impl Stitch {
     {
         let side = self.side_taking(label);
         let label = label_onward(self.held_across(side), ttl)?;
-        Ok(Next {
+        Ok(Swapped {
             side: side.opposite(),
             label,
             ttl: ttl - 1,

@@ -14,7 +14,7 @@ use Rattle.pw_tlvs.specs.declared.field_fault.FieldFault.{FieldFault}
 use Rattle.pw_tlvs.specs.declared.field_fault.FieldFault.TheVariants.{Size, Value, Repeated}
 use Rattle.pw_tlvs.specs.declared.registry.Registry.{Registry}
 use Rattle.pw_tlvs.specs.declared.registry.Registry.TheVariants.{InterfaceParameter, SwitchingPointPart}
-use Rattle.pw_tlvs.specs.declared.row.Row.{Row}
+use Rattle.pw_tlvs.specs.declared.sub_tlv_row.SubTlvRow.{SubTlvRow}
 use Rattle.pw_tlvs.specs.Faults.{fault_place, PrecedesIn, IsFirstIn}
 use Rattle.pw_tlvs.specs.SubTlvs.{SubTlv, counted_in, spell, sub_tlv_row, row_fits, allows, values, IsGood, AreGood, AreSubTlvs, IsOutside, outside_fault, IsWrong, lone, outside, misfit, excess, again, IsNamed, IsFirstWrong}
 use Rattle.pw_tlvs.specs.SubTlvs.{said}
@@ -95,11 +95,11 @@ unknown_good : (registry : Registry) (kind : ℕ) (value : List ℕ) → sub_tlv
 unknown_good registry kind value none = record { fit = rw none tt; allowed = unknown_allowed registry kind value none }
 
 none_known : (registry : Registry) (kind : ℕ) → sub_tlv_row registry kind ≡ None → IsSome (sub_tlv_row registry kind) → ⊥
-none_known registry kind none known = let k = subst (λ (o : Option Row). IsSome o) none known in cc (k)
+none_known registry kind none known = let k = subst (λ (o : Option SubTlvRow). IsSome o) none known in cc (k)
 
 -- the octets are outside
 outside_head : (registry : Registry) (before : List SubTlv) (rest : List ℕ) (at : ℕ) → 2 ≤ length rest → IsOutside registry rest
-    → (o : Option Row) → sub_tlv_row registry (slice_index rest 0) ≡ o → (stood : List (List ℕ)) → values (slice_index rest 0) before ≡ stood → HeadReading registry before rest at
+    → (o : Option SubTlvRow) → sub_tlv_row registry (slice_index rest 0) ≡ o → (stood : List (List ℕ)) → values (slice_index rest 0) before ≡ stood → HeadReading registry before rest at
 outside_head SwitchingPointPart before rest at two far o known stood e = wrong (outside_fault SwitchingPointPart at) (outside_first_part before rest at two far)
 outside_head InterfaceParameter before rest at two far None known stood e =
     wrong (outside_fault InterfaceParameter at) (outside_first_fec before rest at two far (λ some. absurd (none_known InterfaceParameter (slice_index rest 0) known some)))
@@ -109,7 +109,7 @@ outside_head InterfaceParameter before rest at two far (Some row) known (value �
     wrong (Repeated at row.field) (again_first InterfaceParameter before rest at row two (inr refl) known (let len = ap length e in omega arith))
 
 -- a sub-TLV of a known type of which none stood before
-fresh_head : (registry : Registry) (before : List SubTlv) (rest : List ℕ) (at : ℕ) (row : Row) (value more : List ℕ) → 2 ≤ length rest
+fresh_head : (registry : Registry) (before : List SubTlv) (rest : List ℕ) (at : ℕ) (row : SubTlvRow) (value more : List ℕ) → 2 ≤ length rest
     → rest ≡ spell registry (record { kind = slice_index rest 0; value = value }) ++ more → (IsOutside registry rest → ⊥)
     → sub_tlv_row registry (slice_index rest 0) ≡ Some row → values (slice_index rest 0) before ≡ [] → HeadReading registry before rest at
 fresh_head registry before rest at row value more two e near known none =
@@ -124,7 +124,7 @@ fresh_head registry before rest at row value more two e near known none =
 
 whole_head : (registry : Registry) (before : List SubTlv) (rest : List ℕ) (at : ℕ) (value more : List ℕ) → 2 ≤ length rest
     → rest ≡ spell registry (record { kind = slice_index rest 0; value = value }) ++ more → (IsOutside registry rest → ⊥)
-    → (o : Option Row) → sub_tlv_row registry (slice_index rest 0) ≡ o → (stood : List (List ℕ)) → values (slice_index rest 0) before ≡ stood → HeadReading registry before rest at
+    → (o : Option SubTlvRow) → sub_tlv_row registry (slice_index rest 0) ≡ o → (stood : List (List ℕ)) → values (slice_index rest 0) before ≡ stood → HeadReading registry before rest at
 whole_head registry before rest at value more two e near None known stood has =
     good (record { kind = slice_index rest 0; value = value }) more e (unknown_good registry (slice_index rest 0) value known) (λ some. absurd (none_known registry (slice_index rest 0) known some))
 whole_head registry before rest at value more two e near (Some row) known [] has = fresh_head registry before rest at row value more two e near known has

@@ -11,7 +11,7 @@ use Rattle.net_values.proofs.RowLemmas.{same_front}
 use Rattle.pw_tlvs.specs.declared.field_fault.FieldFault.{FieldFault}
 use Rattle.pw_tlvs.specs.declared.registry.Registry.{Registry}
 use Rattle.pw_tlvs.specs.declared.registry.Registry.TheVariants.{InterfaceParameter, SwitchingPointPart}
-use Rattle.pw_tlvs.specs.declared.row.Row.{Row}
+use Rattle.pw_tlvs.specs.declared.sub_tlv_row.SubTlvRow.{SubTlvRow}
 use Rattle.pw_tlvs.specs.Faults.{fault_place, PrecedesIn, IsFirstIn}
 use Rattle.pw_tlvs.specs.SubTlvs.{SubTlv, counted_in, spell, sub_tlv_row, row_fits, allows, IsGood, values, AreGood, AreSubTlvs, IsWrong, lone, outside, misfit, excess, again, IsNamed, IsFirstWrong}
 
@@ -53,11 +53,11 @@ good_at : (registry : Registry) (a : List SubTlv) (p : SubTlv) (more : List SubT
 good_at registry [] p more all = all.0
 good_at registry (q ∷ a) p more all = good_at registry a p more all.1
 
-pub some_of : (registry : Registry) (k : ℕ) (row : Row) → sub_tlv_row registry k ≡ Some row → IsSome (sub_tlv_row registry k)
+pub some_of : (registry : Registry) (k : ℕ) (row : SubTlvRow) → sub_tlv_row registry k ≡ Some row → IsSome (sub_tlv_row registry k)
 some_of registry k row e = rw e refl
 
 -- a good sub-TLV fits its row
-pub fits_of : (registry : Registry) (p : SubTlv) (row : Row) → IsGood registry p → sub_tlv_row registry p.kind ≡ Some row → row_fits row (counted_in registry + length p.value) ≡ true
+pub fits_of : (registry : Registry) (p : SubTlv) (row : SubTlvRow) → IsGood registry p → sub_tlv_row registry p.kind ≡ Some row → row_fits row (counted_in registry + length p.value) ≡ true
 fits_of registry p row good e = rw e at good.fit
 
 -- nothing is wrong where a good sub-TLV stands, and none of its type before

@@ -9,7 +9,7 @@ use Rattle.pw_tlvs.specs.declared.field_fault.FieldFault.{FieldFault}
 use Rattle.pw_tlvs.specs.declared.field_fault.FieldFault.TheVariants.{Value, Repeated}
 use Rattle.pw_tlvs.specs.declared.registry.Registry.{Registry}
 use Rattle.pw_tlvs.specs.declared.registry.Registry.TheVariants.{InterfaceParameter, SwitchingPointPart}
-use Rattle.pw_tlvs.specs.declared.row.Row.{Row}
+use Rattle.pw_tlvs.specs.declared.sub_tlv_row.SubTlvRow.{SubTlvRow}
 use Rattle.pw_tlvs.specs.Faults.{field_rank, fault_place, rank_of, PrecedesIn}
 use Rattle.pw_tlvs.specs.SubTlvs.{SubTlv, counted_in, spell, sub_tlv_row, parameter_row, row_fits, allows, values, IsOutside, lone_fault, outside_fault, IsWrong, lone, outside, misfit, excess, again, IsNamed, IsFirstWrong, Stood}
 use Rattle.pw_tlvs.proofs.FaultLemmas.{precedes_itself}
@@ -43,27 +43,27 @@ spelled_inside registry s more rest e (inr high) =
     let parts = length-append s.value more in omega arith
 
 -- the rows of parameters have fields behind the one of parameters as a whole
-parameter_rank : (a b c d : Bool) (row : Row) → (if a then Some (record { field = field.Mtu; least = 4; most = 4 }) else if b then Some
+parameter_rank : (a b c d : Bool) (row : SubTlvRow) → (if a then Some (record { field = field.Mtu; least = 4; most = 4 }) else if b then Some
     (record { field = field.Description; least = 2; most = 82 }) else if c then Some (record { field = field.Vlan; least = 4; most = 4 }) else if d then Some
     (record { field = field.Vccv; least = 4; most = 4 }) else None) ≡ Some row → 12 ≤ field_rank row.field
-parameter_rank true b c d row e = let same : record { field = field.Mtu; least = 4; most = 4 } ≡ row = cc (e) in let rank = ap (λ (r : Row). field_rank r.field) same in omega arith
-parameter_rank false true c d row e = let same : record { field = field.Description; least = 2; most = 82 } ≡ row = cc (e) in let rank = ap (λ (r : Row). field_rank r.field) same in omega arith
-parameter_rank false false true d row e = let same : record { field = field.Vlan; least = 4; most = 4 } ≡ row = cc (e) in let rank = ap (λ (r : Row). field_rank r.field) same in omega arith
-parameter_rank false false false true row e = let same : record { field = field.Vccv; least = 4; most = 4 } ≡ row = cc (e) in let rank = ap (λ (r : Row). field_rank r.field) same in omega arith
+parameter_rank true b c d row e = let same : record { field = field.Mtu; least = 4; most = 4 } ≡ row = cc (e) in let rank = ap (λ (r : SubTlvRow). field_rank r.field) same in omega arith
+parameter_rank false true c d row e = let same : record { field = field.Description; least = 2; most = 82 } ≡ row = cc (e) in let rank = ap (λ (r : SubTlvRow). field_rank r.field) same in omega arith
+parameter_rank false false true d row e = let same : record { field = field.Vlan; least = 4; most = 4 } ≡ row = cc (e) in let rank = ap (λ (r : SubTlvRow). field_rank r.field) same in omega arith
+parameter_rank false false false true row e = let same : record { field = field.Vccv; least = 4; most = 4 } ≡ row = cc (e) in let rank = ap (λ (r : SubTlvRow). field_rank r.field) same in omega arith
 parameter_rank false false false false row e = absurd (cc (e))
 
-row_rank : (k : ℕ) (row : Row) → parameter_row k ≡ Some row → field_rank field.Parameter ≤ field_rank row.field
+row_rank : (k : ℕ) (row : SubTlvRow) → parameter_row k ≡ Some row → field_rank field.Parameter ≤ field_rank row.field
 row_rank k row e = parameter_rank (k == 0x01) (k == 0x03) (k == 0x06) (k == 0x0C) row e
 
 -- what is allowed for a known type; what is not is a VLAN ID of two octets
-excess_length : (registry : Registry) (row : Row) (s : SubTlv) → sub_tlv_row registry s.kind ≡ Some row → row_fits row (counted_in registry + length s.value) ≡ true
+excess_length : (registry : Registry) (row : SubTlvRow) (s : SubTlv) → sub_tlv_row registry s.kind ≡ Some row → row_fits row (counted_in registry + length s.value) ≡ true
     → allows registry s.kind s.value ≡ false → 1 ≤ length s.value
 excess_length SwitchingPointPart row s known fit bad = absurd (cc (bad))
 excess_length InterfaceParameter row s known fit bad = elim (eqb_tells s.kind 6) [
   | inl own ↦
       let known' : sub_tlv_row InterfaceParameter 6 ≡ Some row = subst (λ (k : ℕ). sub_tlv_row InterfaceParameter k ≡ Some row) own.1 known in
       let same : record { field = field.Vlan; least = 4; most = 4 } ≡ row = cc (known') in
-      let fit' : row_fits (record { field = field.Vlan; least = 4; most = 4 }) (2 + length s.value) ≡ true = subst (λ (r : Row). row_fits r (2 + length s.value) ≡ true) (sym same) fit in
+      let fit' : row_fits (record { field = field.Vlan; least = 4; most = 4 }) (2 + length s.value) ≡ true = subst (λ (r : SubTlvRow). row_fits r (2 + length s.value) ≡ true) (sym same) fit in
       grind (arith, nat_tests, fit')
   | inr other ↦
       let bad' : (not false || nat_le (big_number 2 s.value) 4095) ≡ false = subst (λ (b : Bool). (not b || nat_le (big_number 2 s.value) 4095) ≡ false) other.0 bad in
@@ -89,7 +89,7 @@ lone_first registry before rest at one = record {
     ]
 
 -- what is known, whole of its length octet and stood before: other faults of the place come later
-pub again_first : (registry : Registry) (before : List SubTlv) (rest : List ℕ) (at : ℕ) (row : Row) → 2 ≤ length rest
+pub again_first : (registry : Registry) (before : List SubTlv) (rest : List ℕ) (at : ℕ) (row : SubTlvRow) → 2 ≤ length rest
     → ((IsOutside registry rest → ⊥) ⊎ (registry ≡ InterfaceParameter)) → sub_tlv_row registry (slice_index rest 0) ≡ Some row
     → 1 ≤ length (values (slice_index rest 0) before) → IsFirstWrong registry before rest at (Repeated at row.field)
 again_first registry before rest at row two inside known stood = record {
@@ -110,7 +110,7 @@ again_first registry before rest at row two inside known stood = record {
     earliest other (excess row' s more spelled known' fit bad e) = let p = ap fault_place e in inl (omega arith)
     earliest other (again row' some known' stood' e) =
         let same : row' ≡ row = cc (known, known') in
-        precedes_same (Repeated at row.field) other (e ∙ ap (λ (r : Row). Repeated at r.field) same)
+        precedes_same (Repeated at row.field) other (e ∙ ap (λ (r : SubTlvRow). Repeated at r.field) same)
 
 none_before : (before : List SubTlv) (k : ℕ) → values k before ≡ [] → 1 ≤ length (values k before) → ⊥
 none_before before k none some = let len = ap length none in omega arith
@@ -134,7 +134,7 @@ outside_first_fec before rest at two far fresh = record {
     earliest other (again row some known stood e) = absurd (none_before before (slice_index rest 0) (fresh (some_of InterfaceParameter (slice_index rest 0) row known)) stood)
 
 -- a known type of another length
-pub misfit_first : (registry : Registry) (before : List SubTlv) (rest : List ℕ) (at : ℕ) (row : Row) → 2 ≤ length rest → (IsOutside registry rest → ⊥)
+pub misfit_first : (registry : Registry) (before : List SubTlv) (rest : List ℕ) (at : ℕ) (row : SubTlvRow) → 2 ≤ length rest → (IsOutside registry rest → ⊥)
     → sub_tlv_row registry (slice_index rest 0) ≡ Some row
     → row_fits row (slice_index rest 1) ≡ false → (IsSome (sub_tlv_row registry (slice_index rest 0)) → values (slice_index rest 0) before ≡ [])
     → IsFirstWrong registry before rest at (Value (at + 1) row.field)
@@ -149,12 +149,12 @@ misfit_first registry before rest at row two inside known bad fresh = record {
     earliest other (outside two' far e) = absurd (inside far)
     earliest other (misfit row' two' known' bad' e) =
         let same : row' ≡ row = cc (known, known') in
-        precedes_same (Value (at + 1) row.field) other (e ∙ ap (λ (r : Row). Value (at + 1) r.field) same)
+        precedes_same (Value (at + 1) row.field) other (e ∙ ap (λ (r : SubTlvRow). Value (at + 1) r.field) same)
     earliest other (excess row' s more spelled known' fit bad' e) = let p = ap fault_place e in inl (omega arith)
     earliest other (again row' some known' stood e) = absurd (none_before before (slice_index rest 0) (fresh (some_of registry (slice_index rest 0) row known)) stood)
 
 -- a value that is not allowed
-pub excess_first : (registry : Registry) (before : List SubTlv) (rest : List ℕ) (at : ℕ) (row : Row) (s : SubTlv) (more : List ℕ) → rest ≡ spell registry s ++ more
+pub excess_first : (registry : Registry) (before : List SubTlv) (rest : List ℕ) (at : ℕ) (row : SubTlvRow) (s : SubTlv) (more : List ℕ) → rest ≡ spell registry s ++ more
     → sub_tlv_row registry s.kind ≡ Some row
     → row_fits row (counted_in registry + length s.value) ≡ true → allows registry s.kind s.value ≡ false → (IsSome (sub_tlv_row registry s.kind) → values s.kind before ≡ [])
     → IsFirstWrong registry before rest at (Value (at + 2) row.field)
@@ -176,13 +176,13 @@ excess_first registry before rest at row s more spelled known fit bad fresh = re
         let known'' : sub_tlv_row registry s.kind ≡ Some row' = subst (λ (k : ℕ). sub_tlv_row registry k ≡ Some row') first known' in
         let bad'' : row_fits row' (counted_in registry + length s.value) ≡ false = subst (λ (k : ℕ). row_fits row' k ≡ false) second bad' in
         let same : row' ≡ row = cc (known, known'') in
-        let fit' : row_fits row' (counted_in registry + length s.value) ≡ true = subst (λ (r : Row). row_fits r (counted_in registry + length s.value) ≡ true) (sym same) fit in
+        let fit' : row_fits row' (counted_in registry + length s.value) ≡ true = subst (λ (r : SubTlvRow). row_fits r (counted_in registry + length s.value) ≡ true) (sym same) fit in
         absurd (cc (fit', bad''))
     earliest other (excess row' s' more' spelled' known' fit' bad' e) =
         let (alike, _) = same_spelled registry s' s more' more (sym spelled' ∙ spelled) in
         let known'' : sub_tlv_row registry s.kind ≡ Some row' = subst (λ (x : SubTlv). sub_tlv_row registry x.kind ≡ Some row') alike known' in
         let same : row' ≡ row = cc (known, known'') in
-        precedes_same (Value (at + 2) row.field) other (e ∙ ap (λ (r : Row). Value (at + 2) r.field) same)
+        precedes_same (Value (at + 2) row.field) other (e ∙ ap (λ (r : SubTlvRow). Value (at + 2) r.field) same)
     earliest other (again row' some known' stood e) =
         let first = type_octet registry s more rest spelled in
         absurd (none_before before s.kind (fresh (some_of registry s.kind row known)) (subst (λ (k : ℕ). 1 ≤ length (values k before)) first stood))
@@ -194,7 +194,7 @@ pub stood_no : (registry : Registry) (before : List SubTlv) (k : ℕ) (stood : B
 stood_no registry before k stood is fact = subst (λ (b : Bool). Stood registry before k b) is fact
 
 -- the exit of a known type that stood before
-pub again_exit : (registry : Registry) (before : List SubTlv) (rest : List ℕ) (at : ℕ) (row : Row) (stood far : Bool) → 2 ≤ length rest → sub_tlv_row registry (slice_index rest 0) ≡ Some row
+pub again_exit : (registry : Registry) (before : List SubTlv) (rest : List ℕ) (at : ℕ) (row : SubTlvRow) (stood far : Bool) → 2 ≤ length rest → sub_tlv_row registry (slice_index rest 0) ≡ Some row
     → (far ≡ false → IsOutside registry rest → ⊥) → (registry ≡ SwitchingPointPart → far ≡ false) → stood ≡ true → Stood registry before (slice_index rest 0) stood
     → IsFirstWrong registry before rest at (Repeated at row.field)
 again_exit InterfaceParameter before rest at row stood far two known near part is fact =
@@ -203,7 +203,7 @@ again_exit SwitchingPointPart before rest at row stood far two known near part i
     again_first SwitchingPointPart before rest at row two (inl (near (part refl))) known (stood_yes SwitchingPointPart before (slice_index rest 0) stood is fact)
 
 -- the exit of a known type whose length counts too little or too much
-pub outside_exit : (registry : Registry) (before : List SubTlv) (rest : List ℕ) (at : ℕ) (row : Row) (stood far : Bool) (f : FieldFault) → 2 ≤ length rest
+pub outside_exit : (registry : Registry) (before : List SubTlv) (rest : List ℕ) (at : ℕ) (row : SubTlvRow) (stood far : Bool) (f : FieldFault) → 2 ≤ length rest
     → (far ≡ true → IsOutside registry rest) → (registry ≡ SwitchingPointPart → far ≡ false) → stood ≡ false → far ≡ true → f ≡ outside_fault registry at
     → Stood registry before (slice_index rest 0) stood → IsFirstWrong registry before rest at f
 outside_exit InterfaceParameter before rest at row stood far f two outer part is out e fact =

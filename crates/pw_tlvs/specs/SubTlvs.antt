@@ -7,7 +7,7 @@ use Rattle.pw_tlvs.specs.declared.field_fault.FieldFault.{FieldFault}
 use Rattle.pw_tlvs.specs.declared.field_fault.FieldFault.TheVariants.{Value, Repeated}
 use Rattle.pw_tlvs.specs.declared.registry.Registry.{Registry}
 use Rattle.pw_tlvs.specs.declared.registry.Registry.TheVariants.{InterfaceParameter, SwitchingPointPart}
-use Rattle.pw_tlvs.specs.declared.row.Row.{Row}
+use Rattle.pw_tlvs.specs.declared.sub_tlv_row.SubTlvRow.{SubTlvRow}
 use Rattle.pw_tlvs.specs.Faults.{PrecedesIn, fault_place}
 
 -- a sub-TLV by its type and its value
@@ -27,7 +27,7 @@ spell registry s = s.kind ∷ (counted_in registry + length s.value) ∷ s.value
 
 -- the interface parameters that are known, each with its field and the least and the most of its length
 -- (RFC 4446 section 3.3, RFC 4448 section 4.3 of the requested VLAN ID, RFC 5085 section 5.3.1 of VCCV)
-abbrev pub parameter_row : ℕ → Option Row
+abbrev pub parameter_row : ℕ → Option SubTlvRow
 parameter_row kind =
     if kind == 0x01 then Some (record { field = field.Mtu; least = 4; most = 4 })
     else if kind == 0x03 then Some (record { field = field.Description; least = 2; most = 82 })
@@ -37,18 +37,18 @@ parameter_row kind =
 
 -- the parts of a Switching Point PE TLV whose meaning is kept: PW ID, local address, remote address (RFC 6073
 -- section 7.4.1)
-abbrev pub part_row : ℕ → Option Row
+abbrev pub part_row : ℕ → Option SubTlvRow
 part_row kind =
     if (kind == 0x01 || kind == 0x03) || kind == 0x04 then Some (record { field = field.Point; least = 4; most = 4 })
     else None
 
 -- the row of a known type
-abbrev pub sub_tlv_row : Registry → ℕ → Option Row
+abbrev pub sub_tlv_row : Registry → ℕ → Option SubTlvRow
 sub_tlv_row InterfaceParameter kind = parameter_row kind
 sub_tlv_row SwitchingPointPart kind = part_row kind
 
 -- the length is one that the row has
-abbrev pub row_fits : Row → ℕ → Bool
+abbrev pub row_fits : SubTlvRow → ℕ → Bool
 row_fits row length = nat_le row.least length && nat_le length row.most
 
 -- the value is one that its type has: a VLAN ID has 12 bits (IEEE 802.1Q clause 9.6)
@@ -97,12 +97,12 @@ outside_fault SwitchingPointPart at = Value at field.Point
 pub data IsWrong (registry : Registry) (before : List SubTlv) (rest : List ℕ) (at : ℕ) (fault : FieldFault) : Type 0 where
   lone : length rest ≡ 1 → fault ≡ lone_fault registry at → IsWrong registry before rest at fault
   outside : 2 ≤ length rest → IsOutside registry rest → fault ≡ outside_fault registry at → IsWrong registry before rest at fault
-  misfit : (row : Row) → 2 ≤ length rest → sub_tlv_row registry (slice_index rest 0) ≡ Some row → row_fits row (slice_index rest 1) ≡ false
+  misfit : (row : SubTlvRow) → 2 ≤ length rest → sub_tlv_row registry (slice_index rest 0) ≡ Some row → row_fits row (slice_index rest 1) ≡ false
       → fault ≡ Value (at + 1) row.field → IsWrong registry before rest at fault
-  excess : (row : Row) (s : SubTlv) (more : List ℕ) → rest ≡ spell registry s ++ more → sub_tlv_row registry s.kind ≡ Some row
+  excess : (row : SubTlvRow) (s : SubTlv) (more : List ℕ) → rest ≡ spell registry s ++ more → sub_tlv_row registry s.kind ≡ Some row
       → row_fits row (counted_in registry + length s.value) ≡ true → allows registry s.kind s.value ≡ false
       → fault ≡ Value (at + 2) row.field → IsWrong registry before rest at fault
-  again : (row : Row) → 1 ≤ length rest → sub_tlv_row registry (slice_index rest 0) ≡ Some row
+  again : (row : SubTlvRow) → 1 ≤ length rest → sub_tlv_row registry (slice_index rest 0) ≡ Some row
       → 1 ≤ length (values (slice_index rest 0) before) → fault ≡ Repeated at row.field → IsWrong registry before rest at fault
 
 -- the fault can be named for the octets, which begin at this place of the value: sub-TLVs stand before it, good or not

@@ -2,14 +2,14 @@
 ghost use Rattle.std.specs.Prelude.{◌≡◌, ◌++◌, ◌∷◌, ◌<◌, ◌≤◌, ◌==◌, [], length, slice_get};
 
 use crate::Point;
-use crate::held::Held;
+use crate::held_points::HeldPoints;
 use std::marker::Model;
 
 /// The switching points that a pseudowire passed, in order, and at most three. They are held inline.
 /// Contracts see them as the list of the points.
 #[derive(Clone, Copy, Debug, PartialEq, Eq)]
 pub struct Points {
-    held: Held,
+    held: HeldPoints,
 }
 
 impl Model for Points {
@@ -31,7 +31,9 @@ impl Points {
     pub fn empty() -> Points
         ensures { result ≡ [] }
     {
-        Points { held: Held::None }
+        Points {
+            held: HeldPoints::None,
+        }
     }
 
     /// Adds a point at the end. Fewer than three are held.
@@ -40,10 +42,10 @@ impl Points {
         ensures { self.new ≡ self.old ++ point ∷ [] }
     {
         self.held = match self.held {
-            Held::None => Held::One(point),
-            Held::One(first) => Held::Two(first, point),
-            Held::Two(first, second) => Held::Three(first, second, point),
-            Held::Three(..) => self.held,
+            HeldPoints::None => HeldPoints::One(point),
+            HeldPoints::One(first) => HeldPoints::Two(first, point),
+            HeldPoints::Two(first, second) => HeldPoints::Three(first, second, point),
+            HeldPoints::Three(..) => self.held,
         };
     }
 
@@ -53,10 +55,10 @@ impl Points {
         ensures within { result ≤ 3 }
     {
         match self.held {
-            Held::None => 0,
-            Held::One(..) => 1,
-            Held::Two(..) => 2,
-            Held::Three(..) => 3,
+            HeldPoints::None => 0,
+            HeldPoints::One(..) => 1,
+            HeldPoints::Two(..) => 2,
+            HeldPoints::Three(..) => 3,
         }
     }
 
@@ -64,7 +66,7 @@ impl Points {
     pub fn is_empty(&self) -> bool
         ensures { result ≡ (length self.now == 0) }
     {
-        matches!(self.held, Held::None)
+        matches!(self.held, HeldPoints::None)
     }
 
     /// The point at an index from 0; `None` exactly where the index is not below the number of points.
@@ -72,11 +74,11 @@ impl Points {
         ensures { result ≡ slice_get self.now index }
     {
         match (self.held, index) {
-            (Held::One(point), 0) | (Held::Two(point, _), 0) | (Held::Three(point, _, _), 0) => {
-                Some(point)
-            }
-            (Held::Two(_, point), 1) | (Held::Three(_, point, _), 1) => Some(point),
-            (Held::Three(_, _, point), 2) => Some(point),
+            (HeldPoints::One(point), 0)
+            | (HeldPoints::Two(point, _), 0)
+            | (HeldPoints::Three(point, _, _), 0) => { Some(point) }
+            (HeldPoints::Two(_, point), 1) | (HeldPoints::Three(_, point, _), 1) => Some(point),
+            (HeldPoints::Three(_, _, point), 2) => Some(point),
             _ => None,
         }
     }

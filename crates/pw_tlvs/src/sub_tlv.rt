@@ -5,8 +5,8 @@ ghost use Rattle.pw_tlvs.specs.SubTlvs.{SubTlv, counted_in, spell, sub_tlv_row a
 
 use crate::FieldFault;
 use crate::registry::Registry;
-use crate::row::{Row, row_of};
 use crate::sub_tlv_place::SubTlvPlace;
+use crate::sub_tlv_row::{SubTlvRow, row_of};
 use byteorder::{BigEndian, ByteOrder};
 use net_values::Field;
 
@@ -89,7 +89,7 @@ fn is_allowed(registry: Registry, kind: u8, value: &[u8]) -> bool
 fn known_fault(
     registry: Registry,
     place: SubTlvPlace,
-    row: Row,
+    row: SubTlvRow,
     outside: bool,
     rest: &[u8],
 ) -> Option<FieldFault>

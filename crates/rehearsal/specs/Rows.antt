@@ -9,7 +9,7 @@ use Rattle.net_base.specs.declared.plan.circuit_plan.CircuitPlan.{CircuitPlan}
 use Rattle.net_base.specs.declared.plan.wire_plan.WirePlan.{WirePlan}
 use Rattle.net_base.specs.declared.plan.wire_plan.Class.TheVariants.{Mesh, Spoke}
 use Rattle.net_base.specs.declared.plan.offer.Offer.{Offer}
-use Rattle.rehearsal.specs.declared.link.Link.{Link}
+use Rattle.rehearsal.specs.declared.rehearsed_wire.RehearsedWire.{RehearsedWire}
 
 -- edges are numbered from 1: edge 1 is `e1`, at 10.0.0.1
 abbrev pub edge_row : ℕ → EdgePlan
@@ -35,7 +35,7 @@ circuits_from (suc count) number = rehearsed_circuit number ∷ circuits_from co
 abbrev pub offer : Offer
 offer = record { tagged = Bool.false; cword = Bool.true; mtu = Some 1500; vlan = None; vccv = None; status = Bool.true; group = 0; description = [] }
 
-abbrev pub rehearsed_wire : List ℕ → Link → WirePlan
+abbrev pub rehearsed_wire : List ℕ → RehearsedWire → WirePlan
 rehearsed_wire name link = record {
   name = name;
   service = record { 0 = 0 };

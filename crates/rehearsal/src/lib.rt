@@ -6,9 +6,9 @@
 
 mod commands;
 mod draws;
-mod link;
 mod numbered;
 mod plan;
+mod rehearsed_wire;
 mod scenario;
 mod wires;
 

@@ -4,8 +4,8 @@ ghost use Rattle.std.specs.Fmt.{decimal};
 ghost use Rattle.net_values.specs.Name.{IsName};
 ghost use Rattle.rehearsal.specs.Rows.{offer, rehearsed_wire, mesh_wire, mesh_beside, mesh_among, first_spoke, second_spoke, wires};
 
-use crate::link::Link;
 use crate::numbered::numbered;
+use crate::rehearsed_wire::RehearsedWire;
 use net_base::{Class, EdgeId, List, NoMemory, Offer, ServiceId, Text, WirePlan};
 use std::alloc::Global;
 
@@ -38,7 +38,7 @@ fn path(alloc: Global, from: u16, to: u16) -> Result<List<EdgeId>, NoMemory>
 }
 
 // The wire whose name is this letter and number.
-fn wire(alloc: Global, letter: &str, number: u16, link: Link) -> Result<WirePlan, NoMemory>
+fn wire(alloc: Global, letter: &str, number: u16, link: RehearsedWire) -> Result<WirePlan, NoMemory>
     requires name { IsName letter.now }
     requires one { length letter.now ≡ 1 }
     requires from { 1 ≤ link.from }
@@ -65,7 +65,7 @@ fn mesh(alloc: Global, from: u16, to: u16, number: u16) -> Result<WirePlan, NoMe
     requires to { 1 ≤ to }
     ensures { IfOk result (λ row. row ≡ mesh_wire from to number) }
 {
-    let link = Link {
+    let link = RehearsedWire {
         class: Class::Mesh,
         from,
         to,
@@ -110,7 +110,7 @@ fn add_spokes(alloc: Global, wires: &mut List<WirePlan>, place: u16) -> Result<(
     requires { place < 8 }
     ensures { OnOk result (wires.new ≡ (wires.old ++ first_spoke place ∷ []) ++ second_spoke place ∷ []) }
 {
-    let first = Link {
+    let first = RehearsedWire {
         class: Class::Spoke,
         from: place + 9,
         to: place + 1,
@@ -118,7 +118,7 @@ fn add_spokes(alloc: Global, wires: &mut List<WirePlan>, place: u16) -> Result<(
         priority: 10,
     };
     wires.push(wire(alloc, "p", place + 9, first)?)?;
-    let second = Link {
+    let second = RehearsedWire {
         class: Class::Spoke,
         from: place + 9,
         to: (place + 1) % 8 + 1,

@@ -8,7 +8,7 @@ use crate::line_sink::LineSink;
 use crate::tally::Tally;
 use net_base::{Failed, NoMemory};
 use std::alloc::Global;
-use text_lines::{Page, Word};
+use text_lines::{LineWord, Page};
 
 /// Writes the line of counts, into room that it keeps.
 #[derive(Drop)]
@@ -18,16 +18,16 @@ pub struct LineWriter {
 }
 
 // The words of counts.
-fn told<'a>(tally: Tally) -> [Word<'a>; 5]
+fn told<'a>(tally: Tally) -> [LineWord<'a>; 5]
     ensures { map word_octets result
         ≡ (codes "events=" ++ decimal tally.events) ∷ (codes "in=" ++ decimal tally.entered) ∷ (codes "left=" ++ decimal tally.left) ∷ (codes "sent=" ++ decimal tally.sent) ∷ (codes "dropped=" ++ decimal tally.dropped) ∷ [] }
 {
     [
-        Word::Labelled(b"events=", tally.events),
-        Word::Labelled(b"in=", tally.entered),
-        Word::Labelled(b"left=", tally.left),
-        Word::Labelled(b"sent=", tally.sent),
-        Word::Labelled(b"dropped=", tally.dropped),
+        LineWord::Labelled(b"events=", tally.events),
+        LineWord::Labelled(b"in=", tally.entered),
+        LineWord::Labelled(b"left=", tally.left),
+        LineWord::Labelled(b"sent=", tally.sent),
+        LineWord::Labelled(b"dropped=", tally.dropped),
     ]
 }
 

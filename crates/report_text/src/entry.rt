@@ -12,27 +12,27 @@ use crate::names::{
     arrival_word, cause_text, circuit_word, edge_word, state_text, wire_end_text, wire_word,
 };
 use net_base::{CircuitId, Down, DropCause, EdgeId, Entry, Failed, Plan, Sink, StateName, WireId};
-use text_lines::{Page, Word};
+use text_lines::{LineWord, Page};
 
 // Octets that an edge put towards a peer.
-fn said<'a>(plan: &'a Plan, from: EdgeId, to: EdgeId, octets: &'a [u8]) -> [Word<'a>; 3]
+fn said<'a>(plan: &'a Plan, from: EdgeId, to: EdgeId, octets: &'a [u8]) -> [LineWord<'a>; 3]
     ensures { map word_octets result ≡ edge_name plan.now from ∷ edge_name plan.now to ∷ hex octets.now ∷ [] }
 {
     [
         edge_word(plan, from),
         edge_word(plan, to),
-        Word::Hex(octets),
+        LineWord::Hex(octets),
     ]
 }
 
 // A frame that entered.
-fn entered<'a>(plan: &'a Plan, at: CircuitId, number: u64, octets: &'a [u8]) -> [Word<'a>; 3]
+fn entered<'a>(plan: &'a Plan, at: CircuitId, number: u64, octets: &'a [u8]) -> [LineWord<'a>; 3]
     ensures { map word_octets result ≡ circuit_name plan.now at ∷ decimal number ∷ hex octets.now ∷ [] }
 {
     [
         circuit_word(plan, at),
-        Word::Number(number),
-        Word::Hex(octets),
+        LineWord::Number(number),
+        LineWord::Hex(octets),
     ]
 }
 
@@ -43,65 +43,65 @@ fn left<'a>(
     origin: u64,
     hops: u64,
     octets: &'a [u8],
-) -> [Word<'a>; 4]
+) -> [LineWord<'a>; 4]
     ensures { map word_octets result ≡ circuit_name plan.now at ∷ decimal origin ∷ decimal hops ∷ hex octets.now ∷ [] }
 {
     [
         circuit_word(plan, at),
-        Word::Number(origin),
-        Word::Number(hops),
-        Word::Hex(octets),
+        LineWord::Number(origin),
+        LineWord::Number(hops),
+        LineWord::Hex(octets),
     ]
 }
 
 // A packet that came a second time.
-fn copied<'a>(packet: u64, of: u64) -> [Word<'a>; 2]
+fn copied<'a>(packet: u64, of: u64) -> [LineWord<'a>; 2]
     ensures { map word_octets result ≡ decimal packet ∷ decimal of ∷ [] }
 {
-    [Word::Number(packet), Word::Number(of)]
+    [LineWord::Number(packet), LineWord::Number(of)]
 }
 
 // A drop.
-fn dropped(plan: &Plan, at: EdgeId, origin: u64, cause: DropCause) -> [Word<'_>; 3]
+fn dropped(plan: &Plan, at: EdgeId, origin: u64, cause: DropCause) -> [LineWord<'_>; 3]
     ensures { map word_octets result ≡ edge_name plan.now at ∷ decimal origin ∷ cause_name cause ∷ [] }
 {
     [
         edge_word(plan, at),
-        Word::Number(origin),
-        Word::Text(cause_text(cause).as_bytes()),
+        LineWord::Number(origin),
+        LineWord::Text(cause_text(cause).as_bytes()),
     ]
 }
 
 // A session that moved to a state.
-fn session(plan: &Plan, at: EdgeId, peer: EdgeId, state: StateName) -> [Word<'_>; 3]
+fn session(plan: &Plan, at: EdgeId, peer: EdgeId, state: StateName) -> [LineWord<'_>; 3]
     ensures { map word_octets result ≡ edge_name plan.now at ∷ edge_name plan.now peer ∷ state_name state ∷ [] }
 {
     [
         edge_word(plan, at),
         edge_word(plan, peer),
-        Word::Text(state_text(state).as_bytes()),
+        LineWord::Text(state_text(state).as_bytes()),
     ]
 }
 
 // An end of a wire that has come up, or is down for a cause.
-fn wire_end(plan: &Plan, at: EdgeId, of: WireId, down: Option<Down>) -> [Word<'_>; 3]
+fn wire_end(plan: &Plan, at: EdgeId, of: WireId, down: Option<Down>) -> [LineWord<'_>; 3]
     ensures { map word_octets result ≡ edge_name plan.now at ∷ wire_name plan.now of ∷ wire_end_name down ∷ [] }
 {
     [
         edge_word(plan, at),
         wire_word(plan, of),
-        Word::Text(wire_end_text(down).as_bytes()),
+        LineWord::Text(wire_end_text(down).as_bytes()),
     ]
 }
 
 // An answer to a ping.
-fn pong(plan: &Plan, at: EdgeId, of: WireId, sequence: u16) -> [Word<'_>; 3]
+fn pong(plan: &Plan, at: EdgeId, of: WireId, sequence: u16) -> [LineWord<'_>; 3]
     ensures { map word_octets result ≡ edge_name plan.now at ∷ wire_name plan.now of ∷ decimal sequence ∷ [] }
 {
     [
         edge_word(plan, at),
         wire_word(plan, of),
-        Word::Number(u64::from(sequence)),
+        LineWord::Number(u64::from(sequence)),
     ]
 }
 
@@ -182,18 +182,18 @@ fn put_any_entry<'a, K: Sink>(
             sink,
             b"sent",
             &[
-                Word::Number(packet),
+                LineWord::Number(packet),
                 edge_word(plan, from),
                 edge_word(plan, to),
                 wire_word(plan, over),
                 arrival_word(plan, by),
-                Word::Number(origin),
-                Word::Number(hops),
-                Word::Hex(bytes.as_slice()),
+                LineWord::Number(origin),
+                LineWord::Number(hops),
+                LineWord::Hex(bytes.as_slice()),
             ],
         ),
         Entry::Copied { packet, of } => page.put_line(sink, b"copied", &copied(packet, of)),
-        Entry::Aged { packet } => page.put_line(sink, b"aged", &[Word::Number(packet)]),
+        Entry::Aged { packet } => page.put_line(sink, b"aged", &[LineWord::Number(packet)]),
         Entry::Left {
             circuit,
             origin,

@@ -6,7 +6,7 @@ ghost use Rattle.text_lines.specs.Written.{PutsOn};
 
 use crate::event_words::{site, words_of_event};
 use net_base::{Event, Failed, Plan, Sink};
-use text_lines::{Page, Word};
+use text_lines::{LineWord, Page};
 
 /// Puts the line of an event that was done: its words behind a pointed bracket. Frames come first, as in `put_entry`.
 pub fn put_event<K: Sink>(
@@ -19,7 +19,7 @@ pub fn put_event<K: Sink>(
 {
     match *event {
         Event::Frame { circuit, ref bytes } => {
-            let octets = Word::Hex(bytes.as_slice());
+            let octets = LineWord::Hex(bytes.as_slice());
             page.put_line(sink, b">", &site(plan, b"frame", circuit, octets))
         }
         _ => put_any_event(page, sink, plan, event),

@@ -7,20 +7,20 @@ ghost use Rattle.text_lines.specs.Lines.{word_octets};
 
 use crate::names::{circuit_word, edge_word, switch_text, wire_word};
 use net_base::{CircuitId, EdgeId, Event, Plan, WireId};
-use text_lines::Word;
+use text_lines::LineWord;
 
 /// The words of an event, its name first.
 #[derive(Clone, Copy)]
 pub struct EventWords<'a> {
     // The words, and behind them empty ones.
-    words: [Word<'a>; 4],
+    words: [LineWord<'a>; 4],
     // How many there are, at most four.
     count: usize,
 }
 
 impl<'a> EventWords<'a> {
     /// The words in order.
-    pub fn as_slice(&self) -> &[Word<'a>]
+    pub fn as_slice(&self) -> &[LineWord<'a>]
         ensures { map word_octets result.now ≡ event_words_told self.now }
     {
         let (words, _) = self.words.split_at(self.count.min(4));
@@ -29,10 +29,10 @@ impl<'a> EventWords<'a> {
 }
 
 // One word.
-fn one<'a>(word: Word<'a>) -> EventWords<'a>
+fn one<'a>(word: LineWord<'a>) -> EventWords<'a>
     ensures { event_words_told result ≡ word_octets word.entry ∷ [] }
 {
-    let none = Word::Text(&[]);
+    let none = LineWord::Text(&[]);
     EventWords {
         words: [word, none, none, none],
         count: 1,
@@ -40,10 +40,10 @@ fn one<'a>(word: Word<'a>) -> EventWords<'a>
 }
 
 // Two words.
-fn two<'a>(words: [Word<'a>; 2]) -> EventWords<'a>
+fn two<'a>(words: [LineWord<'a>; 2]) -> EventWords<'a>
     ensures { event_words_told result ≡ map word_octets words.entry }
 {
-    let none = Word::Text(&[]);
+    let none = LineWord::Text(&[]);
     let [first, second] = words;
     EventWords {
         words: [first, second, none, none],
@@ -52,55 +52,65 @@ fn two<'a>(words: [Word<'a>; 2]) -> EventWords<'a>
 }
 
 // Three words.
-fn three<'a>(words: [Word<'a>; 3]) -> EventWords<'a>
+fn three<'a>(words: [LineWord<'a>; 3]) -> EventWords<'a>
     ensures { event_words_told result ≡ map word_octets words.entry }
 {
     let [first, second, third] = words;
     EventWords {
-        words: [first, second, third, Word::Text(&[])],
+        words: [first, second, third, LineWord::Text(&[])],
         count: 3,
     }
 }
 
 // Four words.
-fn four<'a>(words: [Word<'a>; 4]) -> EventWords<'a>
+fn four<'a>(words: [LineWord<'a>; 4]) -> EventWords<'a>
     ensures { event_words_told result ≡ map word_octets words.entry }
 {
     EventWords { words, count: 4 }
 }
 
 // An event's name, and two edges.
-fn edges<'a>(plan: &'a Plan, name: &'a [u8], from: EdgeId, to: EdgeId) -> [Word<'a>; 3]
+fn edges<'a>(plan: &'a Plan, name: &'a [u8], from: EdgeId, to: EdgeId) -> [LineWord<'a>; 3]
     ensures { map word_octets result ≡ name.now ∷ edge_name plan.now from ∷ edge_name plan.now to ∷ [] }
 {
-    [Word::Text(name), edge_word(plan, from), edge_word(plan, to)]
+    [
+        LineWord::Text(name),
+        edge_word(plan, from),
+        edge_word(plan, to),
+    ]
 }
 
 // A delivery of some octets.
-fn delivery(plan: &Plan, from: EdgeId, to: EdgeId, count: u16) -> [Word<'_>; 4]
+fn delivery(plan: &Plan, from: EdgeId, to: EdgeId, count: u16) -> [LineWord<'_>; 4]
     ensures { map word_octets result ≡ codes "deliver" ∷ edge_name plan.now from ∷ edge_name plan.now to ∷ decimal count ∷ [] }
 {
     [
-        Word::Text(b"deliver"),
+        LineWord::Text(b"deliver"),
         edge_word(plan, from),
         edge_word(plan, to),
-        Word::Number(u64::from(count)),
+        LineWord::Number(u64::from(count)),
     ]
 }
 
 // An event's name, and a packet.
-fn packet<'a>(name: &'a [u8], number: u64) -> [Word<'a>; 2]
+fn packet<'a>(name: &'a [u8], number: u64) -> [LineWord<'a>; 2]
     ensures { map word_octets result ≡ name.now ∷ decimal number ∷ [] }
 {
-    [Word::Text(name), Word::Number(number)]
+    [LineWord::Text(name), LineWord::Number(number)]
 }
 
 // An event's name, an end of a wire, and a word.
-fn end<'a>(plan: &'a Plan, name: &'a [u8], at: EdgeId, of: WireId, word: Word<'a>) -> [Word<'a>; 4]
+fn end<'a>(
+    plan: &'a Plan,
+    name: &'a [u8],
+    at: EdgeId,
+    of: WireId,
+    word: LineWord<'a>,
+) -> [LineWord<'a>; 4]
     ensures { map word_octets result ≡ name.now ∷ edge_name plan.now at ∷ wire_name plan.now of ∷ word_octets word.entry ∷ [] }
 {
     [
-        Word::Text(name),
+        LineWord::Text(name),
         edge_word(plan, at),
         wire_word(plan, of),
         word,
@@ -112,18 +122,18 @@ pub(crate) fn site<'a>(
     plan: &'a Plan,
     name: &'a [u8],
     at: CircuitId,
-    word: Word<'a>,
-) -> [Word<'a>; 3]
+    word: LineWord<'a>,
+) -> [LineWord<'a>; 3]
     ensures { map word_octets result ≡ name.now ∷ circuit_name plan.now at ∷ word_octets word.entry ∷ [] }
 {
-    [Word::Text(name), circuit_word(plan, at), word]
+    [LineWord::Text(name), circuit_word(plan, at), word]
 }
 
 // `on` or `off`.
-fn switch<'a>(on: bool) -> Word<'a>
+fn switch<'a>(on: bool) -> LineWord<'a>
     ensures { word_octets result ≡ switch_name on }
 {
-    Word::Text(switch_text(on).as_bytes())
+    LineWord::Text(switch_text(on).as_bytes())
 }
 
 /// The words of an event, as a scenario writes it.
@@ -134,10 +144,10 @@ pub fn words_of_event<'a>(plan: &'a Plan, event: &'a Event) -> EventWords<'a>
         Event::Connect { from, to } => three(edges(plan, b"connect", from, to)),
         Event::Deliver { from, to, count } => four(delivery(plan, from, to, count)),
         Event::Lose { edge, peer } => three(edges(plan, b"lose", edge, peer)),
-        Event::Restart { edge: at } => { two([Word::Text(b"restart"), edge_word(plan, at)]) }
-        Event::Tick => one(Word::Text(b"tick")),
+        Event::Restart { edge: at } => { two([LineWord::Text(b"restart"), edge_word(plan, at)]) }
+        Event::Tick => one(LineWord::Text(b"tick")),
         Event::Frame { circuit, ref bytes } => {
-            let octets = Word::Hex(bytes.as_slice());
+            let octets = LineWord::Hex(bytes.as_slice());
             three(site(plan, b"frame", circuit, octets))
         }
         Event::Arrive { packet: number } => two(packet(b"arrive", number)),
@@ -146,7 +156,7 @@ pub fn words_of_event<'a>(plan: &'a Plan, event: &'a Event) -> EventWords<'a>
         Event::Wire { edge, wire, on } => { four(end(plan, b"wire", edge, wire, switch(on))) }
         Event::Circuit { circuit, on } => { three(site(plan, b"circuit", circuit, switch(on))) }
         Event::Status { edge, wire, bits } => {
-            let bits = Word::Number(u64::from(bits));
+            let bits = LineWord::Number(u64::from(bits));
             four(end(plan, b"status", edge, wire, bits))
         }
         Event::Priority {
@@ -154,11 +164,11 @@ pub fn words_of_event<'a>(plan: &'a Plan, event: &'a Event) -> EventWords<'a>
             wire,
             priority,
         } => {
-            let priority = Word::Number(u64::from(priority));
+            let priority = LineWord::Number(u64::from(priority));
             four(end(plan, b"priority", edge, wire, priority))
         }
         Event::Ping { edge: at, wire: of } => three([
-            Word::Text(b"ping"),
+            LineWord::Text(b"ping"),
             edge_word(plan, at),
             wire_word(plan, of),
         ]),

@@ -7,7 +7,7 @@ ghost use Rattle.text_lines.specs.Written.{PutsOn};
 
 use crate::ending::Ending;
 use net_base::{Entry, Failed, Sink};
-use text_lines::{Page, Word};
+use text_lines::{LineWord, Page};
 
 /// The kinds of entries that the last line counts. Contracts name a count by its kind.
 #[derive(Clone, Copy, Debug, PartialEq, Eq)]
@@ -82,24 +82,24 @@ fn counts_of(trace: &[Entry]) -> Counts
 }
 
 // What tells these counts.
-fn told<'a>(counts: Counts) -> [Word<'a>; 5]
+fn told<'a>(counts: Counts) -> [LineWord<'a>; 5]
     ensures { map word_octets result
         ≡ (codes "events=" ++ decimal counts.events) ∷ (codes "in=" ++ decimal counts.entered) ∷ (codes "left=" ++ decimal counts.left) ∷ (codes "sent=" ++ decimal counts.sent) ∷ (codes "dropped=" ++ decimal counts.dropped) ∷ [] }
 {
     [
-        Word::Labelled(b"events=", counts.events),
-        Word::Labelled(b"in=", counts.entered),
-        Word::Labelled(b"left=", counts.left),
-        Word::Labelled(b"sent=", counts.sent),
-        Word::Labelled(b"dropped=", counts.dropped),
+        LineWord::Labelled(b"events=", counts.events),
+        LineWord::Labelled(b"in=", counts.entered),
+        LineWord::Labelled(b"left=", counts.left),
+        LineWord::Labelled(b"sent=", counts.sent),
+        LineWord::Labelled(b"dropped=", counts.dropped),
     ]
 }
 
 // A bound at which a run stopped.
-fn stopped<'a>(bound: &'a [u8], number: u64) -> [Word<'a>; 2]
+fn stopped<'a>(bound: &'a [u8], number: u64) -> [LineWord<'a>; 2]
     ensures { map word_octets result ≡ bound.now ∷ decimal number ∷ [] }
 {
-    [Word::Text(bound), Word::Number(number)]
+    [LineWord::Text(bound), LineWord::Number(number)]
 }
 
 /// Puts the last line of a report: the counts of a run that came to its end, or the bound at which it stopped.

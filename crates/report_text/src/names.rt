@@ -4,46 +4,46 @@ ghost use Rattle.text_lines.specs.Lines.{word_octets};
 ghost use Rattle.report_text.specs.Words.{edge_name, circuit_name, wire_name, arrival_name, switch_name, cause_name, down_name, wire_end_name, reason_name, state_name};
 
 use net_base::{Arrival, CircuitId, Down, DropCause, EdgeId, Plan, Reason, StateName, WireId};
-use text_lines::Word;
+use text_lines::LineWord;
 
 /// The name of an edge; empty outside the plan.
-pub fn edge_word(plan: &Plan, edge: EdgeId) -> Word<'_>
+pub fn edge_word(plan: &Plan, edge: EdgeId) -> LineWord<'_>
     ensures { word_octets result ≡ edge_name plan.now edge }
 {
     match plan.edges.get(edge.0 as usize) {
-        Some(row) => Word::Text(row.name.as_slice()),
-        None => Word::Text(&[]),
+        Some(row) => LineWord::Text(row.name.as_slice()),
+        None => LineWord::Text(&[]),
     }
 }
 
 /// The name of a circuit; empty outside the plan.
-pub fn circuit_word(plan: &Plan, circuit: CircuitId) -> Word<'_>
+pub fn circuit_word(plan: &Plan, circuit: CircuitId) -> LineWord<'_>
     ensures { word_octets result ≡ circuit_name plan.now circuit }
 {
     match plan.circuits.get(circuit.0 as usize) {
-        Some(row) => Word::Text(row.name.as_slice()),
-        None => Word::Text(&[]),
+        Some(row) => LineWord::Text(row.name.as_slice()),
+        None => LineWord::Text(&[]),
     }
 }
 
 /// The name of a wire; empty outside the plan.
-pub fn wire_word(plan: &Plan, wire: WireId) -> Word<'_>
+pub fn wire_word(plan: &Plan, wire: WireId) -> LineWord<'_>
     ensures { word_octets result ≡ wire_name plan.now wire }
 {
     match plan.wires.get(wire.0 as usize) {
-        Some(row) => Word::Text(row.name.as_slice()),
-        None => Word::Text(&[]),
+        Some(row) => LineWord::Text(row.name.as_slice()),
+        None => LineWord::Text(&[]),
     }
 }
 
 /// By what a frame came: a circuit, a wire, or a dash for none.
-pub fn arrival_word(plan: &Plan, arrival: Arrival) -> Word<'_>
+pub fn arrival_word(plan: &Plan, arrival: Arrival) -> LineWord<'_>
     ensures { word_octets result ≡ arrival_name plan.now arrival }
 {
     match arrival {
         Arrival::Circuit(place) => circuit_word(plan, place),
         Arrival::Wire(place) => wire_word(plan, place),
-        Arrival::Own => Word::Text(b"-"),
+        Arrival::Own => LineWord::Text(b"-"),
     }
 }
 

@@ -11,7 +11,7 @@
 
 mod ended;
 mod endings;
-mod held;
+mod held_replies;
 mod in_state;
 mod initialized;
 mod laws;

@@ -2,14 +2,14 @@
 ghost use Rattle.std.specs.Prelude.{◌≡◌, ◌∷◌, ◌≤◌, ◌==◌, [], length, slice_get};
 
 use crate::Reply;
-use crate::held::Held;
+use crate::held_replies::HeldReplies;
 use std::marker::Model;
 
 /// What is to be put to the peer, in this order: at most two replies. They are held inline. Contracts see them as the list
 /// of the replies.
 #[derive(Clone, Copy, PartialEq, Eq)]
 pub struct Replies {
-    held: Held,
+    held: HeldReplies,
 }
 
 impl Model for Replies {
@@ -31,7 +31,9 @@ impl Replies {
     pub(crate) fn none() -> Replies
         ensures { result ≡ [] }
     {
-        Replies { held: Held::None }
+        Replies {
+            held: HeldReplies::None,
+        }
     }
 
     // One reply.
@@ -39,7 +41,7 @@ impl Replies {
         ensures { result ≡ reply ∷ [] }
     {
         Replies {
-            held: Held::One(reply),
+            held: HeldReplies::One(reply),
         }
     }
 
@@ -48,7 +50,7 @@ impl Replies {
         ensures { result ≡ first ∷ second ∷ [] }
     {
         Replies {
-            held: Held::Two(first, second),
+            held: HeldReplies::Two(first, second),
         }
     }
 
@@ -58,9 +60,9 @@ impl Replies {
         ensures within { result ≤ 2 }
     {
         match self.held {
-            Held::None => 0,
-            Held::One(..) => 1,
-            Held::Two(..) => 2,
+            HeldReplies::None => 0,
+            HeldReplies::One(..) => 1,
+            HeldReplies::Two(..) => 2,
         }
     }
 
@@ -68,7 +70,7 @@ impl Replies {
     pub fn is_empty(&self) -> bool
         ensures { result ≡ (length self.now == 0) }
     {
-        matches!(self.held, Held::None)
+        matches!(self.held, HeldReplies::None)
     }
 
     /// The reply at an index from 0; `None` exactly where the index is not below the number of replies.
@@ -76,8 +78,8 @@ impl Replies {
         ensures { result ≡ slice_get self.now index }
     {
         match (self.held, index) {
-            (Held::One(reply), 0) | (Held::Two(reply, _), 0) => Some(reply),
-            (Held::Two(_, reply), 1) => Some(reply),
+            (HeldReplies::One(reply), 0) | (HeldReplies::Two(reply, _), 0) => Some(reply),
+            (HeldReplies::Two(_, reply), 1) => Some(reply),
             _ => None,
         }
     }

@@ -9,16 +9,16 @@ ghost use Rattle.text_pieces.specs.Pieces.{hex};
 use net_base::{EdgeId, Failed, Plan, Sink, WireId};
 use report_text::{edge_word, wire_word};
 use switchover_model::SwitchEntry;
-use text_lines::{Page, Word};
+use text_lines::{LineWord, Page};
 
 // Octets that an edge put to a peer.
-fn said<'a>(plan: &'a Plan, edge: EdgeId, peer: EdgeId, octets: &'a [u8]) -> [Word<'a>; 3]
+fn said<'a>(plan: &'a Plan, edge: EdgeId, peer: EdgeId, octets: &'a [u8]) -> [LineWord<'a>; 3]
     ensures { map word_octets result ≡ edge_name plan.now edge ∷ edge_name plan.now peer ∷ hex octets.now ∷ [] }
 {
     [
         edge_word(plan, edge),
         edge_word(plan, peer),
-        Word::Hex(octets),
+        LineWord::Hex(octets),
     ]
 }
 
@@ -30,13 +30,13 @@ fn answer_of(on: bool) -> &'static str
 }
 
 // A wire that an edge uses from now on, or no more.
-fn uses(plan: &Plan, edge: EdgeId, wire: WireId, on: bool) -> [Word<'_>; 3]
+fn uses(plan: &Plan, edge: EdgeId, wire: WireId, on: bool) -> [LineWord<'_>; 3]
     ensures { map word_octets result ≡ edge_name plan.now edge ∷ wire_name plan.now wire ∷ answer_word on ∷ [] }
 {
     [
         edge_word(plan, edge),
         wire_word(plan, wire),
-        Word::Text(answer_of(on).as_bytes()),
+        LineWord::Text(answer_of(on).as_bytes()),
     ]
 }
 

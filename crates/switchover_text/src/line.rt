@@ -10,36 +10,39 @@ use net_base::{EdgeId, Failed, Plan, Sink, WireId};
 use report_text::{edge_word, wire_word};
 use status_exchange::Wish;
 use switchover_model::SwitchLine;
-use text_lines::{Page, Word};
+use text_lines::{LineWord, Page};
 
 // A line of two edges.
-fn pair<'a>(plan: &'a Plan, first: &'a [u8], edge: EdgeId, peer: EdgeId) -> [Word<'a>; 3]
+fn pair<'a>(plan: &'a Plan, first: &'a [u8], edge: EdgeId, peer: EdgeId) -> [LineWord<'a>; 3]
     ensures { map word_octets result ≡ first.now ∷ edge_name plan.now edge ∷ edge_name plan.now peer ∷ [] }
 {
     [
-        Word::Text(first),
+        LineWord::Text(first),
         edge_word(plan, edge),
         edge_word(plan, peer),
     ]
 }
 
 // Octets that come.
-fn deliver(plan: &Plan, from: EdgeId, to: EdgeId, count: u16) -> [Word<'_>; 4]
+fn deliver(plan: &Plan, from: EdgeId, to: EdgeId, count: u16) -> [LineWord<'_>; 4]
     ensures { map word_octets result ≡ codes "deliver" ∷ edge_name plan.now from ∷ edge_name plan.now to ∷ decimal count ∷ [] }
 {
     [
-        Word::Text(b"deliver"),
+        LineWord::Text(b"deliver"),
         edge_word(plan, from),
         edge_word(plan, to),
-        Word::Number(u64::from(count)),
+        LineWord::Number(u64::from(count)),
     ]
 }
 
 // So many deliveries at most.
-fn settle<'a>(count: u16) -> [Word<'a>; 2]
+fn settle<'a>(count: u16) -> [LineWord<'a>; 2]
     ensures { map word_octets result ≡ codes "settle" ∷ decimal count ∷ [] }
 {
-    [Word::Text(b"settle"), Word::Number(u64::from(count))]
+    [
+        LineWord::Text(b"settle"),
+        LineWord::Number(u64::from(count)),
+    ]
 }
 
 // What a wire is called from now on.
@@ -54,11 +57,11 @@ fn wish_text(wish: Wish) -> &'static str
 }
 
 // An edge that calls a wire something.
-fn set(plan: &Plan, edge: EdgeId, wire: WireId, wish: Wish) -> [Word<'_>; 3]
+fn set(plan: &Plan, edge: EdgeId, wire: WireId, wish: Wish) -> [LineWord<'_>; 3]
     ensures { map word_octets result ≡ wish_word wish ∷ edge_name plan.now edge ∷ wire_name plan.now wire ∷ [] }
 {
     [
-        Word::Text(wish_text(wish).as_bytes()),
+        LineWord::Text(wish_text(wish).as_bytes()),
         edge_word(plan, edge),
         wire_word(plan, wire),
     ]

@@ -7,7 +7,7 @@ use crate::entry::put_all_told;
 use crate::line::put_done;
 use net_base::{Failed, List, Plan, Sink};
 use switchover_model::{SwitchEntry, SwitchLine};
-use text_lines::{Page, Word};
+use text_lines::{LineWord, Page};
 
 // What was told of the next line, and of those behind it.
 fn next_told<'a>(told: &'a [List<SwitchEntry>]) -> (&'a [SwitchEntry], &'a [List<SwitchEntry>])
@@ -62,7 +62,7 @@ fn put_count<K: Sink>(page: &mut Page, sink: &mut K, lines: &[SwitchLine]) -> Re
     page.put_line(
         sink,
         b"end",
-        &[Word::Labelled(b"lines=", lines.len() as u64)],
+        &[LineWord::Labelled(b"lines=", lines.len() as u64)],
     )
 }
 

@@ -14,17 +14,17 @@ use mac_table::{MacEntry, MacTable};
 use net_base::{Failed, Plan, ServiceId, Sink};
 use provider_edge::Edge;
 use report_text::{circuit_word, wire_word};
-use text_lines::{Page, Word};
+use text_lines::{LineWord, Page};
 use vsi_bridge::Bridge;
 
 // A port by the name of its circuit or wire.
-fn port_word(plan: &Plan, port: Option<Port>) -> Word<'_>
+fn port_word(plan: &Plan, port: Option<Port>) -> LineWord<'_>
     ensures { word_octets result ≡ port_name plan.now port }
 {
     match port {
         Some(Port::Circuit(place)) => circuit_word(plan, place),
         Some(Port::Mesh(place)) | Some(Port::Spoke(place)) => wire_word(plan, place),
-        None => Word::Text(&[]),
+        None => LineWord::Text(&[]),
     }
 }
 
@@ -37,14 +37,14 @@ struct Service<'a> {
 }
 
 // The words of an address behind the first one.
-fn words<'a>(service: &Service<'a>, entry: &'a MacEntry) -> [Word<'a>; 4]
+fn words<'a>(service: &Service<'a>, entry: &'a MacEntry) -> [LineWord<'a>; 4]
     ensures { map word_octets result ≡ address_words service.now.plan.now service.now.name.now service.now.ports.now entry.now }
 {
     [
-        Word::Text(service.name),
-        Word::Hex(&entry.address.0),
+        LineWord::Text(service.name),
+        LineWord::Hex(&entry.address.0),
         port_word(service.plan, service.ports.get(entry.port)),
-        Word::Number(entry.tick),
+        LineWord::Number(entry.tick),
     ]
 }
 

@@ -13,15 +13,15 @@ use crate::sorting::Sorting;
 use net_base::{Failed, Sink};
 use provider_edge::Edge;
 use report_text::edge_word;
-use text_lines::{Page, Word};
+use text_lines::{LineWord, Page};
 
 // The words of an edge behind the first one.
-fn words(edge: &Edge) -> [Word<'_>; 2]
+fn words(edge: &Edge) -> [LineWord<'_>; 2]
     ensures { map word_octets result ≡ edge_words edge.now.plan edge.now.me (seen edge.now) }
 {
     [
         edge_word(edge.plan(), edge.me()),
-        Word::Labelled(b"next=", u64::from(edge.next_label())),
+        LineWord::Labelled(b"next=", u64::from(edge.next_label())),
     ]
 }
 

@@ -15,26 +15,26 @@ use net_base::{Down, Failed, Sink};
 use provider_edge::Edge;
 use pw_signalling::{Binding, PwEnd};
 use report_text::{edge_word, wire_end_text, wire_word};
-use text_lines::{Page, Word};
+use text_lines::{LineWord, Page};
 
 // What an end tells its peer.
-fn local<'a>(end: &PwEnd) -> Word<'a>
+fn local<'a>(end: &PwEnd) -> LineWord<'a>
     ensures { word_octets result ≡ local_text (end_of end.now).local }
 {
     match end {
-        PwEnd::Idle(_) => Word::Text(b"-"),
-        PwEnd::Advertised(end) => Word::Number(u64::from(end.label().number())),
-        PwEnd::Withdrawing(end) => Word::Marked(u64::from(end.label().number()), b"!"),
+        PwEnd::Idle(_) => LineWord::Text(b"-"),
+        PwEnd::Advertised(end) => LineWord::Number(u64::from(end.label().number())),
+        PwEnd::Withdrawing(end) => LineWord::Marked(u64::from(end.label().number()), b"!"),
     }
 }
 
 // What an end holds of its peer.
-fn remote<'a>(binding: Option<&Binding>) -> Word<'a>
+fn remote<'a>(binding: Option<&Binding>) -> LineWord<'a>
     ensures { word_octets result ≡ remote_text (option_copied binding.entry) }
 {
     match binding {
-        Some(binding) => Word::Number(u64::from(binding.label.number())),
-        None => Word::Text(b"-"),
+        Some(binding) => LineWord::Number(u64::from(binding.label.number())),
+        None => LineWord::Text(b"-"),
     }
 }
 
@@ -48,17 +48,17 @@ fn down(edge: &Edge, slot: usize, place: EndPlace) -> Option<Down>
 }
 
 // Whether the end of a slot forwards, or is stitched.
-fn state<'a>(edge: &Edge, slot: usize, place: EndPlace) -> Word<'a>
+fn state<'a>(edge: &Edge, slot: usize, place: EndPlace) -> LineWord<'a>
     requires slot { slot < length edge.now.ends.places }
     requires place { place ≡ place_of edge.now.ends slot }
     ensures { word_octets result ≡ end_text edge.now.plan (seen edge.now) place }
 {
     if place.terminal {
-        Word::Text(wire_end_text(down(edge, slot, place)).as_bytes())
+        LineWord::Text(wire_end_text(down(edge, slot, place)).as_bytes())
     } else if edge.is_stitched(place.wire) {
-        Word::Text(b"stitched")
+        LineWord::Text(b"stitched")
     } else {
-        Word::Text(b"open")
+        LineWord::Text(b"open")
     }
 }
 
@@ -73,7 +73,7 @@ fn end_at(edge: &Edge, slot: usize, place: EndPlace) -> &PwEnd
 
 // The words of the end of a slot behind the first one: its wire and segment, the edge beside it, the labels of both, and whether it
 // forwards.
-fn words(edge: &Edge, slot: usize, place: EndPlace) -> [Word<'_>; 6]
+fn words(edge: &Edge, slot: usize, place: EndPlace) -> [LineWord<'_>; 6]
     requires slot { slot < length edge.now.ends.places }
     requires place { place ≡ place_of edge.now.ends slot }
     ensures { map word_octets result ≡ end_words edge.now.plan (seen edge.now) place }
@@ -82,7 +82,7 @@ fn words(edge: &Edge, slot: usize, place: EndPlace) -> [Word<'_>; 6]
     let end = end_at(edge, slot, place);
     [
         wire_word(plan, place.wire),
-        Word::Number(u64::from(place.segment)),
+        LineWord::Number(u64::from(place.segment)),
         edge_word(plan, place.peer),
         local(end),
         remote(end.remote()),

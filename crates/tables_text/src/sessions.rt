@@ -10,15 +10,15 @@ ghost use Rattle.text_lines.specs.Written.{PutsOn};
 use net_base::{EdgeId, Failed, Sink};
 use provider_edge::Edge;
 use report_text::{edge_word, state_text};
-use text_lines::{Page, Word};
+use text_lines::{LineWord, Page};
 
 // The words of the session of an edge with a peer behind the first one.
-fn words(edge: &Edge, peer: EdgeId) -> [Word<'_>; 2]
+fn words(edge: &Edge, peer: EdgeId) -> [LineWord<'_>; 2]
     ensures { map word_octets result ≡ session_words edge.now.plan (seen edge.now) peer }
 {
     [
         edge_word(edge.plan(), peer),
-        Word::Text(state_text(edge.session(peer)).as_bytes()),
+        LineWord::Text(state_text(edge.session(peer)).as_bytes()),
     ]
 }
 

@@ -2,11 +2,11 @@
 use Rattle.std.specs.Prelude.{◌++◌, codes, ℕ, List, [], ◌∷◌}
 use Rattle.std.specs.Fmt.{decimal}
 use Rattle.text_pieces.specs.Pieces.{hex}
-use Rattle.text_lines.specs.declared.word.Word.{Word}
-use Rattle.text_lines.specs.declared.word.Word.TheVariants.{Text, Number, Labelled, Marked, Hex}
+use Rattle.text_lines.specs.declared.line_word.LineWord.{LineWord}
+use Rattle.text_lines.specs.declared.line_word.LineWord.TheVariants.{Text, Number, Labelled, Marked, Hex}
 
 -- the octets of a word
-abbrev pub word_octets : Word → List ℕ
+abbrev pub word_octets : LineWord → List ℕ
 word_octets (Text text) = text.now
 word_octets (Number number) = decimal number
 word_octets (Labelled label number) = label.now ++ decimal number

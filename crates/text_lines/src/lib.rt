@@ -4,10 +4,10 @@
 //! `specs/Written.antt` says what becomes of octets that are put, and `specs/Lines.antt` how words make a line.
 #![tactic(auto)]
 
+mod line_word;
 mod page;
 mod whole;
-mod word;
 
+pub use line_word::LineWord;
 pub use page::Page;
 pub use whole::write_text;
-pub use word::Word;

@@ -5,8 +5,8 @@ ghost use Rattle.text_pieces.specs.Pieces.{hex, spaced};
 ghost use Rattle.text_lines.specs.Lines.{line_of, word_octets};
 ghost use Rattle.text_lines.specs.Written.{lines_written, IsCut, Moves, PutsOn, Writes};
 
+use crate::line_word::LineWord;
 use crate::whole::write_text;
-use crate::word::Word;
 use itoa::Buffer;
 use net_base::{Failed, NoMemory, Sink};
 use std::alloc::Global;
@@ -200,26 +200,26 @@ impl Page {
 
     // Puts a word.
     #[tactic(auto, using(crate::proofs::WrittenLemmas::puts_two, crate::proofs::WrittenLemmas::cut_first))]
-    fn put_word<K: Sink>(&mut self, sink: &mut K, word: Word<'_>) -> Result<(), Failed>
+    fn put_word<K: Sink>(&mut self, sink: &mut K, word: LineWord<'_>) -> Result<(), Failed>
         ensures { PutsOn K.taken K.faults self.old self.new sink.old sink.new result (word_octets word.entry) }
     {
         match word {
-            Word::Text(text) => self.put(sink, text),
-            Word::Number(number) => self.put_number(sink, number),
-            Word::Labelled(label, number) => match self.put(sink, label) {
+            LineWord::Text(text) => self.put(sink, text),
+            LineWord::Number(number) => self.put_number(sink, number),
+            LineWord::Labelled(label, number) => match self.put(sink, label) {
                 Ok(()) => self.put_number(sink, number),
                 Err(fault) => Err(fault),
             },
-            Word::Marked(number, mark) => match self.put_number(sink, number) {
+            LineWord::Marked(number, mark) => match self.put_number(sink, number) {
                 Ok(()) => self.put(sink, mark),
                 Err(fault) => Err(fault),
             },
-            Word::Hex(octets) => self.put_hex(sink, octets),
+            LineWord::Hex(octets) => self.put_hex(sink, octets),
         }
     }
 
     // Puts words with a blank before each.
-    fn put_words<K: Sink>(&mut self, sink: &mut K, words: &[Word<'_>]) -> Result<(), Failed>
+    fn put_words<K: Sink>(&mut self, sink: &mut K, words: &[LineWord<'_>]) -> Result<(), Failed>
         ensures { PutsOn K.taken K.faults self.old self.new sink.old sink.new result (spaced (map word_octets words.now)) }
     {
         for word in words {
@@ -235,7 +235,7 @@ impl Page {
         &mut self,
         sink: &mut K,
         first: &[u8],
-        words: &[Word<'_>],
+        words: &[LineWord<'_>],
     ) -> Result<(), Failed>
         ensures { PutsOn K.taken K.faults self.old self.new sink.old sink.new result (line_of (first.now ∷ map word_octets words.now)) }
     {

@@ -7,7 +7,7 @@ ghost use Rattle.text_lines.specs.Written.{PutsOn};
 
 use net_base::{Entry, Failed, Sink};
 use report_text::{Ending, put_last_line};
-use text_lines::{Page, Word};
+use text_lines::{LineWord, Page};
 
 /// Puts the seed and the counts of a trace.
 pub fn put_counts<K: Sink>(
@@ -18,7 +18,7 @@ pub fn put_counts<K: Sink>(
 ) -> Result<(), Failed>
     ensures { PutsOn K.taken K.faults page.old page.new sink.old sink.new result (line_of (codes "rehearse" ∷ decimal seed ∷ []) ++ counts_line trace.now) }
 {
-    match page.put_line(sink, b"rehearse", &[Word::Number(seed)]) {
+    match page.put_line(sink, b"rehearse", &[LineWord::Number(seed)]) {
         Ok(()) => put_last_line(page, sink, trace, Ending::End),
         Err(fault) => Err(fault),
     }

@@ -5,7 +5,7 @@ ghost use Rattle.pw_signalling.specs.AnyEnd.{end_of};
 use crate::words::is_same;
 use net_base::{Addr, DropCause, Label, Text};
 use pw_signalling::{Binding, PwEnd, PwIdle, Told};
-use pw_stitch::{Next, Side, Stitch, SwapDrop, accepts, is_same_but_status, relabel};
+use pw_stitch::{Side, Stitch, SwapDrop, Swapped, accepts, is_same_but_status, relabel};
 use pw_tlvs::{Point, Points, PwStatus, read_point, write_point};
 use std::process::Abort;
 
@@ -123,7 +123,7 @@ fn through(rt: &impl Abort) -> Stitch {
 }
 
 // A packet with this label and TTL goes on like this.
-fn swaps(rt: &impl Abort, stitch: &Stitch, packet: (u32, u8), next: Result<Next, SwapDrop>) {
+fn swaps(rt: &impl Abort, stitch: &Stitch, packet: (u32, u8), next: Result<Swapped, SwapDrop>) {
     let (number, ttl) = packet;
     let label = label(rt, number);
     assert!(rt; ttl >= 1 && stitch.takes(label));
@@ -131,9 +131,9 @@ fn swaps(rt: &impl Abort, stitch: &Stitch, packet: (u32, u8), next: Result<Next,
 }
 
 // It goes on by this side, under this label and with this TTL.
-fn next(rt: &impl Abort, side: Side, number: u32, ttl: u8) -> Result<Next, SwapDrop> {
+fn next(rt: &impl Abort, side: Side, number: u32, ttl: u8) -> Result<Swapped, SwapDrop> {
     let label = label(rt, number);
-    Ok(Next { side, label, ttl })
+    Ok(Swapped { side, label, ttl })
 }
 
 #[test]

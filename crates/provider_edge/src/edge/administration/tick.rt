@@ -12,7 +12,7 @@ ghost use Rattle.provider_edge.specs.Lists.{Keeps, seen};
 
 use crate::Edge;
 use net_base::{EdgeId, Link, NoMemory};
-use peer_dialogue::{AtWork, Event};
+use peer_dialogue::{AtWork, PeerEvent};
 
 impl Edge {
     // The edge's labels rest, it counts the tick, its sessions have it, its addresses age, and then it mends its ends.
@@ -75,7 +75,7 @@ impl Edge {
         if self.is_apart(peer) {
             return Ok(());
         }
-        self.happens(peer, Event::Ticked, work)
+        self.happens(peer, PeerEvent::Ticked, work)
     }
 
     // Whether no session with a peer stands, and it is known without a walk over the ends that nothing was told of those beside

@@ -17,7 +17,7 @@ use crate::Edge;
 use crate::pings::forget_pings;
 use edge_model::{Effect, EndPlace};
 use net_base::{EdgeId, Link, NoMemory, StateName};
-use peer_dialogue::{AtWork, Event, Peering};
+use peer_dialogue::{AtWork, PeerEvent, Peering};
 use session_core::Peers;
 
 impl Edge {
@@ -78,7 +78,7 @@ impl Edge {
             peer,
             state: StateName::Initialized,
         })?;
-        self.happens(peer, Event::Start, work)
+        self.happens(peer, PeerEvent::Start, work)
     }
 
     // The labels that wait for a peer begin to rest. None is free by that, so it unsettles no end.

@@ -18,7 +18,7 @@ ghost use Rattle.provider_edge.specs.Lists.{Keeps, seen};
 use crate::Edge;
 use ldp_grammar::{LdpId, Message, Pdu};
 use net_base::{EdgeId, Link, NoMemory};
-use peer_dialogue::{AtWork, Event, Held, Next, advice_of};
+use peer_dialogue::{AtWork, Held, Next, PeerEvent, advice_of};
 use pw_messages::binding_in;
 
 impl Edge {
@@ -122,7 +122,7 @@ impl Edge {
             match held.next(work.alloc, peering.max_pdu())? {
                 Next::More => return Ok(()),
                 Next::Fault(fault) => {
-                    return self.happens(peer, Event::Refused(fault), work);
+                    return self.happens(peer, PeerEvent::Refused(fault), work);
                 }
                 Next::KeepAlive { sender, id } => self.hear_keep_alive(peer, sender, id, work)?,
                 Next::Pdu(pdu) => self.hear_pdu(peer, &pdu, work)?,
@@ -143,7 +143,7 @@ impl Edge {
         ensures step { OnOk result ((told : Answers) → Agrees told (L.calls work.new.link.now)
             → at_work L.calls self.new work.new ≡ hears_pdu self.old.plan told peer (alive sender id) (at_work L.calls self.old work.old)) }
     {
-        self.happens(peer, Event::Heard(sender), work)?;
+        self.happens(peer, PeerEvent::Heard(sender), work)?;
         self.hear_message(peer, &Message::KeepAlive { id }, work)
     }
 
@@ -160,7 +160,7 @@ impl Edge {
         ensures step { OnOk result ((told : Answers) → Agrees told (L.calls work.new.link.now)
             → at_work L.calls self.new work.new ≡ hears_pdu self.old.plan told peer pdu.now (at_work L.calls self.old work.old)) }
     {
-        self.happens(peer, Event::Heard(pdu.id), work)?;
+        self.happens(peer, PeerEvent::Heard(pdu.id), work)?;
         let messages = pdu.messages.as_slice();
         for place in 0..messages.len() {
             self.hear_message(peer, &messages[place], work)?;
@@ -186,7 +186,7 @@ impl Edge {
             return Ok(());
         }
         let was_up = self.is_up(peer);
-        self.happens(peer, Event::Received(message), work)?;
+        self.happens(peer, PeerEvent::Received(message), work)?;
         if was_up && self.has_end(peer) {
             self.act(peer, message, work)?;
         }

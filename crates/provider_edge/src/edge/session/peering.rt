@@ -19,7 +19,7 @@ ghost use Rattle.provider_edge.specs.Tidy.{stands_as};
 
 use crate::Edge;
 use net_base::{EdgeId, Link, NoMemory};
-use peer_dialogue::{AtWork, Event, Peering, PwMessage};
+use peer_dialogue::{AtWork, PeerEvent, Peering, PwMessage};
 
 impl Edge {
     // What is kept of a neighbour, where the edge's end of the connection stands.
@@ -98,7 +98,7 @@ impl Edge {
     pub(crate) fn happens<L: Link>(
         &mut self,
         peer: EdgeId,
-        event: Event<'_>,
+        event: PeerEvent<'_>,
         work: &mut AtWork<'_, L>,
     ) -> Result<(), NoMemory>
         requires working { self.old.stopped ≡ true }

@@ -8,13 +8,13 @@ use net_values::Field;
 /// What a sub-TLV of a known type has to be: the field that its faults name, and the least and the most that
 /// its length may be.
 #[derive(Clone, Copy, Debug, PartialEq, Eq)]
-pub struct Row {
+pub struct SubTlvRow {
     pub field: Field,
     pub least: u8,
     pub most: u8,
 }
 
-impl Row {
+impl SubTlvRow {
     /// Whether the length is one that the row has.
     pub fn fits(self, length: u8) -> bool
         ensures { result ≡ row_fits self length }
@@ -24,7 +24,7 @@ impl Row {
 }
 
 /// The row of a known type.
-pub fn row_of(registry: Registry, kind: u8) -> Option<Row>
+pub fn row_of(registry: Registry, kind: u8) -> Option<SubTlvRow>
     ensures { result ≡ the_row registry kind }
 {
     let (field, least, most) = match (registry, kind) {
@@ -35,5 +35,5 @@ pub fn row_of(registry: Registry, kind: u8) -> Option<Row>
         (Registry::SwitchingPointPart, 0x01 | 0x03 | 0x04) => (Field::Point, 4, 4),
         _ => return None,
     };
-    Some(Row { field, least, most })
+    Some(SubTlvRow { field, least, most })
 }

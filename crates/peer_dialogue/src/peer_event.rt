@@ -5,7 +5,7 @@ use ldp_grammar::{LdpId, Message};
 
 /// One thing that happens to a session of an edge (RFC 5036 sections 2.5.3 to 2.5.6).
 #[derive(Clone, Copy)]
-pub enum Event<'a> {
+pub enum PeerEvent<'a> {
     /// The connection stands.
     Start,
     /// A PDU of the sender came.

@@ -4,7 +4,7 @@ use crate::Point;
 
 /// At most three points, held inline.
 #[derive(Clone, Copy, Debug, PartialEq, Eq)]
-pub enum Held {
+pub enum HeldPoints {
     None,
     One(Point),
     Two(Point, Point),

@@ -4,7 +4,7 @@ use crate::Reply;
 
 /// At most two replies, held inline.
 #[derive(Clone, Copy, PartialEq, Eq)]
-pub enum Held {
+pub enum HeldReplies {
     None,
     One(Reply),
     Two(Reply, Reply),

@@ -5,7 +5,7 @@ use net_base::Label;
 
 /// How a switching point passes a packet on (RFC 6073 section 4).
 #[derive(Clone, Copy, Debug, PartialEq, Eq)]
-pub struct Next {
+pub struct Swapped {
     /// The side by which it goes on.
     pub side: Side,
     /// The label under which it goes on.

@@ -2,7 +2,7 @@
 
 /// A word of a line, which is turned into octets as it is put.
 #[derive(Clone, Copy)]
-pub enum Word<'a> {
+pub enum LineWord<'a> {
     /// Octets as they are.
     Text(&'a [u8]),
     /// A number in decimal.

@@ -4,7 +4,7 @@ use net_base::Class;
 
 /// A wire but for its name: its ends by the numbers of their edges, from 1, and what is its own.
 #[derive(Clone, Copy)]
-pub struct Link {
+pub struct RehearsedWire {
     pub class: Class,
     pub from: u16,
     pub to: u16,
