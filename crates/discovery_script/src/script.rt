@@ -9,9 +9,8 @@ ghost use Rattle.script_text.specs.Reading.{GivesScript};
 
 use crate::lines::read_line;
 use crate::script_line::ScriptLine;
-use command_text::PlanNames;
+use command_text::{NameLists, PlanNames};
 use net_base::{List, NoMemory, Plan};
-use scenario_text::NameLists;
 use script_text::{Line, ScriptFault, read_lines};
 use std::alloc::Global;
 

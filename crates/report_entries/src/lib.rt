@@ -11,7 +11,6 @@ mod last_line;
 mod laws;
 mod line_sink;
 mod line_writer;
-mod name_lists;
 mod passed;
 mod report_fault;
 mod report_reader;
@@ -23,7 +22,6 @@ pub use laws::{
     lines_are_read, lines_name_places, reads_lines, reports_are_read, reports_are_told,
     traces_are_told,
 };
-pub use name_lists::NameLists;
 pub use report_fault::ReportFault;
 pub use report_reader::ReportReader;
 pub use tally::Tally;

@@ -16,7 +16,6 @@ mod groups;
 mod keys;
 mod limits;
 mod members;
-mod name_lists;
 mod named;
 mod names;
 mod offer_row;
@@ -35,7 +34,6 @@ mod word_fault;
 
 pub use command_text::{Command, ScenarioFault};
 pub use document::read_scenario;
-pub use name_lists::NameLists;
 pub use scenario::Scenario;
 pub use word_command::{read_command, read_command_with};
 pub use word_fault::WordFault;

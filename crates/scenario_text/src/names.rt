@@ -2,45 +2,17 @@
 ghost use Rattle.std.specs.Prelude.{◌≡◌, ◌++◌, IfOk, IsOkAnd};
 ghost use Rattle.net_base.specs.plan.Accepted.{plan_names};
 ghost use Rattle.scenario_text.specs.References.{group_names};
-ghost use Rattle.net_base.specs.plan.NameFaults.{edge_names, service_names, circuit_names, wire_names};
 
 use crate::group_row::GroupRow;
-use net_base::{CircuitPlan, EdgePlan, Name, Plan, ServicePlan, WirePlan};
+use command_text::{names_of_circuits, names_of_edges, names_of_services, names_of_wires};
+use net_base::{Name, Plan};
 use std::alloc::{AllocError, Global};
-
-/// The names of edges in order.
-pub fn names_of_edges(alloc: Global, edges: &[EdgePlan]) -> Result<Vec<Name>, AllocError>
-    ensures { IfOk result (λ names. names.items ≡ edge_names edges.now) }
-{
-    edges.iter().map(|edge| edge.name).collect(alloc)
-}
-
-/// The names of services in order.
-pub fn names_of_services(alloc: Global, services: &[ServicePlan]) -> Result<Vec<Name>, AllocError>
-    ensures { IfOk result (λ names. names.items ≡ service_names services.now) }
-{
-    services.iter().map(|service| service.name).collect(alloc)
-}
 
 /// The names of groups in order.
 pub fn names_of_groups(alloc: Global, groups: &[GroupRow]) -> Result<Vec<Name>, AllocError>
     ensures { IfOk result (λ names. names.items ≡ group_names groups.now) }
 {
     groups.iter().map(|group| group.name).collect(alloc)
-}
-
-/// The names of circuits in order.
-pub fn names_of_circuits(alloc: Global, circuits: &[CircuitPlan]) -> Result<Vec<Name>, AllocError>
-    ensures { IfOk result (λ names. names.items ≡ circuit_names circuits.now) }
-{
-    circuits.iter().map(|circuit| circuit.name).collect(alloc)
-}
-
-/// The names of wires in order.
-pub fn names_of_wires(alloc: Global, wires: &[WirePlan]) -> Result<Vec<Name>, AllocError>
-    ensures { IfOk result (λ names. names.items ≡ wire_names wires.now) }
-{
-    wires.iter().map(|wire| wire.name).collect(alloc)
 }
 
 // Adds names behind others, where there was memory for them.

@@ -12,11 +12,11 @@ use crate::circuits::circuits;
 use crate::group_row::GroupRow;
 use crate::group_rows::GroupRows;
 use crate::groups::check_groups;
-use crate::names::{names_of_edges, names_of_groups, names_of_plan, names_of_services};
+use crate::names::{names_of_groups, names_of_plan};
 use crate::service_rows::ServiceRows;
 use crate::wire_row::WireRow;
 use crate::wires::wires;
-use command_text::{NameIndex, ScenarioFault};
+use command_text::{NameIndex, ScenarioFault, names_of_edges, names_of_services};
 use net_base::{CircuitPlan, EdgePlan, List, NoMemory, Plan, ServicePlan, WirePlan};
 use std::alloc::Global;
 

@@ -6,9 +6,8 @@ ghost use Rattle.command_text.specs.Events.{command_in};
 ghost use Rattle.command_text.specs.Planned.{names_of, IsPlanned};
 ghost use Rattle.scenario_text.specs.WordReading.{ReadsWords};
 
-use crate::name_lists::NameLists;
 use crate::word_fault::WordFault;
-use command_text::{Command, PlanNames, ScenarioFault, read_one};
+use command_text::{Command, NameLists, PlanNames, ScenarioFault, read_one};
 use net_base::{NoMemory, Plan};
 use std::alloc::Global;
 

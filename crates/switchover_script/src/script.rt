@@ -7,9 +7,8 @@ ghost use Rattle.switchover_model.specs.Planned.{IsLineOf};
 ghost use Rattle.switchover_script.specs.Lines.{switch_lines_in, switch_lines_of};
 
 use crate::lines::read_line;
-use command_text::PlanNames;
+use command_text::{NameLists, PlanNames};
 use net_base::{List, NoMemory, Plan};
-use scenario_text::NameLists;
 use script_text::{Line, ScriptFault, read_lines};
 use std::alloc::Global;
 use switchover_model::SwitchLine;

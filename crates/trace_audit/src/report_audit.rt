@@ -8,9 +8,9 @@ ghost use Rattle.trace_audit.specs.Heard.{AreEarsOf, HearsReport, HearsLine};
 
 use crate::AuditStop;
 use crate::ears::Ears;
-use command_text::PlanNames;
+use command_text::{NameLists, PlanNames};
 use net_base::{NoMemory, Plan};
-use report_entries::{NameLists, ReportReader};
+use report_entries::ReportReader;
 use std::alloc::Global;
 
 // Reads a line more, and hears its entry; false where it was the last one.

@@ -3,8 +3,9 @@ ghost use Rattle.std.specs.Prelude.{◌≡◌, ◌≤◌, length, IfOk};
 ghost use Rattle.net_base.specs.plan.Accepted.{IsWithinLimits};
 ghost use Rattle.command_text.specs.Planned.{names_of};
 
-use crate::names::{names_of_circuits, names_of_edges, names_of_wires};
-use command_text::{NameIndex, PlanNames};
+use crate::name_index::NameIndex;
+use crate::plan_names::PlanNames;
+use crate::row_names::{names_of_circuits, names_of_edges, names_of_wires};
 use net_base::{Name, NoMemory, Plan};
 use std::alloc::Global;
 use std::marker::Model;
