@@ -1,3 +1,4 @@
+pub mod CutLemmas
 pub mod DigitLemmas
 pub mod HexLemmas
 pub mod PairLemmas
