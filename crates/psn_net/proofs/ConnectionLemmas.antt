@@ -19,7 +19,7 @@ use Rattle.network_model.specs.Absorb.{absorb, absorb_all, all_entries_of, begin
 use Rattle.network_model.specs.Connection.{connected_work, connecting, delivering, hearing_work, restart_event}
 use Rattle.network_model.specs.State.{NetworkState, edge_at, with_edge, with_pipe, without_octets_to}
 use Rattle.psn_net.specs.Lists.{HasDriven, HasStepped, NetLists, network_seen}
-use Rattle.psn_net.specs.Pipes.{pipes_of}
+use Rattle.octet_pipes.specs.Pipes.{pipes_of}
 
 -- ---- no segment joins an edge with itself
 

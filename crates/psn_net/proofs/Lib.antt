@@ -5,7 +5,6 @@ pub mod BroughtLemmas
 pub mod CalmLemmas
 pub mod CarryingLemmas
 pub mod ConnectionLemmas
-pub mod EmptyLemmas
 pub mod IndexLemmas
 pub mod KeptLemmas
 pub mod JoinedLemmas
@@ -13,7 +12,6 @@ pub mod LinkLemmas
 pub mod NetworkLemmas
 pub mod PacketLemmas
 pub mod PairLemmas
-pub mod PipeLemmas
 pub mod RunLemmas
 pub mod TellingLemmas
 pub mod TickLemmas

@@ -20,7 +20,7 @@ use Rattle.provider_edge.specs.Said.{AllFit}
 use Rattle.network_model.specs.Frame.{frame_event, next_origin}
 use Rattle.network_model.specs.State.{NetworkState, edge_at, empty_network, with_edge, with_frame}
 use Rattle.provider_edge.proofs.KeptLemmas.{no_edge_seen}
-use Rattle.psn_net.proofs.PipeLemmas.{view_set}
+use Rattle.octet_pipes.proofs.PipeLemmas.{view_set}
 use Rattle.net_base.specs.declared.outside.link_call.LinkCall.{LinkCall}
 use Rattle.net_base.specs.declared.plan.Plan.{Plan}
 use Rattle.edge_model.specs.declared.effects.Effects.{Effects}
@@ -30,8 +30,8 @@ use Rattle.edge_model.specs.Work.{Work, beginning}
 use Rattle.network_model.specs.Absorb.{Stepped, absorb, absorb_all, all_entries_of, begin_at, taken_all}
 use Rattle.psn_net.specs.Lists.{AreOpen, HasDriven, HasEntered, HasStepped, IsNetwork, NetLists, edge_lists, edge_of, edge_outside as no_edge, network_seen as seen}
 use Rattle.psn_net.specs.Packets.{ArePacketsOf, UnderWay}
-use Rattle.psn_net.specs.Pipes.{PipeLists, no_octets}
-use Rattle.psn_net.specs.Pipes.{pipes_of}
+use Rattle.octet_pipes.specs.Pipes.{PipeLists, no_octets}
+use Rattle.octet_pipes.specs.Pipes.{pipes_of}
 
 pub seen_edge_set : (n : NetLists) (me : EdgeId) (now : EdgeLists) (state : EdgeState) → me.0 < length n.edges → edge.seen now ≡ state
     → seen (record n { edges = slice_set n.edges me.0 now }) ≡ with_edge me state (seen n)

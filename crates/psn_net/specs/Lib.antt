@@ -5,7 +5,6 @@ pub mod DeliveryIndex
 pub mod Lists
 pub mod Packets
 pub mod PairIndex
-pub mod Pipes
 pub mod Runs
 pub mod SharedPlan
 pub mod Weight

@@ -16,8 +16,8 @@ use Rattle.edge_model.specs.State.{empty_edge}
 use Rattle.provider_edge.specs.Lists.{EdgeLists}
 use Rattle.provider_edge.specs.Lists as edge
 use Rattle.psn_net.specs.Packets.{ArePacketsOf, UnderWay}
-use Rattle.psn_net.specs.Pipes.{PipeLists}
-use Rattle.psn_net.specs.Pipes as pipes
+use Rattle.octet_pipes.specs.Pipes.{PipeLists}
+use Rattle.octet_pipes.specs.Pipes as pipes
 
 pub record NetLists : Type 0 where
   pub plan : Plan

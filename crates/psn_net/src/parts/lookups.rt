@@ -54,7 +54,7 @@ impl Parts {
         requires to { to.0 < length self.now.plan.edges }
         ensures { result ≡ is_drained_pipe (network_seen self.now) from.0 to.0 }
     {
-        self.pipes.len(from, to) == 0
+        self.pipes.len(from.0 as usize, to.0 as usize) == 0
     }
 
     /// The receiver's end stands, and octets are on their way to it, or the end that put them is gone.

@@ -1,7 +1,6 @@
 //! The pipes between edges.
 ghost use Rattle.std.specs.Prelude.{◌≡◌, ◌++◌, ◌<◌, [], drop, length, take, IfOk, OnErr, OnOk};
-ghost use Rattle.edge_model.specs.State.{put_at};
-ghost use Rattle.psn_net.specs.Pipes.{no_octets, pipes_of, without_to};
+ghost use Rattle.octet_pipes.specs.Pipes.{no_octets, pipes_of, with_octets, without_to};
 
 use crate::pipe_row::PipeRow;
 use net_base::{EdgeId, NoMemory};
@@ -16,7 +15,7 @@ pub struct Pipes {
 }
 
 impl Model for Pipes {
-    ghost use Rattle.psn_net.specs.Pipes.{PipeLists, IsSquare};
+    ghost use Rattle.octet_pipes.specs.Pipes.{PipeLists, IsSquare};
 
     ghost Value = { PipeLists };
 
@@ -45,20 +44,27 @@ impl Pipes {
         requires from { from.0 < self.old.size }
         requires to { to.0 < self.old.size }
         ensures size { self.new.size ≡ self.old.size }
-        ensures ok { OnOk result (pipes_of self.new ≡ put_at (pipes_of self.old) from.0 (put_at (pipes_of self.old from.0) to.0 (pipes_of self.old from.0 to.0 ++ piece.now))) }
+        ensures ok { OnOk result (pipes_of self.new ≡ with_octets from.0 to.0 (pipes_of self.old from.0 to.0 ++ piece.now) (pipes_of self.old)) }
         ensures err { OnErr result (pipes_of self.new ≡ pipes_of self.old) }
     {
         self.rows[from.0 as usize].pipes[to.0 as usize].put(piece)
     }
 
-    /// How many octets are on their way from an edge to another one.
-    #[tactic(auto, unfolding(crate::specs::Pipes::pipes_of))]
-    pub fn len(&self, from: EdgeId, to: EdgeId) -> usize
-        requires from { from.0 < self.now.size }
-        requires to { to.0 < self.now.size }
-        ensures { result ≡ length (pipes_of self.now from.0 to.0) }
+    /// Between how many edges the pipes are.
+    pub fn size(&self) -> usize
+        ensures { result ≡ self.now.size }
     {
-        self.rows[from.0 as usize].pipes[to.0 as usize].len()
+        self.size
+    }
+
+    /// How many octets are on their way from the edge at a place to that at another one.
+    #[tactic(auto, unfolding(crate::specs::Pipes::pipes_of))]
+    pub fn len(&self, from: usize, to: usize) -> usize
+        requires from { from < self.now.size }
+        requires to { to < self.now.size }
+        ensures { result ≡ length (pipes_of self.now from to) }
+    {
+        self.rows[from].pipes[to].len()
     }
 
     /// The first `count` octets on their way from an edge to another one, or all where there are fewer.
@@ -77,7 +83,7 @@ impl Pipes {
         requires from { from.0 < self.old.size }
         requires to { to.0 < self.old.size }
         ensures size { self.new.size ≡ self.old.size }
-        ensures rest { pipes_of self.new ≡ put_at (pipes_of self.old) from.0 (put_at (pipes_of self.old from.0) to.0 (drop count (pipes_of self.old from.0 to.0))) }
+        ensures rest { pipes_of self.new ≡ with_octets from.0 to.0 (drop count (pipes_of self.old from.0 to.0)) (pipes_of self.old) }
     {
         self.rows[from.0 as usize].pipes[to.0 as usize].skip(count);
     }
@@ -87,7 +93,7 @@ impl Pipes {
         requires from { from.0 < self.old.size }
         requires to { to.0 < self.old.size }
         ensures size { self.new.size ≡ self.old.size }
-        ensures empty { pipes_of self.new ≡ put_at (pipes_of self.old) from.0 (put_at (pipes_of self.old from.0) to.0 []) }
+        ensures empty { pipes_of self.new ≡ with_octets from.0 to.0 [] (pipes_of self.old) }
     {
         self.clear_at(from.0 as usize, to.0 as usize);
     }
@@ -98,7 +104,7 @@ impl Pipes {
         requires from { from < self.old.size }
         requires to { to < self.old.size }
         ensures size { self.new.size ≡ self.old.size }
-        ensures empty { pipes_of self.new ≡ put_at (pipes_of self.old) from (put_at (pipes_of self.old from) to []) }
+        ensures empty { pipes_of self.new ≡ with_octets from to [] (pipes_of self.old) }
     {
         self.rows[from].pipes[to].clear();
     }

@@ -1,6 +1,6 @@
 use Rattle.std.proofs.Common.{◌∙◌, ◌++◌, ◌∷◌, [], List, ℕ, ap}
 use Rattle.std.proofs.lemmas.List.{replicate_more}
-use Rattle.psn_net.proofs.pipe_row.PipeRow.open.Goals as goal
+use Rattle.octet_pipes.proofs.pipe_row.PipeRow.open.Goals as goal
 
 pub loop-place-preserved : goal.loop-place-preserved
 loop-place-preserved c =

@@ -2,7 +2,7 @@
 use Rattle.std.proofs.Common.{◌≡◌, [], ℕ, suc, zero, refl, ap, length, slice_index_or, replicate, ◌∙◌}
 use Rattle.std.proofs.lemmas.List.{replicate_more}
 use Rattle.net_values.proofs.RowLemmas.{replicate_length, replicate_default, replicate_at}
-use Rattle.psn_net.specs.Pipes.{IsSquare, pipes_of, no_octets}
+use Rattle.octet_pipes.specs.Pipes.{IsSquare, pipes_of, no_octets}
 
 none_at : (n m : ℕ) (i j : ℕ) → slice_index_or (slice_index_or (replicate n (replicate m [])) i []) j [] ≡ no_octets i j
 none_at zero m i j = refl

@@ -1,6 +1,6 @@
 use Rattle.std.proofs.Common.{◌≡◌}
-use Rattle.psn_net.specs.Pipes.{emptied_to, pipes_of}
-use Rattle.psn_net.proofs.pipes.Pipes.clear_to.Given as goal
+use Rattle.octet_pipes.specs.Pipes.{emptied_to, pipes_of}
+use Rattle.octet_pipes.proofs.pipes.Pipes.clear_to.Given as goal
 
 abbrev pub invariant-loop-from : goal.invariant-loop-from
 invariant-loop-from l = record {

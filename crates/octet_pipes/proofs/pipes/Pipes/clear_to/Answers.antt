@@ -1,7 +1,7 @@
 use Rattle.std.proofs.Common.{ap, arith, length}
-use Rattle.psn_net.specs.Pipes.{PipeLists, pipes_of}
-use Rattle.psn_net.proofs.PipeLemmas.{emptied_end}
-use Rattle.psn_net.proofs.pipes.Pipes.clear_to.Goals as goal
+use Rattle.octet_pipes.specs.Pipes.{PipeLists, pipes_of}
+use Rattle.octet_pipes.proofs.PipeLemmas.{emptied_end}
+use Rattle.octet_pipes.proofs.pipes.Pipes.clear_to.Goals as goal
 
 pub returns-clause-empty : goal.returns-clause-empty
 returns-clause-empty c =

@@ -17,6 +17,10 @@ pipes_of pipes from to = slice_index_or (slice_index_or pipes.rows from []) to [
 abbrev pub no_octets : ℕ → ℕ → List ℕ
 no_octets from to = []
 
+-- other octets on their way from an edge to another one
+abbrev pub with_octets : ℕ → ℕ → List ℕ → (ℕ → ℕ → List ℕ) → ℕ → ℕ → List ℕ
+with_octets from to octets pipes i = if i == from then (λ j. if j == to then octets else pipes from j) else pipes i
+
 -- nothing is on its way to an edge
 abbrev pub without_to : ℕ → (ℕ → ℕ → List ℕ) → ℕ → ℕ → List ℕ
 without_to me pipes from to = if to == me then [] else pipes from to
