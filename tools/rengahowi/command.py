@@ -79,6 +79,26 @@ def say(text: object) -> None:
         print(f"{name()}: {text}", file=sys.stderr)
 
 
+def line_of(fault: Exception) -> str:
+    """The line by which a caller is told of an exception."""
+    if isinstance(fault, Fault):
+        return str(fault)
+    if isinstance(fault, OSError):
+        file = "standard output" if fault.filename is None else fault.filename or "a file without a name"
+        return f"{file}: {fault.strerror or fault}"
+    if isinstance(fault, UnicodeEncodeError):
+        return f"standard output cannot take {fault.object[fault.start]!r} in {fault.encoding}: set PYTHONUTF8=1"
+    if isinstance(fault, RecursionError):
+        return "a file is nested too deep"
+    if isinstance(fault, MemoryError):
+        return "out of memory"
+    place = fault.__traceback__
+    while place is not None and place.tb_next is not None:
+        place = place.tb_next
+    where = f"line {place.tb_lineno} of {os.path.basename(place.tb_frame.f_code.co_filename)}" if place else "no line"
+    return f"this is a fault of the tool: {type(fault).__name__} at {where}: {fault}"
+
+
 def end(work: Callable[[], int]) -> None:
     """Does the work of a tool and ends with the status that it answers; a fault, a file that cannot be read or written, an
     interrupt, a standard output that is full or closed, and texts that are nested too deep end it without a traceback."""
@@ -88,29 +108,14 @@ def end(work: Callable[[], int]) -> None:
             raise Fault("standard output is closed")
         status = work()
         sys.stdout.flush()
-    except Fault as fault:
-        say(fault)
     except BrokenPipeError:
         pass
-    except OSError as fault:
-        file = "standard output" if fault.filename is None else fault.filename or "a file without a name"
-        say(f"{file}: {fault.strerror or fault}")
-    except UnicodeEncodeError as fault:
-        say(f"standard output cannot take {fault.object[fault.start]!r} in {fault.encoding}: set PYTHONUTF8=1")
-    except RecursionError:
-        say("a file is nested too deep")
-    except MemoryError:
-        say("out of memory")
     except KeyboardInterrupt:
         status = 130
     except SystemExit as ended:
         status = ended.code
     except Exception as fault:  # pylint: disable=broad-exception-caught
-        place = fault.__traceback__
-        while place is not None and place.tb_next is not None:
-            place = place.tb_next
-        where = f"line {place.tb_lineno} of {os.path.basename(place.tb_frame.f_code.co_filename)}" if place else "no line"
-        say(f"this is a fault of the tool: {type(fault).__name__} at {where}: {fault}")
+        say(line_of(fault))
     leave(status)
 
 

@@ -2,20 +2,24 @@
 
 from __future__ import annotations
 
+import fcntl
 import json
+import multiprocessing
+import os
 import pathlib
 import re
 import shlex
 import signal
 import subprocess
 import tempfile
-import time
 import xml.etree.ElementTree
 from collections import Counter
 
 from .cases import Base
+from .command import Fault
 from .failures import KINDS, cases_of
 from .frames import follow
+from .many import all_done
 from .plan import read_plan
 from .report import read_report
 from .summing import event_from, sum_up
@@ -48,7 +52,7 @@ def what_ifs(folder: pathlib.Path, gone: set[str]) -> Iterator[Any]:
     yield from collected(folder)
     yield from paged(folder)
     yield from refused(folder)
-    yield from interrupted()
+    yield from interrupted(folder)
 
 
 def tried(name: str, begin: str, *words: Any) -> Any:
@@ -194,18 +198,108 @@ def refused(folder: pathlib.Path) -> Iterator[Any]:
         yield compare(f"what-if {words[1:]}", (status, said, right in fault, fault.count("\n")), (1, "", True, 1))
 
 
-def interrupted() -> Iterator[Any]:
-    """An interrupt leaves what is done."""
-    words = [TOP / "tools" / "what-if", EXAMPLES / "hierarchy.toml", "--pairs", "--lines", "--jobs", "2"]
-    streams = {"stdin": subprocess.DEVNULL, "stdout": subprocess.PIPE, "stderr": subprocess.PIPE}
-    begun = subprocess.Popen(words, text=True, preexec_fn=lambda: signal.signal(signal.SIGINT, signal.SIG_DFL), **streams)
-    for _ in range(600):
-        if len(pathlib.Path(f"/proc/{begun.pid}/task/{begun.pid}/children").read_text(encoding="ascii").split()) >= 2:
-            break
-        time.sleep(0.1)
-    time.sleep(1)
-    begun.send_signal(signal.SIGINT)
-    said, fault = begun.communicate(timeout=120)
-    told = re.search(r"interrupted: (\d+) of 703 cases", fault)
-    seen = (begun.returncode, told is not None and int(told[1]) == said.count("\n"), "Traceback" in fault)
-    yield compare("what-if, interrupted", seen, (130, True, False))
+def interrupted(folder: pathlib.Path) -> Iterator[Any]:
+    """An interrupt leaves what is done: in the set-up, between cases, and while what was found is written."""
+    yield from broken_off()
+    path, pipe, rows = EXAMPLES / "hierarchy.toml", folder / "scenario", folder / "rows"
+    os.mkfifo(pipe)
+    with Begun(subprocess.DEVNULL, pipe) as begun:
+        with open(pipe, "w", encoding="utf-8"):  # which waits until the tool reads there
+            begun.interrupt()
+        yield compare("what-if, interrupted in its set-up", begun.ended(), (130, ["what-if: interrupted: no case was tried"]))
+    with open(rows, "wb") as out, Begun(out, path, "--pairs", "--lines", "--jobs", "2", "--orders", "9") as begun:
+        begun.wait_for("of 703 cases")
+        begun.interrupt()
+        ended, count = begun.ended(), rows.read_text(encoding="utf-8").count("\n")
+        right = [f"what-if: interrupted: {count} of 703 cases were tried"]
+        yield compare("what-if, interrupted", (ended, count > 0), ((130, right), True))
+    reader, writer = os.pipe()
+    fcntl.fcntl(writer, fcntl.F_SETPIPE_SZ, 4096)  # which is less than what it has to write
+    with Begun(writer, path, "--kinds", "session", "--json") as begun:
+        os.close(writer)
+        os.read(reader, 1)
+        begun.interrupt()
+        begun.wait_for("\n")
+        os.close(reader)
+        right = ["what-if: interrupted: what was found is not written whole"]
+        yield compare("what-if, interrupted while it writes", begun.ended(), (130, right))
+
+
+class Begun:
+    """A call of the tool, whose standard error is a terminal, so that it tells each half second how far it is. Interrupts end it, also
+    where they end nothing of what called this."""
+
+    def __init__(self, out: Any, *words: Any) -> None:
+        self.told = b""
+        self.terminal, end = os.openpty()
+        call = [TOP / "tools" / "what-if", *words]
+        self.process = subprocess.Popen(call, stdin=subprocess.DEVNULL, stdout=out, stderr=end, preexec_fn=self.interruptible)
+        os.close(end)
+
+    @staticmethod
+    def interruptible() -> None:
+        """Interrupts are not ignored from here on."""
+        signal.signal(signal.SIGINT, signal.SIG_DFL)
+
+    def __enter__(self) -> Begun:
+        return self
+
+    def __exit__(self, *_: object) -> None:
+        self.process.kill()
+        self.process.wait()
+        os.close(self.terminal)
+
+    def interrupt(self) -> None:
+        """Interrupts it."""
+        self.process.send_signal(signal.SIGINT)
+
+    def more(self) -> bool:
+        """Waits for more of what it tells; false where it has ended."""
+        try:
+            octets = os.read(self.terminal, 65536)
+        except OSError:  # by which a terminal tells that nobody writes there any more
+            return False
+        self.told += octets
+        return octets != b""
+
+    def wait_for(self, words: str) -> None:
+        """Waits until it has told these words, or has ended."""
+        while words.encode() not in self.told and self.more():
+            pass
+
+    def ended(self) -> tuple[int, list[str]]:
+        """Its status and the lines that it told but for those of progress, once it has ended."""
+        while self.more():
+            pass
+        return self.process.wait(), re.sub(rb"\r[^\n]*\x1b\[K", b"", self.told).decode().splitlines()
+
+
+def broken_off() -> Iterator[Any]:
+    """Pieces of work of which one is interrupted, ends its process, or fails."""
+
+    def done(piece: int, _: pathlib.Path) -> int:
+        if piece == 4:
+            os.kill(os.getppid(), signal.SIGINT)
+            signal.pause()
+        if piece == 14:
+            os._exit(9)
+        if piece == 24:
+            raise Fault("no such piece")
+        return piece
+
+    before = signal.signal(signal.SIGINT, signal.default_int_handler)
+    try:
+        yield compare("pieces, interrupted", all_done(range(9), done, 1, "pieces"), ([0, 1, 2, 3], False))
+        found, is_whole = all_done(range(9), done, 3, "pieces")
+        seen = (is_whole, found == sorted(set(found) - {4}), len(found) > 1, multiprocessing.active_children())
+        yield compare("pieces, interrupted beside each other", seen, (False, True, True, []))
+    finally:
+        signal.signal(signal.SIGINT, before)
+    for pieces, right in ((range(10, 19), "a process that worked at the pieces ended with status 9"), (range(20, 29), "no such piece")):
+        try:
+            said: object = all_done(pieces, done, 2, "pieces")
+        except Fault as fault:
+            said = str(fault)
+        yield compare("pieces, a fault", (said, multiprocessing.active_children()), (right, []))
+    yield compare("pieces, whole", all_done(range(40, 49), done, 3, "pieces"), (list(range(40, 49)), True))
+    yield compare("no pieces", all_done([], done, 3, "pieces"), ([], True))
