@@ -1,5 +1,5 @@
 -- The first octet that is a mark cuts a text.
-use Rattle.std.proofs.Common.{◌≡◌, ◌<◌, ◌+◌, ◌==◌, ℕ, zero, suc, Bool, true, false, List, [], ◌∷◌, Some, None, length, nat_lt, take, drop, refl, ap, add-one, arith, if◌then◌else◌}
+use Rattle.std.proofs.Common.{◌≡◌, ◌<◌, ◌≤◌, ◌+◌, ◌==◌, ℕ, zero, suc, Bool, true, false, List, [], ◌∷◌, Some, None, length, nat_lt, take, drop, refl, ap, add-one, arith, if◌then◌else◌}
 use Rattle.std.proofs.lemmas.Bool.{lt-ltb}
 use Rattle.net_values.proofs.NumberLemmas.{not_below_itself}
 use Rattle.memchr.specs.Find.{Nowhere, Passes, is_byte}
@@ -46,3 +46,11 @@ back_at mark text at within none is = rw (lt-ltb at (length text) within, add-on
 pub back_none : (mark : ℕ) (text : List ℕ) → Nowhere (Passes (is_byte mark) text) 0 (length text)
     → behind_mark mark text ≡ (if nat_lt (length text) (length text) then Some (drop (length text + 1) text) else None)
 back_none mark text none = rw (not_below_itself (length text)) (none_behind mark text none)
+
+-- a mark among the first sixteen octets cuts a text of as many
+pub near_front : (mark : ℕ) (text : List ℕ) (at : ℕ) → 16 ≤ length text → at < 16 → Nowhere (Passes (is_byte mark) text) 0 at → (at < 16 → Passes (is_byte mark) text at) → before_mark mark text ≡ take at text
+near_front mark text at long near none is = front_at mark text at (omega (arith, long, near)) none (is near)
+
+pub near_back : (mark : ℕ) (text : List ℕ) (at : ℕ) → 16 ≤ length text → at < 16 → Nowhere (Passes (is_byte mark) text) 0 at → (at < 16 → Passes (is_byte mark) text at)
+    → behind_mark mark text ≡ (if nat_lt at (length text) then Some (drop (at + 1) text) else None)
+near_back mark text at long near none is = back_at mark text at (omega (arith, long, near)) none (is near)

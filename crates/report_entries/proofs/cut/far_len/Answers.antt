@@ -1,7 +1,7 @@
 -- What the search finds is where the text is cut.
 use Rattle.std.proofs.Common.{◌∙◌, sym, length, take_all, le_refl}
 use Rattle.report_entries.proofs.MarkLemmas.{back_at, back_none, front_at, none_before}
-use Rattle.report_entries.proofs.cut.front_len.Goals as goal
+use Rattle.report_entries.proofs.cut.far_len.Goals as goal
 
 pub returns-in-Some-clause-front : goal.returns-in-Some-clause-front
 returns-in-Some-clause-front c = front_at c.args.mark c.args.text.now c.in-Some.at c.in-Some.ensures.0.high c.in-Some.ensures.0.before c.in-Some.ensures.1
