@@ -1,5 +1,5 @@
 //! The frames that entered, found by what they are.
-ghost use Rattle.std.specs.Prelude.{◌≡◌, [], OnOk};
+ghost use Rattle.std.specs.Prelude.{◌≡◌, [], true, OnOk};
 ghost use Rattle.trace_audit.specs.Arrivals.{entered_of, has_come, with_came};
 
 use crate::came::Came;
@@ -33,11 +33,25 @@ impl Arrivals {
         }
     }
 
-    /// Whether this frame entered under its number, in its service.
+    /// Whether this frame entered under its number, in its service. Where frames are numbered as they enter it stands at the place that
+    /// its number tells, and its octets need no hash.
     pub fn has(&self, came: &Came) -> bool
         ensures { result ≡ has_come self.now (entered_of came.now) }
     {
-        self.set.contains(came)
+        self.is_at_its_place(came) || self.set.contains(came)
+    }
+
+    // Whether this frame entered, so many frames before it as its number tells.
+    fn is_at_its_place(&self, came: &Came) -> bool
+        ensures { result ≡ true → has_come self.now (entered_of came.now) ≡ true }
+    {
+        if came.number == 0 {
+            return false;
+        }
+        match self.set.get_index(came.number as usize - 1) {
+            Some(kept) => came == kept,
+            None => false,
+        }
     }
 
     /// A frame entered.
