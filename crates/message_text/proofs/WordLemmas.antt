@@ -35,6 +35,25 @@ pub pair_told : (old one two new name first second : List ℕ) → one ≡ old +
     → new ≡ old ++ spaced ((name ++ parted (codes "/") (first ∷ second ∷ [])) ∷ [])
 pair_told old one two new name first second begun marked told = simp (told, marked, begun, append_assoc, append-nil)
 
+-- a name is told behind a blank, and its value behind it
+pub value_told : (old middle new name value : List ℕ) → middle ≡ old ++ (codes " " ++ name) → new ≡ middle ++ value → new ≡ old ++ spaced ((name ++ value) ∷ [])
+value_told old middle new name value begun told = simp (told, begun, append_assoc, append-nil)
+
+-- a name with what stands around it, a number and the words behind it are the words one after another
+opening_told : (name id parts : List ℕ) → ((codes " " ++ name) ++ codes " id=") ++ (id ++ parts) ≡ (codes " " ++ name) ++ ((codes " " ++ (codes "id=" ++ id)) ++ parts)
+opening_told name id parts = append_assoc (codes " " ++ name) (codes " id=") (id ++ parts)
+
+five_told : (old one two three four new a b c d e : List ℕ) → one ≡ old ++ a → two ≡ one ++ b → three ≡ two ++ c → four ≡ three ++ d → new ≡ four ++ e
+    → new ≡ old ++ ((a ++ (b ++ (c ++ d))) ++ e)
+five_told old one two three four new a b c d e first second third fourth fifth = simp (fifth, fourth, third, second, first, append_assoc)
+
+-- a line is told from its place to its end
+pub line_told : (old one two three four new place name id parts : List ℕ) → one ≡ old ++ place → two ≡ one ++ ((codes " " ++ name) ++ codes " id=") → three ≡ two ++ id
+    → four ≡ three ++ parts → new ≡ four ++ codes "\n" → new ≡ old ++ ((place ++ ((codes " " ++ name) ++ ((codes " " ++ (codes "id=" ++ id)) ++ parts))) ++ codes "\n")
+line_told old one two three four new place name id parts placed named numbered told ends =
+    five_told old one two three four new place ((codes " " ++ name) ++ codes " id=") id parts (codes "\n") placed named numbered told ends
+    ∙ ap (λ (words : List ℕ). old ++ ((place ++ words) ++ codes "\n")) (opening_told name id parts)
+
 -- one more item of a list is told, and those behind it are left
 pub next_told : {X : Type 0} (told : List X → List ℕ) (item : X → List ℕ) → ((x : X) (xs : List X) → told (x ∷ xs) ≡ item x ++ told xs)
     → (xs : List X) (index : ℕ) (other : X) (old new whole : List ℕ) → index < length xs → new ≡ old ++ item (get_or xs index other)

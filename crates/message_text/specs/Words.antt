@@ -195,6 +195,10 @@ message_name (LabelAbort id fec request) = codes "LabelAbort"
 message_name (Other id u kind) = codes "Other"
 message_name (Unprocessed id kind why) = codes "Unprocessed"
 
+-- the name of a message between a blank and the word that its Message ID follows
+abbrev pub opening : Message → List ℕ
+opening message = (codes " " ++ message_name message) ++ codes " id="
+
 -- The parts of a message that are there: status, Hello, session parameters, addresses, FEC with its interface
 -- parameters, label, PW status, MAC addresses, switching points, the Message ID of a request, and the type of a message
 -- that is not known or not processed.

@@ -2,9 +2,8 @@
 ghost use Rattle.std.specs.Prelude.{OnOk};
 ghost use Rattle.message_text.specs.Lent.{AddsLine, AddsLines};
 
-use crate::line::put_message;
+use crate::line::{put_keep_alive, put_message};
 use ldp_codec::{MessageView, PduView};
-use ldp_grammar::Message;
 use net_values::NoMemory;
 use std::alloc::Global;
 
@@ -19,8 +18,7 @@ fn put_view(
     ensures { OnOk result (AddsLine base view.now text.old.items text.new.items) }
 {
     if view.is_keep_alive() {
-        let id = view.number();
-        return put_message(text, base, &Message::KeepAlive { id });
+        return put_keep_alive(text, base, view.number());
     }
     let message = view.read(alloc)?;
     put_message(text, base, &message)

@@ -1,23 +1,35 @@
 //! The lines of messages.
 ghost use Rattle.std.specs.Prelude.{◌≡◌, ◌++◌, OnOk};
+ghost use Rattle.ldp_grammar.specs.declared.message.Message.TheVariants.{KeepAlive};
 ghost use Rattle.message_text.specs.Line.{decoded_line, decoded_lines};
 
-use crate::names::message_text;
+use crate::names::message_opening;
 use crate::parts::put_parts;
-use crate::pieces::put_told;
 use ldp_grammar::Message;
 use net_values::NoMemory;
-use text_pieces::{put_number, put_text, put_word};
+use text_pieces::{put_number, put_text};
 
 /// Adds the line of a message: the place of its PDU, its name, its Message ID and its parts.
 pub fn put_message(text: &mut Vec<u8>, base: u64, message: &Message) -> Result<(), NoMemory>
     ensures { OnOk result (text.new.items ≡ text.old.items ++ decoded_line base message.now) }
 {
     put_number(text, base)?;
-    put_word(text, message_text(message).as_bytes())?;
-    put_told(text, b"id=", u64::from(message.id()))?;
+    put_text(text, message_opening(message).as_bytes())?;
+    put_number(text, u64::from(message.id()))?;
     put_parts(text, message)?;
-    put_text(text, b"\n")
+    text.push(b'\n')?;
+    Ok(())
+}
+
+/// Adds the line of a KeepAlive with this Message ID: a stream has more of them than of all others, and they have no parts.
+pub fn put_keep_alive(text: &mut Vec<u8>, base: u64, id: u32) -> Result<(), NoMemory>
+    ensures { OnOk result (text.new.items ≡ text.old.items ++ decoded_line base (KeepAlive id)) }
+{
+    put_number(text, base)?;
+    text.extend_from_slice(b" KeepAlive id=")?;
+    put_number(text, u64::from(id))?;
+    text.push(b'\n')?;
+    Ok(())
 }
 
 /// Adds the lines of the messages of a PDU that begins at this place of its stream.

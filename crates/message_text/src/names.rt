@@ -1,28 +1,29 @@
 //! The names that a decoded stream tells.
 ghost use Rattle.std.specs.Prelude.{◌≡◌};
-ghost use Rattle.message_text.specs.Words.{field_name, message_name};
+ghost use Rattle.message_text.specs.Words.{field_name, opening};
 
 use ldp_grammar::Message;
 use net_values::Field;
 
-/// The name of a message's kind.
-pub fn message_text(message: &Message) -> &'static str
-    ensures { result.now ≡ message_name message.now }
+/// The name of a message's kind and what stands around it, a blank before it and ` id=` behind it: what the line of a message
+/// always has between two numbers is one text.
+pub fn message_opening(message: &Message) -> &'static str
+    ensures { result.now ≡ opening message.now }
 {
     match message {
-        Message::Notification { .. } => "Notification",
-        Message::Hello { .. } => "Hello",
-        Message::Initialization { .. } => "Initialization",
-        Message::KeepAlive { .. } => "KeepAlive",
-        Message::Address { .. } => "Address",
-        Message::AddressWithdraw { .. } => "AddressWithdraw",
-        Message::LabelMapping { .. } => "LabelMapping",
-        Message::LabelRequest { .. } => "LabelRequest",
-        Message::LabelWithdraw { .. } => "LabelWithdraw",
-        Message::LabelRelease { .. } => "LabelRelease",
-        Message::LabelAbort { .. } => "LabelAbort",
-        Message::Other { .. } => "Other",
-        Message::Unprocessed { .. } => "Unprocessed",
+        Message::Notification { .. } => " Notification id=",
+        Message::Hello { .. } => " Hello id=",
+        Message::Initialization { .. } => " Initialization id=",
+        Message::KeepAlive { .. } => " KeepAlive id=",
+        Message::Address { .. } => " Address id=",
+        Message::AddressWithdraw { .. } => " AddressWithdraw id=",
+        Message::LabelMapping { .. } => " LabelMapping id=",
+        Message::LabelRequest { .. } => " LabelRequest id=",
+        Message::LabelWithdraw { .. } => " LabelWithdraw id=",
+        Message::LabelRelease { .. } => " LabelRelease id=",
+        Message::LabelAbort { .. } => " LabelAbort id=",
+        Message::Other { .. } => " Other id=",
+        Message::Unprocessed { .. } => " Unprocessed id=",
     }
 }
 

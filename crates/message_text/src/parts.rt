@@ -47,7 +47,10 @@ fn put_transport(text: &mut Vec<u8>, transport: &Option<Addr>) -> Result<(), NoM
     ensures { OnOk result (text.new.items ≡ text.old.items ++ spaced (transport_words transport.now)) }
 {
     match transport {
-        Some(address) => put_address(text, b" transport=", *address),
+        Some(address) => {
+            put_text(text, b" transport=")?;
+            put_address(text, *address)
+        }
         None => Ok(()),
     }
 }
@@ -76,7 +79,7 @@ fn put_addresses(text: &mut Vec<u8>, family: u16, octets: &Octets) -> Result<(),
     ensures { OnOk result (text.new.items ≡ text.old.items ++ spaced (addresses_word family octets.now ∷ [])) }
 {
     put_told(text, b"addresses=", u64::from(family))?;
-    put_text(text, b"/")?;
+    text.push(b'/')?;
     put_digits(text, octets.as_slice())
 }
 

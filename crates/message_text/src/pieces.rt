@@ -7,7 +7,7 @@ ghost use Rattle.message_text.specs.Words.{dotted, flag, id_word, marked, parted
 
 use ldp_grammar::LdpId;
 use net_values::{Addr, NoMemory};
-use text_pieces::{put_number, put_text, put_word};
+use text_pieces::{put_number, put_word};
 
 /// The number of a bit.
 #[tactic(auto, using(crate::proofs::WordLemmas::bit_digit))]
@@ -26,16 +26,16 @@ pub fn put_told(text: &mut Vec<u8>, name: &[u8], number: u64) -> Result<(), NoMe
 }
 
 /// Adds a mark and a number in decimal.
-pub fn put_marked_number(text: &mut Vec<u8>, mark: &[u8], number: u64) -> Result<(), NoMemory>
-    ensures { OnOk result (text.new.items ≡ text.old.items ++ (mark.now ++ decimal number)) }
+pub fn put_marked_number(text: &mut Vec<u8>, mark: u8, number: u64) -> Result<(), NoMemory>
+    ensures { OnOk result (text.new.items ≡ text.old.items ++ (mark ∷ decimal number)) }
 {
-    put_text(text, mark)?;
+    text.push(mark)?;
     put_number(text, number)
 }
 
 // Adds numbers in decimal, a mark before each.
-fn put_marked(text: &mut Vec<u8>, mark: &[u8], numbers: &[u64]) -> Result<(), NoMemory>
-    ensures { OnOk result (text.new.items ≡ text.old.items ++ marked mark.now (map decimal numbers.now)) }
+fn put_marked(text: &mut Vec<u8>, mark: u8, numbers: &[u64]) -> Result<(), NoMemory>
+    ensures { OnOk result (text.new.items ≡ text.old.items ++ marked (mark ∷ []) (map decimal numbers.now)) }
 {
     for number in numbers {
         put_marked_number(text, mark, *number)?;
@@ -53,24 +53,24 @@ pub fn put_told_numbers(
     ensures { OnOk result (text.new.items ≡ text.old.items ++ (codes " " ++ (name.now ++ parted (codes "/") (decimal first ∷ map decimal rest.now)))) }
 {
     put_told(text, name, first)?;
-    put_marked(text, b"/", rest)
+    put_marked(text, b'/', rest)
 }
 
-/// Adds a label and an address as a dotted quad.
+/// Adds an address as a dotted quad.
 #[tactic(auto, unfolding(crate::specs::Words::dotted))]
-pub fn put_address(text: &mut Vec<u8>, label: &[u8], address: Addr) -> Result<(), NoMemory>
-    ensures { OnOk result (text.new.items ≡ text.old.items ++ (label.now ++ dotted address)) }
+pub fn put_address(text: &mut Vec<u8>, address: Addr) -> Result<(), NoMemory>
+    ensures { OnOk result (text.new.items ≡ text.old.items ++ dotted address) }
 {
     let [a, b, c, d] = address.0;
-    put_text(text, label)?;
     put_number(text, u64::from(a))?;
-    put_marked(text, b".", &[u64::from(b), u64::from(c), u64::from(d)])
+    put_marked(text, b'.', &[u64::from(b), u64::from(c), u64::from(d)])
 }
 
 /// Adds a slash and an LDP Identifier: the router ID as a dotted quad, a colon and the label space.
 pub fn put_id(text: &mut Vec<u8>, id: LdpId) -> Result<(), NoMemory>
     ensures { OnOk result (text.new.items ≡ text.old.items ++ (codes "/" ++ id_word id)) }
 {
-    put_address(text, b"/", id.router)?;
-    put_marked_number(text, b":", u64::from(id.space))
+    text.push(b'/')?;
+    put_address(text, id.router)?;
+    put_marked_number(text, b':', u64::from(id.space))
 }

@@ -6,7 +6,7 @@ ghost use Rattle.message_text.specs.Words.{description_words, element_word, end_
 use crate::pieces::{bit, put_address, put_marked_number, put_told, put_told_numbers};
 use net_values::{Addr, Label, List, Mac, NoMemory, Text};
 use pw_tlvs::{Point, Points, PwFec, PwStatus};
-use text_pieces::{put_digits, put_text};
+use text_pieces::{put_digits, put_number, put_text};
 
 // Adds a FEC element.
 fn put_element(text: &mut Vec<u8>, fec: &PwFec) -> Result<(), NoMemory>
@@ -19,7 +19,7 @@ fn put_element(text: &mut Vec<u8>, fec: &PwFec) -> Result<(), NoMemory>
         &[u64::from(fec.kind), u64::from(fec.group)],
     )?;
     match fec.pw_id {
-        Some(pw_id) => put_marked_number(text, b"/", u64::from(pw_id)),
+        Some(pw_id) => put_marked_number(text, b'/', u64::from(pw_id)),
         None => put_text(text, b"/*"),
     }
 }
@@ -120,7 +120,7 @@ pub fn put_macs(text: &mut Vec<u8>, macs: &Option<List<Mac>>) -> Result<(), NoMe
     };
     let listed = list.as_slice();
     put_told(text, b"macs=", listed.len() as u64)?;
-    put_text(text, b"/")?;
+    text.push(b'/')?;
     for mac in listed {
         put_digits(text, &mac.0)?;
     }
@@ -132,7 +132,10 @@ fn put_segment(text: &mut Vec<u8>, pw_id: Option<u32>) -> Result<(), NoMemory>
     ensures { OnOk result (text.new.items ≡ text.old.items ++ (codes " point=" ++ segment_word pw_id)) }
 {
     match pw_id {
-        Some(pw_id) => put_marked_number(text, b" point=", u64::from(pw_id)),
+        Some(pw_id) => {
+            put_text(text, b" point=")?;
+            put_number(text, u64::from(pw_id))
+        }
         None => put_text(text, b" point=-"),
     }
 }
@@ -142,7 +145,10 @@ fn put_end(text: &mut Vec<u8>, address: Option<Addr>) -> Result<(), NoMemory>
     ensures { OnOk result (text.new.items ≡ text.old.items ++ (codes "/" ++ end_word address)) }
 {
     match address {
-        Some(address) => put_address(text, b"/", address),
+        Some(address) => {
+            text.push(b'/')?;
+            put_address(text, address)
+        }
         None => put_text(text, b"/-"),
     }
 }

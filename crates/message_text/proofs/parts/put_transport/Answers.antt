@@ -1,10 +1,11 @@
 -- An address that is told is one word.
-use Rattle.std.proofs.Common.{◌∙◌, ◌++◌, ap, sym, List, ℕ, codes}
-use Rattle.std.proofs.lemmas.List.{append-nil}
+use Rattle.std.proofs.Common.{codes}
 use Rattle.std.proofs.lemmas.Result.{on_ok_weaker}
 use Rattle.message_text.specs.Words.{dotted}
+use Rattle.message_text.proofs.WordLemmas.{value_told}
 use Rattle.message_text.proofs.parts.put_transport.Goals as goal
 
-pub returns-in-Some : goal.returns-in-Some
-returns-in-Some c =
-    rw c.in-Some.is (on_ok_weaker c.put_address.result (λ told. told ∙ ap (λ (back : List ℕ). c.args.text.now.items ++ back) (sym (append-nil (codes " transport=" ++ dotted c.in-Some.address)))) c.put_address.ensures)
+pub returns-in_ok-put_text-in-Some : goal.returns-in_ok-put_text-in-Some
+returns-in_ok-put_text-in-Some c =
+    rw c.in-Some.is (on_ok_weaker c.put_address.result (λ told. value_told c.args.text.now.items c.put_text.new.text.items c.put_address.new.text.items (codes "transport=") (dotted c.in-Some.address)
+    c.in_ok-put_text-in-Some.ensures told) c.put_address.ensures)

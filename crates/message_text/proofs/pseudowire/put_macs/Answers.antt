@@ -10,8 +10,8 @@ use Rattle.message_text.proofs.pseudowire.put_macs.Goals as goal
 pub loop-mac-init : goal.loop-mac-init
 loop-mac-init c =
     let listed = c.as_slice-listed.result.now in
-    pair_told c.args.text.now.items c.put_told.new.text.items c.put_text.new.text.items (c.put_text.new.text.items ++ mac_digits listed) (codes "macs=") (decimal (length listed)) (mac_digits listed)
-    c.in_ok-put_told.ensures c.in_ok-put_text.ensures refl
+    pair_told c.args.text.now.items c.put_told.new.text.items c.push.new.self.items (c.push.new.self.items ++ mac_digits listed) (codes "macs=") (decimal (length listed)) (mac_digits listed)
+    c.in_ok-put_told.ensures c.in_ok-push.ensures.items refl
 
 pub loop-mac-preserved : goal.loop-mac-preserved
 loop-mac-preserved c =
