@@ -12,6 +12,7 @@ use crate::script_line::ScriptLine;
 use command_text::{NameLists, PlanNames};
 use net_base::{List, NoMemory, Plan};
 use script_text::{Line, ScriptFault, read_lines};
+use script_words::NumberedLine;
 use std::alloc::Global;
 
 // Each line by its words.
@@ -26,8 +27,12 @@ fn lines(
 {
     let mut lines = List::new(alloc);
     for (place, text) in texts.iter().enumerate() {
-        let line = read_line(alloc, names, place as u32 + 1, text)?;
-        lines.push(line)?;
+        let line = NumberedLine {
+            names,
+            number: place as u32 + 1,
+            line: text,
+        };
+        lines.push(read_line(alloc, line)?)?;
     }
     Ok(lines)
 }

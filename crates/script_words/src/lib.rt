@@ -4,6 +4,6 @@
 //! `specs/Reading.antt` says what a word is read as.
 #![tactic(auto)]
 
-mod words;
+mod numbered_line;
 
-pub use words::{ends_at, first_word, number_at, place_at};
+pub use numbered_line::NumberedLine;
