@@ -8,25 +8,19 @@ ghost use Rattle.switchover_script.specs.Lines.{between_two, connect_line, cut_i
 
 use command_text::{PlanNames, is_same};
 use net_base::{EdgeId, Plan, WireId};
-use script_text::{Line, ScriptFault};
-use script_words::{ends_at, first_word, number_at, place_at};
+use script_text::ScriptFault;
+use script_words::NumberedLine;
 use status_exchange::Wish;
 use switchover_model::SwitchLine;
 
 // The edge that a word names.
-fn edge(
-    plan: &Plan,
-    names: &PlanNames<'_>,
-    number: u32,
-    word: u32,
-    line: &Line,
-) -> Result<u16, ScriptFault>
-    requires names { names.now ≡ names_of plan.now }
+fn edge(plan: &Plan, line: NumberedLine<'_, '_>, word: u32) -> Result<u16, ScriptFault>
+    requires names { line.names.now ≡ names_of plan.now }
     requires word { 1 ≤ word }
-    ensures exact { result ≡ script_edge_at plan.now number word line.now }
+    ensures exact { result ≡ script_edge_at plan.now line.entry.number word line.entry.line.now }
     ensures within { IfOk result (λ place. place < length plan.now.edges) }
 {
-    place_at(&names.edges, number, word, line)
+    line.place(&line.names.edges, word)
 }
 
 // The wire at a place, where it has two edges.
@@ -60,41 +54,30 @@ fn wire_named(plan: &Plan, names: &PlanNames<'_>, name: &str) -> Option<u16>
 }
 
 // The wire of two edges that the third word names.
-fn wire(plan: &Plan, names: &PlanNames<'_>, number: u32, line: &Line) -> Result<u16, ScriptFault>
-    requires names { names.now ≡ names_of plan.now }
-    ensures exact { result ≡ wire_at plan.now number 3 line.now }
+fn wire(plan: &Plan, line: NumberedLine<'_, '_>) -> Result<u16, ScriptFault>
+    requires names { line.names.now ≡ names_of plan.now }
+    ensures exact { result ≡ wire_at plan.now line.entry.number 3 line.entry.line.now }
     ensures within { IfOk result (λ place. place < length plan.now.wires) }
 {
-    match line.word(2) {
-        Some(name) => match wire_named(plan, names, name) {
+    match line.line.word(2) {
+        Some(name) => match wire_named(plan, line.names, name) {
             Some(place) => Ok(place),
-            None => Err(ScriptFault::Bad {
-                line: number,
-                word: 3,
-            }),
+            None => Err(line.bad(3)),
         },
-        None => Err(ScriptFault::Bad {
-            line: number,
-            word: 3,
-        }),
+        None => Err(line.bad(3)),
     }
 }
 
 // `connect E P`.
 #[tactic(auto, unfolding(crate::specs::Lines::connect_line))]
-fn connect(
-    plan: &Plan,
-    names: &PlanNames<'_>,
-    number: u32,
-    line: &Line,
-) -> Result<SwitchLine, ScriptFault>
-    requires names { names.now ≡ names_of plan.now }
-    ensures exact { result ≡ connect_line plan.now number line.now }
+fn connect(plan: &Plan, line: NumberedLine<'_, '_>) -> Result<SwitchLine, ScriptFault>
+    requires names { line.names.now ≡ names_of plan.now }
+    ensures exact { result ≡ connect_line plan.now line.entry.number line.entry.line.now }
     ensures planned { IfOk result (IsLineOf plan.now) }
 {
-    let from = edge(plan, names, number, 2, line)?;
-    let to = edge(plan, names, number, 3, line)?;
-    ends_at(number, 3, line)?;
+    let from = edge(plan, line, 2)?;
+    let to = edge(plan, line, 3)?;
+    line.ends(3)?;
     Ok(SwitchLine::Connect {
         edge: EdgeId(from),
         peer: EdgeId(to),
@@ -103,19 +86,14 @@ fn connect(
 
 // `cut E P`.
 #[tactic(auto, unfolding(crate::specs::Lines::cut_in))]
-fn cut(
-    plan: &Plan,
-    names: &PlanNames<'_>,
-    number: u32,
-    line: &Line,
-) -> Result<SwitchLine, ScriptFault>
-    requires names { names.now ≡ names_of plan.now }
-    ensures exact { result ≡ cut_in plan.now number line.now }
+fn cut(plan: &Plan, line: NumberedLine<'_, '_>) -> Result<SwitchLine, ScriptFault>
+    requires names { line.names.now ≡ names_of plan.now }
+    ensures exact { result ≡ cut_in plan.now line.entry.number line.entry.line.now }
     ensures planned { IfOk result (IsLineOf plan.now) }
 {
-    let from = edge(plan, names, number, 2, line)?;
-    let to = edge(plan, names, number, 3, line)?;
-    ends_at(number, 3, line)?;
+    let from = edge(plan, line, 2)?;
+    let to = edge(plan, line, 3)?;
+    line.ends(3)?;
     Ok(SwitchLine::Cut {
         edge: EdgeId(from),
         peer: EdgeId(to),
@@ -124,20 +102,15 @@ fn cut(
 
 // `deliver E P N`, with N from 1 to 65535.
 #[tactic(auto, unfolding(crate::specs::Lines::deliver_line))]
-fn deliver(
-    plan: &Plan,
-    names: &PlanNames<'_>,
-    number: u32,
-    line: &Line,
-) -> Result<SwitchLine, ScriptFault>
-    requires names { names.now ≡ names_of plan.now }
-    ensures exact { result ≡ deliver_line plan.now number line.now }
+fn deliver(plan: &Plan, line: NumberedLine<'_, '_>) -> Result<SwitchLine, ScriptFault>
+    requires names { line.names.now ≡ names_of plan.now }
+    ensures exact { result ≡ deliver_line plan.now line.entry.number line.entry.line.now }
     ensures planned { IfOk result (IsLineOf plan.now) }
 {
-    let from = edge(plan, names, number, 2, line)?;
-    let to = edge(plan, names, number, 3, line)?;
-    let count = number_at(1, 65535, number, 4, line)? as u16;
-    ends_at(number, 4, line)?;
+    let from = edge(plan, line, 2)?;
+    let to = edge(plan, line, 3)?;
+    let count = line.decimal(1, 65535, 4)? as u16;
+    line.ends(4)?;
     Ok(SwitchLine::Deliver {
         from: EdgeId(from),
         to: EdgeId(to),
@@ -147,31 +120,25 @@ fn deliver(
 
 // `settle N`, with N from 1 to 10000.
 #[tactic(auto, unfolding(crate::specs::Lines::settle_in))]
-fn settle(plan: &Plan, number: u32, line: &Line) -> Result<SwitchLine, ScriptFault>
-    ensures exact { result ≡ settle_in number line.now }
+fn settle(plan: &Plan, line: NumberedLine<'_, '_>) -> Result<SwitchLine, ScriptFault>
+    ensures exact { result ≡ settle_in line.entry.number line.entry.line.now }
     ensures planned { IfOk result (IsLineOf plan.now) }
 {
-    let count = number_at(1, 10000, number, 2, line)? as u16;
-    ends_at(number, 2, line)?;
+    let count = line.decimal(1, 10000, 2)? as u16;
+    line.ends(2)?;
     Ok(SwitchLine::Settle { count })
 }
 
 // `active E W`, `standby E W` or `ask E W`.
 #[tactic(auto, unfolding(crate::specs::Lines::set_in))]
-fn set(
-    plan: &Plan,
-    names: &PlanNames<'_>,
-    wish: Wish,
-    number: u32,
-    line: &Line,
-) -> Result<SwitchLine, ScriptFault>
-    requires names { names.now ≡ names_of plan.now }
-    ensures exact { result ≡ set_in plan.now wish number line.now }
+fn set(plan: &Plan, line: NumberedLine<'_, '_>, wish: Wish) -> Result<SwitchLine, ScriptFault>
+    requires names { line.names.now ≡ names_of plan.now }
+    ensures exact { result ≡ set_in plan.now wish line.entry.number line.entry.line.now }
     ensures planned { IfOk result (IsLineOf plan.now) }
 {
-    let me = edge(plan, names, number, 2, line)?;
-    let of = wire(plan, names, number, line)?;
-    ends_at(number, 3, line)?;
+    let me = edge(plan, line, 2)?;
+    let of = wire(plan, line)?;
+    line.ends(3)?;
     Ok(SwitchLine::Set {
         edge: EdgeId(me),
         wire: WireId(of),
@@ -197,32 +164,24 @@ fn wish_of(word: &str) -> Option<Wish>
 /// The line that words are, by the names of its plan. `Bad` comes exactly at the first word that fits no line: one that is missing
 /// stands at its number, one too many at its own.
 #[tactic(auto, unfolding(crate::specs::Lines::switch_line_of))]
-pub fn read_line(
-    plan: &Plan,
-    names: &PlanNames<'_>,
-    number: u32,
-    line: &Line,
-) -> Result<SwitchLine, ScriptFault>
-    requires names { names.now ≡ names_of plan.now }
-    ensures exact { result ≡ switch_line_of plan.now number line.now }
+pub fn read_line(plan: &Plan, line: NumberedLine<'_, '_>) -> Result<SwitchLine, ScriptFault>
+    requires names { line.names.now ≡ names_of plan.now }
+    ensures exact { result ≡ switch_line_of plan.now line.entry.number line.entry.line.now }
     ensures planned { IfOk result (IsLineOf plan.now) }
 {
-    let word = first_word(line);
+    let word = line.first();
     if is_same(word, "connect") {
-        connect(plan, names, number, line)
+        connect(plan, line)
     } else if is_same(word, "cut") {
-        cut(plan, names, number, line)
+        cut(plan, line)
     } else if is_same(word, "deliver") {
-        deliver(plan, names, number, line)
+        deliver(plan, line)
     } else if is_same(word, "settle") {
-        settle(plan, number, line)
+        settle(plan, line)
     } else {
         match wish_of(word) {
-            Some(wish) => set(plan, names, wish, number, line),
-            None => Err(ScriptFault::Bad {
-                line: number,
-                word: 1,
-            }),
+            Some(wish) => set(plan, line, wish),
+            None => Err(line.bad(1)),
         }
     }
 }

@@ -10,6 +10,7 @@ use crate::lines::read_line;
 use command_text::{NameLists, PlanNames};
 use net_base::{List, NoMemory, Plan};
 use script_text::{Line, ScriptFault, read_lines};
+use script_words::NumberedLine;
 use std::alloc::Global;
 use switchover_model::SwitchLine;
 
@@ -27,8 +28,12 @@ fn lines(
 {
     let mut lines = List::new(alloc);
     for (place, text) in texts.iter().enumerate() {
-        let line = read_line(plan, names, place as u32 + 1, text)?;
-        lines.push(line)?;
+        let line = NumberedLine {
+            names,
+            number: place as u32 + 1,
+            line: text,
+        };
+        lines.push(read_line(plan, line)?)?;
     }
     Ok(lines)
 }
