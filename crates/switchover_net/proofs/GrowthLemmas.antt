@@ -29,7 +29,7 @@ use Rattle.switchover_model.specs.declared.switch_entry.SwitchEntry.{SwitchEntry
 use Rattle.switchover_model.specs.Network.{IsGoing, calls_of, delivers_one, edge_after, is_waiting, takes_all}
 use Rattle.switchover_model.specs.Text.{hear_entries, turned_all, used, used_from}
 use Rattle.switchover_net.specs.Net.{Makes, SwitchLists}
-use Rattle.switchover_net.specs.Pipes.{octets_between}
+use Rattle.octet_pipes.specs.Pipes.{pipes_of}
 use Rattle.switchover_net.specs.Rows.{HasDoneWork, seen_row}
 use Rattle.switchover_net.proofs.NetLemmas.{was_heard}
 
@@ -199,28 +199,28 @@ put_nothing a b p = λ i x y. by x y (x == a) (y == b) refl refl i
     by x y false t one two = refl
 
 module _ (plan : Plan) (me : ℕ) (peer : EdgeId) (old new : SwitchLists) (calls : List LinkCall) (before after : ℕ)
-    (going : IsGoing (independent_hears plan takes_all me peer (take 1 (octets_between old.pipes peer.0 me)) (seen_row old.row me) []))
-    (done : HasDoneWork me old.row new.row calls (independent_hears plan takes_all me peer (take 1 (octets_between old.pipes peer.0 me)) (seen_row old.row me) []))
+    (going : IsGoing (independent_hears plan takes_all me peer (take 1 (pipes_of old.pipes peer.0 me)) (seen_row old.row me) []))
+    (done : HasDoneWork me old.row new.row calls (independent_hears plan takes_all me peer (take 1 (pipes_of old.pipes peer.0 me)) (seen_row old.row me) []))
     (held : HoldsBy before ((seen_row old.row me).connection peer.0)) (held_now : HoldsBy after ((seen_row new.row me).connection peer.0)) (more : before < after) where
   abbrev outcome : IndepOutcome
-  outcome = independent_hears plan takes_all me peer (take 1 (octets_between old.pipes peer.0 me)) (seen_row old.row me) []
+  outcome = independent_hears plan takes_all me peer (take 1 (pipes_of old.pipes peer.0 me)) (seen_row old.row me) []
 
   state : seen_row new.row me ≡ edge_after outcome
   state = ap (λ (f : ℕ → IndepState). f me) done.state ∙ at_same me (edge_after outcome) (seen_row old.row)
 
   silent : IsSilent plan me (seen_row old.row me) (edge_after outcome) [] (calls_of outcome)
   silent = grown plan takes_all me peer (edge_after outcome) (calls_of outcome) after (subst (λ (s : IndepState). HoldsBy after (s.connection peer.0)) state held_now)
-      (take 1 (octets_between old.pipes peer.0 me)) before (seen_row old.row me) []
-      (omega (arith, length-take 1 (octets_between old.pipes peer.0 me))) more held (going_is outcome going)
+      (take 1 (pipes_of old.pipes peer.0 me)) before (seen_row old.row me) []
+      (omega (arith, length-take 1 (pipes_of old.pipes peer.0 me))) more held (going_is outcome going)
 
   same_used : used plan me (seen_row new.row me) ≡ used plan me (seen_row old.row me)
   same_used = ap (used plan me) state ∙ silent.same
 
-  pub was_silent : (out : List SwitchEntry) → is_waiting (octets_between old.pipes peer.0 me) ≡ true → octets_between new.pipes ≡ at_two peer.0 me (drop 1 (octets_between old.pipes peer.0 me)) (octets_between old.pipes)
+  pub was_silent : (out : List SwitchEntry) → is_waiting (pipes_of old.pipes peer.0 me) ≡ true → pipes_of new.pipes ≡ at_two peer.0 me (drop 1 (pipes_of old.pipes peer.0 me)) (pipes_of old.pipes)
       → Makes old new out out (delivers_one plan peer.0 me) (hear_entries plan peer.0 me)
   was_silent out waiting left =
       was_heard plan me peer old new new.row [] (used plan me (seen_row old.row me)) out out waiting (record { state = done.state; put = sym silent.put }) refl refl
-      (left ∙ put_nothing me peer.0 (at_two peer.0 me (drop 1 (octets_between old.pipes peer.0 me)) (octets_between old.pipes)))
+      (left ∙ put_nothing me peer.0 (at_two peer.0 me (drop 1 (pipes_of old.pipes peer.0 me)) (pipes_of old.pipes)))
       (sym (ap (λ (l : List SwitchEntry). (out ++ []) ++ l)
       (ap (turned_all me 0 (used plan me (seen_row old.row me))) same_used ∙ turned_none me 0 (used plan me (seen_row old.row me))) ∙ (append-nil (out ++ []) ∙ append-nil out)))
 

@@ -1,4 +1,3 @@
-pub mod EmptyLemmas
 pub mod FreshLemmas
 pub mod GrowthLemmas
 pub mod LineLemmas

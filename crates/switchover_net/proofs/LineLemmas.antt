@@ -21,8 +21,9 @@ use Rattle.switchover_model.specs.Network.{SwitchState, switch_connecting, conne
 use Rattle.switchover_model.specs.Text.{connect_entries, deliver_entries, entries, hear_entries, line_entries, lose_entries, next_entries, settle_entries}
 use Rattle.switchover_model.proofs.TwoLemmas.{wiring_is}
 use Rattle.switchover_net.specs.Net.{IsReached, Makes, SwitchLists, ShowsSwitchState as Shows, cut_entries, pair_entries}
-use Rattle.switchover_net.specs.Pipes.{octets_between}
+use Rattle.octet_pipes.specs.Pipes.{pipes_of, with_octets}
 use Rattle.switchover_net.specs.Rows.{seen_row}
+use Rattle.switchover_net.proofs.PipeLemmas.{as_two}
 use Rattle.switchover_net.proofs.ReachedLemmas.{reached_more}
 
 -- ---- both edges
@@ -42,12 +43,13 @@ both_connect plan a b old mid new first next last one two = record {
 
 pub both_lose : (plan : Plan) (a b : EdgeId) (old mid left new : SwitchLists) (first next last : List SwitchEntry) → (b.0 == a.0) ≡ false
     → Makes old mid first next (loses_one plan a.0 b.0) (lose_entries plan a.0 b.0) → Makes mid left next last (loses_one plan b.0 a.0) (lose_entries plan b.0 a.0)
-    → new.row ≡ left.row → octets_between new.pipes ≡ at_two a.0 b.0 [] (at_two b.0 a.0 [] (octets_between left.pipes)) → Makes old new first last (cutting plan a.0 b.0) (cut_entries plan a.0 b.0)
+    → new.row ≡ left.row → pipes_of new.pipes ≡ with_octets a.0 b.0 [] (with_octets b.0 a.0 [] (pipes_of left.pipes)) → Makes old new first last (cutting plan a.0 b.0) (cut_entries plan a.0 b.0)
 both_lose plan a b old mid left new first next last apart one two row pipes = record {
   shows = λ x sh. let after : Shows left (loses_one plan b.0 a.0 (loses_one plan a.0 b.0 x)) = two.shows (loses_one plan a.0 b.0 x) (one.shows x sh) in record {
     edges = ap seen_row row ∙ (after.edges ∙ ap (λ (e : IndepState). put_at_place b.0 (loses plan b.0 a e) (put_at_place a.0 (loses plan a.0 b (x.edges a.0)) x.edges))
         (at_other a.0 b.0 (loses plan a.0 b (x.edges a.0)) x.edges apart));
-    pipes = pipes ∙ ap (λ (p : ℕ → ℕ → List ℕ). at_two a.0 b.0 [] (at_two b.0 a.0 [] p)) after.pipes;
+    pipes = pipes ∙ (ap (λ (p : ℕ → ℕ → List ℕ). with_octets a.0 b.0 [] p) (as_two b.0 a.0 [] (pipes_of left.pipes)) ∙ (as_two a.0 b.0 [] (at_two b.0 a.0 [] (pipes_of left.pipes))
+        ∙ ap (λ (p : ℕ → ℕ → List ℕ). at_two a.0 b.0 [] (at_two b.0 a.0 [] p)) after.pipes));
   };
   tells = λ x sh. two.tells (loses_one plan a.0 b.0 x) (one.shows x sh) ∙ (ap (λ (l : List SwitchEntry). l ++ lose_entries plan b.0 a.0 (loses_one plan a.0 b.0 x)) (one.tells x sh)
       ∙ append_assoc first (lose_entries plan a.0 b.0 x) (lose_entries plan b.0 a.0 (loses_one plan a.0 b.0 x)));
@@ -100,7 +102,7 @@ pub piece_long : (count : ℕ) (l : List ℕ) → length (take count l) ≡ min 
 piece_long count l = length-take count l ∙ omega arith
 
 pub more_delivered : (plan : Plan) (from to : EdgeId) (count place most : ℕ) (old now next : SwitchLists) (first out last : List SwitchEntry) → most
-    ≡ min (length (octets_between old.pipes from.0 to.0)) count → place < most
+    ≡ min (length (pipes_of old.pipes from.0 to.0)) count → place < most
     → next.row.plan ≡ now.row.plan → Makes now next out last (delivers_one now.row.plan from.0 to.0) (hear_entries now.row.plan from.0 to.0)
     → AreDelivered plan from.0 to.0 count place old now first out → AreDelivered plan from.0 to.0 count (place + 1) old next first last
 more_delivered plan from to count place most old now next first out last most_is below same made are = record {
@@ -124,7 +126,7 @@ more_delivered plan from to count place most old now next first out last most_is
           ∙ (ap (λ (l : List ℕ). out ++ deliver_entries plan from.0 to.0 l d.y) (sym more.is) ∙ d.tells));
     }
 
-pub all_delivered : (plan : Plan) (from to : ℕ) (count place most : ℕ) (old now : SwitchLists) (first out : List SwitchEntry) → most ≡ min (length (octets_between old.pipes from to)) count → most ≤ place
+pub all_delivered : (plan : Plan) (from to : ℕ) (count place most : ℕ) (old now : SwitchLists) (first out : List SwitchEntry) → most ≡ min (length (pipes_of old.pipes from to)) count → most ≤ place
     → AreDelivered plan from to count place old now first out
     → Makes old now first out (λ x. switch_delivers plan from to (take count (x.pipes from to)) x) (λ x. deliver_entries plan from to (take count (x.pipes from to)) x)
 all_delivered plan from to count place most old now first out most_is past are = record {
@@ -165,12 +167,12 @@ none_settled plan count old first is reached = record {
 
 -- the next pair of the network is that of each state that it shows
 pair_shown : (plan : Plan) (now : SwitchLists) (y : SwitchState) (found : Option (ℕ × ℕ)) → Shows now y → now.pipes.size ≡ length plan.edges → found
-    ≡ first_differing_pair (λ from to. is_waiting (octets_between now.pipes from to)) now.pipes.size 0 now.pipes.size → next_pair plan y ≡ found
-pair_shown plan now y found sh size is = sym (is ∙ (ap (λ (n : ℕ). first_differing_pair (λ from to. is_waiting (octets_between now.pipes from to)) n 0 n) size
+    ≡ first_differing_pair (λ from to. is_waiting (pipes_of now.pipes from to)) now.pipes.size 0 now.pipes.size → next_pair plan y ≡ found
+pair_shown plan now y found sh size is = sym (is ∙ (ap (λ (n : ℕ). first_differing_pair (λ from to. is_waiting (pipes_of now.pipes from to)) n 0 n) size
     ∙ ap (λ (p : ℕ → ℕ → List ℕ). first_differing_pair (λ from to. is_waiting (p from to)) (length plan.edges) 0 (length plan.edges)) sh.pipes))
 
 pub settled_more : (plan : Plan) (count place : ℕ) (from to : EdgeId) (old now next : SwitchLists) (first out last : List SwitchEntry) → place < count → now.pipes.size ≡ length now.row.plan.edges
-    → Some (from.0, to.0) ≡ first_differing_pair (λ from to. is_waiting (octets_between now.pipes from to)) now.pipes.size 0 now.pipes.size
+    → Some (from.0, to.0) ≡ first_differing_pair (λ from to. is_waiting (pipes_of now.pipes from to)) now.pipes.size 0 now.pipes.size
     → next.row.plan ≡ now.row.plan → IsReached next
     → Makes now next out last (λ x. switch_delivers now.row.plan from.0 to.0 (take 65535 (x.pipes from.0 to.0)) x) (λ x. deliver_entries now.row.plan from.0 to.0 (take 65535 (x.pipes from.0 to.0)) x)
     → AreSettled plan count place old now first out → AreSettled plan count (place + 1) old next first last
@@ -204,7 +206,7 @@ settled_more plan count place from to old now next first out last below size fou
 
 -- where no pair is left, nothing more is done
 pub settled_none : (plan : Plan) (count place : ℕ) (old now : SwitchLists) (first out : List SwitchEntry) → place < count → now.pipes.size ≡ length now.row.plan.edges
-    → None ≡ first_differing_pair (λ from to. is_waiting (octets_between now.pipes from to)) now.pipes.size 0 now.pipes.size → AreSettled plan count place old now first out
+    → None ≡ first_differing_pair (λ from to. is_waiting (pipes_of now.pipes from to)) now.pipes.size 0 now.pipes.size → AreSettled plan count place old now first out
     → Makes old now first out (settling plan count) (settle_entries plan count)
 settled_none plan count place old now first out below size found are = record {
   shows = λ x sh. let d = are.each x sh in subst (Shows now)
@@ -297,15 +299,15 @@ made_as plan line old new first last next told one two made =
 pub shown_connected : (net : SwitchLists) (x : SwitchState) (a b : ℕ) → Shows net x → is_connected (seen_row net.row a) b ≡ is_connected (x.edges a) b
 shown_connected net x a b sh = ap (λ (e : ℕ → IndepState). is_connected (e a) b) sh.edges
 
-pub shown_waits : (net : SwitchLists) (x : SwitchState) (from to : ℕ) → Shows net x → is_waiting (octets_between net.pipes from to) ≡ is_waiting (x.pipes from to)
+pub shown_waits : (net : SwitchLists) (x : SwitchState) (from to : ℕ) → Shows net x → is_waiting (pipes_of net.pipes from to) ≡ is_waiting (x.pipes from to)
 shown_waits net x from to sh = ap (λ (p : ℕ → ℕ → List ℕ). is_waiting (p from to)) sh.pipes
 
 pub shown_wish : (net : SwitchLists) (x : SwitchState) (me wire : ℕ) (wish : Wish) → Shows net x → is_same_wish ((seen_row net.row me).local wire) wish ≡ is_same_wish ((x.edges me).local wire) wish
 shown_wish net x me wire wish sh = ap (λ (e : ℕ → IndepState). is_same_wish ((e me).local wire) wish) sh.edges
 
 pub shown_pair : (net : SwitchLists) (x : SwitchState) → Shows net x → net.pipes.size ≡ length net.row.plan.edges
-    → first_differing_pair (λ from to. is_waiting (octets_between net.pipes from to)) net.pipes.size 0 net.pipes.size ≡ next_pair net.row.plan x
-shown_pair net x sh size = sym (pair_shown net.row.plan net x (first_differing_pair (λ from to. is_waiting (octets_between net.pipes from to)) net.pipes.size 0 net.pipes.size) sh size refl)
+    → first_differing_pair (λ from to. is_waiting (pipes_of net.pipes from to)) net.pipes.size 0 net.pipes.size ≡ next_pair net.row.plan x
+shown_pair net x sh size = sym (pair_shown net.row.plan net x (first_differing_pair (λ from to. is_waiting (pipes_of net.pipes from to)) net.pipes.size 0 net.pipes.size) sh size refl)
 
 -- a test of what is there by a test of what is not
 pub turned_test : (some none : Bool) → some ≡ not none → none ≡ not some

@@ -15,7 +15,8 @@ use Rattle.switchover_model.specs.declared.switch_entry.SwitchEntry.{SwitchEntry
 use Rattle.switchover_model.specs.Network.{SwitchState, calls_of, connects_one, switch_delivering as delivering, delivers_one, edge_after, first_network, is_waiting, loses_one, put_to, setting, takes_all as taken_all}
 use Rattle.switchover_model.specs.Text.{connect_entries, hear_entries, lose_entries, moment, said_entries, set_entries, turned_all, used}
 use Rattle.switchover_net.specs.Net.{Makes, SwitchLists, ShowsSwitchState as Shows}
-use Rattle.switchover_net.specs.Pipes.{bytes_of, no_octets_between, octets_between}
+use Rattle.octet_pipes.specs.Pipes.{no_octets, pipes_of}
+use Rattle.switchover_net.specs.Pipes.{bytes_of}
 use Rattle.switchover_net.specs.Rows.{HasDoneWork, RowLists, seen_row}
 use Rattle.switchover_net.proofs.ToLemmas.{AllTo, all_said, connects_to, hears_to, none_said, sets_to}
 
@@ -46,22 +47,22 @@ put_there me peer calls q all a b = by (a == me) (b == peer) refl refl
 -- an edge has done a work for a peer, over the edges and over octets that were on their way
 pub record Worked (plan : Plan) (me : ℕ) (work : (ℕ → ℕ → List ℕ) → IndepState → IndepOutcome) (left : (ℕ → ℕ → List ℕ) → ℕ → ℕ → List ℕ) (new : SwitchLists) (first last : List SwitchEntry) (e : ℕ → IndepState) (p : ℕ → ℕ → List ℕ) : Type 0 where
   pub edges : seen_row new.row ≡ put_at_place me (edge_after (work p (e me))) e
-  pub pipes : octets_between new.pipes ≡ (λ a b. if a == me then left p a b ++ put_to b (calls_of (work p (e me))) else left p a b)
+  pub pipes : pipes_of new.pipes ≡ (λ a b. if a == me then left p a b ++ put_to b (calls_of (work p (e me))) else left p a b)
   pub tells : last ≡ first ++ moment plan me (work p (e me)) (e me)
 
 module _ (plan : Plan) (me peer : ℕ) (work : (ℕ → ℕ → List ℕ) → IndepState → IndepOutcome) (left : (ℕ → ℕ → List ℕ) → ℕ → ℕ → List ℕ) (old new : SwitchLists) (row : RowLists) (calls : List LinkCall) (before : List Bool) (first last : List SwitchEntry)
     (all : (p : ℕ → ℕ → List ℕ) (e : IndepState) → AllTo peer (calls_of (work p e)))
-    (done : HasDoneWork me old.row row calls (work (octets_between old.pipes) (seen_row old.row me))) (row_is : new.row ≡ row) (was : before ≡ used plan me (seen_row old.row me))
-    (put : octets_between new.pipes ≡ at_two me peer (left (octets_between old.pipes) me peer ++ bytes_of calls) (left (octets_between old.pipes)))
+    (done : HasDoneWork me old.row row calls (work (pipes_of old.pipes) (seen_row old.row me))) (row_is : new.row ≡ row) (was : before ≡ used plan me (seen_row old.row me))
+    (put : pipes_of new.pipes ≡ at_two me peer (left (pipes_of old.pipes) me peer ++ bytes_of calls) (left (pipes_of old.pipes)))
     (told : last ≡ (first ++ said_entries me calls) ++ turned_all me 0 before (used plan me (seen_row row me))) where
   abbrev outcome : IndepOutcome
-  outcome = work (octets_between old.pipes) (seen_row old.row me)
+  outcome = work (pipes_of old.pipes) (seen_row old.row me)
 
-  here : Worked plan me work left new first last (seen_row old.row) (octets_between old.pipes)
+  here : Worked plan me work left new first last (seen_row old.row) (pipes_of old.pipes)
   here = record {
     edges = ap seen_row row_is ∙ done.state;
-    pipes = put ∙ (ap (λ (c : List LinkCall). at_two me peer (left (octets_between old.pipes) me peer ++ bytes_of c) (left (octets_between old.pipes))) done.put
-        ∙ (λ i a b. put_there me peer (calls_of outcome) (left (octets_between old.pipes)) (all (octets_between old.pipes) (seen_row old.row me)) a b i));
+    pipes = put ∙ (ap (λ (c : List LinkCall). at_two me peer (left (pipes_of old.pipes) me peer ++ bytes_of c) (left (pipes_of old.pipes))) done.put
+        ∙ (λ i a b. put_there me peer (calls_of outcome) (left (pipes_of old.pipes)) (all (pipes_of old.pipes) (seen_row old.row me)) a b i));
     tells = told ∙ (ap (λ (c : List LinkCall). (first ++ said_entries me c) ++ turned_all me 0 before (used plan me (seen_row row me))) done.put
         ∙ (ap (λ (b : List Bool). (first ++ said_entries me (calls_of outcome)) ++ turned_all me 0 b (used plan me (seen_row row me))) was
         ∙ (ap (λ (s : IndepState). (first ++ said_entries me (calls_of outcome)) ++ turned_all me 0 (used plan me (seen_row old.row me)) (used plan me s))
@@ -77,7 +78,7 @@ module _ (plan : Plan) (me peer : ℕ) (work : (ℕ → ℕ → List ℕ) → In
 
 pub connected : (plan : Plan) (me : ℕ) (peer : EdgeId) (old new : SwitchLists) (row : RowLists) (calls : List LinkCall) (before : List Bool) (first last : List SwitchEntry)
     → HasDoneWork me old.row row calls (independent_connects plan taken_all me peer (seen_row old.row me) []) → new.row ≡ row → before ≡ used plan me (seen_row old.row me)
-    → octets_between new.pipes ≡ at_two me peer.0 (octets_between old.pipes me peer.0 ++ bytes_of calls) (octets_between old.pipes)
+    → pipes_of new.pipes ≡ at_two me peer.0 (pipes_of old.pipes me peer.0 ++ bytes_of calls) (pipes_of old.pipes)
     → last ≡ (first ++ said_entries me calls) ++ turned_all me 0 before (used plan me (seen_row row me))
     → Makes old new first last (connects_one plan me peer.0) (connect_entries plan me peer.0)
 connected plan me peer old new row calls before first last done row_is was put told =
@@ -87,7 +88,7 @@ connected plan me peer old new row calls before first last done row_is was put t
 
 pub was_set : (plan : Plan) (me wire : ℕ) (peer : EdgeId) (wish : Wish) (old new : SwitchLists) (row : RowLists) (calls : List LinkCall) (before : List Bool) (first last : List SwitchEntry)
     → other_end plan me wire ≡ Some peer → HasDoneWork me old.row row calls (sets plan taken_all me wire wish (seen_row old.row me) []) → new.row ≡ row → before ≡ used plan me (seen_row old.row me)
-    → octets_between new.pipes ≡ at_two me peer.0 (octets_between old.pipes me peer.0 ++ bytes_of calls) (octets_between old.pipes)
+    → pipes_of new.pipes ≡ at_two me peer.0 (pipes_of old.pipes me peer.0 ++ bytes_of calls) (pipes_of old.pipes)
     → last ≡ (first ++ said_entries me calls) ++ turned_all me 0 before (used plan me (seen_row row me))
     → Makes old new first last (setting plan me wire wish) (set_entries plan me wire wish)
 was_set plan me wire peer wish old new row calls before first last other done row_is was put told =
@@ -97,10 +98,10 @@ was_set plan me wire peer wish old new row calls before first last other done ro
     record { shows = λ x sh. record { edges = (w x sh).edges; pipes = (w x sh).pipes }; tells = λ x sh. (w x sh).tells }
 
 pub was_heard : (plan : Plan) (me : ℕ) (peer : EdgeId) (old new : SwitchLists) (row : RowLists) (calls : List LinkCall) (before : List Bool) (first last : List SwitchEntry)
-    → is_waiting (octets_between old.pipes peer.0 me) ≡ true
-    → HasDoneWork me old.row row calls (hears plan taken_all me peer (take 1 (octets_between old.pipes peer.0 me)) (seen_row old.row me) []) → new.row ≡ row → before ≡ used plan me (seen_row old.row me)
-    → octets_between new.pipes ≡ at_two me peer.0 (at_two peer.0 me (drop 1 (octets_between old.pipes peer.0 me)) (octets_between old.pipes) me peer.0 ++ bytes_of calls)
-    (at_two peer.0 me (drop 1 (octets_between old.pipes peer.0 me)) (octets_between old.pipes))
+    → is_waiting (pipes_of old.pipes peer.0 me) ≡ true
+    → HasDoneWork me old.row row calls (hears plan taken_all me peer (take 1 (pipes_of old.pipes peer.0 me)) (seen_row old.row me) []) → new.row ≡ row → before ≡ used plan me (seen_row old.row me)
+    → pipes_of new.pipes ≡ at_two me peer.0 (at_two peer.0 me (drop 1 (pipes_of old.pipes peer.0 me)) (pipes_of old.pipes) me peer.0 ++ bytes_of calls)
+    (at_two peer.0 me (drop 1 (pipes_of old.pipes peer.0 me)) (pipes_of old.pipes))
     → last ≡ (first ++ said_entries me calls) ++ turned_all me 0 before (used plan me (seen_row row me))
     → Makes old new first last (delivers_one plan peer.0 me) (hear_entries plan peer.0 me)
 was_heard plan me peer old new row calls before first last waits done row_is was put told =
@@ -115,7 +116,7 @@ was_heard plan me peer old new row calls before first last waits done row_is was
           (sym (wait x sh)) (w x sh).tells;
     }
 
-pub none_waits : (plan : Plan) (from to : ℕ) (old : SwitchLists) (first : List SwitchEntry) → is_waiting (octets_between old.pipes from to) ≡ false
+pub none_waits : (plan : Plan) (from to : ℕ) (old : SwitchLists) (first : List SwitchEntry) → is_waiting (pipes_of old.pipes from to) ≡ false
     → Makes old old first first (delivers_one plan from to) (hear_entries plan from to)
 none_waits plan from to old first waits =
     let wait : (x : SwitchState) → Shows old x → is_waiting (x.pipes from to) ≡ false = λ x sh. ap (λ (p : ℕ → ℕ → List ℕ). is_waiting (p from to)) (sym sh.pipes) ∙ waits in
@@ -126,7 +127,7 @@ none_waits plan from to old first waits =
     }
 
 pub was_lost : (plan : Plan) (me : ℕ) (peer : EdgeId) (old new : SwitchLists) (before : List Bool) (first last : List SwitchEntry)
-    → seen_row new.row ≡ put_at_place me (loses plan me peer (seen_row old.row me)) (seen_row old.row) → octets_between new.pipes ≡ octets_between old.pipes → before ≡ used plan me (seen_row old.row me)
+    → seen_row new.row ≡ put_at_place me (loses plan me peer (seen_row old.row me)) (seen_row old.row) → pipes_of new.pipes ≡ pipes_of old.pipes → before ≡ used plan me (seen_row old.row me)
     → last ≡ first ++ turned_all me 0 before (used plan me (seen_row new.row me))
     → Makes old new first last (loses_one plan me peer.0) (lose_entries plan me peer.0)
 was_lost plan me peer old new before first last done pipes was told = record {
@@ -138,5 +139,5 @@ was_lost plan me peer old new before first last done pipes was told = record {
 }
 
 -- the network before its first line
-pub opened : (net : SwitchLists) → seen_row net.row ≡ (λ me. first_state) → octets_between net.pipes ≡ no_octets_between → Shows net first_network
+pub opened : (net : SwitchLists) → seen_row net.row ≡ (λ me. first_state) → pipes_of net.pipes ≡ no_octets → Shows net first_network
 opened net edges pipes = record { edges = edges; pipes = pipes }

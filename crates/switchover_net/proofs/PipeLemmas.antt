@@ -1,26 +1,27 @@
--- A pipe in the lists is the pipe in the map.
-use Rattle.std.proofs.Common.{◌≡◌, ◌==◌, ◌<◌, ◌≤◌, ◌+◌, ◌-◌, ◌&&◌, ◌++◌, ◌∷◌, [], ℕ, Bool, true, false, suc, zero, List, Option, Some, None, cond, if◌then◌else◌, refl, ap, sym, arith, nat_lt, length, drop, slice_index_or, slice_set, ◌∙◌, append_assoc, append-nil}
+-- Octets that wait in pipes, and octets that are put there.
+use Rattle.std.proofs.Common.{◌≡◌, ◌==◌, ◌<◌, ◌≤◌, ◌+◌, ◌-◌, ◌&&◌, ◌++◌, ◌∷◌, [], ℕ, Bool, true, false, suc, zero, List, Option, Some, None, if◌then◌else◌, refl, ap, sym, arith, nat_lt, length, drop, slice_index_or, ◌∙◌, append_assoc, append-nil}
+use Rattle.std.proofs.lemmas.Bool.{eqb-true}
 use Rattle.std.proofs.lemmas.Bool.Decides.{nat_tests}
 use Rattle.net_base.specs.declared.outside.link_call.LinkCall.{LinkCall}
 use Rattle.status_exchange.specs.Exchange.{at_two}
 use Rattle.switchover_model.specs.Network.{earlier_pair, first_differing_pair, first_place, is_waiting}
-use Rattle.switchover_net.specs.Pipes.{bytes_of, octets_between as pipes_of, SwitchPipeLists}
+use Rattle.octet_pipes.specs.Pipes.{with_octets}
+use Rattle.switchover_net.specs.Pipes.{bytes_of}
 
-pub view_set : {X : Type 0} (d : X) (xs : List X) (i : ℕ) (v : X) (k : ℕ) → i < length xs → slice_index_or (slice_set xs i v) k d ≡ cond (k == i) v (slice_index_or xs k d)
-view_set d (x ∷ xs) zero v zero h = refl
-view_set d (x ∷ xs) zero v (suc k) h = grind (arith, nat_tests)
-view_set d (x ∷ xs) (suc i) v zero h = grind (arith, nat_tests)
-view_set d (x ∷ xs) (suc i) v (suc k) h = grind (arith, nat_tests, view_set d xs i v k (grind arith))
-view_set d [] i v k h = grind arith
+-- ---- one pipe in the two words for it
 
-pub seen_set : (p : SwitchPipeLists) (from to : ℕ) (v : List ℕ) → from < length p.rows → to < length (slice_index_or p.rows from [])
-    → pipes_of (record p { rows = slice_set p.rows from (slice_set (slice_index_or p.rows from []) to v) }) ≡ at_two from to v (pipes_of p)
-unfolding pipes_of
-seen_set p from to v h g = λ z i j. at_each i j z
+pub as_two : (from to : ℕ) (v : List ℕ) (q : ℕ → ℕ → List ℕ) → with_octets from to v q ≡ at_two from to v q
+as_two from to v q = λ i a b. at_each a b i
   where
-    at_each : (i j : ℕ) → slice_index_or (slice_index_or (slice_set p.rows from (slice_set (slice_index_or p.rows from []) to v)) i []) j []
-        ≡ at_two from to v (λ a b. slice_index_or (slice_index_or p.rows a []) b []) i j
-    at_each i j = grind (arith, nat_tests, view_set [] p.rows from (slice_set (slice_index_or p.rows from []) to v) i h, view_set [] (slice_index_or p.rows from []) to v j g)
+    at_each : (a b : ℕ) → with_octets from to v q a b ≡ at_two from to v q a b
+    at_each a b = by (a == from) refl
+      where
+        by : (s : Bool) → (a == from) ≡ s → (if s then (λ j. if j == to then v else q from j) else q a) b ≡ (if s && b == to then v else q a b)
+        by true is = let one : a ≡ from = eqb-true a from is in rw one refl
+        by false is = refl
+
+pub is_two : (from to : ℕ) (v : List ℕ) (q next : ℕ → ℕ → List ℕ) → next ≡ with_octets from to v q → next ≡ at_two from to v q
+is_two from to v q next is = is ∙ as_two from to v q
 
 -- ---- octets that wait
 
@@ -114,10 +115,10 @@ bytes_end (x ∷ calls) zero past = absurd (omega (arith, past))
 bytes_end (x ∷ calls) (suc place) past = bytes_end calls place (omega (arith, past))
 
 pub put_more : (from to : ℕ) (calls : List LinkCall) (place : ℕ) (call : LinkCall) (old now next : ℕ → ℕ → List ℕ) → place < length calls → call ≡ slice_index_or calls place call
-    → next ≡ at_two from to (now from to ++ call.bytes) now
+    → next ≡ with_octets from to (now from to ++ call.bytes) now
     → ArePut from to calls place old now → ArePut from to calls (place + 1) old next
 put_more from to calls place call old now next within at is put = record {
-  rest = ap (λ (q : ℕ → ℕ → List ℕ). at_two from to (q from to ++ bytes_of (drop (place + 1) calls)) q) is
+  rest = ap (λ (q : ℕ → ℕ → List ℕ). at_two from to (q from to ++ bytes_of (drop (place + 1) calls)) q) (is_two from to (now from to ++ call.bytes) now next is)
       ∙ (two_twice from to (at_two from to (now from to ++ call.bytes) now from to ++ bytes_of (drop (place + 1) calls)) (now from to ++ call.bytes) now
       ∙ (ap (λ (v : List ℕ). at_two from to (v ++ bytes_of (drop (place + 1) calls)) now) (two_here from to (now from to ++ call.bytes) now)
       ∙ (ap (λ (v : List ℕ). at_two from to v now)

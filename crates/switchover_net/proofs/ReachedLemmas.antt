@@ -10,14 +10,14 @@ use Rattle.switchover_model.specs.Laws.{HasSwitchTypes}
 use Rattle.switchover_model.specs.Network.{IsGoing, SwitchState, done, done_all, first_network, is_waiting, takes_all}
 use Rattle.switchover_model.proofs.RunLemmas.{deliveries_go_on}
 use Rattle.switchover_net.specs.Net.{IsReached, SwitchLists, ShowsSwitchState}
-use Rattle.switchover_net.specs.Pipes.{octets_between}
+use Rattle.octet_pipes.specs.Pipes.{pipes_of}
 use Rattle.switchover_net.specs.Rows.{seen_row}
 
 -- what comes is not refused
-pub hears_on : (net : SwitchLists) (from to : EdgeId) → IsChecked net.row.plan → HasSwitchTypes net.row.plan → IsReached net → is_waiting (octets_between net.pipes from.0 to.0) ≡ true
-    → IsGoing (independent_hears net.row.plan takes_all to.0 from (take 1 (octets_between net.pipes from.0 to.0)) (seen_row net.row to.0) [])
+pub hears_on : (net : SwitchLists) (from to : EdgeId) → IsChecked net.row.plan → HasSwitchTypes net.row.plan → IsReached net → is_waiting (pipes_of net.pipes from.0 to.0) ≡ true
+    → IsGoing (independent_hears net.row.plan takes_all to.0 from (take 1 (pipes_of net.pipes from.0 to.0)) (seen_row net.row to.0) [])
 hears_on net from to checked types reached waits =
-    subst (λ (e : ℕ → IndepState). IsGoing (independent_hears net.row.plan takes_all to.0 from (take 1 (octets_between net.pipes from.0 to.0)) (e to.0) [])) (sym reached.shows.edges)
+    subst (λ (e : ℕ → IndepState). IsGoing (independent_hears net.row.plan takes_all to.0 from (take 1 (pipes_of net.pipes from.0 to.0)) (e to.0) [])) (sym reached.shows.edges)
     (subst (λ (p : ℕ → ℕ → List ℕ). IsGoing (independent_hears net.row.plan takes_all to.0 from (take 1 (p from.0 to.0)) ((done_all net.row.plan reached.lines first_network).edges to.0) []))
     (sym reached.shows.pipes)
     (deliveries_go_on net.row.plan checked types reached.lines from.0 to.0 1 (ap (λ (p : ℕ → ℕ → List ℕ). is_waiting (p from.0 to.0)) (sym reached.shows.pipes) ∙ waits)))

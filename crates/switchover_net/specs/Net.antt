@@ -7,12 +7,12 @@ use Rattle.net_base.specs.plan.Accepted.{IsChecked}
 use Rattle.switchover_model.specs.Laws.{HasSwitchTypes}
 use Rattle.switchover_model.specs.Network.{SwitchState, connects_one, done_all, first_network, loses_one}
 use Rattle.switchover_model.specs.Text.{connect_entries, lose_entries}
-use Rattle.switchover_net.specs.Pipes.{SwitchPipeLists, octets_between}
+use Rattle.octet_pipes.specs.Pipes.{PipeLists, pipes_of}
 use Rattle.switchover_net.specs.Rows.{RowLists, seen_row}
 
 pub record SwitchLists : Type 0 where
   pub row : RowLists
-  pub pipes : SwitchPipeLists
+  pub pipes : PipeLists
 
 -- what always holds of it
 pub record IsNet (net : SwitchLists) : Type 0 where
@@ -23,7 +23,7 @@ pub record IsNet (net : SwitchLists) : Type 0 where
 -- The edges are in this state, and these octets are on their way. What came by a connection before is not kept: it is for laws alone.
 pub record ShowsSwitchState (net : SwitchLists) (x : SwitchState) : Type 0 where
   pub edges : seen_row net.row ≡ x.edges
-  pub pipes : octets_between net.pipes ≡ x.pipes
+  pub pipes : pipes_of net.pipes ≡ x.pipes
 
 -- some lines of a script have brought the network there
 pub record IsReached (net : SwitchLists) : Type 0 where

@@ -5,13 +5,10 @@
 #![tactic(auto)]
 
 mod edge_row;
-mod pipe;
-mod pipe_row;
-mod pipes;
 mod script;
 mod switch_net;
 mod taking_link;
-mod two_edges;
+mod waiting;
 
 pub use script::play;
 pub use switch_net::SwitchNet;

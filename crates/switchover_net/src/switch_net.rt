@@ -9,8 +9,8 @@ mod lines;
 mod steps;
 
 use crate::edge_row::EdgeRow;
-use crate::pipes::Pipes;
 use net_base::{List, NoMemory, Plan};
+use octet_pipes::Pipes;
 use std::alloc::Global;
 use std::marker::Model;
 use switchover_model::{SwitchEntry, SwitchLine};

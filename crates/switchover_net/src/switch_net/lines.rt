@@ -7,7 +7,8 @@ ghost use Rattle.switchover_model.specs.Planned.{IsLineOf};
 ghost use Rattle.switchover_net.specs.Net.{IsReached, Makes, ShowsSwitchState, cut_entries, pair_entries};
 
 use crate::SwitchNet;
-use crate::two_edges::{joins_two, other_of_two};
+use crate::waiting::{first_pair, is_waiting};
+use independent_mode::{joins_two, other_of_two};
 use net_base::{EdgeId, List, NoMemory, WireId};
 use std::alloc::Global;
 use switchover_model::{SwitchEntry, SwitchLine};
@@ -50,9 +51,9 @@ impl SwitchNet {
                 !self.are_joined(edge, peer) || !self.row.is_connected(edge, peer)
             }
             SwitchLine::Deliver { from, to, .. } => {
-                !self.pipes.is_waiting(from.0 as usize, to.0 as usize)
+                !is_waiting(&self.pipes, from.0 as usize, to.0 as usize)
             }
-            SwitchLine::Settle { .. } => self.pipes.first_pair().is_none(),
+            SwitchLine::Settle { .. } => first_pair(&self.pipes).is_none(),
             SwitchLine::Set { edge, wire, wish } => {
                 self.other_end(edge, wire).is_none() || self.row.calls_so(edge, wire, wish)
             }
@@ -163,7 +164,7 @@ impl SwitchNet {
         ensures step { OnOk result (Makes self.old self.new out.old out.new (settling self.old.row.plan count) (settle_entries self.old.row.plan count)) }
     {
         for _time in 0..count {
-            match self.pipes.first_pair() {
+            match first_pair(&self.pipes) {
                 Some(pair) => self.deliver(
                     alloc,
                     EdgeId(pair.0 as u16),

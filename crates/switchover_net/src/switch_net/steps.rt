@@ -6,10 +6,12 @@ ghost use Rattle.status_exchange.specs.Exchange.{at_two};
 ghost use Rattle.switchover_model.specs.Network.{IsGoing, connects_one, delivers_one, is_waiting, loses_one, setting, takes_all};
 ghost use Rattle.switchover_model.specs.Text.{connect_entries, hear_entries, lose_entries, said_entries, set_entries, turned_switch, turned_all, used as used_by};
 ghost use Rattle.switchover_net.specs.Net.{IsReached, Makes};
-ghost use Rattle.switchover_net.specs.Pipes.{bytes_of, octets_between};
+ghost use Rattle.octet_pipes.specs.Pipes.{pipes_of};
+ghost use Rattle.switchover_net.specs.Pipes.{bytes_of};
 ghost use Rattle.switchover_net.specs.Rows.{HasDoneWork, seen_row};
 
 use crate::SwitchNet;
+use crate::waiting::{is_waiting, put_all};
 use independent_mode::{IndepStop, Wish};
 use net_base::{EdgeId, LinkCall, List, NoMemory, WireId};
 use std::alloc::Global;
@@ -103,7 +105,7 @@ impl SwitchNet {
         ensures used { OnOk result (used.new.items ≡ used_by self.new.row.plan to.0 (seen_row self.new.row to.0)) }
         ensures step { OnOk result (Makes self.old self.new out.old out.new (delivers_one self.old.row.plan from.0 to.0) (hear_entries self.old.row.plan from.0 to.0)) }
     {
-        if !self.pipes.is_waiting(from.0 as usize, to.0 as usize) {
+        if !is_waiting(&self.pipes, from.0 as usize, to.0 as usize) {
             return Ok(());
         }
         let held = self.row.held(to, from);
@@ -117,7 +119,7 @@ impl SwitchNet {
     }
 
     // The first octet on its way is heard. What that puts is given out.
-    #[tactic(auto, using(crate::proofs::ReachedLemmas::hears_on))]
+    #[tactic(auto, using(crate::proofs::ReachedLemmas::hears_on, crate::proofs::PipeLemmas::is_two))]
     fn hear_one(
         &mut self,
         alloc: Global,
@@ -126,12 +128,12 @@ impl SwitchNet {
     ) -> Result<List<LinkCall>, NoMemory>
         requires from { from.0 < length self.old.row.plan.edges }
         requires to { to.0 < length self.old.row.plan.edges }
-        requires waits { is_waiting (octets_between self.old.pipes from.0 to.0) ≡ true }
+        requires waits { is_waiting (pipes_of self.old.pipes from.0 to.0) ≡ true }
         requires reached { IsReached self.old }
         ensures plan { self.new.row.plan ≡ self.old.row.plan }
-        ensures going { IsGoing (independent_hears self.old.row.plan takes_all to.0 from (take 1 (octets_between self.old.pipes from.0 to.0)) (seen_row self.old.row to.0) []) }
-        ensures row { IfOk result (λ calls. HasDoneWork to.0 self.old.row self.new.row calls (independent_hears self.old.row.plan takes_all to.0 from (take 1 (octets_between self.old.pipes from.0 to.0)) (seen_row self.old.row to.0) [])) }
-        ensures pipes { octets_between self.new.pipes ≡ at_two from.0 to.0 (drop 1 (octets_between self.old.pipes from.0 to.0)) (octets_between self.old.pipes) }
+        ensures going { IsGoing (independent_hears self.old.row.plan takes_all to.0 from (take 1 (pipes_of self.old.pipes from.0 to.0)) (seen_row self.old.row to.0) []) }
+        ensures row { IfOk result (λ calls. HasDoneWork to.0 self.old.row self.new.row calls (independent_hears self.old.row.plan takes_all to.0 from (take 1 (pipes_of self.old.pipes from.0 to.0)) (seen_row self.old.row to.0) [])) }
+        ensures pipes { pipes_of self.new.pipes ≡ at_two from.0 to.0 (drop 1 (pipes_of self.old.pipes from.0 to.0)) (pipes_of self.old.pipes) }
     {
         let heard = self
             .row
@@ -158,10 +160,10 @@ impl SwitchNet {
         requires peer { peer.0 < length self.old.row.plan.edges }
         requires before { length before.now ≡ length self.old.row.plan.wires }
         ensures row { self.new.row ≡ self.old.row }
-        ensures pipes { OnOk result (octets_between self.new.pipes ≡ at_two me.0 peer.0 (octets_between self.old.pipes me.0 peer.0 ++ bytes_of calls.now) (octets_between self.old.pipes)) }
+        ensures pipes { OnOk result (pipes_of self.new.pipes ≡ at_two me.0 peer.0 (pipes_of self.old.pipes me.0 peer.0 ++ bytes_of calls.now) (pipes_of self.old.pipes)) }
         ensures out { OnOk result (out.new ≡ (out.old ++ said_entries me.0 calls.now) ++ turned_all me.0 0 before.now (used_by self.old.row.plan me.0 (seen_row self.old.row me.0))) }
     {
-        self.pipes.put_all(me, peer, calls.as_slice())?;
+        put_all(&mut self.pipes, me, peer, calls.as_slice())?;
         say_all(alloc, me, calls.as_slice(), out)?;
         self.tell_turned(me, before, out)
     }

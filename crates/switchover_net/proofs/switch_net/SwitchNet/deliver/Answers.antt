@@ -1,6 +1,6 @@
 use Rattle.std.proofs.Common.{◌≡◌, ◌<◌, ◌≤◌, ◌∙◌, ℕ, List, length, min, ap, arith}
 use Rattle.switchover_net.specs.Net.{SwitchLists as NetLists}
-use Rattle.switchover_net.specs.Pipes.{octets_between as pipes_of}
+use Rattle.octet_pipes.specs.Pipes.{pipes_of}
 use Rattle.switchover_net.proofs.LineLemmas.{all_delivered, more_delivered, piece_long}
 use Rattle.switchover_net.proofs.switch_net.SwitchNet.deliver.Goals as goal
 

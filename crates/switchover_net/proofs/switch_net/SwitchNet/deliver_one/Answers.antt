@@ -3,7 +3,7 @@ use Rattle.net_base.specs.declared.plan.Plan.{Plan}
 use Rattle.independent_mode.specs.Receiver.{HoldsBy}
 use Rattle.switchover_model.specs.Network.{is_waiting}
 use Rattle.switchover_net.specs.Net.{SwitchLists as NetLists}
-use Rattle.switchover_net.specs.Pipes.{octets_between as pipes_of}
+use Rattle.octet_pipes.specs.Pipes.{pipes_of}
 use Rattle.switchover_net.specs.Rows.{seen_row}
 use Rattle.switchover_net.proofs.GrowthLemmas.{still_used, was_silent}
 use Rattle.switchover_net.proofs.UsedLemmas.{used_long}
