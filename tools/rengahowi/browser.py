@@ -66,23 +66,25 @@ def click(browser: Any, found: Any) -> bool:
     return bool(elements)
 
 
+def waited_for(found: Any) -> Any:
+    """What is found, as soon as it is something; a machine under load has time for it."""
+    until = time.monotonic() + 600
+    while True:
+        something = found()
+        if something or time.monotonic() > until:
+            return something
+        time.sleep(0.1)
+
+
 def try_cases(browser: Any) -> None:
     """What a page of what-if shows."""
     print("cases", len(browser.find_elements("css selector", "tbody tr")))
     print("cells", len(browser.find_elements("css selector", "td[data-site]")))
     click(browser, "td[data-site]")
     frame = browser.find_element("id", "frame")
-    for _ in range(100):
-        if (frame.get_attribute("src") or "").startswith("blob:"):
-            break
-        time.sleep(0.1)
+    waited_for(lambda: (frame.get_attribute("src") or "").startswith("blob:"))
     browser.switch_to.frame(frame)
-    for _ in range(100):
-        rows = browser.find_elements("css selector", "g.row")
-        if rows:
-            break
-        time.sleep(0.1)
-    print("ladder", bool(rows))
+    print("ladder", bool(waited_for(lambda: browser.find_elements("css selector", "g.row"))))
     if len(sys.argv) > 2:
         browser.switch_to.default_content()
         browser.save_screenshot(sys.argv[2])

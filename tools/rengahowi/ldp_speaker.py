@@ -2,6 +2,7 @@
 
 from __future__ import annotations
 
+import contextlib
 import ipaddress
 import select
 import socket
@@ -205,10 +206,11 @@ class Speaker:
             self.turn(left)
 
     def stay(self, seconds: float) -> None:
-        """Keeps the session for a while."""
+        """Keeps the session for a while, or until an interrupt."""
         end = time.monotonic() + seconds
-        while time.monotonic() < end:
-            self.turn(end - time.monotonic())
+        with contextlib.suppress(KeyboardInterrupt):
+            while time.monotonic() < end:
+                self.turn(end - time.monotonic())
         self.besides += sum(kind not in (KEEP_ALIVE, HELLO) for _, kind, _ in self.waiting)
 
     def close(self) -> None:

@@ -7,7 +7,7 @@ import pathlib
 import re
 import shutil
 
-from .trying import TOP, compare, run, tool
+from .trying import PATIENCE, TOP, compare, run, tool
 
 TYPE_CHECKING = False
 if TYPE_CHECKING:
@@ -33,16 +33,24 @@ l2vpn s type vpls
 exit
 """
 # The addresses of both ends are those of the namespace's loopback. The session is kept until vtysh has told what FRR makes of it.
-SCRIPT = """ip link set lo up && ip address add 10.0.0.1/32 dev lo && ip address add 10.0.0.2/32 dev lo || exit 9
+# Nothing is waited for by a time: each step begins once the one before shows, or once the speaker has ended.
+SCRIPT = """set -m  # so that an interrupt reaches the speaker
+ip link set lo up && ip address add 10.0.0.1/32 dev lo && ip address add 10.0.0.2/32 dev lo || exit 9
 start() {{ "{daemons}/$1" -d -f "$1.conf" -i "$PWD/$1.pid" -z "$PWD/zserv.api" --vty_socket "$PWD" -u frr -g frr -P 0 "${{@:2}}" >/dev/null 2>&1; }}
-touch zebra.conf
-start zebra && sleep 1 && start ldpd --ctl_socket "$PWD" || exit 9
-"{speak}" "{scenario}" "{report}" a b --stay 8 >said 2>fault &
+comes() {{
+    for turn in $(seq {turns}); do "$@" && return; [[ -n "$speaker" ]] && ! kill -0 "$speaker" && return 1; sleep 0.1; done 2>/dev/null
+    return 1
+}}
+told() {{ vtysh --vty_socket "$PWD" -c 'show l2vpn atom binding'; }}
+is_bound() {{ told | grep -q 'Remote Label: *16'; }}
+touch zebra.conf said
+start zebra && comes test -S zserv.api && start ldpd --ctl_socket "$PWD" || exit 9
+"{speak}" "{scenario}" "{report}" a b --seconds {patience} --stay {patience} >said 2>fault &
 speaker=$!
-for turn in $(seq 60); do grep -q 'a b: LabelMapping' said && break; sleep 1; done
-sleep 3
-vtysh --vty_socket "$PWD" -c 'show l2vpn atom binding'
-wait $speaker
+comes grep -q 'a b: LabelMapping' said && comes is_bound
+told
+kill -INT "$speaker"
+wait "$speaker"
 status=$?
 kill "$(cat zebra.pid)" "$(cat ldpd.pid)"
 exit $status
@@ -69,7 +77,8 @@ def spoken(folder: pathlib.Path, files: Any) -> Iterator[Any]:
     shutil.chown(folder, "frr", "frr")
     folder.parent.chmod(0o755)
     (folder / "ldpd.conf").write_text(CONFIGURATION, encoding="ascii")
-    script = SCRIPT.format(daemons=DAEMONS, speak=TOP / "tools" / "speak", scenario=files[0], report=files[1])
+    more = {"scenario": files[0], "report": files[1], "patience": PATIENCE, "turns": PATIENCE * 10}
+    script = SCRIPT.format(daemons=DAEMONS, speak=TOP / "tools" / "speak", **more)
     done = run(["unshare", "-n", "bash", "-c", script], folder, text=True)
     if done.returncode == 9:
         print("FRR does not start in a network namespace here, and speak does not speak to it")

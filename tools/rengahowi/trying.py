@@ -7,10 +7,12 @@ import pathlib
 import shlex
 import shutil
 import subprocess
+import time
 import xml.etree.ElementTree
 
 TYPE_CHECKING = False
 if TYPE_CHECKING:
+    from collections.abc import Callable
     from typing import Any
 
 TOP = pathlib.Path(__file__).resolve().parent.parent.parent
@@ -21,6 +23,8 @@ PACKAGES = {"dot": "graphviz", "tshark": "tshark", "capinfos": "wireshark-common
 ERROR = 0x00800000
 HTML = "{http://www.w3.org/1999/xhtml}"
 SVG = "{http://www.w3.org/2000/svg}"
+# Seconds after which nothing is waited for any longer: so many that a machine under load has time for all that is waited for.
+PATIENCE = 600
 
 
 def run(words: Any, folder: str | pathlib.Path, **more: Any) -> Any:
@@ -40,6 +44,16 @@ def compare(name: str, got: Any, want: Any) -> bool:
         return True
     print(f"{name}: got {got!r}, and not {want!r}")
     return False
+
+
+def comes(is_so: Callable[[], bool]) -> bool:
+    """Waits until something is so, and answers whether it came to be so."""
+    until = time.monotonic() + PATIENCE
+    while not is_so():
+        if time.monotonic() > until:
+            return False
+        time.sleep(0.05)
+    return True
 
 
 def build() -> None:
