@@ -19,10 +19,9 @@ use Rattle.net_base.specs.declared.trace.entry.Entry.TheVariants as entry
 use Rattle.net_base.specs.plan.Places.{is_mesh_wire, service_of}
 use Rattle.net_base.specs.trace.Isolated.{Among, CameIn, Isolated, IsolatedAfter, IsolatedEntry, inner_at}
 use Rattle.net_base.specs.trace.Split.{Split, SplitEntry, SplitSent, is_switching_point}
-use Rattle.report_entries.specs.Reading.{ok_of}
 use Rattle.trace_audit.specs.declared.judge.Judge.{Judge}
 use Rattle.trace_audit.specs.Arrivals.{Entered, has_come, is_entered, with_came}
-use Rattle.trace_audit.specs.Judged.{begun, came_after, crosses, entered_at, entered_in_service, first_line, has_one, inner_found, is_crossing, is_stray, judges, judges_all, with_one}
+use Rattle.trace_audit.specs.Judged.{begun, came_after, crosses, entered_at, entered_in_service, first_line, has_one, inner_found, is_crossing, is_stray, judges, judges_all, ok_of, with_one}
 
 -- ---- the frames that entered
 

@@ -1,5 +1,5 @@
 -- What is known of a report behind the lines that were read.
-use Rattle.std.specs.Prelude.{◌==◌, ◌&&◌, ◌+◌, not, ℕ, Bool, false, List, [], ◌∷◌, Option, Some, None, if◌then◌else◌}
+use Rattle.std.specs.Prelude.{◌==◌, ◌&&◌, ◌+◌, not, ℕ, Bool, false, List, [], ◌∷◌, Option, Some, None, Result, Ok, Err, if◌then◌else◌}
 use Rattle.net_base.specs.declared.plan.Plan.{Plan}
 use Rattle.net_base.specs.declared.plan.places.CircuitId.{CircuitId}
 use Rattle.net_base.specs.declared.plan.places.EdgeId.{EdgeId}
@@ -12,7 +12,6 @@ use Rattle.net_base.specs.declared.trace.entry.Entry.TheVariants.{In, Left, Sent
 use Rattle.net_base.specs.plan.Places.{is_mesh_wire, service_of}
 use Rattle.net_base.specs.trace.Isolated.{inner_at}
 use Rattle.net_base.specs.trace.Split.{is_switching_point}
-use Rattle.report_entries.specs.Reading.{ok_of}
 use Rattle.trace_audit.specs.declared.judge.Judge.{Judge}
 use Rattle.trace_audit.specs.Arrivals.{Entered, has_come, with_came}
 
@@ -21,6 +20,11 @@ abbrev pub begun : Judge
 begun = record { line = 1; came = []; stray = None; crossed = None }
 
 -- ---- frames that leave
+
+-- the value, where there is no fault
+abbrev pub ok_of : {A E : Type 0} → Result A E → Option A
+ok_of (Ok x) = Some x
+ok_of (Err e) = None
 
 -- the frame without the tag of the circuit, where it has no fault
 abbrev pub inner_found : Plan → CircuitId → List ℕ → Option (List ℕ)
