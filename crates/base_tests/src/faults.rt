@@ -6,7 +6,6 @@ use ldp_codec::DecodeFault;
 use ldp_stream::StreamFault;
 use net_base::Field;
 use pcap_file::{CaptureFault, CaptureField};
-use provider_edge::EdgeStop;
 use pw_stitch::SwapDrop;
 use vccv_channel::VccvFault;
 
@@ -100,11 +99,6 @@ static OF_STREAMS: [(StreamFault, &str); 2] = [
     (StreamFault::NoMemory, "out of memory"),
 ];
 
-static OF_EDGES: [(EdgeStop, &str); 2] = [
-    (EdgeStop::NoMemory, "out of memory"),
-    (EdgeStop::Stopped, "stopped"),
-];
-
 #[test]
 fn say_what_is_wrong(rt: HostRuntime) {
     let alloc = rt.alloc();
@@ -114,5 +108,4 @@ fn say_what_is_wrong(rt: HostRuntime) {
     all_say(&rt, alloc, OF_CAPTURES.as_slice());
     all_say(&rt, alloc, OF_PDUS.as_slice());
     all_say(&rt, alloc, OF_STREAMS.as_slice());
-    all_say(&rt, alloc, OF_EDGES.as_slice());
 }

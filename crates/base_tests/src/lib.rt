@@ -1,12 +1,10 @@
-//! Tests of the crates below the network: plans, tables of addresses, LDP and pseudowires, frames, packets, captures, texts and
-//! scenarios, and edges that take inputs over links in memory. They stand in a crate of their own, since a crate with tests is proved
-//! twice, and in one, since each such crate loads and links all that its tests use.
+//! Tests of the crates below an edge: plans, tables of addresses, LDP and pseudowires, frames, packets, captures, texts and
+//! scenarios. They stand in a crate of their own, since a crate with tests is proved twice, and in one, since each such crate loads and
+//! links all that its tests use; `edge_tests` has those of an edge.
 #![tactic(auto)]
 
 #[cfg(test)]
 mod captures;
-#[cfg(test)]
-mod edges;
 #[cfg(test)]
 mod faults;
 #[cfg(test)]

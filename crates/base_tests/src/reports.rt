@@ -1,15 +1,19 @@
 //! What no clause says: that the lines are those of the format, on a plan of two edges, a circuit and a wire.
 
-use crate::edges::plans::{A, B, plan_of};
 use crate::words::is_same;
 use net_base::{
-    Arrival, CircuitId, Down, DropCause, Entry, Event, List, MemSink, Octets, Plan, Reason,
+    Arrival, CircuitId, Down, DropCause, EdgeId, Entry, Event, List, MemSink, Octets, Plan, Reason,
     StateName, Trace, WireId,
 };
 use report_text::{Ending, put_report};
+use scenario_text::read_scenario;
 use std::alloc::Global;
 use std::process::Abort;
 use text_lines::Page;
+
+const A: EdgeId = EdgeId(0);
+
+const B: EdgeId = EdgeId(1);
 
 const CA: CircuitId = CircuitId(0);
 
@@ -233,7 +237,9 @@ fn tells(rt: &impl Abort, alloc: Global, plan: &Plan, trace: &Trace, ending: End
 
 // The same in the plan.
 fn reports(rt: &impl Abort, alloc: Global, trace: &Trace, ending: Ending, text: &str) {
-    let plan = plan_of(rt, alloc, PLAN);
+    let plan = read_scenario(alloc, PLAN.as_bytes())
+        .expect(rt, "a scenario")
+        .plan;
     tells(rt, alloc, &plan, trace, ending, text);
 }
 

@@ -1,10 +1,10 @@
 //! A core edge hears a MAC withdraw, and passes it on (RFC 4762 section 6.2). All octets were worked out by hand.
 
-use crate::edges::plans::{A, B, C, HIERARCHY, X};
-use crate::edges::proposals::{
+use crate::plans::{A, B, C, HIERARCHY, X};
+use crate::proposals::{
     KEEP_ALIVE_OF_B, KEEP_ALIVE_OF_C, KEEP_ALIVE_OF_X, PROPOSAL_OF_B, PROPOSAL_OF_C, PROPOSAL_OF_X,
 };
-use crate::edges::steps::{Step, plays};
+use crate::steps::{Step, plays};
 use std::alloc::Global;
 use std::process::Abort;
 

@@ -1,7 +1,7 @@
 //! An edge over a link in memory.
 ghost use Rattle.provider_edge.specs.Taking.{IsInRange};
 
-use crate::edges::plans::opened;
+use crate::plans::opened;
 use edge_model::{Effects, Input};
 use net_base::{EdgeId, List, MemLink};
 use provider_edge::Edge;

@@ -1,10 +1,10 @@
 //! Pings over a switching point, as it passes them on, and as an edge at an end of the wire asks and answers them (RFC 5085, RFC 6073
 //! section 4). Octets were worked out by hand.
 
-use crate::edges::plans::{A, B, C, PATH_BY_ALERT, PATH_BY_EXPIRY, PATH_BY_HEADER};
-use crate::edges::proposals::{KEEP_ALIVE_OF_B, PROPOSAL_OF_B};
-use crate::edges::steps::{Step, plays};
-use crate::edges::stitches::UP;
+use crate::plans::{A, B, C, PATH_BY_ALERT, PATH_BY_EXPIRY, PATH_BY_HEADER};
+use crate::proposals::{KEEP_ALIVE_OF_B, PROPOSAL_OF_B};
+use crate::steps::{Step, plays};
+use crate::stitches::UP;
 use net_base::DropCause;
 use std::alloc::Global;
 use std::process::Abort;

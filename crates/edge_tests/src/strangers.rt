@@ -1,12 +1,12 @@
 //! Peers that send what they like, and links that fail: what an edge answers, and what it holds of it. All octets were worked out
 //! by hand.
 
-use crate::edges::plans::{A, B, C, CORE, PAIR};
-use crate::edges::proposals::{KEEP_ALIVE_OF_B, KEEP_ALIVE_OF_C, PROPOSAL_OF_B, PROPOSAL_OF_C};
-use crate::edges::pseudowires::UP;
-use crate::edges::side::{Side, side_of, take};
-use crate::edges::steps::{Step, play, plays};
 use crate::hex::{octets_of, push_octets};
+use crate::plans::{A, B, C, CORE, PAIR};
+use crate::proposals::{KEEP_ALIVE_OF_B, KEEP_ALIVE_OF_C, PROPOSAL_OF_B, PROPOSAL_OF_C};
+use crate::pseudowires::UP;
+use crate::side::{Side, side_of, take};
+use crate::steps::{Step, play, plays};
 use edge_model::Input;
 use net_base::{DropCause, Reason, StateName};
 use std::alloc::Global;

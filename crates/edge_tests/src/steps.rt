@@ -2,9 +2,9 @@
 ghost use Rattle.std.specs.Prelude.{IfSome};
 ghost use Rattle.provider_edge.specs.Taking.{IsInRange};
 
-use crate::edges::side::{Side, side_of, take_often};
 use crate::hex::octets_of;
-use crate::words::is_same;
+use crate::octets::is_same;
+use crate::side::{Side, side_of, take_often};
 use edge_model::{Effect, Effects, Input};
 use net_base::{
     Arrival, CircuitId, DropCause, EdgeId, LinkCall, MemLink, SegKey, ServiceId, StateName, WireId,

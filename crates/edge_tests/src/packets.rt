@@ -1,6 +1,6 @@
 //! One frame as a pseudowire carries it, with octets that were worked out by hand (RFC 3032 section 2.1, RFC 4448 section 4).
 
-use crate::words::is_front;
+use crate::octets::is_front;
 use eth_encap::{FrameFault, StackEntry, pack, read_entry, unpack};
 use net_base::Label;
 use std::process::Abort;

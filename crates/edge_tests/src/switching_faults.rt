@@ -1,11 +1,9 @@
 //! A switching point whose link fails as it passes something on (RFC 6073).
 
-use crate::edges::plans::{A, B, C, PATH};
-use crate::edges::proposals::{
-    KEEP_ALIVE_OF_A, KEEP_ALIVE_OF_C, PROPOSAL_OF_A, PROPOSAL_OF_C_TO_B,
-};
-use crate::edges::steps::{Step, plays};
-use crate::edges::stitches::{
+use crate::plans::{A, B, C, PATH};
+use crate::proposals::{KEEP_ALIVE_OF_A, KEEP_ALIVE_OF_C, PROPOSAL_OF_A, PROPOSAL_OF_C_TO_B};
+use crate::steps::{Step, plays};
+use crate::stitches::{
     MAPPING_OF_A, MAPPING_OF_C, PASSED_TO_A, PASSED_TO_C, RELEASE_OF_C, UP, WITHDRAWAL_TO_C,
 };
 use net_base::DropCause;

@@ -1,11 +1,9 @@
 //! A switching point between two edges of a wire passes on what each of them tells of it (RFC 6073 sections 4, 7 and 10). All octets
 //! were worked out by hand.
 
-use crate::edges::plans::{A, B, C, PATH};
-use crate::edges::proposals::{
-    KEEP_ALIVE_OF_A, KEEP_ALIVE_OF_C, PROPOSAL_OF_A, PROPOSAL_OF_C_TO_B,
-};
-use crate::edges::steps::{Step, plays};
+use crate::plans::{A, B, C, PATH};
+use crate::proposals::{KEEP_ALIVE_OF_A, KEEP_ALIVE_OF_C, PROPOSAL_OF_A, PROPOSAL_OF_C_TO_B};
+use crate::steps::{Step, plays};
 use net_base::DropCause;
 use std::alloc::Global;
 use std::process::Abort;

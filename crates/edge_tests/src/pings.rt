@@ -1,9 +1,9 @@
 //! An edge pings the far end of a pseudowire, and answers its pings (RFC 5085). Octets were worked out by hand.
 
-use crate::edges::plans::{A, B, BY_ALERT, BY_EXPIRY, BY_HEADER};
-use crate::edges::proposals::{KEEP_ALIVE_OF_A, PROPOSAL_OF_A};
-use crate::edges::pseudowires::UP;
-use crate::edges::steps::{Step, plays};
+use crate::plans::{A, B, BY_ALERT, BY_EXPIRY, BY_HEADER};
+use crate::proposals::{KEEP_ALIVE_OF_A, PROPOSAL_OF_A};
+use crate::pseudowires::UP;
+use crate::steps::{Step, plays};
 use net_base::DropCause;
 use std::alloc::Global;
 use std::process::Abort;

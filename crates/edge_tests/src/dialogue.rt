@@ -1,9 +1,9 @@
 //! Two edges, each over a link of its own, of which each takes what the other one's link took, and nothing else.
 
-use crate::edges::plans::{A, B, PAIR};
-use crate::edges::proposals::{KEEP_ALIVE_OF_A, KEEP_ALIVE_OF_B, PROPOSAL_OF_A, PROPOSAL_OF_B};
-use crate::edges::side::{Side, side_of, take};
-use crate::edges::steps::{Step, play};
+use crate::plans::{A, B, PAIR};
+use crate::proposals::{KEEP_ALIVE_OF_A, KEEP_ALIVE_OF_B, PROPOSAL_OF_A, PROPOSAL_OF_B};
+use crate::side::{Side, side_of, take};
+use crate::steps::{Step, play};
 use edge_model::Input;
 use net_base::{DropCause, EdgeId, LinkCall, StateName};
 use std::alloc::Global;

@@ -1,8 +1,8 @@
 //! One edge without wires bridges frames between its circuits.
 
-use crate::edges::plans::BRIDGE;
-use crate::edges::side::{Side, side_of, take};
-use crate::edges::steps::{Step, play, plays};
+use crate::plans::BRIDGE;
+use crate::side::{Side, side_of, take};
+use crate::steps::{Step, play, plays};
 use edge_model::Input;
 use net_base::{CircuitId, DropCause, EdgeId, StateName};
 use std::alloc::Global;

@@ -1,8 +1,8 @@
 //! An edge hears what its peer says of a pseudowire.
 
-use crate::edges::plans::{A, B, PAIR, THREE_WIRES};
-use crate::edges::proposals::{KEEP_ALIVE_OF_A, PROPOSAL_OF_A};
-use crate::edges::steps::{Step, plays};
+use crate::plans::{A, B, PAIR, THREE_WIRES};
+use crate::proposals::{KEEP_ALIVE_OF_A, PROPOSAL_OF_A};
+use crate::steps::{Step, plays};
 use net_base::DropCause;
 use std::alloc::Global;
 use std::process::Abort;

@@ -1,8 +1,8 @@
 //! Edges take what comes of connections. Their wire is off, so that nothing but sessions is told.
 
-use crate::edges::plans::{A, B, PAIR};
-use crate::edges::proposals::{KEEP_ALIVE_OF_A, KEEP_ALIVE_OF_B, PROPOSAL_OF_A, PROPOSAL_OF_B};
-use crate::edges::steps::{Step, plays};
+use crate::plans::{A, B, PAIR};
+use crate::proposals::{KEEP_ALIVE_OF_A, KEEP_ALIVE_OF_B, PROPOSAL_OF_A, PROPOSAL_OF_B};
+use crate::steps::{Step, plays};
 use net_base::{EdgeId, Reason, StateName};
 use std::alloc::Global;
 use std::process::Abort;

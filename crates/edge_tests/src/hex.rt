@@ -1,0 +1,36 @@
+//! Octets from their hexadecimal digits.
+
+use std::alloc::Global;
+use std::process::Abort;
+
+// The value of a hexadecimal digit; none for a blank or the end of a line.
+fn nibble(digit: u8) -> Option<u8> {
+    match digit {
+        b'0'..=b'9' => Some(digit - b'0'),
+        b'a'..=b'f' => Some(digit - b'a' + 10),
+        _ => None,
+    }
+}
+
+/// Adds the octets of pairs of hexadecimal digits at the end; what is no digit is passed over.
+pub fn push_octets(rt: &impl Abort, octets: &mut Vec<u8>, text: &str) {
+    let mut high = None;
+    for digit in text.as_bytes() {
+        if let Some(value) = nibble(*digit) {
+            match high {
+                None => high = Some(value),
+                Some(front) => {
+                    octets.push((front << 4) | value).expect(rt, "memory");
+                    high = None;
+                }
+            }
+        }
+    }
+}
+
+/// The octets of pairs of hexadecimal digits; what is no digit is passed over.
+pub fn octets_of(rt: &impl Abort, alloc: Global, text: &str) -> Vec<u8> {
+    let mut octets = Vec::new(alloc);
+    push_octets(rt, &mut octets, text);
+    octets
+}
