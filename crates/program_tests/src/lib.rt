@@ -1,6 +1,5 @@
-//! Tests of runs of the network, and of what no clause of the program's crate says: whole calls, and the outside that no contract
-//! sees. They stand in a crate of their own, since a crate with tests is proved twice, and in one, since each such crate loads and links
-//! all that its tests use.
+//! Tests of what no clause of the program's crate says: whole calls, and the outside that no contract sees. They stand in a crate of
+//! their own, since a crate with tests is proved twice, and in one, since each such crate loads and links all that its tests use.
 #![tactic(auto)]
 
 #[cfg(test)]
@@ -29,8 +28,6 @@ mod frames;
 mod hierarchy;
 #[cfg(test)]
 mod migrations;
-#[cfg(test)]
-mod networks;
 #[cfg(test)]
 mod pings;
 #[cfg(test)]

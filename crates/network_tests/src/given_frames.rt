@@ -1,8 +1,8 @@
 //! A network tells the same of a frame that it is given and of one that it is lent.
 
-use crate::networks::plans::{BRIDGE, network_of};
-use crate::networks::steps::{octets_of, place_in};
-use crate::networks::traces::kinds_of;
+use crate::plans::{BRIDGE, network_of};
+use crate::steps::{octets_of, place_in};
+use crate::traces::kinds_of;
 use net_base::{CircuitId, Entry, Event, Trace};
 use psn_net::Network;
 use std::alloc::Global;

@@ -1,7 +1,7 @@
 //! Wires over switching points: when their service is calm, and how many segments a broadcast passes over them.
 
-use crate::networks::plans::CHAINS;
-use crate::networks::steps::{Step, plays};
+use crate::plans::CHAINS;
+use crate::steps::{Step, plays};
 
 /// A broadcast of 14 octets.
 const BROADCAST: &str = "ffffffffffff0200000000010800";

@@ -1,7 +1,7 @@
 //! Frames of one edge, and when a service is calm.
 
-use crate::networks::plans::{BRIDGE, PAIR};
-use crate::networks::steps::{Step, plays};
+use crate::plans::{BRIDGE, PAIR};
+use crate::steps::{Step, plays};
 
 // A broadcast of 14 octets, and one octet less.
 const BROADCAST: &str = "ffffffffffffffffffffffffffff";

@@ -1,7 +1,7 @@
 //! A hierarchy of four core edges in full mesh and of two spoke edges that hang on them: what floods over it in a calm service.
 
-use crate::networks::plans::{HIERARCHY, TWO_SPOKES};
-use crate::networks::steps::{Step, plays};
+use crate::plans::{HIERARCHY, TWO_SPOKES};
+use crate::steps::{Step, plays};
 
 /// A broadcast from the station 02:00:00:00:00:01, and a frame to it from the station 02:00:00:00:00:02.
 const BROADCAST: &str = "ffffffffffff0200000000010800";

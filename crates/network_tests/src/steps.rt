@@ -2,9 +2,9 @@
 ghost use Rattle.std.specs.Prelude.{◌<◌, ◌≤◌, length, IfSome};
 ghost use Rattle.net_base.specs.plan.Planned.{IsEventOf, IsInPlan};
 
-use crate::networks::lent_maps::have_all;
-use crate::networks::plans::network_of;
-use crate::networks::traces::{
+use crate::lent_maps::have_all;
+use crate::plans::network_of;
+use crate::traces::{
     bound_label, hops_of, is_idle, kinds_of, mappings_of, next_label, says, ticks_of,
 };
 use net_base::{CircuitId, EdgeId, Event, List, Octets, ServiceId, Trace, WireId};

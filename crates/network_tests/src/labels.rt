@@ -1,9 +1,7 @@
 //! Labels are given again, and packets age. The first edge has one label left, 1048575.
 
-use crate::networks::plans::{
-    LARGEST, LAST_LABEL, LAST_LABEL_AND_A_SHORT_SESSION, LAST_LABEL_OF_TWO,
-};
-use crate::networks::steps::{Step, plays};
+use crate::plans::{LARGEST, LAST_LABEL, LAST_LABEL_AND_A_SHORT_SESSION, LAST_LABEL_OF_TWO};
+use crate::steps::{Step, plays};
 
 const UP: [Step; 3] = [Step::Connect(0, 1), Step::Settle, Step::Mappings(0, 1, 1)];
 

@@ -1,8 +1,8 @@
 //! The largest frame crosses a wire.
 ghost use Rattle.std.specs.Prelude.{◌≤◌, length};
 
-use crate::networks::plans::{LARGEST, network_of};
-use crate::networks::steps::{Step, play};
+use crate::plans::{LARGEST, network_of};
+use crate::steps::{Step, play};
 use net_base::{CircuitId, Entry, Event, List, Octets};
 use psn_net::Network;
 use std::alloc::Global;

@@ -1,7 +1,7 @@
 //! Sessions over the network come up and end. The wire is off at both edges, so that nothing but sessions is told.
 
-use crate::networks::plans::PAIR;
-use crate::networks::steps::{Step, plays};
+use crate::plans::PAIR;
+use crate::steps::{Step, plays};
 
 // The Initialization of edge 0, and that of edge 1; and the KeepAlive that each puts next (RFC 5036 sections 3.5.3 and 3.5.4).
 const FIRST_OPENS: &str =

@@ -1,7 +1,7 @@
 //! A pseudowire over the network comes up and ends.
 
-use crate::networks::plans::{LARGEST, PAIR};
-use crate::networks::steps::{Step, plays};
+use crate::plans::{LARGEST, PAIR};
+use crate::steps::{Step, plays};
 
 // The Label Mapping of edge 0, and that of edge 1: each offers PW ID 100 under label 16, with control word, MTU 1500 and
 // status 0 (RFC 8077 sections 6 and 6.3.3).
