@@ -13,7 +13,7 @@ use Rattle.network_model.specs.declared.packet.Packet.{Packet}
 use Rattle.network_model.specs.State.{all_older, older, without_number}
 use Rattle.psn_net.specs.declared.carried.Carried.{Carried}
 use Rattle.psn_net.specs.declared.sending.Sending.{Sending}
-use Rattle.psn_net.specs.Packets.{ArePacketsKept as AreKept, IsIndex, UnderWay, is_aged, is_numbered, is_since, kept_under, number_of, kept_packet as packet_of, packets_of, sending_order, with_copy_of, without_aged}
+use Rattle.psn_net.specs.Packets.{ArePacketsKept as AreKept, IsIndex, UnderWay, has_sending, is_aged, is_numbered, is_since, kept_under, number_of, kept_packet as packet_of, packets_of, sending_order, with_copy_of, without_aged}
 
 -- ---- by number
 
@@ -84,45 +84,144 @@ sending_at a b = by (nat_lt a.since b.since) (a.since == b.since) (nat_lt a.numb
   by false true false false h g = refl
 
 pub index_none : IsIndex [] []
-index_none = record { each = λ s. refl }
+index_none = record { each = λ s has. absurd (cc (has)); in_order = λ m n a b less first second none. absurd (cc (first)) }
 
--- one more packet, under a number that is free
-pub index_added : (es es2 : List (ℕ × Carried)) (ss ss2 : List Sending) (n : ℕ) (c : Carried) → IsIndex es ss → kept_under n es ≡ None
-    → ((m : ℕ) → kept_under m es2 ≡ cond (is_at (nat_cmp n) m) (Some c) (kept_under m es))
-    → ((s : Sending) → list_any (is_at (sending_order s)) ss2 ≡ cond (is_at (sending_order (record { since = c.since; number = n })) s) true (list_any (is_at (sending_order s)) ss))
+-- no kept number is past the last one
+pub kept_low : (t l n : ℕ) (es : List (ℕ × Carried)) → AreKept t l es → IfSome (kept_under n es) (λ c. n ≤ l)
+kept_low t l n [] k = tt
+kept_low t l n (e ∷ es) k = by (e.0 == n) refl (kept_low t l n es k.3) where
+  by : (b : Bool) → (e.0 == n) ≡ b → IfSome (kept_under n es) (λ c. n ≤ l) → IfSome (kept_under n (e ∷ es)) (λ c. n ≤ l)
+  by b is rest = subst (λ (o : Option Carried). IfSome o (λ c. n ≤ l)) (sym (ap (λ (x : Bool). cond x (Some e.1) (kept_under n es)) (same_number n e.0 ∙ is))) (at b is) where
+    at : (x : Bool) → (e.0 == n) ≡ x → IfSome (cond x (Some e.1) (kept_under n es)) (λ c. n ≤ l)
+    at true here = subst (λ (m : ℕ). m ≤ l) (eqb-true e.0 n here) k.0
+    at false away = rest
+
+some_of : (P : Carried → Type 0) (o : Option Carried) (c : Carried) → IfSome o P → o ≡ Some c → P c
+some_of P o c holds is = subst (λ (x : Option Carried). IfSome x P) is holds
+
+-- the packet that is kept under a number after an update at one
+kept_after : (n m : ℕ) (to old : Option Carried) → cond (is_at (nat_cmp n) m) to old ≡ cond (m == n) to old
+kept_after n m to old = ap (λ (b : Bool). cond b to old) (same_number n m)
+
+-- the set has a packet under another number exactly where it had it
+had_other : (x s : Sending) (to old : Bool) → (s.number == x.number) ≡ false → cond (is_at (sending_order x) s) to old ≡ old
+had_other x s to old away = ap (λ (b : Bool). cond b to old) (sending_at x s) ∙ by (x.since == s.since) (x.number == s.number) (equal_turned x.number s.number ∙ away) where
+  by : (a b : Bool) → b ≡ false → cond (a && b) to old ≡ old
+  by true true is = absurd (cc (is))
+  by true false is = refl
+  by false b is = refl
+
+-- one more packet, under the next number; the set has it where it is older than it might be
+pub index_added : (t l : ℕ) (es es2 : List (ℕ × Carried)) (ss ss2 : List Sending) (c : Carried) → AreKept t l es → IsIndex es ss
+    → ((m : ℕ) → kept_under m es2 ≡ cond (is_at (nat_cmp (l + 1)) m) (Some c) (kept_under m es))
+    → ((s : Sending) → has_sending ss2 s ≡ cond (nat_lt c.since t && is_at (sending_order (record { since = c.since; number = l + 1 })) s) true (has_sending ss s))
     → IsIndex es2 ss2
-index_added es es2 ss ss2 n c index free kept has = record {
-  each = λ s.
-      has s
-      ∙ (ap (λ (b : Bool). cond b true (list_any (is_at (sending_order s)) ss)) (sending_at (record { since = c.since; number = n }) s)
-      ∙ (by s (c.since == s.since) refl (n == s.number) refl
-      ∙ sym (ap (is_since s.since) (kept s.number ∙ ap (λ (b : Bool). cond b (Some c) (kept_under s.number es)) (same_number n s.number ∙ equal_turned s.number n)))));
+index_added t l es es2 ss ss2 c old index kept has = record {
+  each = λ s there. each s (s.number == l + 1) refl (sym (has s) ∙ there);
+  in_order = λ m n a b less first second none. ordered m n a b less (n == l + 1) refl first second none;
 } where
-  by : (s : Sending) (a : Bool) → (c.since == s.since) ≡ a → (b : Bool) → (n == s.number) ≡ b
-      → cond (a && b) true (list_any (is_at (sending_order s)) ss) ≡ is_since s.since (cond b (Some c) (kept_under s.number es))
-  by s true at true here = sym at
-  by s false at true here = index.each s ∙ (ap (is_since s.since) (ap (λ (m : ℕ). kept_under m es) (sym (eqb-true n s.number here)) ∙ free) ∙ sym at)
-  by s true at false away = index.each s
-  by s false at false away = index.each s
+  own : Sending
+  own = record { since = c.since; number = l + 1 }
+
+  kept_at : (m : ℕ) (b : Bool) → (m == l + 1) ≡ b → kept_under m es2 ≡ cond b (Some c) (kept_under m es)
+  kept_at m b is = kept m ∙ (kept_after (l + 1) m (Some c) (kept_under m es) ∙ ap (λ (x : Bool). cond x (Some c) (kept_under m es)) is)
+
+  had : (s : Sending) → (s.number == l + 1) ≡ false → has_sending ss2 s ≡ has_sending ss s
+  had s away = has s ∙ by (nat_lt c.since t) where
+    by : (b : Bool) → cond (b && is_at (sending_order own) s) true (has_sending ss s) ≡ has_sending ss s
+    by true = had_other own s true (has_sending ss s) away
+    by false = refl
+
+  each : (s : Sending) (b : Bool) → (s.number == l + 1) ≡ b → cond (nat_lt c.since t && is_at (sending_order own) s) true (has_sending ss s) ≡ true → is_since s.since (kept_under s.number es2) ≡ true
+  each s false away there = ap (is_since s.since) (kept_at s.number false away) ∙ index.each s (sym (had s away) ∙ (has s ∙ there))
+  each s true here there = ap (is_since s.since) (kept_at s.number true here) ∙ at (c.since == s.since) refl where
+    free : kept_under s.number es ≡ None
+    free = ap (λ (m : ℕ). kept_under m es) (eqb-true s.number (l + 1) here) ∙ next_free t l es old
+
+    none : has_sending ss s ≡ true → ⊥
+    none had = absurd (cc (sym (ap (is_since s.since) free) ∙ index.each s had))
+
+    at : (b : Bool) → (c.since == s.since) ≡ b → (c.since == s.since) ≡ true
+    at true is = is
+    at false is = absurd (none (sym (differs (nat_lt c.since t)) ∙ there)) where
+      differs : (x : Bool) → cond (x && is_at (sending_order own) s) true (has_sending ss s) ≡ has_sending ss s
+      differs true = ap (λ (y : Bool). cond y true (has_sending ss s)) (sending_at own s ∙ ap (λ (y : Bool). y && (l + 1 == s.number)) is)
+      differs false = refl
+
+  ordered : (m n : ℕ) (a b : Carried) → m < n → (x : Bool) → (n == l + 1) ≡ x → kept_under m es2 ≡ Some a → kept_under n es2 ≡ Some b → has_sending ss2 (record { since = b.since; number = n }) ≡ false → a.since ≤ b.since
+  ordered m n a b less false away first second none =
+      let there : kept_under n es ≡ Some b = sym (kept_at n false away) ∙ second in
+      let low : n ≤ l = some_of (λ x. n ≤ l) (kept_under n es) b (kept_low t l n es old) there in
+      index.in_order m n a b less (sym (kept_at m false (before low)) ∙ first) there (sym (had (record { since = b.since; number = n }) away) ∙ none) where
+        before : n ≤ l → (m == l + 1) ≡ false
+        before low = grind (arith, nat_tests, less, low)
+  ordered m n a b less true here first second none =
+      let young = some_of (λ x. (x.since ≤ t) × (t < x.since + 64)) (kept_under m es) a (kept_young t l m es old) (sym (kept_at m false before) ∙ first) in
+      let late : nat_lt c.since t ≡ false = unmarked (nat_lt c.since t) refl in
+      subst (λ (k : ℕ). a.since ≤ k) (ap (λ (o : Option Carried). since_of o) same) (not_less a.since c.since young.0 late) where
+        since_of : Option Carried → ℕ
+        since_of None = 0
+        since_of (Some x) = x.since
+
+        same : Some c ≡ Some b
+        same = sym (kept_at n true here) ∙ second
+
+        before : (m == l + 1) ≡ false
+        before = grind (arith, nat_tests, less, eqb-true n (l + 1) here)
+
+        not_less : (x y : ℕ) → x ≤ t → nat_lt y t ≡ false → x ≤ y
+        not_less x y h g = grind (arith, nat_tests, h, g)
+
+        unmarked : (x : Bool) → nat_lt c.since t ≡ x → nat_lt c.since t ≡ false
+        unmarked false is = is
+        unmarked true is = absurd (cc (sym marked ∙ none)) where
+          itself : (k : ℕ) → (k == k) ≡ true
+          itself k = grind (arith, nat_tests)
+
+          at_own : is_at (sending_order own) (record { since = b.since; number = n }) ≡ true
+          at_own = sending_at own (record { since = b.since; number = n })
+              ∙ (ap (λ (k : ℕ). (c.since == k) && (l + 1 == n)) (sym (ap (λ (o : Option Carried). since_of o) same))
+              ∙ (ap (λ (y : Bool). y && (l + 1 == n)) (itself c.since) ∙ ap (λ (k : ℕ). l + 1 == k) (eqb-true n (l + 1) here) ∙ itself (l + 1)))
+
+          marked : has_sending ss2 (record { since = b.since; number = n }) ≡ true
+          marked = has (record { since = b.since; number = n })
+              ∙ ap (λ (y : Bool). cond (y && is_at (sending_order own) (record { since = b.since; number = n })) true (has_sending ss (record { since = b.since; number = n }))) is
+              ∙ ap (λ (y : Bool). cond y true (has_sending ss (record { since = b.since; number = n }))) at_own
 
 -- one packet fewer
 pub index_removed : (es es2 : List (ℕ × Carried)) (ss ss2 : List Sending) (n : ℕ) (c : Carried) → IsIndex es ss → kept_under n es ≡ Some c
     → ((m : ℕ) → kept_under m es2 ≡ cond (is_at (nat_cmp n) m) None (kept_under m es))
-    → ((s : Sending) → list_any (is_at (sending_order s)) ss2 ≡ cond (is_at (sending_order (record { since = c.since; number = n })) s) false (list_any (is_at (sending_order s)) ss))
+    → ((s : Sending) → has_sending ss2 s ≡ cond (is_at (sending_order (record { since = c.since; number = n })) s) false (has_sending ss s))
     → IsIndex es2 ss2
 index_removed es es2 ss ss2 n c index there kept has = record {
-  each = λ s.
-      has s
-      ∙ (ap (λ (b : Bool). cond b false (list_any (is_at (sending_order s)) ss)) (sending_at (record { since = c.since; number = n }) s)
-      ∙ (by s (c.since == s.since) refl (n == s.number) refl
-      ∙ sym (ap (is_since s.since) (kept s.number ∙ ap (λ (b : Bool). cond b None (kept_under s.number es)) (same_number n s.number ∙ equal_turned s.number n)))));
+  each = λ s has2. each s (s.number == n) refl (sym (has s) ∙ has2);
+  in_order = λ m k a b less first second none. ordered m k a b less (m == n) refl (k == n) refl first second none;
 } where
-  by : (s : Sending) (a : Bool) → (c.since == s.since) ≡ a → (b : Bool) → (n == s.number) ≡ b
-      → cond (a && b) false (list_any (is_at (sending_order s)) ss) ≡ is_since s.since (cond b None (kept_under s.number es))
-  by s true at true here = refl
-  by s false at true here = index.each s ∙ (ap (is_since s.since) (ap (λ (m : ℕ). kept_under m es) (sym (eqb-true n s.number here)) ∙ there) ∙ at)
-  by s true at false away = index.each s
-  by s false at false away = index.each s
+  own : Sending
+  own = record { since = c.since; number = n }
+
+  kept_at : (m : ℕ) (b : Bool) → (m == n) ≡ b → kept_under m es2 ≡ cond b None (kept_under m es)
+  kept_at m b is = kept m ∙ (kept_after n m None (kept_under m es) ∙ ap (λ (x : Bool). cond x None (kept_under m es)) is)
+
+  each : (s : Sending) (b : Bool) → (s.number == n) ≡ b → cond (is_at (sending_order own) s) false (has_sending ss s) ≡ true → is_since s.since (kept_under s.number es2) ≡ true
+  each s false away has2 = ap (is_since s.since) (kept_at s.number false away) ∙ index.each s (sym (had_other own s false (has_sending ss s) away) ∙ has2)
+  each s true here has2 = absurd (at (is_at (sending_order own) s) refl has2) where
+    turned : (n == s.number) ≡ true
+    turned = equal_turned n s.number ∙ here
+
+    at : (b : Bool) → is_at (sending_order own) s ≡ b → cond b false (has_sending ss s) ≡ true → ⊥
+    at true is has2 = absurd (cc (has2))
+    at false is has2 =
+        let since : (c.since == s.since) ≡ true = sym (ap (is_since s.since) (ap (λ (m : ℕ). kept_under m es) (eqb-true s.number n here) ∙ there)) ∙ index.each s has2 in
+        absurd (cc (sym is ∙ (sending_at own s ∙ (ap (λ (x : Bool). x && (n == s.number)) since ∙ turned))))
+
+  ordered : (m k : ℕ) (a b : Carried) → m < k → (x : Bool) → (m == n) ≡ x → (y : Bool) → (k == n) ≡ y → kept_under m es2 ≡ Some a → kept_under k es2 ≡ Some b
+      → has_sending ss2 (record { since = b.since; number = k }) ≡ false → a.since ≤ b.since
+  ordered m k a b less true at_m y at_k first second none = absurd (cc (sym (kept_at m true at_m) ∙ first))
+  ordered m k a b less false at_m true at_k first second none = absurd (cc (sym (kept_at k true at_k) ∙ second))
+  ordered m k a b less false at_m false at_k first second none =
+      index.in_order m k a b less (sym (kept_at m false at_m) ∙ first) (sym (kept_at k false at_k) ∙ second)
+      (sym (has (record { since = b.since; number = k }) ∙ had_other own (record { since = b.since; number = k }) false (has_sending ss (record { since = b.since; number = k })) at_k) ∙ none)
 
 -- ---- ages
 
@@ -213,23 +312,84 @@ not_after : (a b : Sending) → is_gt (sending_order a b) ≡ false → (a.since
 not_after a b h = (grind (arith, nat_tests, h), λ same. grind (arith, nat_tests, h, same))
 
 -- what the set has is kept: it was sent, and fewer than 64 ticks ago
-pub sent_young : (t l : ℕ) (es : List (ℕ × Carried)) (ss : List Sending) (s : Sending) → AreKept t l es → IsIndex es ss → list_any (is_at (sending_order s)) ss ≡ true → (s.since ≤ t)
-    × (t < s.since + 64)
-sent_young t l es ss s kept index has = by (kept_under s.number es) (sym (index.each s) ∙ has) (kept_young t l s.number es kept) where
+pub sent_young : (t l : ℕ) (es : List (ℕ × Carried)) (ss : List Sending) (s : Sending) → AreKept t l es → IsIndex es ss → has_sending ss s ≡ true → (s.since ≤ t) × (t < s.since + 64)
+sent_young t l es ss s kept index has = by (kept_under s.number es) (index.each s has) (kept_young t l s.number es kept) where
   by : (o : Option Carried) → is_since s.since o ≡ true → IfSome o (λ c. (c.since ≤ t) × (t < c.since + 64)) → (s.since ≤ t) × (t < s.since + 64)
   by None sent young = absurd (cc (sent))
   by (Some c) sent young = subst (λ (m : ℕ). (m ≤ t) × (t < m + 64)) (eqb-true c.since s.since sent) young
 
--- what the set has first is the first that a further tick makes too old, where it makes that one so
-pub aged_first : (t l : ℕ) (es : List (ℕ × Carried)) (ss : List Sending) (first : Sending) → IsStrictlySortedBy nat_cmp (keys_of es) → AreKept t l es → IsIndex es ss
-    → list_any (is_at (sending_order first)) ss ≡ true → ((s : Sending) → list_any (is_at (sending_order s)) ss ≡ true → is_gt (sending_order first s) ≡ false) → 64 ≤ t - first.since + 1
-    → (option_map number_of (find is_aged (packets_of t es)) ≡ Some first.number) × (without_number first.number (packets_of t es) ≡ without_aged (packets_of t es))
-aged_first t l es ss first sorted kept index has least old = first_found t first.number es sorted (by (kept_under first.number es) refl (sym (index.each first) ∙ has)) lowest where
-  too_old : (since : ℕ) → (since == first.since) ≡ true → not (nat_lt (t - since + 1) 64) ≡ true
-  too_old since is = grind (arith, nat_tests, is, old)
+-- the first of all is found where a further tick makes it too old
+pub front_aged : (t n : ℕ) (c : Carried) (es : List (ℕ × Carried)) → slice_get es 0 ≡ Some (n, c) → 64 ≤ t - c.since + 1
+    → (option_map number_of (find is_aged (packets_of t es)) ≡ Some n) × (without_number n (packets_of t es) ≡ without_aged (packets_of t es))
+front_aged t n c [] is old = absurd (cc (is))
+front_aged t n c (e ∷ es) is old = by (nat_lt (t - e.1.since + 1) 64) refl (e.0 == n) refl where
+  entry_of : Option (ℕ × Carried) → ℕ × Carried
+  entry_of None = e
+  entry_of (Some x) = x
+
+  same : e ≡ (n, c)
+  same = ap entry_of is
+
+  by : (lives : Bool) → nat_lt (t - e.1.since + 1) 64 ≡ lives → (b : Bool) → (e.0 == n) ≡ b
+      → (option_map number_of (cond (not lives) (Some (packet_of t e)) (find is_aged (packets_of t es))) ≡ Some n)
+      × (cond b (packets_of t es) (packet_of t e ∷ without_number n (packets_of t es)) ≡ cond lives (packet_of t e ∷ without_aged (packets_of t es)) (packets_of t es))
+  by true lives b is = absurd (young (subst (λ (x : ℕ × Carried). nat_lt (t - x.1.since + 1) 64 ≡ true) same lives)) where
+    young : nat_lt (t - c.since + 1) 64 ≡ true → ⊥
+    young h = grind (arith, nat_tests, h, old)
+  by false dies false away = absurd (cc (sym away ∙ itself)) where
+    itself : (e.0 == n) ≡ true
+    itself = ap (λ (x : ℕ × Carried). x.0 == n) same ∙ at n where
+      at : (k : ℕ) → (k == k) ≡ true
+      at k = grind (arith, nat_tests)
+  by false dies true here = (ap (λ (m : ℕ). Some m) (eqb-true e.0 n here), refl)
+
+-- where it is not too old, the set has each that is
+pub aged_older : (t l : ℕ) (es : List (ℕ × Carried)) (ss : List Sending) (n : ℕ) (c : Carried) → IsStrictlySortedBy nat_cmp (keys_of es) → AreKept t l es → IsIndex es ss → slice_get es 0 ≡ Some (n, c)
+    → t - c.since + 1 < 64 → (m : ℕ) (d : Carried) → kept_under m es ≡ Some d → not (nat_lt (t - d.since + 1) 64) ≡ true → has_sending ss (record { since = d.since; number = m }) ≡ true
+unfolding IsStrictlySortedBy
+aged_older t l [] ss n c sorted kept index first young m d is aged = absurd (cc (first))
+aged_older t l (e ∷ es) ss n c sorted kept index first young m d is aged = by (has_sending ss (record { since = d.since; number = m })) refl where
+  entry_of : Option (ℕ × Carried) → ℕ × Carried
+  entry_of None = e
+  entry_of (Some x) = x
+
+  since : e.1.since ≡ c.since
+  since = ap (λ (x : ℕ × Carried). x.1.since) (ap entry_of first)
 
   itself : (x : ℕ) → (x == x) ≡ true
   itself x = grind (arith, nat_tests)
+
+  own : kept_under e.0 (e ∷ es) ≡ Some e.1
+  own = ap (λ (b : Bool). cond b (Some e.1) (kept_under e.0 es)) (same_number e.0 e.0 ∙ itself e.0)
+
+  late : (x y : ℕ) → t - x + 1 < 64 → x ≤ y → not (nat_lt (t - y + 1) 64) ≡ true → ⊥
+  late x y h g old = grind (arith, nat_tests, h, g, old)
+
+  early : t - e.1.since + 1 < 64
+  early = omega (arith, since, young)
+
+  since_of : Option Carried → ℕ
+  since_of None = 0
+  since_of (Some x) = x.since
+
+  at : (b : Bool) → (e.0 == m) ≡ b → has_sending ss (record { since = d.since; number = m }) ≡ false → ⊥
+  at true here none = late e.1.since d.since early (omega (arith, ap since_of (sym (ap (λ (b : Bool). cond b (Some e.1) (kept_under m es)) (same_number m e.0 ∙ here)) ∙ is))) aged
+  at false away none =
+      let rest : kept_under m es ≡ Some d = sym (ap (λ (b : Bool). cond b (Some e.1) (kept_under m es)) (same_number m e.0 ∙ away)) ∙ is in
+      late e.1.since d.since early (index.in_order e.0 m e.1 d (below_kept e.0 m es d sorted.0 rest) own is none) aged
+
+  by : (b : Bool) → has_sending ss (record { since = d.since; number = m }) ≡ b → has_sending ss (record { since = d.since; number = m }) ≡ true
+  by true has = has
+  by false none = absurd (at (e.0 == m) refl none)
+
+-- what the set has first is the first that a further tick makes too old, where it makes that one so, and not the first of all
+pub aged_first : (t l : ℕ) (es : List (ℕ × Carried)) (ss : List Sending) (n : ℕ) (c : Carried) (first : Sending) → IsStrictlySortedBy nat_cmp (keys_of es) → AreKept t l es → IsIndex es ss
+    → slice_get es 0 ≡ Some (n, c) → t - c.since + 1 < 64
+    → has_sending ss first ≡ true → ((s : Sending) → has_sending ss s ≡ true → is_gt (sending_order first s) ≡ false) → 64 ≤ t - first.since + 1
+    → (option_map number_of (find is_aged (packets_of t es)) ≡ Some first.number) × (without_number first.number (packets_of t es) ≡ without_aged (packets_of t es))
+aged_first t l es ss n c first sorted kept index front young has least old = first_found t first.number es sorted (by (kept_under first.number es) refl (index.each first has)) lowest where
+  too_old : (since : ℕ) → (since == first.since) ≡ true → not (nat_lt (t - since + 1) 64) ≡ true
+  too_old since is = grind (arith, nat_tests, is, old)
 
   own : (first.since ≤ t) × (t < first.since + 64)
   own = sent_young t l es ss first kept index has
@@ -245,38 +405,44 @@ aged_first t l es ss first sorted kept index has least old = first_found t first
   lowest m aged = at (kept_under m es) refl aged (kept_young t l m es kept) where
     at : (o : Option Carried) → kept_under m es ≡ o → is_aged_under t o ≡ true → IfSome o (λ c. (c.since ≤ t) × (t < c.since + 64)) → first.number ≤ m
     at None is old young = absurd (cc (old))
-    at (Some c) is old young =
-        let here : Sending = record { since = c.since; number = m } in
-        let order = not_after first here (least here (index.each here ∙ (ap (is_since c.since) is ∙ itself c.since))) in
-        order.1 (same c.since old young.1)
+    at (Some d) is old late =
+        let here : Sending = record { since = d.since; number = m } in
+        let order = not_after first here (least here (aged_older t l es ss n c sorted kept index front young m d is old)) in
+        order.1 (same d.since old late.1)
 
--- where it does not make that one too old, or the set has nothing, it makes none so
-pub aged_none : (t l : ℕ) (es : List (ℕ × Carried)) (ss : List Sending) (first : Sending) → IsStrictlySortedBy nat_cmp (keys_of es) → AreKept t l es → IsIndex es ss
-    → ((s : Sending) → list_any (is_at (sending_order s)) ss ≡ true → is_gt (sending_order first s) ≡ false) → t - first.since + 1 < 64 → find is_aged (packets_of t es) ≡ None
-aged_none t l es ss first sorted kept index least young = none_found t es sorted (λ m. by m (kept_under m es) refl) where
-  itself : (x : ℕ) → (x == x) ≡ true
-  itself x = grind (arith, nat_tests)
-
-  later : (since : ℕ) → first.since ≤ since → not (nat_lt (t - since + 1) 64) ≡ false
-  later since h = grind (arith, nat_tests, h, young)
+-- where it does not make that one too old, it makes none so
+pub aged_none : (t l : ℕ) (es : List (ℕ × Carried)) (ss : List Sending) (n : ℕ) (c : Carried) (first : Sending) → IsStrictlySortedBy nat_cmp (keys_of es) → AreKept t l es → IsIndex es ss
+    → slice_get es 0 ≡ Some (n, c) → t - c.since + 1 < 64
+    → ((s : Sending) → has_sending ss s ≡ true → is_gt (sending_order first s) ≡ false) → t - first.since + 1 < 64 → find is_aged (packets_of t es) ≡ None
+aged_none t l es ss n c first sorted kept index front front_young least young = none_found t es sorted (λ m. by m (kept_under m es) refl) where
+  later : (since : ℕ) → first.since ≤ since → not (nat_lt (t - since + 1) 64) ≡ true → ⊥
+  later since h old = grind (arith, nat_tests, h, young, old)
 
   by : (m : ℕ) (o : Option Carried) → kept_under m es ≡ o → is_aged_under t (kept_under m es) ≡ false
   by m None is = ap (is_aged_under t) is
-  by m (Some c) is =
-      let here : Sending = record { since = c.since; number = m } in
-      ap (is_aged_under t) is ∙ later c.since (not_after first here (least here (index.each here ∙ (ap (is_since c.since) is ∙ itself c.since)))).0
+  by m (Some d) is = ap (is_aged_under t) is ∙ at (not (nat_lt (t - d.since + 1) 64)) refl where
+    at : (b : Bool) → not (nat_lt (t - d.since + 1) 64) ≡ b → not (nat_lt (t - d.since + 1) 64) ≡ false
+    at false lives = lives
+    at true old =
+        let here : Sending = record { since = d.since; number = m } in
+        absurd (later d.since (not_after first here (least here (aged_older t l es ss n c sorted kept index front front_young m d is old))).0 old)
 
-pub aged_nowhere : (t : ℕ) (es : List (ℕ × Carried)) (ss : List Sending) → IsStrictlySortedBy nat_cmp (keys_of es) → IsIndex es ss → (0 < length ss → ⊥) → find is_aged (packets_of t es) ≡ None
-aged_nowhere t es (s ∷ ss) sorted index empty = absurd (empty (omega arith))
-aged_nowhere t es [] sorted index empty = none_found t es sorted (λ m. by m (kept_under m es) refl) where
-  itself : (x : ℕ) → (x == x) ≡ true
-  itself x = grind (arith, nat_tests)
-
+-- nor where the set has nothing
+pub aged_nowhere : (t l : ℕ) (es : List (ℕ × Carried)) (ss : List Sending) (n : ℕ) (c : Carried) → IsStrictlySortedBy nat_cmp (keys_of es) → AreKept t l es → IsIndex es ss
+    → slice_get es 0 ≡ Some (n, c) → t - c.since + 1 < 64 → (0 < length ss → ⊥) → find is_aged (packets_of t es) ≡ None
+aged_nowhere t l es (s ∷ ss) n c sorted kept index front young empty = absurd (empty (omega arith))
+aged_nowhere t l es [] n c sorted kept index front young empty = none_found t es sorted (λ m. by m (kept_under m es) refl) where
   by : (m : ℕ) (o : Option Carried) → kept_under m es ≡ o → is_aged_under t (kept_under m es) ≡ false
   by m None is = ap (is_aged_under t) is
-  by m (Some c) is =
-      let wrong : false ≡ true = index.each (record { since = c.since; number = m }) ∙ (ap (is_since c.since) is ∙ itself c.since) in
-      absurd (cc (wrong))
+  by m (Some d) is = ap (is_aged_under t) is ∙ at (not (nat_lt (t - d.since + 1) 64)) refl where
+    at : (b : Bool) → not (nat_lt (t - d.since + 1) 64) ≡ b → not (nat_lt (t - d.since + 1) 64) ≡ false
+    at false lives = lives
+    at true old = let has : false ≡ true = aged_older t l es [] n c sorted kept index front young m d is old in absurd (cc (has))
+
+-- nor where nothing is under way
+pub aged_empty : (t : ℕ) (es : List (ℕ × Carried)) → (0 < length es → ⊥) → find is_aged (packets_of t es) ≡ None
+aged_empty t [] empty = refl
+aged_empty t (e ∷ es) empty = absurd (empty (omega arith))
 
 -- a tick after which none is too old
 pub ticked_kept : (t l : ℕ) (es : List (ℕ × Carried)) → AreKept t l es → find is_aged (packets_of t es) ≡ None → (packets_of (t + 1) es ≡ all_older (packets_of t es)) × AreKept (t + 1) l es
@@ -344,21 +510,32 @@ pub copied_none : (t l n : ℕ) (es : List (ℕ × Carried)) (u : UnderWay) → 
 copied_none t l n es u seen kept is = seen_found t l n es u seen kept ∙ ap (option_map (λ c. packet_of u.ticks (n, c))) (sym is)
 
 -- it was not added after all
-pub index_undone : (es es2 : List (ℕ × Carried)) (ss ss2 ss3 : List Sending) (n since : ℕ) → IsIndex es ss → kept_under n es ≡ None → es2 ≡ es
-    → ((s : Sending) → list_any (is_at (sending_order s)) ss2 ≡ cond (is_at (sending_order (record { since = since; number = n })) s) true (list_any (is_at (sending_order s)) ss))
-    → ((s : Sending) → list_any (is_at (sending_order s)) ss3 ≡ cond (is_at (sending_order (record { since = since; number = n })) s) false (list_any (is_at (sending_order s)) ss2))
+pub index_undone : (t l : ℕ) (es es2 : List (ℕ × Carried)) (ss ss2 ss3 : List Sending) (since : ℕ) → AreKept t l es → IsIndex es ss → es2 ≡ es
+    → ((s : Sending) → has_sending ss2 s ≡ cond (nat_lt since t && is_at (sending_order (record { since = since; number = l + 1 })) s) true (has_sending ss s))
+    → ((s : Sending) → has_sending ss3 s ≡ cond (is_at (sending_order (record { since = since; number = l + 1 })) s) false (has_sending ss2 s))
     → IsIndex es2 ss3
-index_undone es es2 ss ss2 ss3 n since index free same added removed = subst (λ (l : List (ℕ × Carried)). IsIndex l ss3) (sym same) (record {
-  each = λ s.
-      removed s
-      ∙ (ap (λ (b : Bool). cond (is_at (sending_order (record { since = since; number = n })) s) false b) (added s)
-      ∙ (ap (λ (b : Bool). cond b false (cond b true (list_any (is_at (sending_order s)) ss))) (sending_at (record { since = since; number = n }) s)
-      ∙ by s (since == s.since) (n == s.number) refl));
+index_undone t l es es2 ss ss2 ss3 since old index same added removed = subst (λ (l : List (ℕ × Carried)). IsIndex l ss3) (sym same) (record {
+  each = λ s has. index.each s (sym (as_before s) ∙ has);
+  in_order = λ m n a b less first second none. index.in_order m n a b less first second (sym (as_before (record { since = b.since; number = n })) ∙ none);
 }) where
-  by : (s : Sending) (a b : Bool) → (n == s.number) ≡ b → cond (a && b) false (cond (a && b) true (list_any (is_at (sending_order s)) ss)) ≡ is_since s.since (kept_under s.number es)
-  by s true true here = sym (ap (is_since s.since) (ap (λ (m : ℕ). kept_under m es) (sym (eqb-true n s.number here)) ∙ free))
-  by s true false away = index.each s
-  by s false b is = index.each s
+  own : Sending
+  own = record { since = since; number = l + 1 }
+
+  as_before : (s : Sending) → has_sending ss3 s ≡ has_sending ss s
+  as_before s = removed s ∙ (ap (λ (b : Bool). cond (is_at (sending_order own) s) false b) (added s) ∙ by (is_at (sending_order own) s) refl (nat_lt since t) (has_sending ss s) refl) where
+    here : is_at (sending_order own) s ≡ true → s.number ≡ l + 1
+    here is = sym (eqb-true (l + 1) s.number (second (since == s.since) (l + 1 == s.number) (sym (sending_at own s) ∙ is))) where
+      second : (a b : Bool) → a && b ≡ true → b ≡ true
+      second true b both = both
+      second false b both = absurd (cc (both))
+
+    by : (a : Bool) → is_at (sending_order own) s ≡ a → (b c : Bool) → has_sending ss s ≡ c → cond a false (cond (b && a) true c) ≡ c
+    by true at b true has =
+        let wrong : false ≡ true = sym (ap (is_since s.since) (ap (λ (m : ℕ). kept_under m es) (here at) ∙ next_free t l es old)) ∙ index.each s has in
+        absurd (cc (wrong))
+    by true at b false has = refl
+    by false at true c has = refl
+    by false at false c has = refl
 
 -- the first that a further tick makes too old, as it is seen
 pub seen_none : (t l : ℕ) (es : List (ℕ × Carried)) (u : UnderWay) → seen_packets t l es ≡ u → find is_aged (packets_of t es) ≡ None → find is_aged u.list ≡ None

@@ -1,5 +1,5 @@
 -- The packets under way.
-use Rattle.std.specs.Prelude.{◌≡◌, ◌<◌, ◌≤◌, ◌+◌, ◌-◌, ◌++◌, ◌==◌, not, ℕ, Bool, false, List, [], ◌∷◌, Option, Some, None, length, if◌then◌else◌}
+use Rattle.std.specs.Prelude.{◌≡◌, ◌<◌, ◌≤◌, ◌+◌, ◌-◌, ◌++◌, ◌==◌, not, ℕ, Bool, true, false, List, [], ◌∷◌, Option, Some, None, length, if◌then◌else◌}
 use Rattle.std.specs.BTreeMap.{is_at}
 use Rattle.std.specs.List.{list_any}
 use Rattle.std.specs.Map.{lookup}
@@ -79,9 +79,13 @@ is_since since (Some carried) = carried.since == since
 abbrev pub kept_under : ℕ → List (ℕ × Carried) → Option Carried
 kept_under number es = lookup (is_at (nat_cmp number)) es
 
--- the set has a time and a number exactly where the packet that is kept under the number was sent then
-pub record IsIndex (es : List (ℕ × Carried)) (sendings : List Sending) : Type 0 where
-  pub each : (s : Sending) → list_any (is_at (sending_order s)) sendings ≡ is_since s.since (kept_under s.number es)
+abbrev pub has_sending : List Sending → Sending → Bool
+has_sending sendings s = list_any (is_at (sending_order s)) sendings
+
+-- what the set has is kept, and a packet that it does not have was sent no earlier than those with lower numbers
+pub record IsIndex (es : List (ℕ × Carried)) (older : List Sending) : Type 0 where
+  pub each : (s : Sending) → has_sending older s ≡ true → is_since s.since (kept_under s.number es) ≡ true
+  pub in_order : (m n : ℕ) (a b : Carried) → m < n → kept_under m es ≡ Some a → kept_under n es ≡ Some b → has_sending older (record { since = b.since; number = n }) ≡ false → a.since ≤ b.since
 
 -- ---- what always holds of them in a network
 

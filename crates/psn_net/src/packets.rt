@@ -1,8 +1,9 @@
 //! The packets under way.
-ghost use Rattle.std.specs.Prelude.{◌≡◌, ◌<◌, ◌≤◌, ◌+◌, ◌++◌, ◌∷◌, ◌^◌, [], Some, None, length, slice_get, option_map, IfOk, IfSome, OnErr, OnOk};
+ghost use Rattle.std.specs.Prelude.{◌≡◌, ◌<◌, ◌≤◌, ◌+◌, ◌++◌, ◌∷◌, ◌^◌, ◌&&◌, [], true, cond, nat_lt, Some, None, length, slice_get, option_map, IfOk, IfSome, OnErr, OnOk};
 ghost use Rattle.std.specs.List.{find};
 ghost use Rattle.network_model.specs.State.{all_older, without_number};
-ghost use Rattle.psn_net.specs.Packets.{is_aged, is_numbered, number_of, kept_packet, with_copy_of, without_aged};
+ghost use Rattle.std.specs.BTreeMap.{is_at};
+ghost use Rattle.psn_net.specs.Packets.{has_sending, is_aged, is_numbered, number_of, kept_packet, sending_order, with_copy_of, without_aged};
 
 use crate::carried::Carried;
 use crate::departure::Departure;
@@ -17,12 +18,13 @@ use std::marker::Model;
 const LIFE: u64 = 64;
 
 /// The packets under way, the number of the last one that was sent, and how many ticks have passed. One is found, taken out and
-/// added in logarithmic time, and so is the one that the next tick makes too old: a set has them by when they were sent.
+/// added in logarithmic time, and so is the one that the next tick makes too old. None is older than one with a lower number
+/// but for copies of older packets: a set has those by when they were sent.
 /// Contracts see the packets by rising number.
 #[derive(Drop)]
 pub struct Packets {
     by_number: BTreeMap<u64, Carried>,
-    by_age: BTreeSet<Sending>,
+    older: BTreeSet<Sending>,
     last: u64,
     ticks: u64,
 }
@@ -34,7 +36,7 @@ impl Model for Packets {
 
     ghost view = { λ p. record { list = packets_of p.ticks p.by_number.entries; last = p.last; ticks = p.ticks } };
 
-    ghost invariant = { λ p. ArePacketsKept p.ticks p.last p.by_number.entries × IsIndex p.by_number.entries p.by_age.keys };
+    ghost invariant = { λ p. ArePacketsKept p.ticks p.last p.by_number.entries × IsIndex p.by_number.entries p.older.keys };
 }
 
 impl Packets {
@@ -45,7 +47,7 @@ impl Packets {
     {
         Packets {
             by_number: BTreeMap::new(alloc),
-            by_age: BTreeSet::new(alloc),
+            older: BTreeSet::new(alloc),
             last: 0,
             ticks: 0,
         }
@@ -86,7 +88,7 @@ impl Packets {
         let Some(carried) = self.by_number.remove(&number) else {
             return None;
         };
-        self.by_age.remove(&Sending {
+        self.older.remove(&Sending {
             since: carried.since,
             number,
         });
@@ -100,13 +102,19 @@ impl Packets {
     {
         // Asked so that what always holds of it is at hand for the proof.
         let _count = self.by_number.len();
-        let Some(first) = self.by_age.first() else {
+        let Some((number, first)) = self.by_number.first_key_value() else {
             return None;
         };
-        if self.ticks - first.since + 1 < LIFE {
+        if self.ticks - first.since + 1 >= LIFE {
+            return Some(*number);
+        }
+        let Some(copy) = self.older.first() else {
+            return None;
+        };
+        if self.ticks - copy.since + 1 < LIFE {
             return None;
         }
-        Some(first.number)
+        Some(copy.number)
     }
 
     /// A tick passes: each packet is older. Those that it makes 64 ticks old are gone already.
@@ -172,16 +180,27 @@ impl Packets {
             since: carried.since,
             number,
         };
-        self.by_age.insert(sending)?;
+        mark_older(&mut self.older, sending, self.ticks)?;
         match self.by_number.insert(number, carried) {
             Ok(_) => {
                 self.last = number;
                 Ok(())
             }
             Err(_) => {
-                self.by_age.remove(&sending);
+                self.older.remove(&sending);
                 Err(NoMemory)
             }
         }
     }
+}
+
+// A packet that was sent before the last tick is older than others with lower numbers may be.
+fn mark_older(older: &mut BTreeSet<Sending>, sending: Sending, ticks: u64) -> Result<(), NoMemory>
+    ensures marked { OnOk result ((s : Sending) → has_sending older.new.keys s ≡ cond (nat_lt sending.since ticks && is_at (sending_order sending) s) true (has_sending older.old.keys s)) }
+    ensures err { OnErr result (older.new ≡ older.old) }
+{
+    if sending.since < ticks {
+        older.insert(sending)?;
+    }
+    Ok(())
 }

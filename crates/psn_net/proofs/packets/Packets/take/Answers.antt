@@ -15,6 +15,6 @@ invariant_of-self-2 c =
     let es = c.self.inside.by_number.entries in (
       subst (λ (x : List (ℕ × Carried)). ArePacketsKept c.self.inside.ticks c.self.inside.last x) (sym c.in-Some.ensures.entries)
           (still_kept c.self.inside.ticks c.self.inside.last c.args.number es c.self.invariant.0),
-      index_removed es c.remove.new.self.entries c.self.inside.by_age.keys c.remove-2.new.self.keys c.args.number c.in-Some.carried c.self.invariant.1 (sym c.in-Some.ensures.value)
+      index_removed es c.remove.new.self.entries c.self.inside.older.keys c.remove-2.new.self.keys c.args.number c.in-Some.carried c.self.invariant.1 (sym c.in-Some.ensures.value)
           c.in-Some.ensures.updates.0 c.remove-2.ensures.updates.0,
     )
