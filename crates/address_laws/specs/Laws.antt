@@ -36,6 +36,7 @@ KnownAreReached most plan events = (before during : List Event) (circuit : Circu
     → (enters : EntersForSite plan (network_after plan (before ++ during)) service site circuit octets later)
     → ReachesSite most (site (destination_of enters.frame)) (next_origin (network_after plan (before ++ during))) (run plan events).entries
 
+-- in every run, addresses keep pointing to their sites
 abbrev pub RunsKeepPoints : Type 0
 RunsKeepPoints = (plan : Plan) (events : List Event) → IsRun plan events → PointsLast plan events
 

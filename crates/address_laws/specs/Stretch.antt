@@ -17,6 +17,7 @@ use Rattle.address_laws.specs.Sites.{Sites}
 abbrev pub is_packet_of : Plan → ServiceId → Packet → Bool
 is_packet_of plan service packet = not (packet.origin == 0) && is_row_of_service service (wire_row plan packet.wire)
 
+-- such a packet is under way
 abbrev pub has_packets_of : Plan → NetworkState → ServiceId → Bool
 has_packets_of plan network service = list_any (is_packet_of plan service) network.under_way
 

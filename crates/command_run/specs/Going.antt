@@ -10,6 +10,7 @@ GoesOnAt (Crowded count event) network = network.failed ≡ false
 GoesOnAt (TooMuch weight event) network = network.failed ≡ false
 GoesOnAt NoMemory network = Unit {0}
 
+-- the network of a call that was done, or that a limit stopped, goes on
 abbrev pub IsRunGoing : {A : Type 0} → Result A NetStop → NetLists → Type 0
 IsRunGoing (Ok done) network = network.failed ≡ false
 IsRunGoing (Err stop) network = GoesOnAt stop network

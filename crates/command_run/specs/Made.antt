@@ -27,9 +27,11 @@ abbrev pub turns : Plan → (NetworkState → Option Event) → ℕ → NetworkS
 turns plan next zero network = []
 turns plan next (suc n) network = event_and (next network) (λ event. turns plan next n (step plan network event).state)
 
+-- so many next deliveries
 abbrev pub deliveries : Plan → ℕ → NetworkState → List Event
 deliveries plan count network = turns plan (next_delivery plan) count network
 
+-- so many next arrivals
 abbrev pub arrivals : Plan → ℕ → NetworkState → List Event
 arrivals plan count network = turns plan next_arrival count network
 
@@ -64,6 +66,7 @@ made_by plan network captures (Flow count) = arrivals plan count network
 made_by plan network captures (Ticks count) = ticks count
 made_by plan network captures (Play circuit file) = frames_entering circuit (next_frames captures)
 
+-- the events of all commands
 abbrev pub made : Plan → NetworkState → List (List (List ℕ)) → List Command → List Event
 made plan network captures [] = []
 made plan network captures (command ∷ commands) =

@@ -33,6 +33,7 @@ pub record Course : Type 0 where
   pub notes : List PlacedNote
   pub stop : Option NetStop
 
+-- what a script came to by its lines so far
 abbrev pub course_of : NetworkState → List Entry → List PlacedNote → Option NetStop → Course
 course_of state trace notes stop = record { state = state; trace = trace; notes = notes; stop = stop }
 
@@ -40,6 +41,7 @@ course_of state trace notes stop = record { state = state; trace = trace; notes 
 abbrev pub noted : List Entry → List PlacedNote → Note → List PlacedNote
 noted trace notes note = notes ++ record { entries = length trace; note = note } ∷ []
 
+-- the course ends where a limit stops an event, and else goes on
 abbrev pub unless_stopped : Option NetStop → Course → Course → Course
 unless_stopped None stopped rest = rest
 unless_stopped (Some stop) stopped rest = record stopped { stop = Some stop }

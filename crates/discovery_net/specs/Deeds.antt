@@ -34,6 +34,7 @@ abbrev pub hello_octets_by : Option Addr → Hello → List ℕ
 hello_octets_by None hello = []
 hello_octets_by (Some address) hello = hello_octets address hello.id hello.hold
 
+-- by the address of the edge that says it
 abbrev pub octets_of_hello : Plan → Hello → List ℕ
 octets_of_hello plan hello = hello_octets_by (edge_address plan hello.from) hello
 

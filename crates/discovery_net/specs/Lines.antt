@@ -23,21 +23,25 @@ use Rattle.discovery_net.specs.Deeds.{Discovery, Hello, adjacency_lives, hello_n
 abbrev pub next_hello : Discovery → EdgeId → EdgeId → ℕ → Hello
 next_hello d from to hold = record { from = from; to = to; id = id_behind (d.histories from.0); hold = hold }
 
+-- the line `hello`: a Hello is said, between edges that a segment joins
 abbrev pub hello_acts : Plan → Discovery → EdgeId → EdgeId → ℕ → List Act
 hello_acts plan d from to hold =
     if are_joined plan from.0 to.0 then Tells (note.Hello (length d.hellos + 1) from to (octets_of_hello plan (next_hello d from to hold))) ∷ [] else Tells note.Idle ∷ []
 
 -- ---- a Hello is heard, some time after it was said
 
+-- the line `bring`: a Hello that was said is heard, which tells of an adjacency that did not live before
 abbrev pub bring_acts : Discovery → Option Hello → List Act
 bring_acts d None = Tells note.Idle ∷ []
 bring_acts d (Some hello) = if adjacency_lives d hello.to.0 hello.from.0 then [] else Tells (note.Up hello.to hello.from) ∷ []
 
 -- ---- a connection opens where both edges hold an adjacency with the other one
 
+-- both edges hold an adjacency with the other one
 abbrev pub may_open : Discovery → EdgeId → EdgeId → Bool
 may_open d from to = adjacency_lives d from.0 to.0 && adjacency_lives d to.0 from.0
 
+-- the line `open`: the two connect where they may, and are barred where they may not
 abbrev pub open_acts : Plan → Discovery → EdgeId → EdgeId → List Act
 open_acts plan d from to =
     if are_joined plan from.0 to.0
@@ -72,6 +76,7 @@ downs plan network (lapse ∷ lapses) =
     then Does (event.Lose lapse.edge lapse.peer) ∷ downs plan (step plan network (event.Lose lapse.edge lapse.peer)).state lapses
     else downs plan network lapses)
 
+-- the line `tick`
 abbrev pub tick_acts : Plan → Discovery → List Act
 tick_acts plan d = downs plan d.network (lapses_from d.histories (length plan.edges) 0 (length plan.edges))
 
@@ -85,6 +90,7 @@ acts_of plan d (line.Open from to) = open_acts plan d from to
 acts_of plan d line.Tick = tick_acts plan d
 acts_of plan d (line.Do command) = all_done (made_by plan d.network [] command)
 
+-- a Hello, where there is one, is heard by the edge to which it was said
 abbrev pub heard_at : Option Hello → (ℕ → List Deed) → ℕ → List Deed
 heard_at None histories = histories
 heard_at (Some hello) histories = with_deed hello.to (heard hello.from.0 hello.hold) histories
@@ -102,6 +108,7 @@ abbrev pub hellos_after : Plan → Discovery → ScriptLine → List Hello
 hellos_after plan d (line.Hello from to hold) = if are_joined plan from.0 to.0 then d.hellos ++ next_hello d from to hold ∷ [] else d.hellos
 hellos_after plan d other = d.hellos
 
+-- the network, the histories and the Hellos after a line
 abbrev pub after_line : Plan → Discovery → ScriptLine → Discovery
 after_line plan d line = record {
   network = state_after plan d.network (events_in (acts_of plan d line));

@@ -13,6 +13,7 @@ use Rattle.discovery_net.specs.Acts.{Act, Course, course, course_of}
 use Rattle.discovery_net.specs.Deeds.{Discovery, Hello, octets_of_hello}
 use Rattle.discovery_net.specs.Lines.{Lapse, downs}
 
+-- the network, what its edges keep of the others, and what was said and told
 pub record DiscoveryLists : Type 0 where
   pub network : NetLists
   -- what each edge keeps of the others, by the plan's places

@@ -58,14 +58,17 @@ command_at number (Ok command) = Ok (line.Do command)
 command_at number (Err (BadWord event word)) = Err (Bad number (word + 1))
 command_at number (Err fault) = Err (Bad number 2)
 
+-- a command that stands behind `do`, unless it is barred there
 abbrev pub said_behind : PlanNames → ℕ → List ℕ → Result ScriptLine ScriptFault
 said_behind names number text = if is_barred (first_word text) then Err (Bad number 2) else command_at number (command_in names 1 0 text)
 
+-- the line `do`
 unfoldable pub do_in : PlanNames → ℕ → List (List ℕ) → Result ScriptLine ScriptFault
 do_in names number words = said_behind names number (spaced_words (drop 1 words))
 
 -- ---- any line, by its first word
 
+-- a line by its first word
 abbrev pub discovery_line_by : PlanNames → ℕ → List ℕ → List (List ℕ) → Result ScriptLine ScriptFault
 discovery_line_by names number word words =
     if bytes_eq word (codes "hello") then hello_in names number words
@@ -75,6 +78,7 @@ discovery_line_by names number word words =
     else if bytes_eq word (codes "do") then do_in names number words
     else Err (Bad number 1)
 
+-- a line by its words
 unfoldable pub discovery_line_of : PlanNames → ℕ → List (List ℕ) → Result ScriptLine ScriptFault
 discovery_line_of names number words = discovery_line_by names number (first_of words) words
 

@@ -17,6 +17,7 @@ IsScripted (Ticks count) = ⊥
 IsScripted (Play circuit file) = ⊥
 IsScripted other = Unit {0}
 
+-- two edges of the plan
 abbrev pub AreOfPlan : Plan → EdgeId → EdgeId → Type 0
 AreOfPlan plan a b = (a.0 < length plan.edges) × (b.0 < length plan.edges)
 

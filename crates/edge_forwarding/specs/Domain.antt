@@ -27,6 +27,7 @@ opens on told (Some (port.Circuit circuit)) = on circuit.0
 opens on told (Some (port.Mesh wire)) = is_up (told wire.0)
 opens on told (Some (port.Spoke wire)) = is_up (told wire.0)
 
+-- the port with this number is open
 abbrev pub port_opens : (ℕ → Bool) → (ℕ → Option Down) → List Port → ℕ → Bool
 port_opens on told ports p = opens on told (slice_get ports p)
 
@@ -34,6 +35,7 @@ port_opens on told ports p = opens on told (slice_get ports p)
 abbrev pub all_on : ℕ → Bool
 all_on circuit = true
 
+-- before the first input nothing was told of any wire, whose end counts as one without a label
 abbrev pub nothing_told : ℕ → Option Down
 nothing_told wire = Some NoLocal
 
@@ -62,6 +64,7 @@ IsDomainKept plan me on told now service (Some domain) = IsDomain plan me on tol
 abbrev pub aged_domain : ℕ → Domain → Domain
 aged_domain now domain = record domain { bridge = record domain.bridge { entries = filter (is_young now domain.bridge.age) domain.bridge.entries } }
 
+-- the same of the domain that is kept for a service, where it has one
 abbrev pub aged_kept : ℕ → Option Domain → Option Domain
 aged_kept now kept = option_map (aged_domain now) kept
 
@@ -69,6 +72,7 @@ aged_kept now kept = option_map (aged_domain now) kept
 abbrev pub cleared_domain : Domain → Domain
 cleared_domain domain = record domain { bridge = record domain.bridge { entries = [] } }
 
+-- the same of the domain that is kept for a service, where it has one
 abbrev pub cleared_kept : Option Domain → Option Domain
 cleared_kept kept = option_map cleared_domain kept
 
@@ -87,6 +91,7 @@ pub record IsTurned (test : Port → Bool) (on : Bool) (old new : Domain) : Type
   pub bridge : new.bridge ≡ old.bridge
   pub forwarding : (p : ℕ) → holds_port new.forwarding p ≡ (if is_found (position test old.bridge.ports) p then on else holds_port old.forwarding p)
 
+-- the same of the domain that is kept for a service, where it has one
 abbrev pub IsKeptTurned : (Port → Bool) → Bool → Option Domain → Option Domain → Type 0
 IsKeptTurned test on None None = Unit {0}
 IsKeptTurned test on None (Some new) = ⊥
@@ -97,6 +102,7 @@ IsKeptTurned test on (Some old) (Some new) = IsTurned test on old new
 abbrev pub forgot_domain : (Port → Bool) → Domain → Domain
 forgot_domain test domain = record domain { bridge = record domain.bridge { entries = without_port (position test domain.bridge.ports) domain.bridge.entries } }
 
+-- the same of the domain that is kept for a service, where it has one
 abbrev pub forgot_kept : (Port → Bool) → Option Domain → Option Domain
 forgot_kept test kept = option_map (forgot_domain test) kept
 
@@ -104,6 +110,7 @@ forgot_kept test kept = option_map (forgot_domain test) kept
 abbrev pub withdrawn_domain : ℕ → List Mac → Domain → Domain
 withdrawn_domain from addresses domain = record domain { bridge = record domain.bridge { entries = filter (entry_stays from addresses) domain.bridge.entries } }
 
+-- the same of the domain that is kept for a service, where it has one
 abbrev pub withdrawn_kept : ℕ → List Mac → Option Domain → Option Domain
 withdrawn_kept from addresses kept = option_map (withdrawn_domain from addresses) kept
 
@@ -114,6 +121,7 @@ pub record IsClosed (old new : Domain) : Type 0 where
   pub bridge : new.bridge ≡ old.bridge
   pub forwarding : (p : ℕ) → holds_port new.forwarding p ≡ (holds_port old.forwarding p && not (is_wire (slice_get old.bridge.ports p)))
 
+-- the same of the domain that is kept for a service, where it has one
 abbrev pub IsKeptClosed : Option Domain → Option Domain → Type 0
 IsKeptClosed None None = Unit {0}
 IsKeptClosed None (Some new) = ⊥
@@ -128,6 +136,7 @@ pub record IsNewDomain (plan : Plan) (me : EdgeId) (service : ServiceId) (years 
   pub bridge : domain.bridge ≡ record { ports = ports_of plan service me; age = years; entries = [] }
   pub forwarding : (p : ℕ) → holds_port domain.forwarding p ≡ port_opens all_on nothing_told (ports_of plan service me) p
 
+-- the same of the domain that is kept for a service: it has one where it has ports here
 abbrev pub IsNew : Plan → EdgeId → ServiceId → ℕ → Option Domain → Type 0
 IsNew plan me service age None = ports_of plan service me ≡ []
 IsNew plan me service age (Some domain) = IsNewDomain plan me service age domain

@@ -18,6 +18,7 @@ use Rattle.hvpls_spokes.specs.Port.{ports_of}
 use Rattle.edge_forwarding.specs.Domain.{IsDomainKept, nothing_told, port_opens}
 use Rattle.edge_forwarding.specs.Views.{view}
 
+-- what an edge forwards by, as lists by the plan's places
 pub record ForwardingLists : Type 0 where
   -- the network's plan, and the edge's place in it
   pub plan : Plan
@@ -44,6 +45,7 @@ domain_of f service = view None f.domains service
 abbrev pub circuits_in : ForwardingLists → ℕ → Bool
 circuits_in f = view true f.circuits_on
 
+-- what was told last of each wire
 abbrev pub told_in : ForwardingLists → ℕ → Option Down
 told_in f = view (Some NoLocal) f.told_down
 
@@ -99,6 +101,7 @@ opened_forwarding plan me edge = record edge {
   told_down = (empty_edge plan me).told_down;
 }
 
+-- what an edge of the plan forwards by, once it is opened there
 pub record IsNewForwarding (plan : Plan) (me : EdgeId) (f : ForwardingLists) : Type 0 where
   pub keeps : f.plan ≡ plan
   pub here : f.me ≡ me

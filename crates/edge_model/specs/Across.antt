@@ -22,6 +22,7 @@ mate_of me place (Some row) = mate row me.0 place.peer.0
 abbrev pub held_of : EdgeState → WireId → ℕ → Option Binding
 held_of edge wire peer = (edge.ends wire.0 peer).remote
 
+-- what is held of this neighbour, where there is one
 abbrev pub held_from : (ℕ → Option Binding) → Option EdgeId → Option Binding
 held_from held None = None
 held_from held (Some peer) = held peer.0

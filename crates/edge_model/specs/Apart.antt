@@ -34,6 +34,7 @@ pub record StaysInChannel (plan : Plan) (edge : EdgeState) (octets : List ℕ) (
   pub unheard : work.edge ≡ edge
   pub verified : IsVerified plan edge octets work.effects
 
+-- what an edge makes of a packet, from before the input on
 abbrev pub on_packet : Plan → Answers → EdgeState → List LinkCall → List ℕ → Work
 on_packet plan told edge calls octets = packet_input plan told octets (beginning edge calls)
 

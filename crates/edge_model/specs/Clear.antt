@@ -28,6 +28,7 @@ use Rattle.edge_model.specs.Work.{Work, changes}
 
 -- ---- what is passed on
 
+-- the addresses are told at this end, where there is one, in pieces
 abbrev pub tells_by : Answers → List Mac → Option EndPlace → Work → Work
 tells_by told addresses None work = work
 tells_by told addresses (Some place) work = tells_pieces told place (pieces_of addresses) work
@@ -50,6 +51,7 @@ passes_on plan told addresses service from (Some role) work =
 abbrev pub withdrawing_at : ServiceId → List Mac → ℕ → EdgeState → EdgeState
 withdrawing_at service addresses from edge = with_addresses service (filter (entry_stays from addresses) (addresses_of edge service)) edge
 
+-- what came by this port of the service, where it has one: the bridge forgets, and the edge passes the addresses on
 abbrev pub clears_at : Plan → Answers → List Mac → ServiceId → Option ℕ → Work → Work
 clears_at plan told addresses service None work = work
 clears_at plan told addresses service (Some from) work =

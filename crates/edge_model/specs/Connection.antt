@@ -30,6 +30,7 @@ abbrev pub connects : Answers → EdgeId → Peering → Work → Work
 connects told peer kept work =
     happens_with_ends told peer table.Start (gives (Session peer name.Initialized) (changes (with_peering peer (Some kept)) (changes (meeting peer) work)))
 
+-- the session is that of the two rows of the plan
 abbrev pub connects_between : Plan → Answers → EdgeId → Option EdgePlan → Option EdgePlan → Work → Work
 connects_between plan told peer (Some own) (Some other) work = mends plan told (connects told peer (opened_with own other) work)
 connects_between plan told peer own other work = idles work

@@ -79,6 +79,7 @@ IsCopy plan edge came service frame from (Sent peer wire of_arrival bytes) = Sen
 IsCopy plan edge came service frame from (Dropped why) = why ≡ cause.LinkFault
 IsCopy plan edge came service frame from effect = ⊥
 
+-- each effect is one
 abbrev pub AllAreCopies : Plan → EdgeState → Arrival → ServiceId → List ℕ → ℕ → List Effect → Type 0
 AllAreCopies plan edge came service frame from [] = Unit {0}
 AllAreCopies plan edge came service frame from (e ∷ es) = IsCopy plan edge came service frame from e × AllAreCopies plan edge came service frame from es
@@ -93,6 +94,7 @@ pub record FrameIsCopied (plan : Plan) (edge : EdgeState) (circuit : CircuitId) 
   pub found : port_at plan edge circuit row ≡ Some from
   pub copies : AllAreCopies plan edge (arrival.Circuit circuit) row.service frame from effects
 
+-- nothing, one drop of a frame that could not be read, or its copies
 pub data FrameWork (plan : Plan) (edge : EdgeState) (circuit : CircuitId) (octets : List ℕ) (row : Option CircuitPlan) (effects : List Effect) : Type 0 where
   FrameIsIdle : effects ≡ [] → FrameWork plan edge circuit octets row effects
   FrameIsDropped : (why : DropCause) → inner_at plan circuit octets ≡ Err why → effects ≡ Dropped why ∷ [] → FrameWork plan edge circuit octets row effects
@@ -129,6 +131,7 @@ pub record PacketIsSwitched (plan : Plan) (edge : EdgeState) (octets : List ℕ)
   pub living : (entry.ttl == 1) ≡ false
   pub sent : effects ≡ Sent to place.wire (arrival.Wire place.wire) (relabelled binding.label (entry.ttl - 1) octets) ∷ []
 
+-- nothing, one drop, the copies of its frame, the packet itself at a switching point, or what comes of an echo packet
 pub data PacketWork (plan : Plan) (edge : EdgeState) (octets : List ℕ) (effects : List Effect) : Type 0 where
   PacketIsLost : effects ≡ [] → PacketWork plan edge octets effects
   PacketIsDropped : (why : DropCause) → effects ≡ Dropped why ∷ [] → PacketWork plan edge octets effects

@@ -52,6 +52,7 @@ echoes told place kind binding ip (Err why) work = drops (vccv_cause_of why) wor
 echoes told place kind binding ip (Ok (Answer sequence)) work = gives (Pong place.wire sequence) work
 echoes told place kind binding ip (Ok (Request from to sequence long)) work = sends told place arrival.Own (channel_octets kind binding (answer_packet ip)) work
 
+-- the payload is read as an echo message of the wire
 abbrev pub verifies : Answers → EndPlace → WirePlan → Cc → Binding → List ℕ → Work → Work
 verifies told place row kind binding payload work =
     echoes told place kind binding (ip_packet_of (has_header kind) payload) (reading (has_header kind) (ping_number row) payload) work

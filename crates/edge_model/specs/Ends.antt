@@ -15,10 +15,12 @@ use Rattle.edge_model.specs.State.{EdgeState, end_at}
 abbrev pub wire_end : Plan → EdgeId → WireId → Option EndPlace
 wire_end plan me wire = find (is_end_of_wire wire) (end_places plan me)
 
+-- without a cause the end forwards
 abbrev pub is_up : Option Down → Bool
 is_up None = true
 is_up (Some cause) = false
 
+-- the end at this place, where there is one, forwards
 abbrev pub forwards_at : Plan → EdgeState → Option EndPlace → Bool
 forwards_at plan edge None = false
 forwards_at plan edge (Some place) = is_up (down_at plan edge place)

@@ -30,6 +30,7 @@ forwards plan edge (Some (port.Circuit circuit)) = is_on edge circuit
 forwards plan edge (Some (port.Mesh wire)) = end_forwards plan edge wire
 forwards plan edge (Some (port.Spoke wire)) = end_forwards plan edge wire
 
+-- the port with this number forwards
 abbrev pub port_forwards : Plan → EdgeState → List Port → ℕ → Bool
 port_forwards plan edge ports p = forwards plan edge (slice_get ports p)
 

@@ -42,6 +42,7 @@ missing_parameters = 0x16
 abbrev pub unknown_fec : ℕ
 unknown_fec = 0x0c
 
+-- the status data for why a message is not processed
 abbrev pub data_for : Why → ℕ
 data_for (UnknownTlv number) = unknown_tlv
 data_for (Missing field) = missing_parameters
@@ -59,6 +60,7 @@ advice_of (Unprocessed id number why) =
     if number == type_of kind.Notification then None else Some (advisory (Unprocessed id number why) (data_for why))
 advice_of message = None
 
+-- the advice on a message is put, where there is one
 abbrev pub advises : Answers → EdgeId → Option Reply → Work → Work
 advises told peer None work = work
 advises told peer (Some reply) work = (had_said peer (put_reply told peer reply work)).work
@@ -77,10 +79,12 @@ abbrev pub acts : Plan → Answers → EdgeId → Message → Bool → Work → 
 acts plan told peer message false work = work
 acts plan told peer message true work = if has_end work.edge peer then acts_on plan told peer message work else work
 
+-- the state in which a session is up (RFC 5036 section 2.5.4)
 abbrev pub is_up_phase : Phase → Bool
 is_up_phase phase.Operational = true
 is_up_phase state = false
 
+-- the session with a neighbour is up, by what is kept of it
 abbrev pub was_up : Option Peering → Bool
 was_up None = false
 was_up (Some kept) = is_up_phase kept.session.phase
@@ -93,6 +97,7 @@ hears_one plan told peer message work = acts plan told peer message (was_up (wor
 abbrev pub hears_message : Plan → Answers → EdgeId → Message → Work → Work
 hears_message plan told peer message work = if has_end work.edge peer then mends plan told (hears_one plan told peer message work) else work
 
+-- one message after another
 abbrev pub hears_messages : Plan → Answers → EdgeId → List Message → Work → Work
 hears_messages plan told peer [] work = work
 hears_messages plan told peer (message ∷ messages) work = hears_messages plan told peer messages (hears_message plan told peer message work)
@@ -114,6 +119,7 @@ hears_front plan told peer on kept octets More work = holds peer octets (Some ke
 hears_front plan told peer on kept octets (Got pdu rest) work = on rest (hears_pdu plan told peer pdu work)
 hears_front plan told peer on kept octets (Bad fault) work = happens_with_ends told peer (Refused (refusal_of fault)) work
 
+-- by what is kept of the peer: its session has the longest PDU; without a session nothing is heard
 abbrev pub hears_within : Plan → Answers → EdgeId → (List ℕ → Work → Work) → List ℕ → Option Peering → Work → Work
 hears_within plan told peer on octets None work = work
 hears_within plan told peer on octets (Some kept) work = hears_front plan told peer on kept octets (front_of kept.session.max_pdu octets) work

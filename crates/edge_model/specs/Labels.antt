@@ -31,6 +31,7 @@ abbrev pub unless_kept : Option KeptState → ℕ → EdgeId → List Kept → L
 unless_kept None label peer kept = keeps label peer kept
 unless_kept (Some state) label peer kept = kept
 
+-- a number is kept for a peer, where there is a number
 abbrev pub keeps_one : Option ℕ → EdgeId → List Kept → List Kept
 keeps_one None peer kept = kept
 keeps_one (Some label) peer kept = unless_kept (kept_at label kept) label peer kept
@@ -57,6 +58,7 @@ keeps_lost peer ends (place ∷ places) kept =
 abbrev pub owner_at : EndPlace → ℕ → Owner
 owner_at place label = record { label = label; key = record { wire = place.wire; segment = place.segment }; side = place.side; peer = place.peer }
 
+-- the end at a place is an owner, where it has a label
 abbrev pub with_owner_at : EndPlace → Option ℕ → List Owner → List Owner
 with_owner_at place None owners = owners
 with_owner_at place (Some label) owners = put_by owned_label (owner_at place label) owners
@@ -66,10 +68,12 @@ abbrev pub owners_of : (ℕ → ℕ → EndState) → List EndPlace → List Own
 owners_of ends [] = []
 owners_of ends (place ∷ places) = with_owner_at place (own_label (ends place.wire.0 place.peer.0).local) (owners_of ends places)
 
+-- the numbers of all owners, one after another
 abbrev pub keeps_owned : List Owner → List Kept → List Kept
 keeps_owned [] kept = kept
 keeps_owned (o ∷ os) kept = keeps_owned os (keeps_one (Some o.label) o.peer kept)
 
+-- all ends lose their labels
 abbrev pub keeping_all : EdgeState → EdgeState
 keeping_all edge = with_kept (keeps_owned (owners_of edge.ends edge.places) edge.kept) edge
 

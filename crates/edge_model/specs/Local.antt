@@ -58,11 +58,13 @@ pub record SentBeside (plan : Plan) (circuit : CircuitId) (wire : WireId) (came 
   pub is : wire_row plan wire ≡ Some row
   pub of_service : service_of plan circuit ≡ Some row.service
 
+-- what is given out on a frame leaves, or is sent, beside its circuit; no other effect carries it
 abbrev pub StaysBeside : Plan → CircuitId → List ℕ → Effect → Type 0
 StaysBeside plan circuit octets (Left at bytes) = LeavesBeside plan circuit octets at bytes
 StaysBeside plan circuit octets (Sent peer wire came bytes) = SentBeside plan circuit wire came
 StaysBeside plan circuit octets effect = Unit {0}
 
+-- each effect does
 abbrev pub AllStayBeside : Plan → CircuitId → List ℕ → List Effect → Type 0
 AllStayBeside plan circuit octets [] = Unit {0}
 AllStayBeside plan circuit octets (e ∷ es) = StaysBeside plan circuit octets e × AllStayBeside plan circuit octets es
@@ -121,6 +123,7 @@ from_label Header octets = octets
 from_label Alert octets = behind_entry octets
 from_label Expiry octets = octets
 
+-- the first entry is a router alert
 abbrev pub has_alert : Result StackEntry DropCause → Bool
 has_alert (Err why) = false
 has_alert (Ok entry) = is_alert entry
@@ -147,6 +150,7 @@ pub record ComesInChannel (plan : Plan) (edge : EdgeState) (octets : List ℕ) (
 abbrev pub channel_payload : Cc → List ℕ → List ℕ
 channel_payload kind octets = behind_entry (from_label kind octets)
 
+-- the echo message that the packet carries, or why it carries none
 abbrev pub echo_of : WirePlan → Cc → List ℕ → Result Echo VccvFault
 echo_of row kind octets = reading (has_header kind) (ping_number row) (channel_payload kind octets)
 
@@ -180,12 +184,14 @@ pub record ToldBehind (plan : Plan) (edge : EdgeState) (octets : List ℕ) (wire
 
 -- ---- whatever is given out on a packet
 
+-- what leaves, is sent or is told as an answer belongs to the packet; no other effect carries it
 abbrev pub StaysBehind : Plan → EdgeState → List ℕ → Effect → Type 0
 StaysBehind plan edge octets (Left at bytes) = LeavesBehind plan edge octets at bytes
 StaysBehind plan edge octets (Sent peer wire came bytes) = SentBehind plan edge octets wire came ⊎ (SentOn plan edge octets peer wire came ⊎ SentBack plan edge octets peer wire came bytes)
 StaysBehind plan edge octets (Pong wire sequence) = ToldBehind plan edge octets wire sequence
 StaysBehind plan edge octets effect = Unit {0}
 
+-- each effect does
 abbrev pub AllStayBehind : Plan → EdgeState → List ℕ → List Effect → Type 0
 AllStayBehind plan edge octets [] = Unit {0}
 AllStayBehind plan edge octets (e ∷ es) = StaysBehind plan edge octets e × AllStayBehind plan edge octets es
@@ -213,11 +219,13 @@ pub record SentAsked (plan : Plan) (edge : EdgeState) (wire : WireId) (peer : Ed
   pub own : came ≡ arrival.Own
   pub asked : bytes ≡ channel_octets kind binding (request_packet (ping_between row from to (edge.next_ping place.wire.0)))
 
+-- no frame leaves on a ping, and what is sent is its request
 abbrev pub StaysAsked : Plan → EdgeState → WireId → Effect → Type 0
 StaysAsked plan edge wire (Left at bytes) = ⊥
 StaysAsked plan edge wire (Sent peer on came bytes) = SentAsked plan edge wire peer on came bytes
 StaysAsked plan edge wire effect = Unit {0}
 
+-- each effect does
 abbrev pub AllStayAsked : Plan → EdgeState → WireId → List Effect → Type 0
 AllStayAsked plan edge wire [] = Unit {0}
 AllStayAsked plan edge wire (e ∷ es) = StaysAsked plan edge wire e × AllStayAsked plan edge wire es

@@ -53,14 +53,17 @@ then_changes change said = record { work = changes change said.work; failed = sa
 
 -- ---- what an end should tell
 
+-- the state in which a session is up (RFC 5036 section 2.5.4)
 abbrev pub is_operational : Phase → Bool
 is_operational phase.Operational = true
 is_operational state = false
 
+-- the session with a neighbour is up, by what is kept of it
 abbrev pub is_up_with : Option Peering → Bool
 is_up_with None = false
 is_up_with (Some kept) = is_operational kept.session.phase
 
+-- failures are told by a status, and not by withdrawing the label (RFC 8077 section 6.3)
 abbrev pub tells_status : Method → Bool
 tells_status method.Told = true
 tells_status method.Withdrawn = false
@@ -86,6 +89,7 @@ abbrev pub passed_from : Plan → WirePlan → EdgeId → (ℕ → Option Bindin
 passed_from plan row me held None = None
 passed_from plan row me held (Some from) = wanted (own_point row.pw_id (edge_address plan me) (edge_address plan from)) (held from.0)
 
+-- what a switching point tells at an end: what it holds of the mate, the neighbour on the other side of the wire
 abbrev pub passed_wish : Plan → EdgeState → EndPlace → WirePlan → Option Told
 passed_wish plan edge place row = passed_from plan row edge.me (held_of edge place.wire) (mate row edge.me.0 place.peer.0)
 
@@ -98,6 +102,7 @@ abbrev pub wish_of : Plan → EdgeState → EndPlace → Option WirePlan → Opt
 wish_of plan edge place None = None
 wish_of plan edge place (Some row) = if edge.wire_on place.wire.0 && is_up_with (edge.peering place.peer.0) then wish_by plan edge place row else None
 
+-- what an end should tell, by the row of its wire
 abbrev pub wish : Plan → EdgeState → EndPlace → Option Told
 wish plan edge place = wish_of plan edge place (wire_row plan place.wire)
 
@@ -112,9 +117,11 @@ abbrev pub advertises_under : Answers → EndPlace → Told → Option ℕ → W
 advertises_under told place content None work = stays work
 advertises_under told place content (Some label) work = says told place.peer (mapping place.pw_id label content) (changes (advertising place label content) work)
 
+-- it advertises under the label that the edge gives next
 abbrev pub advertises : Answers → EndPlace → Told → Work → Spoken
 advertises told place content work = advertises_under told place content (label_to_give work.edge) work
 
+-- it advertises what it should tell, where that is anything
 abbrev pub advertises_wish : Answers → EndPlace → Option Told → Work → Spoken
 advertises_wish told place None work = stays work
 advertises_wish told place (Some content) work = advertises told place content work
@@ -123,6 +130,7 @@ advertises_wish told place (Some content) work = advertises told place content w
 abbrev pub withdrawing : EndPlace → EdgeState → EdgeState
 withdrawing place edge = with_end place (withdrawn (end_at edge place)) edge
 
+-- the end withdraws its label, and puts a Label Withdraw
 abbrev pub withdraws : Answers → EndPlace → ℕ → Told → Work → Spoken
 withdraws told place label content work = says told place.peer (withdrawal place.pw_id label content) (changes (withdrawing place) work)
 
@@ -132,22 +140,28 @@ abbrev pub offer_stands : EndPlace → Told → Option Told → Bool
 offer_stands place content None = false
 offer_stands place content (Some wished) = place.terminal || is_same_but_status content wished
 
+-- it withdraws its label where what it has told no longer stands
 abbrev pub withdraws_unless : Answers → EndPlace → ℕ → Told → Option Told → Work → Spoken
 withdraws_unless told place label content wished work = if offer_stands place content wished then stays work else withdraws told place label content work
 
+-- by what the end has told: an idle end is advertised, unless its peer has declined it, and one that advertises may withdraw; one that
+-- withdraws waits
 abbrev pub mends_local : Plan → Answers → EndPlace → LocalPart → Work → Spoken
 mends_local plan told place (Idle declined) work = if declined then stays work else advertises_wish told place (wish plan work.edge place) work
 mends_local plan told place (Advertised label content) work = withdraws_unless told place label content (wish plan work.edge place) work
 mends_local plan told place (Withdrawing label) work = stays work
 
+-- the end at a place
 abbrev pub mends_end : Plan → Answers → EndPlace → Work → Spoken
 mends_end plan told place work = mends_local plan told place (end_at work.edge place).local work
 
 -- ---- a status that has changed is told
 
+-- the end has told this status last
 abbrev pub telling_status : EndPlace → PwStatus → EdgeState → EdgeState
 telling_status place status edge = with_end place (telling status (end_at edge place)) edge
 
+-- the status is put in a Notification
 abbrev pub tells_new_status : Answers → EndPlace → Told → PwStatus → Work → Spoken
 tells_new_status told place content status work =
     says told place.peer (status_notification place.pw_id status content) (changes (telling_status place status) work)
@@ -157,10 +171,12 @@ abbrev pub tells_over : Answers → EndPlace → Told → PwStatus → Option Pw
 tells_over told place content status None work = stays work
 tells_over told place content status (Some last) work = if last.0 == status.0 then stays work else tells_new_status told place content status work
 
+-- by what the end has told: only one that advertises tells a status
 abbrev pub mends_status_of : Plan → Answers → EndPlace → LocalPart → Work → Spoken
 mends_status_of plan told place (Advertised label content) work = tells_over told place content (status_to_tell plan work.edge place) content.status work
 mends_status_of plan told place local work = stays work
 
+-- the end at a place
 abbrev pub mends_status : Plan → Answers → EndPlace → Work → Spoken
 mends_status plan told place work = mends_status_of plan told place (end_at work.edge place).local work
 
@@ -188,6 +204,7 @@ forgetting_wire plan wire None edge = edge
 forgetting_wire plan wire (Some row) edge =
     with_addresses row.service (without_port (port_of_wire plan edge wire row) (addresses_of edge row.service)) edge
 
+-- a wire that is down, for whatever cause, has its addresses forgotten
 abbrev pub forgets_down : Plan → EndPlace → Option Down → Work → Work
 forgets_down plan place None work = work
 forgets_down plan place (Some why) work = changes (forgetting_wire plan place.wire (wire_row plan place.wire)) work
@@ -212,6 +229,7 @@ cause_number (Some cause.LocalFault) = 6
 cause_number (Some cause.RemoteFault) = 7
 cause_number (Some cause.Standby) = 8
 
+-- a cause is told, and kept as the last one, where it is not the one that was told last
 abbrev pub tells_down : EndPlace → Option Down → Work → Work
 tells_down place down work =
     if cause_number (work.edge.told_down place.wire.0) == cause_number down then work
@@ -240,9 +258,11 @@ mends_once plan told work =
 abbrev pub mends_again : (Work → Work) → Spoken → Work
 mends_again again m = if m.failed then again m.work else m.work
 
+-- so many rounds at most
 abbrev pub mends_few : Plan → Answers → ℕ → Work → Work
 mends_few plan told zero work = work
 mends_few plan told (suc n) work = mends_again (mends_few plan told n) (mends_once plan told work)
 
+-- as many rounds as there may be
 abbrev pub mends : Plan → Answers → Work → Work
 mends plan told work = mends_few plan told (suc (length plan.edges)) work

@@ -35,6 +35,7 @@ use Rattle.edge_model.specs.Work.{Work}
 
 -- ---- whose label it is
 
+-- an end has the label that it advertises, and none that it withdraws
 abbrev pub advertises_label : ℕ → LocalPart → Bool
 advertises_label label (Idle declined) = false
 advertises_label label (Advertised own told) = own == label
@@ -50,6 +51,7 @@ advertiser plan edge label = find (λ place. advertises_label label (end_at edge
 abbrev pub behind_entry : List ℕ → List ℕ
 behind_entry octets = drop 4 octets
 
+-- the inner frame of a payload, by an offer and the MTU of its service
 abbrev pub unpacked_by : Offer → Option ℕ → List ℕ → Result (List ℕ) DropCause
 unpacked_by offer None payload = Err cause.Down
 unpacked_by offer (Some mtu) payload = unpacked offer.cword offer.tagged mtu payload
@@ -60,6 +62,7 @@ unpacked_at plan row me payload = unpacked_by (offer_of row me.0) (mtu_of plan r
 
 -- ---- 1. a router alert label in front (RFC 3032 section 2.1, RFC 5085 section 5.1.2)
 
+-- a router alert label, with another entry behind it
 abbrev pub is_alert : StackEntry → Bool
 is_alert entry = entry.label == router_alert && not entry.bottom
 
@@ -69,6 +72,7 @@ alerts_by told place None remote payload work = drops cause.NotOffered work
 alerts_by told place (Some row) None payload work = drops cause.NotOffered work
 alerts_by told place (Some row) (Some binding) payload work = verifies_in told place row Alert binding payload work
 
+-- the label behind it has to be that of a terminal end
 abbrev pub alerts_end : Plan → Answers → List ℕ → Option EndPlace → Work → Work
 alerts_end plan told payload None work = drops cause.NoLabel work
 alerts_end plan told payload (Some place) work =
@@ -82,6 +86,7 @@ alerted plan told octets (Ok entry) work =
 
 -- ---- 3. a switching point passes the packet on (RFC 6073 section 4)
 
+-- the place with this neighbour in it, to which a packet goes on
 abbrev pub towards : EdgeId → EndPlace → EndPlace
 towards to place = record place { peer = to }
 
@@ -95,19 +100,23 @@ abbrev pub switched_to : Answers → List ℕ → StackEntry → EndPlace → Op
 switched_to told octets entry place None work = work
 switched_to told octets entry place (Some to) work = switched_under told octets entry place to (label_onward (work.edge.ends place.wire.0 to.0).remote entry.ttl) work
 
+-- by the row of the wire
 abbrev pub switched_by : Answers → List ℕ → StackEntry → EndPlace → Option WirePlan → Work → Work
 switched_by told octets entry place None work = work
 switched_by told octets entry place (Some row) work = switched_to told octets entry place (mate row work.edge.me.0 place.peer.0) work
 
+-- at an end of a switching point
 abbrev pub switched : Plan → Answers → List ℕ → StackEntry → EndPlace → Work → Work
 switched plan told octets entry place work = switched_by told octets entry place (wire_row plan place.wire) work
 
 -- ---- 5. the end does not forward, or the frame is bridged
 
+-- what the payload unpacks to is received at the port of the wire
 abbrev pub bridges_frame : Plan → Answers → WirePlan → EndPlace → List ℕ → Work → Work
 bridges_frame plan told row place payload work =
     received plan told (arrival.Wire place.wire) row.service (port_of_wire plan work.edge place.wire row) (unpacked_at plan row work.edge.me payload) work
 
+-- only by an end that forwards
 abbrev pub enters : Plan → Answers → WirePlan → EndPlace → List ℕ → Work → Work
 enters plan told row place payload work =
     if is_up (down_at plan work.edge place) then bridges_frame plan told row place payload work else drops cause.Down work
@@ -131,10 +140,12 @@ by_ttl plan told row place binding ttl payload work =
     if ttl == 1 && is_picked Expiry (channel_under row work.edge.me binding) then verifies told place row Expiry binding payload work
     else enters plan told row place payload work
 
+-- by whether the edge's own offer has a control word
 abbrev pub by_offer : Plan → Answers → WirePlan → EndPlace → Binding → ℕ → Bool → List ℕ → Work → Work
 by_offer plan told row place binding ttl true payload work = by_control_word plan told row place binding payload work
 by_offer plan told row place binding ttl false payload work = by_ttl plan told row place binding ttl payload work
 
+-- at a terminal end, which has to be bound
 abbrev pub terminated : Plan → Answers → EndPlace → ℕ → Option WirePlan → Option Binding → List ℕ → Work → Work
 terminated plan told place ttl None remote payload work = drops cause.Down work
 terminated plan told place ttl (Some row) None payload work = drops cause.Down work
@@ -146,6 +157,7 @@ terminated plan told place ttl (Some row) (Some binding) payload work = by_offer
 abbrev pub least_label : ℕ
 least_label = 16
 
+-- at the end that has the label: a terminal end takes what stands behind the entry, a switching point passes the packet on
 abbrev pub owned : Plan → Answers → List ℕ → StackEntry → Option EndPlace → Work → Work
 owned plan told octets entry None work = drops cause.NoLabel work
 owned plan told octets entry (Some place) work =
@@ -153,6 +165,7 @@ owned plan told octets entry (Some place) work =
     then terminated plan told place entry.ttl (wire_row plan place.wire) (end_at work.edge place).remote (behind_entry octets) work
     else switched plan told octets entry place work
 
+-- an entry that is no router alert: its label is not reserved, stands at the bottom, and is one of the edge's own
 abbrev pub labelled : Plan → Answers → List ℕ → StackEntry → Work → Work
 labelled plan told octets entry work =
     if nat_lt entry.label least_label then drops cause.NoLabel work

@@ -27,6 +27,7 @@ use Rattle.edge_model.specs.Work.{Work, changes, idles}
 abbrev pub far_terminal : EdgeId → List EdgeId → Option EdgeId
 far_terminal me path = if is_first me.0 path then last_edge path else first_edge path
 
+-- the address of that edge
 abbrev pub far_address : Plan → EdgeId → WirePlan → Option Addr
 far_address plan me row = option_and_then (edge_address plan) (far_terminal me row.path)
 
@@ -34,6 +35,7 @@ far_address plan me row = option_and_then (edge_address plan) (far_terminal me r
 abbrev pub following_ping : ℕ → ℕ
 following_ping sequence = (sequence + 1) % 65536
 
+-- the ping of a wire from one address to another, with the wire's number
 abbrev pub ping_between : WirePlan → Addr → Addr → ℕ → Ping
 ping_between row from to sequence = record { from = from; to = to; number = ping_number row; sequence = sequence }
 
@@ -49,20 +51,24 @@ asks told place row kind binding (Some from) (Some to) work =
     sends told place arrival.Own (channel_octets kind binding (request_packet (ping_between row from to (work.edge.next_ping place.wire.0)))) (changes (pinging place.wire) work)
 asks told place row kind binding from to work = idles work
 
+-- in the control channel that the end has picked, where it has one
 abbrev pub pings_in : Plan → Answers → EndPlace → WirePlan → Binding → Option Cc → Work → Work
 pings_in plan told place row binding None work = idles work
 pings_in plan told place row binding (Some kind) work =
     asks told place row kind binding (edge_address plan work.edge.me) (far_address plan work.edge.me row) work
 
+-- under the binding that the end holds, where it holds one
 abbrev pub pings_under : Plan → Answers → EndPlace → WirePlan → Option Binding → Work → Work
 pings_under plan told place row None work = idles work
 pings_under plan told place row (Some binding) work = pings_in plan told place row binding (channel_under row work.edge.me binding) work
 
+-- at an end that has told its label
 abbrev pub pings_at : Plan → Answers → EndPlace → Option WirePlan → Work → Work
 pings_at plan told place None work = idles work
 pings_at plan told place (Some row) work =
     if has_told (end_at work.edge place).local then pings_under plan told place row (end_at work.edge place).remote work else idles work
 
+-- by the edge's end of the wire, where it has one
 abbrev pub pings_by : Plan → Answers → Option EndPlace → Work → Work
 pings_by plan told None work = idles work
 pings_by plan told (Some place) work = pings_at plan told place (wire_row plan place.wire) work

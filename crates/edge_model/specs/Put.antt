@@ -24,6 +24,7 @@ stays work = record { work = work; failed = false }
 abbrev pub having_spoken : Peering → Peering
 having_spoken kept = record kept { session = record kept.session { silence = 0 }; next_id = following kept.next_id }
 
+-- the session with a peer has put a message, where it stands
 unfoldable pub with_spoken : EdgeId → EdgeState → EdgeState
 with_spoken peer edge = with_peering peer (option_map having_spoken (edge.peering peer.0)) edge
 

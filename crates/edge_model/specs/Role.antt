@@ -36,10 +36,12 @@ end_role_of row me chosen =
     else if chosen then role.Chosen
     else role.NotChosen
 
+-- by the row of the wire and the spokes that are chosen
 abbrev pub role_in : Option WirePlan → EdgeId → (ℕ → Option WireId) → WireId → EndRole
 role_in None me chosen wire = role.Mesh
 role_in (Some row) me chosen wire = end_role_of row me (is_chosen chosen wire row)
 
+-- what the edge's end at a place is to its service
 abbrev pub role_at : Plan → EdgeState → EndPlace → EndRole
 role_at plan edge place = role_in (wire_row plan place.wire) edge.me edge.chosen place.wire
 

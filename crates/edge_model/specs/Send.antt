@@ -45,6 +45,7 @@ abbrev pub had_posted : EndPlace → Arrival → List ℕ → Bool → Work → 
 had_posted place came octets true work = gives (Sent place.peer place.wire came octets) (posts place.peer octets true work)
 had_posted place came octets false work = drops cause.LinkFault (posts place.peer octets false work)
 
+-- by the next answer of the link
 abbrev pub sends : Answers → EndPlace → Arrival → List ℕ → Work → Work
 sends told place came octets work = had_posted place came octets (next_answer told work) work
 

@@ -50,6 +50,7 @@ comes_of told peer kept (Goes next replies) work =
     went_on peer kept.session.phase next.phase (put_replies told peer replies (changes (with_peering peer (Some (with_session next kept))) work))
 comes_of told peer kept (Ends why replies) work = ends peer why (put_replies told peer replies work).work
 
+-- nothing comes of an event where no session stands
 abbrev pub happens_to : Answers → EdgeId → SessionEvent → Option Peering → Work → Work
 happens_to told peer event None work = work
 happens_to told peer event (Some kept) work = comes_of told peer kept (outcome_of kept.session event) work
@@ -62,6 +63,7 @@ happens told peer event work = happens_to told peer event (work.edge.peering pee
 abbrev pub losing_ends : EdgeId → EdgeState → EdgeState
 losing_ends peer edge = with_kept (keeps_lost peer edge.ends edge.places edge.kept) (with_ends_beside peer lost edge)
 
+-- they are lost where the edge's end of the connection is gone
 abbrev pub clears_ends : EdgeId → Work → Work
 clears_ends peer work = if has_end work.edge peer then work else changes (losing_ends peer) work
 
@@ -79,6 +81,7 @@ had_put peer put = if put.failed then ends peer reason.LinkFault put.work else p
 abbrev pub had_said : EdgeId → Spoken → Spoken
 had_said peer put = record { work = clears_ends peer (had_put peer put); failed = put.failed }
 
+-- to a peer of which this is kept: the link answers, and a message that it did not take ends the session
 abbrev pub says_to : Answers → EdgeId → (ℕ → Message) → Option Peering → Work → Spoken
 says_to told peer message None work = record { work = work; failed = false }
 says_to told peer message (Some kept) work = had_said peer (put_octets peer (message_octets_of kept message) (next_answer told work) work)

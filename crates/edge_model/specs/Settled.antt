@@ -20,6 +20,7 @@ tells_wish place wished none_left (Idle declined) = declined || (not (is_some wi
 tells_wish place wished none_left (Advertised label content) = offer_stands place content wished
 tells_wish place wished none_left (Withdrawing label) = true
 
+-- the end at a place tells what it should by now
 abbrev pub is_mended : Plan → EdgeState → EndPlace → Bool
 is_mended plan edge place = tells_wish place (wish plan edge place) (not (is_some (label_to_give edge))) (end_at edge place).local
 
@@ -28,11 +29,13 @@ abbrev pub is_status : ℕ → Option PwStatus → Bool
 is_status status None = true
 is_status status (Some last) = last.0 == status
 
+-- an end that advertises has told this status last, where it has told one
 abbrev pub tells_now : ℕ → LocalPart → Bool
 tells_now status (Idle declined) = true
 tells_now status (Advertised label content) = is_status status content.status
 tells_now status (Withdrawing label) = true
 
+-- the end at a place has told its status of now
 abbrev pub is_told : Plan → EdgeState → EndPlace → Bool
 is_told plan edge place = tells_now (status_to_tell plan edge place).0 (end_at edge place).local
 
@@ -45,6 +48,7 @@ abbrev pub IsForgotten : Plan → EdgeState → EndPlace → Type 0
 IsForgotten plan edge place = (row : WirePlan) → place.terminal ≡ true → wire_row plan place.wire ≡ Some row → is_some (down_at plan edge place) ≡ true
     → without_port (port_of_wire plan edge place.wire row) (addresses_of edge row.service) ≡ addresses_of edge row.service
 
+-- all of it is so: what the end tells, its status, what was learned at its wire, and what was told of the wire
 pub record IsSettled (plan : Plan) (edge : EdgeState) (place : EndPlace) : Type 0 where
   pub mended : is_mended plan edge place ≡ true
   pub told : is_told plan edge place ≡ true

@@ -46,6 +46,7 @@ abbrev pub accepts_at : Option Addr → Told → Bool
 accepts_at None content = false
 accepts_at (Some own) content = accepts own content
 
+-- the content of a mapping is taken at an end
 abbrev pub takes_content : Plan → EdgeId → EndPlace → Told → Bool
 takes_content plan me place content = place.terminal || accepts_at (edge_address plan me) content
 
@@ -70,6 +71,7 @@ abbrev pub hears_withdraw : Plan → Answers → EdgeId → PwFec → Option ℕ
 hears_withdraw plan told peer fec label work =
     releases_label told peer fec label (changes (with_named plan peer fec (unbound label) (group_unbound fec.group) fec.pw_id) work)
 
+-- at the end that is named, where there is one
 abbrev pub with_released : Option ℕ → Option EndPlace → EdgeState → EdgeState
 with_released label None edge = edge
 with_released label (Some place) edge = releasing label place edge

@@ -32,6 +32,7 @@ is_usable edge place = not (is_some (down role.Chosen (edge.bits place.wire.0) (
 abbrev pub spoke_at : EdgeState → EndPlace → Spoke
 spoke_at edge place = record { priority = edge.priority place.wire.0; usable = is_usable edge place }
 
+-- the spokes of a service that start at the edge
 abbrev pub spokes_of : Plan → EdgeState → ServiceId → List Spoke
 spokes_of plan edge service = map (spoke_at edge) (spoke_places plan edge.me service)
 

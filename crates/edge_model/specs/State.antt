@@ -59,6 +59,7 @@ pub record EdgeState : Type 0 where
   -- the sequence number of its next ping of each wire (RFC 792)
   pub next_ping : ℕ → ℕ
 
+-- the label that is given first, by the edge's row
 abbrev pub first_label_of : Option EdgePlan → ℕ
 first_label_of None = 16
 first_label_of (Some row) = row.first_label
@@ -97,12 +98,15 @@ empty_edge plan me = record {
   next_ping = λ wire. first_ping;
 }
 
+-- a circuit is on
 abbrev pub is_on : EdgeState → CircuitId → Bool
 is_on edge circuit = edge.circuit_on circuit.0
 
+-- what the bridge of a service has learned
 abbrev pub addresses_of : EdgeState → ServiceId → List MacEntry
 addresses_of edge service = edge.learned service.0
 
+-- something is kept
 abbrev pub is_there : {X : Type 0} → Option X → Bool
 is_there None = false
 is_there (Some x) = true

@@ -15,6 +15,7 @@ abbrev pub tells_piece_by : Answers → EndPlace → List Mac → LocalPart → 
 tells_piece_by told place addresses (Advertised label content) work = says told place.peer (mac_withdrawal place.pw_id addresses content) work
 tells_piece_by told place addresses local work = stays work
 
+-- by what the end at the place has told
 abbrev pub tells_piece : Answers → EndPlace → List Mac → Work → Spoken
 tells_piece told place addresses work = tells_piece_by told place addresses (end_at work.edge place).local work
 

@@ -8,6 +8,7 @@ use Rattle.pw_messages.specs.LinkAnswers.{Answers}
 use Rattle.edge_model.specs.declared.effect.Effect.{Effect}
 use Rattle.edge_model.specs.State.{EdgeState}
 
+-- the edge as it is by now, and what it did on this input so far
 pub record Work : Type 0 where
   pub edge : EdgeState
   -- the calls of the link, those of earlier inputs among them

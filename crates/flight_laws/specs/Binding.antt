@@ -16,6 +16,7 @@ abbrev pub where_named : ℕ → PwFec → Option ℕ → (named grouped held : 
 where_named pw_id fec None named grouped held = if is_in_group fec.group held then grouped else held
 where_named pw_id fec (Some other) named grouped held = if other == pw_id then named else held
 
+-- the binding after a Notification: the status is that of the pseudowire, where one is told with a FEC that names it
 abbrev pub status_heard : ℕ → StatusCode → Option PwStatus → Option PwFec → Option Binding → Option Binding
 status_heard pw_id code (Some status) (Some fec) held =
     if code.code == pw_status_code then where_named pw_id fec fec.pw_id (status_part status held) (status_part status held) held else held
@@ -39,10 +40,12 @@ advertised_by (Idle declined) = None
 advertised_by (Advertised label told) = Some (record { label = label; told = told })
 advertised_by (Withdrawing label) = None
 
+-- an end that has told nothing
 abbrev pub is_idle : LocalPart → Bool
 is_idle (Idle declined) = true
 is_idle local = false
 
+-- an end that waits for the release of its label
 abbrev pub is_withdrawing : LocalPart → Bool
 is_withdrawing (Withdrawing label) = true
 is_withdrawing local = false

@@ -40,6 +40,7 @@ has_advertised (Withdrawing own) label = false
 abbrev pub is_free_one : ℕ → Kept → Bool
 is_free_one label k = k.label == label && is_free k
 
+-- the same of a label of an edge
 abbrev pub given_of : EdgeState → ℕ → Bool
 given_of edge label = nat_lt label edge.next_label && not (list_any (is_free_one label) edge.kept)
 
@@ -69,10 +70,12 @@ abbrev pub releases_old : ℕ → (ℕ → Bool) → LocalPart → Message → B
 releases_old pw_id given near (LabelRelease id fec label) = names_old pw_id given near fec.pw_id label
 releases_old pw_id given near message = true
 
+-- a Label Withdraw of this label of the wire
 abbrev pub is_withdrawal_of : ℕ → ℕ → Message → Bool
 is_withdrawal_of pw_id own (LabelWithdraw id fec label) = names_label pw_id own fec.pw_id label
 is_withdrawal_of pw_id own message = false
 
+-- a Label Release of this label of the wire
 abbrev pub is_release_of : ℕ → ℕ → Message → Bool
 is_release_of pw_id own (LabelRelease id fec label) = names_label pw_id own fec.pw_id label
 is_release_of pw_id own message = false
@@ -111,6 +114,7 @@ abbrev pub released_by : ℕ → Option ℕ → Option ℕ → LocalPart → Loc
 released_by pw_id None label near = near
 released_by pw_id (Some other) label near = if other == pw_id then release_part label near else near
 
+-- only a Label Release changes what the end has told
 abbrev pub answered_part : ℕ → Message → LocalPart → LocalPart
 answered_part pw_id (LabelRelease id fec label) near = released_by pw_id fec.pw_id label near
 answered_part pw_id message near = near

@@ -36,6 +36,7 @@ pub record IsFieldOffer (offer : Offer) : Type 0 where
   pub description : length offer.description ≤ 80
   pub octets : AreOctets offer.description
 
+-- so do those of both offers of a wire
 pub record AreFieldOffers (row : WirePlan) : Type 0 where
   pub near : IsFieldOffer row.near
   pub far : IsFieldOffer row.far
@@ -68,6 +69,7 @@ abbrev pub LeftFor : Plan → NetworkState → EdgeId → Work → ℕ → Type 
 LeftFor plan network me work place =
     IsLeftBehind (ends_at plan me.0 place) (ends_at plan place me.0) place ((network.edges place).peering me.0) (flight network me.0 place) (network.pipes place me.0) work
 
+-- an edge of the network that is at work on an input
 pub record WorksOn (plan : Plan) (network : NetworkState) (me : EdgeId) (work : Work) : Type 0 where
   pub fine : IsFine me work
   pub sound : TellsSoundly (point_limit plan me.0) work.edge

@@ -63,6 +63,7 @@ pub record IsRun (plan : Plan) (events : List Event) : Type 0 where
   pub types : HasTypes plan
   pub planned : All (IsEventOf plan) events
 
+-- in every run, each two ends that stand are as the table of their states and flights says
 abbrev pub RunsFollowTable : Type 0
 RunsFollowTable = (plan : Plan) (events : List Event) → IsRun plan events → (a b : ℕ) → BothStand (network_after plan events) a b → FollowsTable plan (network_after plan events) a b
 
@@ -101,6 +102,7 @@ pub record AgreesAfterFlight (plan : Plan) (network : NetworkState) (a b : ℕ) 
   pub binds : (wire : WireId) (row : WirePlan) → wire_row plan wire ≡ Some row → joins a b row.path ≡ true
       → bound_after row.pw_id messages ((network.edges a).ends wire.0 b).remote ≡ advertised_by ((network.edges b).ends wire.0 a).local
 
+-- in every run, once each has heard what is on its way to it
 abbrev pub RunsAgreeAfterFlight : Type 0
 RunsAgreeAfterFlight = (plan : Plan) (events : List Event) → IsRun plan events → (a b : ℕ) → BothStand (network_after plan events) a b → AgreesAfterFlight plan (network_after plan events) a b
 
@@ -128,6 +130,7 @@ pub record AreSettled (plan : Plan) (network : NetworkState) (a b : ℕ) : Type 
   pub up : BothStand network a b → IsUp network a b × (IsUp network b a × OfWires plan network a b HasAgreed)
   pub apart : stands network a b ≡ false → stands network b a ≡ false → OfWires plan network a b IsUnbound
 
+-- in every run, in a service that is quiet
 abbrev pub RunsSettle : Type 0
 RunsSettle = (plan : Plan) (events : List Event) → IsRun plan events → (service : ServiceId) → is_quiet plan (network_after plan events) service ≡ true
     → (a b : ℕ) → are_joined_by plan service a b ≡ true → AreSettled plan (network_after plan events) a b

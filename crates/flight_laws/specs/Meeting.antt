@@ -30,6 +30,7 @@ abbrev pub TellsWell : Effect → Type 0
 TellsWell (effect.Session peer state) = EndsWell state
 TellsWell e = Unit {0}
 
+-- so it is with each effect
 abbrev pub TellWell : List Effect → Type 0
 TellWell [] = Unit {0}
 TellWell (e ∷ es) = TellsWell e × TellWell es

@@ -33,6 +33,7 @@ expiry = record { fatal = true; forward = false; code = keep_alive_timer_expired
 abbrev pub IsLeaving : StatusCode → Option PwStatus → Option PwFec → Type 0
 IsLeaving code status fec = (code ≡ expiry) × (status ≡ None) × (fec ≡ None)
 
+-- a Notification that tells the status of a pseudowire has a status and a FEC
 abbrev pub IsStatusNotice : StatusCode → Option PwStatus → Option PwFec → Type 0
 IsStatusNotice code status fec = (code ≡ pw_status_notice) × (is_some status ≡ true) × (is_some fec ≡ true)
 
@@ -62,6 +63,7 @@ IsSaidAcross ends (LabelWithdraw id fec label) = IsSound (LabelWithdraw id fec l
 IsSaidAcross ends (LabelRelease id fec label) = IsSound (LabelRelease id fec label)
 IsSaidAcross ends message = ⊥
 
+-- each of the messages is
 abbrev pub AreSaid : Peers → List Message → Type 0
 AreSaid ends [] = Unit {0}
 AreSaid ends (message ∷ messages) = IsSaidAcross ends message × AreSaid ends messages

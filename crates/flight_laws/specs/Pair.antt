@@ -39,10 +39,12 @@ pub record IsStanding (own other : Peers) (kept : Peering) : Type 0 where
   pub numbered : kept.next_id < 2 ^ 32
   pub passive : kept.session.phase ≡ phase.Initialized → is_active own ≡ false
 
+-- an end, where it stands, is so
 abbrev pub StandsIf : Peers → Peers → Option Peering → Type 0
 StandsIf own other None = Unit {0}
 StandsIf own other (Some kept) = IsStanding own other kept
 
+-- the state of the session that is kept
 abbrev pub phase_of : Peering → Phase
 phase_of kept = kept.session.phase
 
@@ -74,10 +76,12 @@ abbrev pub having_put_all : List Reply → Peering → Peering
 having_put_all [] kept = kept
 having_put_all (reply ∷ replies) kept = having_put_all replies (having_spoken kept)
 
+-- the messages that replies become, with their Message IDs
 abbrev pub messages_put : List Reply → Peering → List Message
 messages_put [] kept = []
 messages_put (reply ∷ replies) kept = message_of reply kept.next_id kept.session.peers ∷ messages_put replies (having_spoken kept)
 
+-- their octets, one PDU each
 abbrev pub octets_put : List Reply → Peering → List ℕ
 octets_put [] kept = []
 octets_put (reply ∷ replies) kept = octets_of kept reply ++ octets_put replies (having_spoken kept)

@@ -63,6 +63,7 @@ MayName edge wire peer label = MayBeNamed edge wire peer None label
 abbrev pub MayCarry : EdgeState → ℕ → ℕ → ℕ → ℕ → Type 0
 MayCarry edge wire peer age label = MayBeNamed edge wire peer (Some age) label
 
+-- at the end that is named, where there is one
 abbrev pub MayNameAt : EdgeState → ℕ → Option EndPlace → ℕ → Type 0
 MayNameAt edge peer None label = ⊥
 MayNameAt edge peer (Some place) label = MayName edge place.wire.0 peer label
@@ -95,6 +96,7 @@ OwnsItsLabels edge = (wire peer label : ℕ) → part_owns (edge.ends wire peer)
 
 -- ---- told contents
 
+-- a passed point as it is told
 abbrev pub point_of : PassedPoint → Point
 point_of passed = record { pw_id = Some passed.pw_id; local = passed.local; remote = passed.remote }
 
@@ -133,11 +135,13 @@ TellsPlan plan from to (Notification id code status (Some fec)) = NamesTold plan
 TellsPlan plan from to (AddressWithdraw id addresses (Some fec) macs) = NamesTold plan from to fec
 TellsPlan plan from to message = Unit {0}
 
+-- an end that advertises tells it
 abbrev pub NearTells : Plan → WirePlan → ℕ → ℕ → LocalPart → Type 0
 NearTells plan row from to (Idle declined) = Unit {0}
 NearTells plan row from to (Advertised label told) = TellsExpected plan row from to told
 NearTells plan row from to (Withdrawing label) = Unit {0}
 
+-- an end that holds a binding was told it
 abbrev pub FarTells : Plan → WirePlan → ℕ → ℕ → Option Binding → Type 0
 FarTells plan row from to None = Unit {0}
 FarTells plan row from to (Some binding) = TellsExpected plan row from to binding.told

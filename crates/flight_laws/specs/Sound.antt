@@ -41,11 +41,13 @@ pub record IsSoundTold (limit : ℕ) (told : Told) : Type 0 where
   pub points : AllByRecursion IsPointInRange told.points
   pub point_octets : HaveOctets (point_tlvs told.points)
 
+-- what an end advertises can be put into a mapping, and the label that it withdraws is one
 abbrev pub IsSoundPart : LocalPart → Type 0
 IsSoundPart (Idle declined) = Unit {0}
 IsSoundPart (Advertised label told) = CanBeMapped label told
 IsSoundPart (Withdrawing label) = IsLabel label
 
+-- what an end holds, where it holds a binding
 abbrev pub IsSoundHeld : ℕ → Option Binding → Type 0
 IsSoundHeld limit None = Unit {0}
 IsSoundHeld limit (Some binding) = IsSoundTold limit binding.told

@@ -46,6 +46,7 @@ abbrev pub heading_on : Option WirePlan → EdgeId → EdgeId → EdgeId
 heading_on None from to = to
 heading_on (Some row) from to = goal row.path from to
 
+-- the terminal edge to which a packet under way travels, by the row of its wire
 abbrev pub heading : Plan → Packet → EdgeId
 heading plan packet = heading_on (wire_row plan packet.wire) packet.from packet.to
 

@@ -21,6 +21,8 @@ use Rattle.flood_laws.specs.Shares.{SharesEach}
 abbrev pub RunsServeOnce : Type 0
 RunsServeOnce = (plan : Plan) (events : List Event) → IsRun plan events → OnceEach 12 plan events
 
+-- in every run, at every moment of every window, each site but the sender was served once, or is ahead of
+-- one copy
 abbrev pub RunsShareSites : Type 0
 RunsShareSites = (plan : Plan) (events : List Event) → IsRun plan events → SharesEach plan events
 
@@ -28,6 +30,7 @@ RunsShareSites = (plan : Plan) (events : List Event) → IsRun plan events → S
 abbrev pub TellsWhereQuiet : Plan → NetworkState → Type 0
 TellsWhereQuiet plan network = (service : ServiceId) → is_quiet plan network service ≡ true → (wire : WireId) (row : WirePlan) → wire_row plan wire ≡ Some row → is_wire_of service row ≡ true → TellsInChains plan network wire row
 
+-- in every run, in a service that is quiet
 abbrev pub RunsTellInChains : Type 0
 RunsTellInChains = (plan : Plan) (events : List Event) → IsRun plan events → TellsWhereQuiet plan (network_after plan events)
 
@@ -37,5 +40,6 @@ abbrev pub IsWholeWhereCalm : Plan → NetworkState → Type 0
 IsWholeWhereCalm plan network = (service : ServiceId) → is_calm plan network service ≡ true → (wire : WireId) (row : WirePlan) → wire_row plan wire ≡ Some row → is_wire_of service row ≡ true
     → (near : EdgeId) → is_first near.0 row.path ≡ true → end_forwards plan (network.edges near.0) wire ≡ true → carries plan network wire.0 row ≡ true
 
+-- in every run, in a service that is calm
 abbrev pub RunsKeepWiresWhole : Type 0
 RunsKeepWiresWhole = (plan : Plan) (events : List Event) → IsRun plan events → IsWholeWhereCalm plan (network_after plan events)

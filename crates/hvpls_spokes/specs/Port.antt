@@ -16,6 +16,7 @@ use Rattle.hvpls_spokes.specs.declared.port_kind.PortKind.TheVariants as kind
 use Rattle.hvpls_spokes.specs.declared.port_name.PortName.{PortName}
 use Rattle.hvpls_spokes.specs.declared.port_name.PortName.TheVariants as name
 
+-- the kind of a port: that of a circuit, of a mesh wire or of a spoke
 abbrev pub port_kind_of : Port → PortKind
 port_kind_of (port.Circuit circuit) = kind.Circuit
 port_kind_of (port.Mesh wire) = kind.Mesh
@@ -27,6 +28,7 @@ is_circuit_port circuit (port.Circuit at) = at.0 == circuit.0
 is_circuit_port circuit (port.Mesh wire) = false
 is_circuit_port circuit (port.Spoke wire) = false
 
+-- the port, where there is one, is that of a mesh wire
 abbrev pub is_mesh : Option Port → Bool
 is_mesh None = false
 is_mesh (Some (port.Circuit circuit)) = false

@@ -12,6 +12,7 @@ use Rattle.independent_model.specs.Hear.{hears_at}
 use Rattle.independent_model.specs.State.{IndepState, with_receiver}
 use Rattle.independent_model.specs.Work.{IndepOutcome, Stops}
 
+-- what is left to hear comes behind a call that was done; a stop of the link, or a refusal, is the whole
 abbrev pub HearsTo : {T : Type 0} → Plan → Answers → ℕ → EdgeId → Result T IndepStop → StreamState → List ℕ → IndepState → List LinkCall → IndepOutcome → Type 0
 HearsTo plan told me peer (Ok done) s more edge calls whole = whole ≡ hears_at plan told me peer (receiver_of s) more edge calls
 HearsTo plan told me peer (Err stop.Link) s more edge calls whole = whole ≡ Stops stop.Link edge calls

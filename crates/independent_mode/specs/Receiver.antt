@@ -17,9 +17,11 @@ abbrev pub heard_by : ℕ → List ℕ → Option Fault → Receiver
 heard_by base held None = Receiving base held
 heard_by base held (Some wrong) = Broken base wrong
 
+-- the receiver of a stream that goes on
 abbrev pub receiver_of : StreamState → Receiver
 receiver_of s = heard_by s.base s.held s.refused
 
+-- the same of a stream, where there is one
 abbrev pub receiver_in : Option StreamState → Receiver
 receiver_in None = Stopped
 receiver_in (Some s) = receiver_of s
@@ -29,6 +31,7 @@ pub record IsReceiver (s : StreamState) : Type 0 where
   pub octets : AreOctets s.held
   pub max : s.max ≡ 4096
 
+-- the same of a stream, where there is one
 abbrev pub AreEars : Option StreamState → Type 0
 AreEars None = Unit {0}
 AreEars (Some s) = IsReceiver s
@@ -57,6 +60,7 @@ pub record IsReceiverRefused (old new : StreamState) (answer : StreamFault) : Ty
   pub receiver : receiver_of new ≡ Broken old.base wrong
   pub octets : AreOctets old.held
 
+-- what a stream answers: a PDU, that there is none yet, or a refusal; want of memory tells nothing
 abbrev pub IsNext : StreamState → StreamState → Result (Option Pdu) IndepStop → Type 0
 IsNext old new (Ok (Some pdu)) = IsGot old new pdu
 IsNext old new (Ok None) = IsReceiverWaiting new × (new ≡ old)
@@ -66,10 +70,12 @@ IsNext old new (Err stop.NoMemory) = Unit {0}
 
 -- ---- it is taken out of a connection, and put back
 
+-- a connection, where there is one, hears no longer
 abbrev pub HasNoReceiver : Option ConnectionState → Type 0
 HasNoReceiver None = Unit {0}
 HasNoReceiver (Some kept) = kept.receiver ≡ Stopped
 
+-- a connection hears with this receiver
 abbrev pub HasReceiver : Receiver → Option ConnectionState → Type 0
 HasReceiver receiver None = ⊥
 HasReceiver receiver (Some kept) = kept.receiver ≡ receiver
@@ -100,6 +106,7 @@ HoldsSoMany count (Receiving base held) = count ≡ length held
 HoldsSoMany count (Broken base wrong) = Unit {0}
 HoldsSoMany count Stopped = count ≡ 0
 
+-- a connection holds so many, and where there is none none are held
 abbrev pub HoldsBy : ℕ → Option ConnectionState → Type 0
 HoldsBy count None = count ≡ 0
 HoldsBy count (Some kept) = HoldsSoMany count kept.receiver

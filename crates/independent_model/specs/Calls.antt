@@ -21,6 +21,7 @@ is_connected edge peer = is_some (edge.connection peer)
 abbrev pub independent_connects : Plan → Answers → ℕ → EdgeId → IndepState → List LinkCall → IndepOutcome
 independent_connects plan told me peer edge calls = tells_from plan told me peer 0 (length plan.wires) (with_connection peer.0 (Some fresh_connection) edge) calls
 
+-- nothing is heard where no connection stands
 abbrev pub independent_hears_on : Plan → Answers → ℕ → EdgeId → List ℕ → Option ConnectionState → IndepState → List LinkCall → IndepOutcome
 independent_hears_on plan told me peer octets None edge calls = Goes edge calls
 independent_hears_on plan told me peer octets (Some kept) edge calls = hears_by plan told me peer octets kept.receiver edge calls
@@ -33,6 +34,7 @@ independent_hears plan told me peer octets edge calls = independent_hears_on pla
 abbrev pub loses : Plan → ℕ → EdgeId → IndepState → IndepState
 loses plan me peer edge = without_remotes (λ wire. is_between plan wire me peer.0) (with_connection peer.0 None edge)
 
+-- the other end of the wire is told, where there is one
 abbrev pub tells_other : Plan → Answers → ℕ → ℕ → Option EdgeId → IndepState → List LinkCall → IndepOutcome
 tells_other plan told me wire None edge calls = Goes edge calls
 tells_other plan told me wire (Some peer) edge calls = tells plan told me peer wire edge calls
@@ -42,6 +44,7 @@ abbrev pub sets : Plan → Answers → ℕ → ℕ → Wish → IndepState → L
 sets plan told me wire wish edge calls =
     if is_same_wish (edge.local wire) wish then Goes edge calls else tells_other plan told me wire (other_end plan me wire) (with_local wire wish edge) calls
 
+-- an edge uses a wire with its other end, where there is one
 abbrev pub uses_with : IndepState → ℕ → Option EdgeId → Bool
 uses_with edge wire None = false
 uses_with edge wire (Some peer) = (is_connected edge peer.0 && is_wished_active (edge.local wire)) && is_known_active (edge.remote wire)

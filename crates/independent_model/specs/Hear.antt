@@ -36,6 +36,7 @@ abbrev pub independent_hears_status : Plan → Answers → ℕ → EdgeId → �
 independent_hears_status plan told me peer wire status edge calls =
     if is_status_told status (edge.local wire) then tells plan told me peer wire (learns wire status edge) calls else Goes (learns wire status edge) calls
 
+-- a status is heard of a wire, where one is named
 abbrev pub hears_of : Plan → Answers → ℕ → EdgeId → PwStatus → Option ℕ → IndepState → List LinkCall → IndepOutcome
 hears_of plan told me peer status None edge calls = Goes edge calls
 hears_of plan told me peer status (Some wire) edge calls = independent_hears_status plan told me peer wire status edge calls
@@ -52,6 +53,7 @@ abbrev pub independent_hears_message : Plan → Answers → ℕ → EdgeId → M
 independent_hears_message plan told me peer (Notification id code status fec) edge calls = hears_notice plan told me peer code.code status fec edge calls
 independent_hears_message plan told me peer message edge calls = Goes edge calls
 
+-- one message after another
 abbrev pub independent_hears_messages : Plan → Answers → ℕ → EdgeId → List Message → IndepState → List LinkCall → IndepOutcome
 independent_hears_messages plan told me peer [] edge calls = Goes edge calls
 independent_hears_messages plan told me peer (message ∷ messages) edge calls = and_works (independent_hears_message plan told me peer message edge calls) (λ e c. independent_hears_messages plan told me peer messages e c)

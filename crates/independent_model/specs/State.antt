@@ -48,6 +48,7 @@ with_connection peer kept edge = record edge { connection = put_at_place peer ke
 unfoldable pub without_remotes : (ℕ → Bool) → IndepState → IndepState
 without_remotes test edge = record edge { remote = λ wire. if test wire then None else edge.remote wire }
 
+-- the connection hears with this receiver
 abbrev pub receiver_set : Receiver → ConnectionState → ConnectionState
 receiver_set receiver kept = record kept { receiver = receiver }
 
@@ -57,6 +58,7 @@ with_receiver peer receiver edge = with_connection peer (option_map (receiver_se
 
 -- ---- the same without octets
 
+-- the Message ID that comes next
 abbrev pub id_next : ConnectionState → ℕ
 id_next kept = kept.next_id
 

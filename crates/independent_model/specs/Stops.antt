@@ -66,6 +66,7 @@ pub record IsPendingFrom (base : ℕ) (octets : List ℕ) : Type 0 where
   pub rest : List ℕ
   pub parsed : IsParsedFrom base 4096 octets pdus (Pending at rest)
 
+-- octets in which a PDU has a fault, behind some without one
 pub record IsFaulty (base : ℕ) (octets : List ℕ) (answer : StreamFault) : Type 0 where
   pub pdus : List PlacedPdu
   pub at : ℕ
@@ -73,6 +74,7 @@ pub record IsFaulty (base : ℕ) (octets : List ℕ) (answer : StreamFault) : Ty
   pub parsed : IsParsedFrom base 4096 octets pdus (Refused at wrong)
   pub is : answer ≡ fault.Refused at (refusal_of wrong)
 
+-- what the octets of a hearing are, by how it ends
 abbrev pub ParsesAs : ℕ → List ℕ → IndepOutcome → Type 0
 ParsesAs base octets (Goes edge calls) = IsPendingFrom base octets
 ParsesAs base octets (Stops stop.Link edge calls) = Unit {0}

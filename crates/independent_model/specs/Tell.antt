@@ -30,6 +30,7 @@ abbrev pub octets_by : Option EdgePlan → Message → List ℕ
 octets_by None message = []
 octets_by (Some edge) message = written message (platform_of edge.address)
 
+-- the octets of what the edge calls a wire, by its own row
 abbrev pub octets_on : Plan → ℕ → WirePlan → Wish → ℕ → List ℕ
 octets_on plan me row wish id = octets_by (slice_get plan.edges me) (notification row me wish id)
 
@@ -40,6 +41,7 @@ abbrev pub independent_puts : EdgeId → ConnectionState → List ℕ → Bool �
 independent_puts peer kept octets true edge calls = Goes (with_connection peer.0 (Some (spoken_once kept)) edge) (calls ++ call_of peer false octets true ∷ [])
 independent_puts peer kept octets false edge calls = Stops stop.Link edge (calls ++ call_of peer false octets false ∷ [])
 
+-- nothing is put where no connection stands
 abbrev pub independent_tells_by : Plan → Answers → ℕ → EdgeId → ℕ → WirePlan → Option ConnectionState → IndepState → List LinkCall → IndepOutcome
 independent_tells_by plan told me peer wire row None edge calls = Goes edge calls
 independent_tells_by plan told me peer wire row (Some kept) edge calls = independent_puts peer kept (octets_on plan me row (edge.local wire) kept.next_id) (told (length calls)) edge calls
@@ -48,10 +50,12 @@ independent_tells_by plan told me peer wire row (Some kept) edge calls = indepen
 abbrev pub tells_row : Plan → Answers → ℕ → EdgeId → ℕ → WirePlan → IndepState → List LinkCall → IndepOutcome
 tells_row plan told me peer wire row edge calls = independent_tells_by plan told me peer wire row (edge.connection peer.0) edge calls
 
+-- by the row of the wire
 abbrev pub tells_in : Plan → Answers → ℕ → EdgeId → ℕ → Option WirePlan → IndepState → List LinkCall → IndepOutcome
 tells_in plan told me peer wire None edge calls = Goes edge calls
 tells_in plan told me peer wire (Some row) edge calls = tells_row plan told me peer wire row edge calls
 
+-- a wire of the plan
 abbrev pub tells : Plan → Answers → ℕ → EdgeId → ℕ → IndepState → List LinkCall → IndepOutcome
 tells plan told me peer wire edge calls = tells_in plan told me peer wire (slice_get plan.wires wire) edge calls
 

@@ -29,6 +29,7 @@ AreRisingBy number from (x ∷ xs) = (from ≤ number x) × AreRisingBy number (
 
 -- ---- the kept numbers stand in rising order
 
+-- the number itself
 abbrev pub label_of : Kept → ℕ
 label_of k = k.label
 
@@ -39,9 +40,11 @@ kept_at label (k ∷ ks) = if k.label == label then Some k.state else kept_at la
 
 -- ---- a number is freed
 
+-- it waits for a neighbour
 abbrev pub waiting : ℕ → EdgeId → Kept
 waiting label peer = record { label = label; state = Waits peer }
 
+-- one more is kept, in the order of the numbers
 abbrev pub put_in : Kept → List Kept → List Kept
 put_in new kept = put_by label_of new kept
 
@@ -52,27 +55,33 @@ keeps label peer kept = if nat_lt (length kept) most_kept then put_in (waiting l
 
 -- ---- a connection with a neighbour begins: what waits for it begins to rest
 
+-- what waits for this neighbour rests from now on
 abbrev pub met_state : EdgeId → KeptState → KeptState
 met_state peer (Waits other) = if other.0 == peer.0 then Rests 0 else Waits other
 met_state peer (Rests ticks) = Rests ticks
 met_state peer Free = Free
 
+-- the same of a kept number
 abbrev pub met_one : EdgeId → Kept → Kept
 met_one peer k = record { label = k.label; state = met_state peer k.state }
 
+-- the same of all
 abbrev pub met : EdgeId → List Kept → List Kept
 met peer kept = map (met_one peer) kept
 
 -- ---- a tick passes: each rest is longer, and at its end the number is free
 
+-- a rest is one tick longer, until it is over
 abbrev pub ticked_state : KeptState → KeptState
 ticked_state (Waits peer) = Waits peer
 ticked_state (Rests ticks) = if nat_lt (ticks + 1) rest_ticks then Rests (ticks + 1) else Free
 ticked_state Free = Free
 
+-- the same of a kept number
 abbrev pub ticked_one : Kept → Kept
 ticked_one k = record { label = k.label; state = ticked_state k.state }
 
+-- the same of all
 abbrev pub ticked : List Kept → List Kept
 ticked kept = map ticked_one kept
 
@@ -82,16 +91,19 @@ rests_state (Waits peer) = false
 rests_state (Rests ticks) = true
 rests_state Free = false
 
+-- the same of a kept number
 abbrev pub rests : Kept → Bool
 rests k = rests_state k.state
 
 -- ---- a number is given
 
+-- a number that may be given again
 abbrev pub is_free_state : KeptState → Bool
 is_free_state (Waits peer) = false
 is_free_state (Rests ticks) = false
 is_free_state Free = true
 
+-- the same of a kept number
 abbrev pub is_free : Kept → Bool
 is_free k = is_free_state k.state
 
@@ -103,6 +115,7 @@ least_free kept = option_map label_of (find is_free kept)
 abbrev pub without : ℕ → List Kept → List Kept
 without label kept = filter (λ k. not (k.label == label)) kept
 
+-- the same of a number, where there is one
 abbrev pub without_one : Option ℕ → List Kept → List Kept
 without_one None kept = kept
 without_one (Some label) kept = without label kept

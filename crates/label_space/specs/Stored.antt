@@ -23,6 +23,7 @@ freed_number number = record { label = number.0; state = Free }
 abbrev pub stored : List Kept → List Kept → List (Reverse ℕ) → List Kept
 stored waiting resting free = waiting ++ (resting ++ map freed_number free)
 
+-- the kept numbers, in rising order, of what is stored in three parts
 abbrev pub kept_of : List Kept → List Kept → List (Reverse ℕ) → List Kept
 kept_of waiting resting free = in_order (stored waiting resting free)
 
@@ -32,6 +33,7 @@ waits_state (Waits peer) = true
 waits_state (Rests ticks) = false
 waits_state Free = false
 
+-- the same of a kept number
 abbrev pub waits : Kept → Bool
 waits k = waits_state k.state
 

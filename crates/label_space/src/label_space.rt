@@ -126,8 +126,8 @@ impl LabelSpace {
         self.owners.insert(place, owner).unwrap();
     }
 
-    /// The segment and the side of the end that owns the label; `None` exactly where it is not owned. It is for callers outside: the
-    /// program finds an owner among its own ends.
+    /// The segment and the side of the end that owns the label; `None` exactly where it is not owned. It is for callers outside alone:
+    /// the program finds an owner among its own ends.
     #[tactic(auto, using(crate::proofs::LabelLemmas::owner_found))]
     pub fn owner(&self, label: Label) -> Option<(SegKey, u8)>
         ensures owner { result ≡ owner_of label self.now.owners }
@@ -221,7 +221,7 @@ impl LabelSpace {
     }
 
     /// The owned labels with their owners, each in one slot; or an empty slab, where there was no room for a label. This takes no
-    /// memory. It is for callers outside, as `owner` is.
+    /// memory. It is for callers outside alone, as `owner` is: the program asks for neither.
     pub fn slots(&self) -> &Slab<Owner>
         ensures { AreSlotsOf result.now self.now.owners ⊎ (result.now.slots ≡ []) }
     {

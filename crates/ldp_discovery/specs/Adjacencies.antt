@@ -30,6 +30,7 @@ abbrev pub neighbours_from : Plan → ℕ → ℕ → List EdgePlan → List Nei
 neighbours_from plan me place [] = []
 neighbours_from plan me place (row ∷ rows) = record { address = row.address; joined = are_joined plan me place } ∷ neighbours_from plan me (place + 1) rows
 
+-- the neighbour, where there is one, is joined to the edge
 abbrev pub is_joined_to : Option Neighbour → Bool
 is_joined_to None = false
 is_joined_to (Some neighbour) = neighbour.joined
@@ -44,6 +45,7 @@ id_after id = (id + 1) % 2 ^ 32
 
 -- ---- what becomes of them
 
+-- what an edge keeps after a deed: a Hello of its own, one that it hears, or a tick
 abbrev pub adjacencies_after : Deed → AdjacencyLists → AdjacencyLists
 adjacencies_after (said peer hold) a = record a { next_id = id_after a.next_id; known = slice_set a.known peer (hold_proposed hold (known_of a peer)) }
 adjacencies_after (heard peer hold) a = record a { known = slice_set a.known peer (refreshed hold (known_of a peer)) }

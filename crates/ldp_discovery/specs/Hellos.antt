@@ -33,6 +33,7 @@ abbrev pub tells_address : Addr → Option Addr → Bool
 tells_address address None = true
 tells_address address (Some told) = are_same_address told address
 
+-- the Hello is of this edge: its LDP Identifier has the address, and its transport address, where it tells one, is the same
 abbrev pub is_sender : Addr → LdpId → Option Addr → Bool
 is_sender address id transport = (are_same_address id.router address && id.space == 0) && tells_address address transport
 
@@ -48,6 +49,7 @@ hold_in_messages address id [] = Err NotPdu
 hold_in_messages address id (one ∷ []) = hold_in_message address id one
 hold_in_messages address id (one ∷ next ∷ rest) = Err NotPdu
 
+-- the hold time of the Hello that a PDU has, or why it has none
 abbrev pub hold_in : Addr → Pdu → Result ℕ HelloFault
 hold_in address pdu = hold_in_messages address pdu.id pdu.messages
 

@@ -24,6 +24,7 @@ abbrev pub names_wire : ℕ → Option ℕ → Bool
 names_wire pw_id None = false
 names_wire pw_id (Some other) = other == pw_id
 
+-- by the PW ID of a FEC, where there is one
 abbrev pub names_by_fec : ℕ → Option PwFec → Bool
 names_by_fec pw_id None = false
 names_by_fec pw_id (Some fec) = names_wire pw_id fec.pw_id

@@ -93,6 +93,7 @@ pub record IsSteady (plan : Plan) (service : ServiceId) (network : NetworkState)
   pub up : is_up_with ((network.edges a).peering b) ≡ true
   pub way : IsMildWay plan service a b (flight network a b)
 
+-- an end that advertises its label
 abbrev pub is_advertising : LocalPart → Bool
 is_advertising (Idle declined) = false
 is_advertising (Advertised label told) = true
@@ -108,9 +109,11 @@ pub record KeepsMesh (plan : Plan) (service : ServiceId) (me : ℕ) (edge : Edge
 abbrev pub IsAtLive : Plan → ServiceId → ℕ → EdgeState → MacEntry → Type 0
 IsAtLive plan service me edge entry = (wire : WireId) → slice_get (ports_of plan service (record { 0 = me })) entry.port ≡ Some (port.Spoke wire) → end_forwards plan edge wire ≡ true
 
+-- the spoke that each edge has chosen for the service
 abbrev pub chosen_in : ServiceId → NetworkState → ℕ → Option WireId
 chosen_in service network edge = (network.edges edge).chosen service.0
 
+-- what the bridge of the service has learned at each edge
 abbrev pub learned_in : ServiceId → NetworkState → ℕ → List MacEntry
 learned_in service network edge = (network.edges edge).learned service.0
 
@@ -143,6 +146,7 @@ pub record SpeaksMildly (plan : Plan) (service : ServiceId) (network : NetworkSt
   pub said : AreSaid (ends_at plan me place) messages
   pub mild : AllMessages (IsMild plan service me place) messages
 
+-- an edge at work keeps the service as it was, but for what it forgets
 pub record Stays (plan : Plan) (service : ServiceId) (network : NetworkState) (me : EdgeId) (peer : ℕ) (work : Work) : Type 0 where
   pub place : work.edge.me ≡ me
   pub sound : TellsSoundly (point_limit plan me.0) work.edge
@@ -160,6 +164,7 @@ pub data WorkWays (plan : Plan) (service : ServiceId) (network : NetworkState) (
       → WorkWays plan service network me peer messages work a b pw_id
   Waits : (a == me) ≡ false → (a == peer && b == me) ≡ false → IsWithdrawalPending plan service network a b pw_id → WorkWays plan service network me peer messages work a b pw_id
 
+-- an edge at work on messages: what it and the network have learned heals
 pub record IsHealing (plan : Plan) (service : ServiceId) (site : Sites) (network : NetworkState) (me : EdgeId) (peer : ℕ) (messages : List Message) (work : Work) : Type 0 where
   pub stays : Stays plan service network me peer work
   pub right : EntriesHeal plan service site (put_at (chosen_in service network) me.0 (work.edge.chosen service.0)) (WorkWays plan service network me.0 peer messages work)
@@ -183,6 +188,7 @@ pub record SaysMore (plan : Plan) (me place : ℕ) (old new : Work) : Type 0 whe
   pub is : said_to place new.effects ≡ said_to place old.effects ++ octets_of_all (ends_at plan me place).me more
   pub said : AreSaid (ends_at plan me place) more
 
+-- the edge goes on with its work
 pub record StaysOn (plan : Plan) (service : ServiceId) (network : NetworkState) (me : EdgeId) (peer : ℕ) (old new : Work) : Type 0 where
   pub stays : Stays plan service network me peer new
   pub says : (place : ℕ) → are_joined_by plan service me.0 place ≡ true → stands network me.0 place ≡ true → SaysMore plan me.0 place old new

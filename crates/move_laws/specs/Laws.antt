@@ -23,5 +23,6 @@ MovesHeal plan events = (before : List Event) (move : Event) (deliveries after :
     → is_calm plan (network_after plan (before ++ move ∷ deliveries)) service ≡ true
     → Points plan (network_after plan (before ++ move ∷ deliveries)) service site
 
+-- in every run
 abbrev pub RunsHealMoves : Type 0
 RunsHealMoves = (plan : Plan) (events : List Event) → IsRun plan events → MovesHeal plan events

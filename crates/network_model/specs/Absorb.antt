@@ -55,6 +55,7 @@ abbrev pub absorb_all : EdgeId → ℕ → ℕ → List Effect → NetworkState 
 absorb_all me origin hops [] network = network
 absorb_all me origin hops (e ∷ es) network = absorb_all me origin hops es (absorb_one me origin hops e network)
 
+-- what they tell, in order
 abbrev pub all_entries_of : EdgeId → ℕ → ℕ → List Effect → NetworkState → List Entry
 all_entries_of me origin hops [] network = []
 all_entries_of me origin hops (e ∷ es) network =

@@ -32,6 +32,7 @@ inner_stitched plan network wire (last ∷ []) = true
 inner_stitched plan network wire (point ∷ next ∷ rest) =
     is_stitched plan (network.edges point.0) (record { 0 = wire }) && inner_stitched plan network wire (next ∷ rest)
 
+-- the switching points of the whole path do
 abbrev pub is_joined_up : Plan → NetworkState → ℕ → List EdgeId → Bool
 is_joined_up plan network wire [] = false
 is_joined_up plan network wire (first ∷ rest) = inner_stitched plan network wire rest

@@ -30,6 +30,7 @@ abbrev pub connecting : EdgeId → Work → EdgeId → Work → NetworkState →
 connecting from first to second network =
     and_then (given_out from first.effects (with_edge to second.edge (with_edge from first.edge network))) (given_out to second.effects)
 
+-- the event `Connect`: it is idle where the two cannot connect
 abbrev pub connect_event : Plan → EdgeId → EdgeId → NetworkState → Stepped
 connect_event plan from to network =
     if can_connect plan network from.0 to.0
@@ -50,6 +51,7 @@ is_deliverable network from to = stands network to from && (not (is_drained_pipe
 abbrev pub hearing_work : Plan → NetworkState → EdgeId → EdgeId → List ℕ → Work
 hearing_work plan network from to octets = octets_input plan taken_all from octets ((edge_at network to).peering from.0) (begin_at network to)
 
+-- the work of an edge whose end of a connection is lost
 abbrev pub losing_work : Plan → NetworkState → EdgeId → EdgeId → Work
 losing_work plan network me peer = lost_input plan taken_all peer (begin_at network me)
 
@@ -62,6 +64,7 @@ delivering plan from to count network =
 abbrev pub losing : Plan → EdgeId → EdgeId → NetworkState → Stepped
 losing plan me peer network = absorb me 0 0 (losing_work plan network me peer) network
 
+-- the event `Deliver`: it is idle where nothing can be delivered; the end of the receiver is lost where nothing is left
 abbrev pub deliver_event : Plan → EdgeId → EdgeId → ℕ → NetworkState → Stepped
 deliver_event plan from to count network =
     if is_deliverable network from.0 to.0
@@ -70,6 +73,7 @@ deliver_event plan from to count network =
 
 -- ---- ends are lost
 
+-- the event `Lose`: it is idle where the edge's end does not stand
 abbrev pub lose_event : Plan → EdgeId → EdgeId → NetworkState → Stepped
 lose_event plan me peer network = if stands network me.0 peer.0 then losing plan me peer network else idle network
 

@@ -12,6 +12,7 @@ abbrev pub first_from : (ℕ → Bool) → ℕ → ℕ → Option ℕ
 first_from test place zero = None
 first_from test place (suc count) = if test place then Some place else first_from test (place + 1) count
 
+-- a pair with this first place, where it has a second one, or else another pair
 abbrev pub pair_or : ℕ → Option ℕ → Option (ℕ × ℕ) → Option (ℕ × ℕ)
 pair_or place None rest = rest
 pair_or place (Some other) rest = Some (place, other)
@@ -25,8 +26,10 @@ first_pair test size place (suc count) = pair_or place (first_from (test place) 
 abbrev pub most_octets : ℕ
 most_octets = 65535
 
+-- the delivery of all that is on its way between the two edges, as far as one event can bring it
 abbrev pub delivery_of : ℕ × ℕ → Event
 delivery_of pair = Deliver (record { 0 = pair.0 }) (record { 0 = pair.1 }) most_octets
 
+-- the next delivery: that of the first pair for which there is one
 abbrev pub next_delivery : Plan → NetworkState → Option Event
 next_delivery plan network = option_map delivery_of (first_pair (is_deliverable network) (length plan.edges) 0 (length plan.edges))

@@ -64,6 +64,7 @@ ServesPacketsOnce plan network = (number : ℕ) (packet : Packet) (place : EndPl
     → known_behind plan network packet place row frame ≡ Some port
     → times_out packet.origin (step plan network (Arrive number)).entries ≤ 1
 
+-- so it is of frames, and of packets
 pub record ServesKnownOnce (plan : Plan) (network : NetworkState) : Type 0 where
   pub frames : ServesFramesOnce plan network
   pub packets : ServesPacketsOnce plan network

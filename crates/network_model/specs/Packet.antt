@@ -23,6 +23,7 @@ packet_work plan network packet = packet_input plan taken_all packet.bytes (begi
 abbrev pub arriving : Plan → Packet → NetworkState → Stepped
 arriving plan packet network = absorb packet.to packet.origin packet.hops (packet_work plan network packet) (without_packet packet.number network)
 
+-- the event `Arrive`: it is idle where no such packet is under way
 abbrev pub arrive_event : Plan → Option Packet → NetworkState → Stepped
 arrive_event plan None network = idle network
 arrive_event plan (Some packet) network = arriving plan packet network
@@ -39,6 +40,7 @@ repeating packet network = record {
   entries = Copied (network.sent + 1) packet.number ∷ [];
 }
 
+-- the event `Again`: it is idle where no such packet is under way
 abbrev pub again_event : Option Packet → NetworkState → Stepped
 again_event None network = idle network
 again_event (Some packet) network = repeating packet network

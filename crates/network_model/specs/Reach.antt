@@ -15,6 +15,7 @@ use Rattle.net_base.specs.plan.Paths.{last_edge}
 use Rattle.net_base.specs.plan.Roles.{is_spoke_edge}
 use Rattle.network_model.specs.Calm.{is_live_spoke}
 
+-- the circuit with this row is one of the service
 abbrev pub is_row_of : ServiceId → Option CircuitPlan → Bool
 is_row_of service None = false
 is_row_of service (Some row) = row.service.0 == service.0
@@ -23,10 +24,12 @@ is_row_of service (Some row) = row.service.0 == service.0
 abbrev pub is_circuit_of : Plan → ServiceId → CircuitId → Bool
 is_circuit_of plan service circuit = is_row_of service (circuit_row plan circuit)
 
+-- the circuit with this row is on, at its own edge
 abbrev pub is_row_on : NetworkState → CircuitId → Option CircuitPlan → Bool
 is_row_on network circuit None = false
 is_row_on network circuit (Some row) = is_on (edge_at network row.edge) circuit
 
+-- a circuit of the plan is on
 abbrev pub is_circuit_on : Plan → NetworkState → CircuitId → Bool
 is_circuit_on plan network circuit = is_row_on network circuit (circuit_row plan circuit)
 
@@ -39,6 +42,7 @@ abbrev pub is_row_at : ℕ → Option CircuitPlan → Bool
 is_row_at edge None = false
 is_row_at edge (Some row) = row.edge.0 == edge
 
+-- a circuit of the plan is one of this edge
 abbrev pub circuit_is_at : Plan → ℕ → CircuitId → Bool
 circuit_is_at plan edge circuit = is_row_at edge (circuit_row plan circuit)
 
@@ -56,10 +60,12 @@ home_among plan network service edge place (row ∷ rows) =
 abbrev pub home_of : Plan → NetworkState → ServiceId → ℕ → Option ℕ
 home_of plan network service edge = home_among plan network service edge 0 plan.wires
 
+-- the core edge is this home, where there is one
 abbrev pub is_home : ℕ → Option ℕ → Bool
 is_home core None = false
 is_home core (Some home) = home == core
 
+-- a circuit at the core edge, or at a spoke edge whose home it is
 abbrev pub is_row_beside : Plan → NetworkState → ServiceId → ℕ → Option CircuitPlan → Bool
 is_row_beside plan network service core None = false
 is_row_beside plan network service core (Some row) =
@@ -82,6 +88,7 @@ at_edge_of plan service edge circuit = is_circuit_of plan service circuit && cir
 abbrev pub elsewhere_of : Plan → ServiceId → ℕ → CircuitId → Bool
 elsewhere_of plan service edge circuit = is_circuit_of plan service circuit && not (circuit_is_at plan edge circuit)
 
+-- the side of the core edge at the far end of a mesh wire, where it has one
 abbrev pub beside_far : Plan → NetworkState → ServiceId → Option ℕ → CircuitId → Bool
 beside_far plan network service None circuit = false
 beside_far plan network service (Some core) circuit = is_beside plan network service core circuit
@@ -92,22 +99,27 @@ behind_spoke plan service edge [] circuit = false
 behind_spoke plan service edge (first ∷ rest) circuit =
     if edge == first.0 then elsewhere_of plan service edge circuit else at_edge_of plan service first.0 circuit
 
+-- and what a copy has still to serve that arrives by it: at its spoke edge, what is there; at its core edge, what is not at its spoke edge
 abbrev pub ahead_spoke : Plan → ServiceId → ℕ → List EdgeId → CircuitId → Bool
 ahead_spoke plan service edge [] circuit = false
 ahead_spoke plan service edge (first ∷ rest) circuit =
     if edge == first.0 then at_edge_of plan service edge circuit else elsewhere_of plan service first.0 circuit
 
+-- a spoke carries frames at the edge at which it starts
 abbrev pub is_live : Plan → NetworkState → ServiceId → ℕ → WirePlan → Bool
 is_live plan network service place row = is_live_spoke plan network service (first_place row.path) place row where
   first_place : List EdgeId → ℕ
   first_place [] = 0
   first_place (first ∷ rest) = first.0
 
+-- behind a mesh wire lies the side of its far end; behind a spoke, where it carries frames, what is behind a spoke
 abbrev pub behind_wire : Plan → NetworkState → ServiceId → ℕ → ℕ → Bool → Option WirePlan → CircuitId → Bool
 behind_wire plan network service edge place mesh None circuit = false
 behind_wire plan network service edge place true (Some row) circuit = beside_far plan network service (far_of edge row.path) circuit
 behind_wire plan network service edge place false (Some row) circuit = is_live plan network service place row && behind_spoke plan service edge row.path circuit
 
+-- a copy that arrives by a mesh wire has the edge's own side to serve; one that arrives by a spoke, where it carries frames, what is ahead
+-- of a spoke
 abbrev pub ahead_wire : Plan → NetworkState → ServiceId → ℕ → ℕ → Bool → Option WirePlan → CircuitId → Bool
 ahead_wire plan network service edge place mesh None circuit = false
 ahead_wire plan network service edge place true (Some row) circuit = is_beside plan network service edge circuit

@@ -20,9 +20,11 @@ abbrev pub entries_along : Plan → NetworkState → List Event → List Entry
 entries_along plan network [] = []
 entries_along plan network (e ∷ es) = (step plan network e).entries ++ entries_along plan (step plan network e).state es
 
+-- a run: the states, the first one among them, and the trace
 pub record Ran : Type 0 where
   pub states : List NetworkState
   pub entries : List Entry
 
+-- the run of these events, from a network before its first event on
 abbrev pub run : Plan → List Event → Ran
 run plan events = record { states = states_along plan (empty_network plan) events; entries = entries_along plan (empty_network plan) events }

@@ -36,6 +36,7 @@ edge_at network edge = network.edges edge.0
 abbrev pub stands : NetworkState → ℕ → ℕ → Bool
 stands network edge peer = is_there ((network.edges edge).peering peer)
 
+-- the octets that are held of a peer, where the edge's end stands
 abbrev pub held_by : Option Peering → List ℕ
 held_by None = []
 held_by (Some peering) = peering.held
@@ -89,9 +90,11 @@ life_ticks = 64
 abbrev pub older : Packet → Packet
 older packet = record packet { age = packet.age + 1 }
 
+-- it is not too old with this tick
 abbrev pub lives_on : Packet → Bool
 lives_on packet = nat_lt (older packet).age life_ticks
 
+-- the packets under way after the tick
 abbrev pub all_older : List Packet → List Packet
 all_older [] = []
 all_older (p ∷ ps) = if lives_on p then older p ∷ all_older ps else all_older ps

@@ -16,5 +16,6 @@ abbrev pub ticks_from : Plan → ℕ → ℕ → NetworkState → Stepped
 ticks_from plan place zero network = network_stays network
 ticks_from plan place (suc count) network = and_then (tick_at plan (record { 0 = place }) network) (ticks_from plan (place + 1) count)
 
+-- the event `Tick`: packets grow older first, and then each edge has its tick, in the plan's order
 abbrev pub tick_event : Plan → NetworkState → Stepped
 tick_event plan network = and_then (ageing network) (ticks_from plan 0 (length plan.edges))

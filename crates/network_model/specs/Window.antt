@@ -28,6 +28,7 @@ use Rattle.network_model.specs.Reach.{is_circuit_on, is_site}
 abbrev pub is_copy : ℕ → ℕ → Packet → Bool
 is_copy origin number packet = packet.origin == origin && packet.number == number
 
+-- this number is that of a copy of the frame
 abbrev pub names_copy : NetworkState → ℕ → ℕ → Bool
 names_copy network origin number = list_any (is_copy origin number) network.under_way
 
@@ -52,6 +53,7 @@ spares network origin (Status me wire bits) = false
 spares network origin (Priority me wire priority) = false
 spares network origin (Ping me wire) = false
 
+-- each event of the window is such a one
 abbrev pub all_spare : Plan → ℕ → NetworkState → List Event → Bool
 all_spare plan origin network [] = true
 all_spare plan origin network (e ∷ es) = spares network origin e && all_spare plan origin (step plan network e).state es
@@ -83,9 +85,11 @@ abbrev pub carried_by : Plan → Packet → Option WirePlan → Result (List ℕ
 carried_by plan packet None = Err Down
 carried_by plan packet (Some row) = unpacked_at plan row packet.to (behind_entry packet.bytes)
 
+-- by the row of its wire
 abbrev pub carried : Plan → Packet → Result (List ℕ) DropCause
 carried plan packet = carried_by plan packet (wire_row plan packet.wire)
 
+-- the wire with this row is one of the service
 abbrev pub is_row_of_service : ServiceId → Option WirePlan → Bool
 is_row_of_service service None = false
 is_row_of_service service (Some row) = is_wire_of service row

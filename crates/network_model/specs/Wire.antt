@@ -7,11 +7,14 @@ use Rattle.edge_model.specs.Wire.{priority_input, status_input, wire_input}
 use Rattle.network_model.specs.Absorb.{Stepped, answer, begin_at, taken_all}
 use Rattle.network_model.specs.State.{NetworkState}
 
+-- the event `Wire`
 abbrev pub wire_event : Plan → EdgeId → WireId → Bool → NetworkState → Stepped
 wire_event plan me wire on network = answer me 0 0 (wire_input plan taken_all wire on (begin_at network me)) network
 
+-- the event `Status`
 abbrev pub status_event : Plan → EdgeId → WireId → ℕ → NetworkState → Stepped
 status_event plan me wire bits network = answer me 0 0 (status_input plan taken_all wire bits (begin_at network me)) network
 
+-- the event `Priority`
 abbrev pub priority_event : Plan → EdgeId → WireId → ℕ → NetworkState → Stepped
 priority_event plan me wire priority network = answer me 0 0 (priority_input plan taken_all wire priority (begin_at network me)) network

@@ -6,10 +6,12 @@ pub record PipeLists : Type 0 where
   pub size : ℕ
   pub rows : List (List (List ℕ))
 
+-- so many rows, each with as many pipes
 pub record IsSquare (size : ℕ) (rows : List (List (List ℕ))) : Type 0 where
   pub count : length rows ≡ size
   pub each : (k : ℕ) → k < size → length (slice_index_or rows k []) ≡ size
 
+-- the octets in the pipe from one edge to another
 unfoldable pub pipes_of : PipeLists → ℕ → ℕ → List ℕ
 pipes_of pipes from to = slice_index_or (slice_index_or pipes.rows from []) to []
 

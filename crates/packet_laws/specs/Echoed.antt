@@ -43,6 +43,7 @@ planned_channel plan row from to =
 abbrev pub packet_source : List EdgeId → ℕ → ℕ → Option EdgeId
 packet_source path from to = if follows path from to then first_edge path else last_edge path
 
+-- the address of that edge
 abbrev pub source_address : Plan → WirePlan → ℕ → ℕ → Option Addr
 source_address plan row from to = option_and_then (edge_address plan) (packet_source row.path from to)
 
@@ -68,6 +69,7 @@ CountsTtl plan row from to Expiry ttl = ttl ≡ length (expected plan row to fro
 
 -- ---- the rule of one packet
 
+-- a packet that carries no frame is a ping of its wire, or the answer to one
 pub record IsEchoed (plan : Plan) (network : NetworkState) (packet : Packet) : Type 0 where
   -- it carries no frame
   pub unnumbered : packet.origin ≡ 0

@@ -6,6 +6,7 @@ use Rattle.std.specs.Prelude.{◌≡◌}
 use Rattle.peer_dialogue.specs.declared.peer_event.PeerEvent.{PeerEvent}
 use Rattle.peer_dialogue.specs.declared.peer_event.PeerEvent.TheVariants as event
 
+-- an event, with the message that it brings as it is now
 abbrev pub event_of : PeerEvent → SessionEvent
 event_of event.Start = table.Start
 event_of (event.Heard sender) = table.Heard sender

@@ -5,6 +5,7 @@ use Rattle.ldp_grammar.specs.declared.message.Message.{Message}
 use Rattle.ldp_grammar.specs.declared.message.Message.TheVariants.{LabelMapping, LabelWithdraw}
 use Rattle.pw_signalling.specs.declared.told.Told.{Told}
 
+-- what a message that was read tells of a pseudowire is in range
 abbrev pub CanBeHeard : Message → Type 0
 CanBeHeard (LabelMapping id fec label status points) = (fec.kind ≤ 0x7FFF) × (has_vlan fec.params.vlan ≡ true)
 CanBeHeard (LabelWithdraw id fec label) = fec.kind ≤ 0x7FFF

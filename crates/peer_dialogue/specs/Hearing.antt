@@ -26,6 +26,7 @@ pub record IsReady (s : StreamState) : Type 0 where
   pub octets : AreOctets s.held
   pub going : s.refused ≡ None
 
+-- the same of a stream, where there is one
 abbrev pub AreReady : Option StreamState → Type 0
 AreReady None = Unit {0}
 AreReady (Some s) = IsReady s

@@ -98,6 +98,7 @@ abbrev pub put_message_to : Answers → EdgeId → (ℕ → Message) → Option 
 put_message_to told peer message None work = record { work = work; failed = false }
 put_message_to told peer message (Some kept) work = put_octets peer (message_octets_of kept message) (next_answer told work) work
 
+-- a message is put, where a session with the peer stands
 abbrev pub put_message : Answers → EdgeId → (ℕ → Message) → Work → Spoken
 put_message told peer message work = put_message_to told peer message (work.edge.peering peer.0) work
 

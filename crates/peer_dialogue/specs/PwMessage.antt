@@ -6,6 +6,7 @@ use Rattle.pw_messages.specs.Content.{mac_withdrawal, mapping, release, status_n
 use Rattle.peer_dialogue.specs.declared.pw_message.PwMessage.{PwMessage}
 use Rattle.peer_dialogue.specs.declared.pw_message.PwMessage.TheVariants as message
 
+-- the message with this Message ID
 abbrev pub numbered : PwMessage → ℕ → Message
 numbered (message.Mapping pw_id label told) id = mapping pw_id label told id
 numbered (message.Withdrawal pw_id label told) id = withdrawal pw_id label told id

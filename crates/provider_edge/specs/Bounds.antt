@@ -16,6 +16,7 @@ most_pdu_octets = 4100
 abbrev pub HoldsFew : Option Peering → Type 0
 HoldsFew kept = length (held_octets kept) ≤ most_pdu_octets
 
+-- the plan bounds what an edge holds
 pub record IsBounded (plan : Plan) (edge : EdgeState) : Type 0 where
   -- a connection is kept with edges of the plan alone, at most one with each of them
   pub connections : (peer : ℕ) → length plan.edges ≤ peer → edge.peering peer ≡ None

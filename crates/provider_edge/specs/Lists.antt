@@ -14,6 +14,7 @@ use Rattle.edge_forwarding.specs.Views.{view}
 use Rattle.provider_edge.specs.declared.end_marks.EndMarks.{EndMarks}
 use Rattle.provider_edge.specs.Spokes.{SpokeLists}
 
+-- what an edge holds, by the plan's places
 pub record EdgeLists : Type 0 where
   -- the network's plan, and the edge's place in it
   pub plan : Plan
@@ -38,6 +39,7 @@ pub record EdgeLists : Type 0 where
   -- its ends that have a mark, where it knows that each other one is settled
   pub marks : Option EndMarks
 
+-- the state of the edge that these lists are
 unfoldable pub seen : EdgeLists → EdgeState
 seen edge = record {
   me = edge.me;

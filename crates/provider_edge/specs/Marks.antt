@@ -16,6 +16,7 @@ is_unmarked marks slot = nat_lt slot marks.first || nat_le marks.past slot
 abbrev pub IsWider : EndMarks → EndMarks → Type 0
 IsWider old new = (slot : ℕ) → IsUnmarked new slot → IsUnmarked old slot
 
+-- the place of a slot
 abbrev pub place_at : List EndPlace → ℕ → EndPlace
 place_at places slot = slice_index_or places slot no_place
 

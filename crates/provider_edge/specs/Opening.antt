@@ -19,6 +19,7 @@ pub record AreNewParts (plan : Plan) (me : EdgeId) (ends : EndLists) (spokes : S
   pub unchosen : IsNewSpokes plan me spokes
   pub unheard : IsNewForwarding plan me forwarding
 
+-- an edge of the plan before its first input
 pub record IsNewEdge (plan : Plan) (me : EdgeId) (edge : EdgeLists) : Type 0 where
   pub plan_is : edge.plan ≡ plan
   pub place_is : edge.me ≡ me

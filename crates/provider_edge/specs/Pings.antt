@@ -38,6 +38,7 @@ verified_by told place row kind (Some binding) payload work = verifies_in told p
 
 -- ---- a ping is asked
 
+-- the ping with this sequence number, where both addresses are known
 abbrev pub ping_from : WirePlan → ℕ → Option Addr → Option Addr → Option Ping
 ping_from row sequence (Some from) (Some to) = Some (ping_between row from to sequence)
 ping_from row sequence from to = None
@@ -46,18 +47,22 @@ ping_from row sequence from to = None
 abbrev pub ping_of : Plan → EdgeState → WireId → WirePlan → Option Ping
 ping_of plan edge wire row = ping_from row (edge.next_ping wire.0) (edge_address plan edge.me) (far_address plan edge.me row)
 
+-- the packet of a ping, where there is one
 abbrev pub request_by : Cc → Binding → Option Ping → Option (List ℕ)
 request_by kind binding None = None
 request_by kind binding (Some ping) = Some (channel_octets kind binding (request_packet ping))
 
+-- in the control channel that the end has picked, where it has one
 abbrev pub request_in : Plan → EdgeState → WireId → WirePlan → Binding → Option Cc → Option (List ℕ)
 request_in plan edge wire row binding None = None
 request_in plan edge wire row binding (Some kind) = request_by kind binding (ping_of plan edge wire row)
 
+-- under the binding that the end holds, where it holds one
 abbrev pub request_under : Plan → EdgeState → WireId → WirePlan → Option Binding → Option (List ℕ)
 request_under plan edge wire row None = None
 request_under plan edge wire row (Some binding) = request_in plan edge wire row binding (channel_under row edge.me binding)
 
+-- at an end that has told its label
 abbrev pub request_at : Plan → EdgeState → EndPlace → Option WirePlan → Option (List ℕ)
 request_at plan edge place None = None
 request_at plan edge place (Some row) = if has_told (end_at edge place).local then request_under plan edge place.wire row (end_at edge place).remote else None
@@ -70,6 +75,7 @@ request_of plan edge place = request_at plan edge place (wire_row plan place.wir
 abbrev pub asks_with : Answers → EndPlace → List ℕ → Work → Work
 asks_with told place packet work = sends told place arrival.Own packet (changes (pinging place.wire) work)
 
+-- the ping does not apply where there is no packet
 abbrev pub asked_with : Answers → EndPlace → Option (List ℕ) → Work → Work
 asked_with told place None work = idles work
 asked_with told place (Some packet) work = asks_with told place packet work

@@ -30,6 +30,7 @@ NamesPlaces plan (Wire wire down) = wire.0 < length plan.wires
 NamesPlaces plan (Pong wire sequence) = wire.0 < length plan.wires
 NamesPlaces plan (Closed peer) = peer.0 < length plan.edges
 
+-- each effect does
 abbrev pub AllFit : Plan → List Effect → Type 0
 AllFit plan [] = Unit {0}
 AllFit plan (e ∷ es) = NamesPlaces plan e × AllFit plan es

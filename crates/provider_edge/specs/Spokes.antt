@@ -14,6 +14,7 @@ pub record SpokeLists : Type 0 where
   pub slots : List (List ℕ)
   pub chosen : List (Option WireId)
 
+-- the slots of a service
 abbrev pub slots_in : SpokeLists → ℕ → List ℕ
 slots_in spokes service = slice_index_or spokes.slots service []
 
@@ -45,5 +46,6 @@ pub record IsNewSpokes (plan : Plan) (me : EdgeId) (spokes : SpokeLists) : Type 
   pub are : AreSpokesOf plan me spokes
   pub none : spokes.chosen ≡ replicate (length plan.services) None
 
+-- no spoke is chosen for a service
 abbrev pub unchosen : Option WireId → Option WireId
 unchosen chosen = None

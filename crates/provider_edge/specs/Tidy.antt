@@ -33,6 +33,7 @@ IsPassedBy plan edge marks service = (slot : ℕ) → slot < length (end_places 
 abbrev pub HasChosenFor : Plan → EdgeState → ℕ → Type 0
 HasChosenFor plan edge service = edge.chosen service ≡ choice plan edge (record { 0 = service })
 
+-- an edge with these marks is tidy: each end without one is settled, and each service without one has its choice
 pub record IsTidy (plan : Plan) (edge : EdgeState) (marks : EndMarks) : Type 0 where
   pub ends : (slot : ℕ) → IsUnmarked marks slot → IsSettledAt plan edge slot
   pub chosen : (service : ℕ) → IsPassedBy plan edge marks service → HasChosenFor plan edge service

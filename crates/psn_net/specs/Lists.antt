@@ -19,6 +19,7 @@ use Rattle.psn_net.specs.Packets.{ArePacketsOf, UnderWay}
 use Rattle.octet_pipes.specs.Pipes.{PipeLists}
 use Rattle.octet_pipes.specs.Pipes as pipes
 
+-- what a network holds, by the plan's places
 pub record NetLists : Type 0 where
   pub plan : Plan
   pub edges : List EdgeLists
@@ -34,9 +35,11 @@ pub record NetLists : Type 0 where
 abbrev pub edge_outside : Plan → ℕ → EdgeLists
 edge_outside plan k = edge.no_edge plan (record { 0 = k })
 
+-- the edge at a place
 abbrev pub edge_lists : NetLists → ℕ → EdgeLists
 edge_lists n k = slice_index_or n.edges k (edge_outside n.plan k)
 
+-- the state of the network that these lists are
 unfoldable pub network_seen : NetLists → NetworkState
 network_seen n = record {
   edges = λ k. edge.seen (edge_lists n k);

@@ -57,6 +57,7 @@ kept_packet ticks e = record {
   bytes = e.1.departure.bytes;
 }
 
+-- the packets under way, by what is kept of each
 abbrev pub packets_of : ℕ → List (ℕ × Carried) → List Packet
 packets_of ticks [] = []
 packets_of ticks (e ∷ es) = kept_packet ticks e ∷ packets_of ticks es
@@ -95,6 +96,7 @@ pub record IsPacketOf (plan : Plan) (last : ℕ) (packet : Packet) : Type 0 wher
   pub to : packet.to.0 < length plan.edges
   pub hops : packet.hops ≤ last
 
+-- each packet does
 abbrev pub ArePacketsOf : Plan → ℕ → List Packet → Type 0
 ArePacketsOf plan last [] = Unit {0}
 ArePacketsOf plan last (p ∷ ps) = IsPacketOf plan last p × ArePacketsOf plan last ps

@@ -17,6 +17,7 @@ pub record Ended : Type 0 where
   pub trace : List Entry
   pub stop : Option NetStop
 
+-- what a run comes to that a limit stops here, or else this
 abbrev pub unless : Option NetStop → NetworkState → List Entry → Ended → Ended
 unless None state trace rest = rest
 unless (Some stop) state trace rest = record { state = state; trace = trace; stop = Some stop }
@@ -55,6 +56,7 @@ pub record HasStopped (all done : List Event) (trace : List Entry) (count : ℕ)
   pub split : all ≡ done ++ event ∷ rest
   pub refused : stop_at trace count event ≡ Some stop
 
+-- all events were done, or those before the one that a limit stopped
 abbrev pub AreDone : List Event → List Event → List Entry → ℕ → Option NetStop → Type 0
 AreDone all done trace count None = all ≡ done
 AreDone all done trace count (Some stop) = HasStopped all done trace count stop

@@ -11,6 +11,7 @@ use Rattle.psn_net.specs.declared.net_stop.NetStop.TheVariants.{Crowded, TooMuch
 abbrev pub most_weight : ℕ
 most_weight = 268435456
 
+-- the octets of the frame that an event brings
 abbrev pub event_octets : Event → ℕ
 event_octets (Frame circuit octets) = length octets
 event_octets event = 0
@@ -66,6 +67,7 @@ most_packets = 65536
 abbrev pub counted_packets : ℕ → ℕ
 counted_packets count = min count (2 ^ 32 - 1)
 
+-- the event would send a packet where as many are under way as may be
 abbrev pub crowd_at : List Entry → ℕ → Event → Option NetStop
 crowd_at trace count event =
     if may_send event && nat_le most_packets (counted_packets count) then Some (Crowded (counted_packets count) (next_event trace)) else None

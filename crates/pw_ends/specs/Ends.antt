@@ -25,6 +25,7 @@ look [] ends wire peer = fresh
 look (place ∷ places) [] wire peer = fresh
 look (place ∷ places) (end ∷ ends) wire peer = if is_at wire peer place then end else look places ends wire peer
 
+-- the states of all ends, by their wires and neighbours
 unfoldable pub seen_ends : EndLists → ℕ → ℕ → EndState
 seen_ends lists = look lists.places lists.ends
 
@@ -59,6 +60,7 @@ renewed_of wire ends k peer = if k == wire.0 then renewed (ends k peer) else end
 
 -- ---- what an end may tell: a PW type has 15 bits (RFC 8077 section 6.1)
 
+-- what an end has told has a PW type in range
 abbrev pub HasKind : LocalPart → Type 0
 HasKind (Idle declined) = Unit {0}
 HasKind (Advertised label told) = told.kind ≤ 0x7FFF
@@ -71,15 +73,18 @@ pub record CanHold (place : EndPlace) (told : Told) : Type 0 where
   pub vlan : has_vlan told.vlan ≡ true
   pub room : place.terminal ≡ false → length told.points < 3
 
+-- what an end holds, where it holds a binding, it can hold
 abbrev pub Holds : EndPlace → Option Binding → Type 0
 Holds place None = Unit {0}
 Holds place (Some binding) = CanHold place binding.told
 
+-- an end that has told nothing
 abbrev pub IsIdle : LocalPart → Type 0
 IsIdle (Idle declined) = Unit {0}
 IsIdle (Advertised label told) = ⊥
 IsIdle (Withdrawing label) = ⊥
 
+-- an end has this label
 abbrev pub is_label : ℕ → Option ℕ → Bool
 is_label label None = false
 is_label label (Some own) = own == label

@@ -36,6 +36,7 @@ abbrev pub IsOwner : List Owner → EndPlace → Option ℕ → Type 0
 IsOwner owners place None = Unit {0}
 IsOwner owners place (Some label) = find (owns label) owners ≡ Some (owner_at place label)
 
+-- so it is of each end
 abbrev pub AreOwners : List Owner → List EndPlace → List (Option ℕ) → Type 0
 AreOwners owners [] owns = Unit {0}
 AreOwners owners (place ∷ places) [] = Unit {0}
@@ -53,6 +54,7 @@ Differ None other = Unit {0}
 Differ (Some label) None = Unit {0}
 Differ (Some label) (Some other) = label ≢ other
 
+-- no two ends own one label
 abbrev pub OwnApart : List (Option ℕ) → Type 0
 OwnApart [] = Unit {0}
 OwnApart (own ∷ others) = AllByRecursion (Differ own) others × OwnApart others

@@ -16,5 +16,6 @@ pub record PrecedesEnd (first second : EndPlace) : Type 0 where
   pub wires : first.wire.0 ≤ second.wire.0
   pub alike : first.wire.0 ≡ second.wire.0 → first.terminal ≡ second.terminal
 
+-- so it is of each two of them
 abbrev pub AreEndsInOrder : List EndPlace → Type 0
 AreEndsInOrder places = AllPairs PrecedesEnd places

@@ -12,6 +12,7 @@ pub record OwnedList : Type 0 where
 abbrev pub has_label : ℕ → OwnedLabel → Bool
 has_label label owned = owned.label == label
 
+-- the label itself
 abbrev pub label_in : OwnedLabel → ℕ
 label_in owned = owned.label
 
@@ -31,10 +32,12 @@ with_owned_label label slot owned = record owned { labels = put_by label_in (rec
 abbrev pub without_owned : ℕ → OwnedList → OwnedList
 without_owned label owned = record owned { labels = filter (λ o. not (has_label label o)) owned.labels }
 
+-- the same of a label, where there is one
 abbrev pub without_owned_one : Option ℕ → OwnedList → OwnedList
 without_owned_one None owned = owned
 without_owned_one (Some label) owned = without_owned label owned
 
+-- the labels stand in rising order
 abbrev pub AreRising : List OwnedLabel → Type 0
 AreRising labels = AreRisingBy label_in 0 labels
 

@@ -15,6 +15,7 @@ use Rattle.pw_signalling.specs.declared.told.Told.{Told}
 
 -- ---- PWid FEC elements
 
+-- the interface parameters of a content
 abbrev pub params_of : Told → IfParams
 params_of told = record { mtu = told.mtu; description = told.description; vlan = told.vlan; vccv = told.vccv }
 
@@ -32,6 +33,7 @@ bare fec = record fec { params = no_params }
 
 -- ---- what a Label Mapping tells
 
+-- the content that a Label Mapping tells by its FEC, its status and its points
 abbrev pub told_with : PwFec → Option PwStatus → List Point → Told
 told_with fec status points = record {
   c = fec.c;
@@ -45,6 +47,7 @@ told_with fec status points = record {
   points = points;
 }
 
+-- the binding that a Label Mapping tells
 abbrev pub binding_in : PwFec → ℕ → Option PwStatus → List Point → Binding
 binding_in fec label status points = record { label = label; told = told_with fec status points }
 
@@ -77,9 +80,11 @@ content_of offer status = record {
 
 -- ---- messages, by their Message ID
 
+-- the Label Mapping of a content
 abbrev pub mapping : ℕ → ℕ → Told → ℕ → Message
 mapping pw_id label told id = LabelMapping id (fec_of pw_id told) label told.status told.points
 
+-- the Label Withdraw of it, whose FEC has no parameters
 abbrev pub withdrawal : ℕ → ℕ → Told → ℕ → Message
 withdrawal pw_id label told id = LabelWithdraw id (bare_fec_of pw_id told) (Some label)
 
@@ -94,6 +99,7 @@ pw_status_code = 0x28
 abbrev pub pw_status_notice : StatusCode
 pw_status_notice = record { fatal = Bool.false; forward = Bool.false; code = pw_status_code; message = 0; kind = 0 }
 
+-- the Notification of a new status
 abbrev pub status_notification : ℕ → PwStatus → Told → ℕ → Message
 status_notification pw_id status told id = Notification id pw_status_notice (Some status) (Some (bare_fec_of pw_id told))
 

@@ -22,6 +22,7 @@ abbrev pub far_told : Option Binding → Option Told
 far_told None = None
 far_told (Some binding) = Some binding.told
 
+-- nothing is told
 abbrev pub is_none : Option Told → Bool
 is_none None = true
 is_none (Some told) = false

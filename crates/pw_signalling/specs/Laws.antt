@@ -52,6 +52,7 @@ mapping_after last (OnMapping binding) = Some binding
 mapping_after last Lost = None
 mapping_after last call = last
 
+-- the same after a list of calls
 abbrev pub last_mapping : Option Binding → List EndCall → Option Binding
 last_mapping last [] = last
 last_mapping last (call ∷ calls) = last_mapping (mapping_after last call) calls

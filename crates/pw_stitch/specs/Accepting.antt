@@ -10,6 +10,7 @@ use Rattle.pw_signalling.specs.declared.told.Told.{Told}
 abbrev pub most_points : ℕ
 most_points = 3
 
+-- the address of a point, where it tells one, is this own one
 abbrev pub is_address : Addr → Option Addr → Bool
 is_address own None = false
 is_address own (Some address) = bytes_eq own.0 address.0
@@ -18,9 +19,11 @@ is_address own (Some address) = bytes_eq own.0 address.0
 abbrev pub is_point_at : Addr → Point → Bool
 is_point_at own point = is_address own point.local
 
+-- the same of a point, where there is one
 abbrev pub is_held_at : Addr → Option Point → Bool
 is_held_at own None = false
 is_held_at own (Some point) = is_point_at own point
 
+-- a content that has not passed this switching point, nor three others (RFC 6073 section 7.6)
 abbrev pub accepts : Addr → Told → Bool
 accepts own told = not (list_any (is_point_at own) told.points) && nat_lt (length told.points) most_points

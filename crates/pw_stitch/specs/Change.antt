@@ -22,9 +22,11 @@ are_same_channels one other = one.0 == other.0 && one.1 == other.1
 abbrev pub has_same_channels : Told → Told → Bool
 has_same_channels one other = option_eq are_same_channels one.vccv other.vccv
 
+-- the same channels, and the same description
 abbrev pub has_same_texts : Told → Told → Bool
 has_same_texts one other = has_same_channels one other && bytes_eq one.description other.description
 
+-- the same MTU, and the same VLAN ID
 abbrev pub has_same_numbers : Told → Told → Bool
 has_same_numbers one other = option_eq nat_eq one.mtu other.mtu && option_eq nat_eq one.vlan other.vlan
 
@@ -43,6 +45,7 @@ without_status told = record told { status = None }
 
 -- ---- at most three points, place by place
 
+-- the points at one place are the same, or both lists have none there
 abbrev pub is_same_at : List Point → List Point → ℕ → Bool
 is_same_at points others at = option_eq is_same_point (slice_get points at) (slice_get others at)
 

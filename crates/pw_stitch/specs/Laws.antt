@@ -41,12 +41,15 @@ CarriesBothWays = (stitch : StitchState) (side : Side) (label ttl : ℕ) → is_
 abbrev pub front_label : List ℕ → ℕ
 front_label packet = big_number 4 packet / 4096
 
+-- its traffic class
 abbrev pub front_class : List ℕ → ℕ
 front_class packet = big_number 4 packet / 512 % 8
 
+-- its bit for the bottom of the stack
 abbrev pub front_bottom : List ℕ → ℕ
 front_bottom packet = big_number 4 packet / 256 % 2
 
+-- its TTL
 abbrev pub front_ttl : List ℕ → ℕ
 front_ttl packet = big_number 4 packet % 256
 

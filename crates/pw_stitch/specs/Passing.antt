@@ -29,6 +29,7 @@ wanted point (Some binding) = Some (past_point point binding.told)
 abbrev pub clear_status : PwStatus
 clear_status = record { 0 = 0 }
 
+-- the status that is told, and without one that of no fault
 abbrev pub stated_or_clear : Option PwStatus → PwStatus
 stated_or_clear None = clear_status
 stated_or_clear (Some status) = status

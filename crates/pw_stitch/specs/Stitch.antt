@@ -6,6 +6,7 @@ use Rattle.pw_stitch.specs.declared.side.Side.{Side}
 use Rattle.pw_stitch.specs.declared.side.Side.TheVariants.{Before, After}
 use Rattle.pw_stitch.specs.Side.{opposite}
 
+-- an end of each side, as contracts see it
 pub record StitchState : Type 0 where
   pub before : EndState
   pub after : EndState
@@ -14,6 +15,7 @@ pub record StitchState : Type 0 where
 abbrev pub unstitched : StitchState
 unstitched = record { before = fresh; after = fresh }
 
+-- the end of a side
 abbrev pub end_on : Side → StitchState → EndState
 end_on Before stitch = stitch.before
 end_on After stitch = stitch.after
@@ -29,6 +31,7 @@ held_across side stitch = (end_on (opposite side) stitch).remote
 
 -- ---- what lets packets through
 
+-- an end that advertises its label
 abbrev pub has_told : LocalPart → Bool
 has_told (Idle declined) = false
 has_told (Advertised label told) = true

@@ -23,6 +23,7 @@ takes_label label (Withdrawing own) = false
 abbrev pub IsOfOneSide : ℕ → StitchState → Type 0
 IsOfOneSide label stitch = takes_label label stitch.before.local ≡ not (takes_label label stitch.after.local)
 
+-- the side that advertises the label: packets under it come by that side
 abbrev pub side_taking : ℕ → StitchState → Side
 side_taking label stitch = if takes_label label stitch.before.local then Before else After
 
@@ -33,6 +34,7 @@ abbrev pub label_onward : Option Binding → ℕ → Result ℕ SwapDrop
 label_onward None ttl = Err NoBinding
 label_onward (Some binding) ttl = if ttl == 1 then Err Expired else Ok binding.label
 
+-- how a packet goes on by a side, under the label that is bound there
 abbrev pub next_by : Side → ℕ → Result ℕ SwapDrop → Result Swapped SwapDrop
 next_by side ttl (Err why) = Err why
 next_by side ttl (Ok label) = Ok (record { side = side; label = label; ttl = ttl - 1 })
@@ -41,5 +43,6 @@ next_by side ttl (Ok label) = Ok (record { side = side; label = label; ttl = ttl
 abbrev pub next_across : Side → ℕ → StitchState → Result Swapped SwapDrop
 next_across side ttl stitch = next_by (opposite side) ttl (label_onward (held_across side stitch) ttl)
 
+-- how a packet with this label and TTL goes on
 abbrev pub swapped : ℕ → ℕ → StitchState → Result Swapped SwapDrop
 swapped label ttl stitch = next_across (side_taking label stitch) ttl stitch

@@ -16,7 +16,7 @@ use std::marker::Model;
 use std::mem;
 
 /// A switching point of one pseudowire (RFC 6073 section 4): an end of each of the two segments that meet there. It is for callers
-/// outside: the program keeps its ends one by one. Contracts see the two ends.
+/// outside alone, with `Side` and `Swapped`: the program keeps its ends one by one. Contracts see the two ends.
 #[derive(Debug, Drop)]
 pub struct Stitch {
     before: PwEnd,

@@ -1,4 +1,4 @@
--- Rows are added one by one.
+-- Lists of the rehearsal in the making: once its next row or frame is added, what is made so far goes on by those still to come.
 use Rattle.std.proofs.Common.{◌≡◌, ◌<◌, ◌+◌, ◌-◌, ◌++◌, ◌∙◌, ℕ, suc, List, [], ◌∷◌, refl, sym, ap, append_assoc, arith}
 use Rattle.std.specs.Prelude.{codes}
 use Rattle.std.specs.Fmt.{decimal}

@@ -31,6 +31,7 @@ probe_destination number = if number == 0 then 255 ∷ 255 ∷ 255 ∷ 255 ∷ 2
 unfoldable pub probe_payload : List ℕ
 probe_payload = 8 ∷ 0 ∷ replicate 46 0
 
+-- a frame from one station to another
 unfoldable pub frame : ℕ → ℕ → List ℕ
 frame from to = (probe_destination to ++ station from) ++ probe_payload
 

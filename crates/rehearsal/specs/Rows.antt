@@ -20,6 +20,7 @@ abbrev pub edges_from : ℕ → ℕ → List EdgePlan
 edges_from zero number = []
 edges_from (suc count) number = edge_row number ∷ edges_from count (number + 1)
 
+-- the one service
 abbrev pub rehearsed_service : ServicePlan
 rehearsed_service = record { name = codes "s"; mtu = 1500; age = 300 }
 
@@ -27,6 +28,7 @@ rehearsed_service = record { name = codes "s"; mtu = 1500; age = 300 }
 abbrev pub rehearsed_circuit : ℕ → CircuitPlan
 rehearsed_circuit number = record { name = codes "c" ++ decimal number; edge = record { 0 = number - 1 }; service = record { 0 = 0 }; tag = None }
 
+-- so many circuits, from this number on
 abbrev pub circuits_from : ℕ → ℕ → List CircuitPlan
 circuits_from zero number = []
 circuits_from (suc count) number = rehearsed_circuit number ∷ circuits_from count (number + 1)
@@ -35,6 +37,7 @@ circuits_from (suc count) number = rehearsed_circuit number ∷ circuits_from co
 abbrev pub offer : Offer
 offer = record { tagged = Bool.false; cword = Bool.true; mtu = Some 1500; vlan = None; vccv = None; status = Bool.true; group = 0; description = [] }
 
+-- a wire with a name, between two edges, of one segment
 abbrev pub rehearsed_wire : List ℕ → RehearsedWire → WirePlan
 rehearsed_wire name link = record {
   name = name;
@@ -69,12 +72,15 @@ first_spoke place = rehearsed_wire (codes "p" ++ decimal (place + 9)) (record { 
 abbrev pub second_spoke : ℕ → WirePlan
 second_spoke place = rehearsed_wire (codes "q" ++ decimal (place + 9)) (record { class = Spoke; from = place + 9; to = (place + 1) % 8 + 1; pw_id = 202 + 2 * place; priority = 20 })
 
+-- the spokes of so many spoke edges, from this place on
 abbrev pub spokes_from : ℕ → ℕ → List WirePlan
 spokes_from zero place = []
 spokes_from (suc count) place = first_spoke place ∷ second_spoke place ∷ spokes_from count (place + 1)
 
+-- all wires: the full mesh of the core edges, and then the spokes
 unfoldable pub wires : List WirePlan
 wires = mesh_among 8 1 1 ++ spokes_from 8 0
 
+-- the whole network
 unfoldable pub plan : Plan
 plan = record { edges = edges_from 16 1; services = rehearsed_service ∷ []; circuits = circuits_from 16 1; wires = wires }

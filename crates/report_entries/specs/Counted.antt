@@ -8,6 +8,7 @@ use Rattle.report_entries.specs.declared.tally.Tally.{Tally}
 abbrev pub first_counts : Tally
 first_counts = record { lines = 1; events = 0; entered = 0; left = 0; sent = 0; dropped = 0 }
 
+-- an entry is counted by its kind
 abbrev pub counted_kind : Entry → Tally → Tally
 counted_kind (Did event) tally = record tally { events = tally.events + 1 }
 counted_kind (In circuit number octets) tally = record tally { entered = tally.entered + 1 }

@@ -2,6 +2,7 @@
 use Rattle.std.specs.Prelude.{ℕ, List}
 use Rattle.report_entries.specs.declared.tally.Tally.{Tally}
 
+-- what was read of a report, and what is left
 pub record ReadSoFar : Type 0 where
   -- the lines before
   pub tally : Tally

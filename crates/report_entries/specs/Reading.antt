@@ -35,12 +35,15 @@ Reads (Err NoMemory) read = Unit {0}
 
 -- ---- words
 
+-- the edge with this name
 unfoldable pub edge_of_word : PlanNames → List ℕ → Option EdgeId
 edge_of_word names word = option_map (λ n. record { 0 = n }) (place_in names.edges word)
 
+-- the circuit with this name
 unfoldable pub circuit_of_word : PlanNames → List ℕ → Option CircuitId
 circuit_of_word names word = option_map (λ n. record { 0 = n }) (place_in names.circuits word)
 
+-- the wire with this name
 unfoldable pub wire_of_word : PlanNames → List ℕ → Option WireId
 wire_of_word names word = option_map (λ n. record { 0 = n }) (place_in names.wires word)
 
@@ -58,6 +61,7 @@ number_in word = decimal_from 0 18446744073709551615 word
 unfoldable pub sequence_in : List ℕ → Option ℕ
 sequence_in word = decimal_from 0 65535 word
 
+-- an octet that is no capital letter
 abbrev pub is_small : ℕ → Bool
 is_small octet = not (is_ascii_uppercase octet)
 
@@ -65,6 +69,7 @@ is_small octet = not (is_ascii_uppercase octet)
 unfoldable pub digits_told : List ℕ → Option (List ℕ)
 digits_told word = if list_all is_small word then unhex word else None
 
+-- the words `on` and `off`
 unfoldable pub switch_in : List ℕ → Option Bool
 switch_in word = if bytes_eq word (codes "on") then Some Bool.true else if bytes_eq word (codes "off") then Some Bool.false else None
 
@@ -81,6 +86,7 @@ cause_rest_in word =
     else if bytes_eq word (codes "LinkFault") then Some cause.LinkFault
     else None
 
+-- why a packet was dropped
 unfoldable pub cause_in : List ℕ → Option DropCause
 cause_in word =
     if bytes_eq word (codes "Short") then Some cause.Short
@@ -123,6 +129,7 @@ ended_in word =
     else if bytes_eq word (codes "Ended:BadIdentifier") then Some (state.Ended reason.BadIdentifier)
     else None
 
+-- the state of a session
 unfoldable pub state_in : List ℕ → Option StateName
 state_in word =
     if bytes_eq word (codes "NonExistent") then Some state.NonExistent

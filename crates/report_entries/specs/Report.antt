@@ -37,6 +37,7 @@ abbrev pub is_last_of : Tally → List ℕ → List (List ℕ) → Bool
 is_last_of tally line [] = false
 is_last_of tally line (kind ∷ words) = if bytes_eq kind (codes "end") then bytes_eq (tally_line tally) (line ++ codes "\n") else bytes_eq kind (codes "stop") && is_stop words
 
+-- a line is the last one of a report with these counts
 unfoldable pub ends_report : Tally → List ℕ → Bool
 ends_report tally line = is_last_of tally line (line_words line)
 

@@ -14,6 +14,7 @@ use Rattle.net_base.specs.declared.trace.event.Event.TheVariants as event
 use Rattle.net_base.specs.plan.Planned.{IsFrame}
 use Rattle.report_text.specs.Words.{circuit_name, wire_name}
 
+-- a number of 64 bits
 abbrev pub IsToldNumber : ℕ → Type 0
 IsToldNumber n = n < 2 ^ 64
 
@@ -37,6 +38,7 @@ IsCircuit plan circuit = circuit.0 < length plan.circuits
 abbrev pub IsWire : Plan → WireId → Type 0
 IsWire plan wire = wire.0 < length plan.wires
 
+-- what came by a circuit or a wire of the plan, or by none
 abbrev pub IsArrival : Plan → Arrival → Type 0
 IsArrival plan (arrival.Circuit circuit) = IsCircuit plan circuit
 IsArrival plan (arrival.Wire wire) = IsWire plan wire
@@ -48,6 +50,7 @@ pub record HasNamesApart (plan : Plan) : Type 0 where
   pub circuits : (circuit : CircuitId) → IsCircuit plan circuit → circuit_name plan circuit ≡ codes "-" → ⊥
   pub wires : (wire : WireId) → IsWire plan wire → wire_name plan wire ≡ codes "-" → ⊥
 
+-- an event names places of the plan, and numbers in their ranges
 abbrev pub IsNamedEvent : Plan → Event → Type 0
 IsNamedEvent plan (event.Connect from to) = IsNamedEdge plan from × IsNamedEdge plan to
 IsNamedEvent plan (event.Deliver from to count) = IsNamedEdge plan from × (IsNamedEdge plan to × IsFromTo 1 65535 count)
@@ -64,6 +67,7 @@ IsNamedEvent plan (event.Status edge wire bits) = IsNamedEdge plan edge × (IsWi
 IsNamedEvent plan (event.Priority edge wire priority) = IsNamedEdge plan edge × (IsWire plan wire × IsFromTo 0 255 priority)
 IsNamedEvent plan (event.Ping edge wire) = IsNamedEdge plan edge × IsWire plan wire
 
+-- so does an entry
 abbrev pub IsEntryNamed : Plan → Entry → Type 0
 IsEntryNamed plan (entry.Did event) = IsNamedEvent plan event
 IsEntryNamed plan entry.Idle = Unit {0}

@@ -8,6 +8,7 @@ use Rattle.report_text.specs.declared.ending.Ending.TheVariants.{End, Crowded, T
 use Rattle.report_text.specs.Report.{report}
 use Rattle.report_reading.specs.Named.{IsEntryNamed, IsToldNumber}
 
+-- a report ends by all events, or by a number at which the run stopped
 abbrev pub IsEnding : Ending → Type 0
 IsEnding End = Unit {0}
 IsEnding (Crowded count) = IsToldNumber count

@@ -92,6 +92,7 @@ least (key ∷ keys) = Some (lesser key (least keys))
 abbrev pub unknown_key : DocumentVersion → Table → Members → Option (List ℕ)
 unknown_key version table ms = least (unknown_keys version table ms)
 
+-- a row has no key that its table lacks
 abbrev pub none_unknown : RowPlace → Option (List ℕ) → Result Bool ScenarioFault
 none_unknown row None = Ok true
 none_unknown row (Some key) = Err (UnknownKey (place_of_key row key))

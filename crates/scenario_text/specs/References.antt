@@ -58,6 +58,7 @@ told_unless_zero n = if n == 0 then None else Some n
 abbrev pub group_names : List GroupRow → List (List ℕ)
 group_names groups = map (λ row. row.name) groups
 
+-- the number of a group, and 0 for none
 abbrev pub number_or_none : Option GroupRow → ℕ
 number_or_none None = 0
 number_or_none (Some row) = row.number
@@ -85,6 +86,7 @@ offer_from mtu group offer =
       description = offer.description;
     }
 
+-- the MTU of a service, and 0 for none
 abbrev pub mtu_or_none : Option ServicePlan → ℕ
 mtu_or_none None = 0
 mtu_or_none (Some service) = service.mtu
@@ -118,6 +120,7 @@ wires_in edges services groups index [] = Ok []
 wires_in edges services groups index (row ∷ rows) =
     wire_in edges services groups (record { table = Wire; index = index }) row >>= (λ x. wires_in edges services groups (index + 1) rows >>= (λ xs. Ok (x ∷ xs)))
 
+-- the plan, unless it has a fault
 abbrev pub without_fault : Plan → Option PlanFault → Result Plan ScenarioFault
 without_fault plan None = Ok plan
 without_fault plan (Some found) = Err (fault.Plan found)
@@ -135,6 +138,7 @@ abbrev pub without_repeat : Option ℕ → Result Bool ScenarioFault
 without_repeat None = Ok true
 without_repeat (Some row) = Err (fault.Plan (RepeatedName (place_of_key (record { table = Group; index = row + 1 }) (codes "name"))))
 
+-- no two groups have one name
 abbrev pub groups_differ : List GroupRow → Result Bool ScenarioFault
 groups_differ groups = without_repeat (first_clash bytes_eq (group_names groups))
 

@@ -162,6 +162,7 @@ rows_in table read index (item value rest) =
     row_members (record { table = table; index = index }) value
     >>= (λ ms. read (record { table = table; index = index }) ms >>= (λ x. rows_in table read (index + 1) rest >>= (λ xs. Ok (x ∷ xs))))
 
+-- how many items there are
 abbrev pub items_length : Items → ℕ
 items_length no_items = 0
 items_length (item value rest) = suc (items_length rest)

@@ -37,6 +37,7 @@ whole_of None = None
 whole_of (Some (octets, [])) = Some octets
 whole_of (Some (octets, b ∷ bs)) = None
 
+-- the same of a whole text
 abbrev pub quad_of : List ℕ → Option (List ℕ)
 quad_of text = whole_of (read_ipv4 text)
 
@@ -65,6 +66,7 @@ a_number low high place value = found (WrongKind place) (as_integer value) >>= n
 abbrev pub a_boolean : Place → Data → Result Bool ScenarioFault
 a_boolean place value = found (WrongKind place) (as_bool value)
 
+-- the class by its word
 abbrev pub class_of : List ℕ → Option Class
 class_of text = if bytes_eq text (codes "mesh") then Some Mesh else if bytes_eq text (codes "spoke") then Some Spoke else None
 

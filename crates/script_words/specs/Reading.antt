@@ -8,6 +8,7 @@ abbrev pub found_at : {A : Type 0} → ℕ → ℕ → Option A → Result A Scr
 found_at line number (Some x) = Ok x
 found_at line number None = Err (Bad line number)
 
+-- a word, where it is there, is read
 abbrev pub read_word : {A : Type 0} → (List ℕ → Option A) → Option (List ℕ) → Option A
 read_word reader None = None
 read_word reader (Some word) = reader word
@@ -20,6 +21,7 @@ said_at reader line number words = found_at line number (read_word reader (slice
 abbrev pub ends_behind : ℕ → ℕ → List (List ℕ) → Result Bool ScriptFault
 ends_behind line number words = if nat_le (length words) number then Ok true else Err (Bad line (number + 1))
 
+-- the first word, and no octets where there is none
 abbrev pub first_of : List (List ℕ) → List ℕ
 first_of [] = []
 first_of (word ∷ words) = word

@@ -16,6 +16,7 @@ use Rattle.network_model.specs.State.{NetworkState, held, held_by, stands, with_
 use Rattle.seen_network.specs.Seen.{Seen, SeenCopy, is_shown_up, told_by_itself}
 use Rattle.seen_laws.specs.Work.{is_told_ended, up_after}
 
+-- a packet as it is seen
 abbrev pub copy_of : Packet → SeenCopy
 copy_of packet = record { number = packet.number; origin = packet.origin }
 
@@ -23,6 +24,7 @@ copy_of packet = record { number = packet.number; origin = packet.origin }
 abbrev pub AreUpTo : ℕ → List SeenCopy → Type 0
 AreUpTo most copies = AllByRecursion (λ copy. copy.number ≤ most) copies
 
+-- what is seen is what the network is
 pub record Shows (plan : Plan) (network : NetworkState) (seen : Seen) : Type 0 where
   pub standing : (a b : ℕ) → seen.stands a b ≡ stands network a b
   pub pipes : (a b : ℕ) → seen.pipes a b ≡ network.pipes a b
@@ -34,6 +36,7 @@ pub record Shows (plan : Plan) (network : NetworkState) (seen : Seen) : Type 0 w
 
 -- ---- entries without an event
 
+-- one entry after another
 abbrev pub tolds : List Entry → Seen → Seen
 tolds [] seen = seen
 tolds (e ∷ es) seen = tolds es (told_by_itself e seen)

@@ -112,12 +112,14 @@ abbrev pub origin_among : ℕ → List SeenCopy → Option ℕ
 origin_among number [] = None
 origin_among number (copy ∷ copies) = if copy.number == number then Some copy.origin else origin_among number copies
 
+-- a copy of this frame is repeated under a new number, where the frame is known
 abbrev pub repeats : ℕ → Option ℕ → Seen → Seen
 repeats number None seen = seen
 repeats number (Some origin) seen = copy_comes number origin seen
 
 -- ---- events and entries
 
+-- octets reach their edge, which then holds what is no whole PDU
 abbrev pub delivers : ℕ → ℕ → ℕ → Seen → Seen
 delivers from to count seen = with_rest to from (cut (seen.rests to from ++ take count (seen.pipes from to))) (with_octets from to (drop count (seen.pipes from to)) seen)
 
@@ -138,6 +140,7 @@ happened (event.Status edge wire bits) seen = seen
 happened (event.Priority edge wire priority) seen = seen
 happened (event.Ping edge wire) seen = seen
 
+-- a wire without a cause is shown up
 abbrev pub is_shown_up : Option Down → Bool
 is_shown_up None = true
 is_shown_up (Some why) = false

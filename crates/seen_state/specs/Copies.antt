@@ -5,6 +5,7 @@ use Rattle.std.specs.Map.{lookup}
 use Rattle.std.specs.Ordering.{nat_cmp}
 use Rattle.seen_network.specs.Seen.{SeenCopy, origin_among}
 
+-- two maps of the packets under way, and how many have come
 pub record CopyMaps : Type 0 where
   -- the frame that a packet carries a copy of, by the packet's number
   pub origins : List (ℕ × ℕ)
@@ -13,9 +14,11 @@ pub record CopyMaps : Type 0 where
   -- how many packets have come so far
   pub comings : ℕ
 
+-- the frame that a packet carries a copy of
 abbrev pub origin_under : CopyMaps → ℕ → Option ℕ
 origin_under maps number = lookup (is_at (nat_cmp number)) maps.origins
 
+-- how many copies of a frame are under way
 abbrev pub count_in : List (ℕ × ℕ) → ℕ → ℕ
 count_in counts origin = unwrap_or (lookup (is_at (nat_cmp origin)) counts) 0
 

@@ -11,17 +11,21 @@ pub record EdgeSeen : Type 0 where
   pub ends : List EndSeen
   pub up : List Bool
 
+-- what is seen of all edges, by their places
 pub record SightLists : Type 0 where
   pub sizes : Sizes
   pub edges : List EdgeSeen
   pub on : List Bool
 
+-- of an edge past the plan nothing is seen
 abbrev pub unseen_edge : EdgeSeen
 unseen_edge = record { ends = []; up = [] }
 
+-- what is seen of an edge
 abbrev pub edge_seen : SightLists → ℕ → EdgeSeen
 edge_seen sight me = slice_index_or sight.edges me unseen_edge
 
+-- what is seen of its end beside a peer
 abbrev pub end_seen : SightLists → ℕ → ℕ → EndSeen
 end_seen sight me peer = slice_index_or (edge_seen sight me).ends peer no_end
 

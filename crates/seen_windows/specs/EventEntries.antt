@@ -17,6 +17,7 @@ HasNoEvent [] = Unit {0}
 HasNoEvent (Did event ∷ es) = ⊥
 HasNoEvent (e ∷ es) = HasNoEvent es
 
+-- the entry that tells that an event was idle
 abbrev pub is_idle_entry : Entry → Bool
 is_idle_entry Idle = true
 is_idle_entry entry = false

@@ -114,6 +114,7 @@ pub record Opens (plan : Plan) (before : List Entry) (event : Event) (during : L
   pub opened : HasOpened plan before circuit octets during service origin
   pub describes : Describes plan before circuit octets during service origin window
 
+-- a window is opened for this frame, and describes it
 pub record OpensOne (plan : Plan) (before : List Entry) (circuit : CircuitId) (octets : List ℕ) (during : List Entry) (service : ServiceId) (origin : ℕ) (found : Option Window) : Type 0 where
   pub window : Window
   pub found_is : found ≡ Some window

@@ -35,6 +35,7 @@ abbrev pub IsOneNotice : List Reply → Type 0
 IsOneNotice (Notice status ∷ []) = status.fatal ≡ true
 IsOneNotice replies = ⊥
 
+-- a session that ends may say so by one fatal Notification, and else puts nothing
 abbrev pub IsFarewell : Bool → List Reply → Type 0
 IsFarewell true replies = IsOneNotice replies
 IsFarewell false replies = replies ≡ []
@@ -91,6 +92,7 @@ abbrev pub run_by : (SessionState → SessionEvent → SessionView) → SessionS
 run_by next s [] = Stands s
 run_by next s (event ∷ events) = elim (next s event) [ Stands then_on ↦ run_by next then_on events | EndedBy why ↦ EndedBy why ]
 
+-- what events make of a session that stands
 abbrev pub run_session : SessionState → List SessionEvent → SessionView
 run_session s events = run_by next_of s events
 

@@ -145,6 +145,7 @@ next_of s event = view_after s (outcome_of s event)
 abbrev pub after : Phase → Standing → SessionEvent → SessionView
 after state s event = next_of (in_phase state s) event
 
+-- what a session in this state puts on an event
 abbrev pub said_replies : Phase → Standing → SessionEvent → List Reply
 said_replies state s event = replies_of (outcome_of (in_phase state s) event)
 
@@ -153,6 +154,7 @@ abbrev pub view_next : SessionView → SessionEvent → SessionView
 view_next (Stands s) event = next_of s event
 view_next (EndedBy why) event = EndedBy why
 
+-- what a session puts on an event; one that has ended puts nothing
 abbrev pub view_said : SessionView → SessionEvent → List Reply
 view_said (Stands s) event = replies_of (outcome_of s event)
 view_said (EndedBy why) event = []

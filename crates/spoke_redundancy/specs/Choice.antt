@@ -3,6 +3,7 @@ use Rattle.std.specs.Prelude.{◌&&◌, not, nat_lt, ℕ, Bool, List, Option, po
 use Rattle.std.specs.List.{list_any}
 use Rattle.spoke_redundancy.specs.declared.spoke.Spoke.{Spoke}
 
+-- a spoke that can be chosen
 abbrev pub is_usable_spoke : Spoke → Bool
 is_usable_spoke spoke = spoke.usable
 

@@ -11,6 +11,7 @@ pub record Wiring : Type 0 where
   pub count : ℕ
   pub joins : ℕ → ℕ → ℕ → Bool
 
+-- a wire has two edges, and no others
 pub record IsWiring (w : Wiring) : Type 0 where
   pub within : (wire a b : ℕ) → w.joins wire a b ≡ true → wire < w.count
   pub turned : (wire a b : ℕ) → w.joins wire a b ≡ true → w.joins wire b a ≡ true
@@ -45,10 +46,12 @@ at_two a b value f j k = if j == a && k == b then value else f j k
 
 -- ---- an edge at work for one peer
 
+-- the edge as it is by now, and what it has put
 pub record StatusWork : Type 0 where
   pub edge : EdgeStatuses
   pub out : List StatusMessage
 
+-- nothing was put
 abbrev pub silent : EdgeStatuses → StatusWork
 silent edge = record { edge = edge; out = [] }
 
@@ -60,6 +63,7 @@ tells_as peer wire (Some id) t = record {
   out = t.out ++ record { wire = wire; wish = t.edge.local wire; id = id } ∷ [];
 }
 
+-- the wire is told to a peer with the number that is next, where they are connected
 abbrev pub exchange_tells : ℕ → ℕ → StatusWork → StatusWork
 exchange_tells peer wire t = tells_as peer wire (t.edge.next peer) t
 
@@ -86,6 +90,7 @@ exchange_learns wire status edge = record edge {
   remote = put_at_place wire (Some status) edge.remote;
 }
 
+-- what was heard is known, and is answered where the edge has to tell something
 abbrev pub exchange_hears : ℕ → ℕ → PwStatus → EdgeStatuses → StatusWork
 exchange_hears peer wire status edge =
     if is_status_told status (edge.local wire) then exchange_tells peer wire (silent (exchange_learns wire status edge)) else silent (exchange_learns wire status edge)
@@ -121,6 +126,7 @@ pub data Step : Type 0 where
   -- the edge calls its wire with the peer something else
   Sets : (me peer wire : ℕ) (wish : Wish) → Step
 
+-- the first edge is connected with the second one
 abbrev pub is_exchange_connected : Exchange → ℕ → ℕ → Bool
 is_exchange_connected x a b = is_some ((x.edges a).next b)
 
@@ -131,6 +137,7 @@ heard_first from to (t ∷ ts) x =
     exchange_absorb to from (exchange_hears from t.wire (status_of t.wish) (x.edges to))
     (record x { ways = at_two from to ts x.ways; heard = at_two from to (x.heard from to ++ t ∷ []) x.heard })
 
+-- what a step makes of the exchange
 abbrev pub exchange_step : Wiring → Exchange → Step → Exchange
 exchange_step w x (Connects a b) = exchange_absorb b a (exchange_connects w b a (x.edges b)) (exchange_absorb a b (exchange_connects w a b (x.edges a)) (exchange_clears a b x))
 exchange_step w x (Loses a b) = exchange_clears a b (record x { edges = put_at_place b (exchange_loses w b a (x.edges b)) (put_at_place a (exchange_loses w a b (x.edges a)) x.edges) })
@@ -144,10 +151,12 @@ Applies w x (Loses a b) = (a == b) ≡ false
 Applies w x (Hears from to) = Unit {0}
 Applies w x (Sets me peer wire wish) = w.joins wire me peer ≡ true
 
+-- each of the steps can be done in its turn
 abbrev pub Apply : Wiring → Exchange → List Step → Type 0
 Apply w x [] = Unit {0}
 Apply w x (s ∷ ss) = Applies w x s × Apply w (exchange_step w x s) ss
 
+-- what steps make of an exchange
 abbrev pub exchange_run : Wiring → Exchange → List Step → Exchange
 exchange_run w x [] = x
 exchange_run w x (s ∷ ss) = exchange_run w (exchange_step w x s) ss

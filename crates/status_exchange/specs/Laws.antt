@@ -48,5 +48,6 @@ pub record Agree (x : Exchange) (a b wire : ℕ) : Type 0 where
   -- where no connection stands, nothing is on its way or known
   pub gone : is_exchange_connected x a b ≡ false → (x.ways a b ≡ []) × ((x.edges a).remote wire ≡ None)
 
+-- whatever steps can be done, the two ends of a wire agree after them
 abbrev pub ExchangesAgree : Type 0
 ExchangesAgree = (w : Wiring) → IsWiring w → (steps : List Step) → Apply w first steps → (a b wire : ℕ) → w.joins wire a b ≡ true → Agree (exchange_run w first steps) a b wire

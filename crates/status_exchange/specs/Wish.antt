@@ -15,6 +15,7 @@ status_of Ask = record { 0 = 0x40 }
 abbrev pub asks_switchover : PwStatus → Bool
 asks_switchover status = is_set status 6
 
+-- the end asks for a switchover
 abbrev pub is_ask : Wish → Bool
 is_ask Ask = true
 is_ask wish = false
@@ -24,6 +25,7 @@ abbrev pub is_wished_active : Wish → Bool
 is_wished_active Standby = false
 is_wished_active wish = true
 
+-- both are one
 abbrev pub is_same_wish : Wish → Wish → Bool
 is_same_wish Active Active = true
 is_same_wish Standby Standby = true
@@ -40,6 +42,7 @@ yields status wish = if asks_switchover status && not (is_wished_active wish) th
 abbrev pub rests_active : PwStatus → Wish → Wish
 rests_active status wish = if not (is_standby status) && is_ask wish then Active else wish
 
+-- what an end calls a wire once it has heard this status of the other end
 abbrev pub becomes : PwStatus → Wish → Wish
 becomes status wish = rests_active status (yields status wish)
 

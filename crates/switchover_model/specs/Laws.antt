@@ -25,10 +25,12 @@ pub record IsRouter (row : EdgePlan) : Type 0 where
   pub four : length row.address.0 ≡ 4
   pub octets : AreOctets row.address.0
 
+-- the groups of both offers
 pub record HasGroups (row : WirePlan) : Type 0 where
   pub near : row.near.group < 2 ^ 32
   pub far : row.far.group < 2 ^ 32
 
+-- so it is of all edges and wires
 pub record HasSwitchTypes (plan : Plan) : Type 0 where
   pub routers : All IsRouter plan.edges
   pub groups : All HasGroups plan.wires
@@ -64,6 +66,7 @@ pub record AgreesOn (plan : Plan) (x : SwitchState) (a b wire : ℕ) (row : Wire
   pub used : uses plan a (x.edges a) wire ≡ true → (is_wished_active ((x.edges a).local wire) ≡ true) × (is_known_active ((x.edges a).remote wire) ≡ true)
   pub gone : switches_stand x a b ≡ false → (switch_flight x a b ≡ []) × ((x.edges a).remote wire ≡ None)
 
+-- after the lines of any script the two ends of a wire agree
 abbrev pub ScriptsAgree : Type 0
 ScriptsAgree = (plan : Plan) → IsChecked plan → HasSwitchTypes plan → (lines : List SwitchLine) → (a b wire : ℕ) (row : WirePlan) → slice_get plan.wires wire ≡ Some row → is_between plan wire a b ≡ true
     → AgreesOn plan (done_all plan lines first_network) a b wire row

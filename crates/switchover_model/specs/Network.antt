@@ -26,11 +26,13 @@ first_network = record { edges = λ me. first_state; pipes = λ from to. []; cam
 
 -- ---- what is on its way
 
+-- the octets that a receiver holds
 abbrev pub held_with : Receiver → List ℕ
 held_with (Receiving base held) = held
 held_with (Broken base wrong) = []
 held_with Stopped = []
 
+-- the octets that are held of a peer, where a connection stands
 abbrev pub octets_held_by : Option ConnectionState → List ℕ
 octets_held_by None = []
 octets_held_by (Some kept) = held_with kept.receiver
@@ -53,10 +55,12 @@ abbrev pub put_to : ℕ → List LinkCall → List ℕ
 put_to peer [] = []
 put_to peer (call ∷ calls) = if call.peer.0 == peer then call.bytes ++ put_to peer calls else put_to peer calls
 
+-- the edge that is left of a work
 abbrev pub edge_after : IndepOutcome → IndepState
 edge_after (Goes edge calls) = edge
 edge_after (Stops why edge calls) = edge
 
+-- the calls that it made
 abbrev pub calls_of : IndepOutcome → List LinkCall
 calls_of (Goes edge calls) = calls
 calls_of (Stops why edge calls) = calls
@@ -124,6 +128,7 @@ abbrev pub some_between : Plan → ℕ → ℕ → ℕ → Bool
 some_between plan a b zero = false
 some_between plan a b (suc n) = is_between plan n a b || some_between plan a b n
 
+-- the first edge is connected with the second one
 abbrev pub switches_stand : SwitchState → ℕ → ℕ → Bool
 switches_stand x a b = is_connected (x.edges a) b
 
@@ -137,13 +142,16 @@ abbrev pub earlier_pair : Option ℕ → ℕ → Option (ℕ × ℕ) → Option 
 earlier_pair None a rest = rest
 earlier_pair (Some b) a rest = Some (a, b)
 
+-- the first pair of places that passes a test
 abbrev pub first_differing_pair : (ℕ → ℕ → Bool) → ℕ → ℕ → ℕ → Option (ℕ × ℕ)
 first_differing_pair test size a zero = None
 first_differing_pair test size a (suc n) = earlier_pair (first_place (test a) 0 size) a (first_differing_pair test size (a + 1) n)
 
+-- the first pair with octets on their way
 abbrev pub next_pair : Plan → SwitchState → Option (ℕ × ℕ)
 next_pair plan x = first_differing_pair (λ a b. is_waiting (x.pipes a b)) (length plan.edges) 0 (length plan.edges)
 
+-- the octets of a pair come, at most 65,535 of them, and then more is done; without a pair nothing is
 abbrev pub delivers_next : Plan → (SwitchState → SwitchState) → Option (ℕ × ℕ) → SwitchState → SwitchState
 delivers_next plan more None x = x
 delivers_next plan more (Some pair) x = more (switch_delivers plan pair.0 pair.1 (take 65535 (x.pipes pair.0 pair.1)) x)
@@ -161,6 +169,7 @@ is_line_idle plan x (Deliver from to count) = not (is_waiting (x.pipes from.0 to
 is_line_idle plan x (Settle count) = not (is_some (next_pair plan x))
 is_line_idle plan x (Set me wire wish) = not (is_some (other_end plan me.0 wire.0)) || is_same_wish ((x.edges me.0).local wire.0) wish
 
+-- what a line makes of the network
 abbrev pub does : Plan → SwitchLine → SwitchState → SwitchState
 does plan (Connect a b) x = switch_connecting plan a.0 b.0 x
 does plan (Cut a b) x = cutting plan a.0 b.0 x
@@ -168,9 +177,11 @@ does plan (Deliver from to count) x = switch_delivers plan from.0 to.0 (take cou
 does plan (Settle count) x = settling plan count x
 does plan (Set me wire wish) x = setting plan me.0 wire.0 wish x
 
+-- a line that is idle makes nothing
 abbrev pub done : Plan → SwitchLine → SwitchState → SwitchState
 done plan line x = if is_line_idle plan x line then x else does plan line x
 
+-- one line after another
 abbrev pub done_all : Plan → List SwitchLine → SwitchState → SwitchState
 done_all plan [] x = x
 done_all plan (line ∷ lines) x = done_all plan lines (done plan line x)

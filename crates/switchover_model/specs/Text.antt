@@ -47,17 +47,21 @@ turned_all me wire [] now = []
 turned_all me wire (was ∷ before) [] = []
 turned_all me wire (was ∷ before) (is ∷ now) = turned_switch me wire was is ++ turned_all me (wire + 1) before now
 
+-- what is told of an edge's work: what it said, and each wire that it began or ceased to use
 abbrev pub moment : Plan → ℕ → IndepOutcome → IndepState → List SwitchEntry
 moment plan me outcome before = said_entries me (calls_of outcome) ++ turned_all me 0 (used plan me before) (used plan me (edge_after outcome))
 
 -- ---- of the steps of a line
 
+-- of an edge that is connected
 abbrev pub connect_entries : Plan → ℕ → ℕ → SwitchState → List SwitchEntry
 connect_entries plan me peer x = moment plan me (independent_connects plan takes_all me (edge_numbered peer) (x.edges me) []) (x.edges me)
 
+-- of an edge that loses a connection
 abbrev pub lose_entries : Plan → ℕ → ℕ → SwitchState → List SwitchEntry
 lose_entries plan me peer x = moment plan me (Goes (loses plan me (edge_numbered peer) (x.edges me)) []) (x.edges me)
 
+-- of an edge that calls a wire something else
 abbrev pub set_entries : Plan → ℕ → ℕ → Wish → SwitchState → List SwitchEntry
 set_entries plan me wire wish x = moment plan me (sets plan takes_all me wire wish (x.edges me) []) (x.edges me)
 
@@ -66,15 +70,18 @@ abbrev pub hear_entries : Plan → ℕ → ℕ → SwitchState → List SwitchEn
 hear_entries plan from to x =
     if is_waiting (x.pipes from to) then moment plan to (independent_hears plan takes_all to (edge_numbered from) (take 1 (x.pipes from to)) (x.edges to) []) (x.edges to) else []
 
+-- of octets that come one by one
 abbrev pub deliver_entries : Plan → ℕ → ℕ → List ℕ → SwitchState → List SwitchEntry
 deliver_entries plan from to [] x = []
 deliver_entries plan from to (octet ∷ octets) x = hear_entries plan from to x ++ deliver_entries plan from to octets (delivers_one plan from to x)
 
+-- of a pair whose octets come, and of what follows
 abbrev pub next_entries : Plan → (SwitchState → List SwitchEntry) → Option (ℕ × ℕ) → SwitchState → List SwitchEntry
 next_entries plan more None x = []
 next_entries plan more (Some pair) x =
     deliver_entries plan pair.0 pair.1 (take 65535 (x.pipes pair.0 pair.1)) x ++ more (switch_delivers plan pair.0 pair.1 (take 65535 (x.pipes pair.0 pair.1)) x)
 
+-- of so many such pairs
 abbrev pub settle_entries : Plan → ℕ → SwitchState → List SwitchEntry
 settle_entries plan zero x = []
 settle_entries plan (suc n) x = next_entries plan (settle_entries plan n) (next_pair plan x) x
@@ -89,6 +96,7 @@ entries plan (Deliver from to count) x = deliver_entries plan from.0 to.0 (take 
 entries plan (Settle count) x = settle_entries plan count x
 entries plan (Set me wire wish) x = set_entries plan me.0 wire.0 wish x
 
+-- of any line
 abbrev pub line_entries : Plan → SwitchLine → SwitchState → List SwitchEntry
 line_entries plan line x = if is_line_idle plan x line then Idle ∷ [] else entries plan line x
 

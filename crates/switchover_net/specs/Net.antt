@@ -10,6 +10,7 @@ use Rattle.switchover_model.specs.Text.{connect_entries, lose_entries}
 use Rattle.octet_pipes.specs.Pipes.{PipeLists, pipes_of}
 use Rattle.switchover_net.specs.Rows.{RowLists, seen_row}
 
+-- the edges, and what is on its way between them
 pub record SwitchLists : Type 0 where
   pub row : RowLists
   pub pipes : PipeLists

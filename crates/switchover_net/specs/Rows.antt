@@ -11,6 +11,7 @@ use Rattle.independent_mode.specs.Lists.{IndepLists, independent_seen}
 use Rattle.status_exchange.specs.Exchange.{put_at_place}
 use Rattle.switchover_model.specs.Network.{calls_of, edge_after}
 
+-- the plan, and its edges by their places
 pub record RowLists : Type 0 where
   pub plan : Plan
   pub edges : List IndepLists
@@ -19,9 +20,11 @@ pub record RowLists : Type 0 where
 abbrev pub edge_past : Plan → ℕ → IndepLists
 edge_past plan k = record { plan = plan; me = record { 0 = k }; wishes = []; remotes = []; connections = [] }
 
+-- the edge at a place
 abbrev pub switch_edge_lists : RowLists → ℕ → IndepLists
 switch_edge_lists row k = slice_index_or row.edges k (edge_past row.plan k)
 
+-- the states of all edges, by their places
 unfoldable pub seen_row : RowLists → ℕ → IndepState
 seen_row row k = independent_seen (switch_edge_lists row k)
 

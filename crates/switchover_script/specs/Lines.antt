@@ -22,6 +22,7 @@ use Rattle.switchover_model.specs.declared.switch_line.SwitchLine.TheVariants as
 abbrev pub script_edge_at : Plan → ℕ → ℕ → List (List ℕ) → Result ℕ ScriptFault
 script_edge_at plan number word words = said_at (place_in (edge_names plan.edges)) number word words
 
+-- a wire without switching points
 abbrev pub has_two_edges : Option WirePlan → Bool
 has_two_edges None = false
 has_two_edges (Some row) = length row.path == 2
@@ -34,6 +35,7 @@ between_two plan wire = if has_two_edges (slice_get plan.wires wire) then Some w
 abbrev pub short_wire : Plan → List ℕ → Option ℕ
 short_wire plan word = option_and_then (between_two plan) (place_in (wire_names plan.wires) word)
 
+-- the wire that a word names
 abbrev pub wire_at : Plan → ℕ → ℕ → List (List ℕ) → Result ℕ ScriptFault
 wire_at plan number word words = said_at (short_wire plan) number word words
 
@@ -89,10 +91,12 @@ script_wish_of word =
     else if bytes_eq word (codes "ask") then Some Ask
     else None
 
+-- a line whose first word is what an edge calls a wire
 abbrev pub set_by : Plan → Option Wish → ℕ → List (List ℕ) → Result SwitchLine ScriptFault
 set_by plan (Some wish) number words = set_in plan wish number words
 set_by plan None number words = Err (Bad number 1)
 
+-- a line by its first word
 abbrev pub switchover_line_by : Plan → ℕ → List ℕ → List (List ℕ) → Result SwitchLine ScriptFault
 switchover_line_by plan number word words =
     if bytes_eq word (codes "connect") then connect_line plan number words
@@ -101,6 +105,7 @@ switchover_line_by plan number word words =
     else if bytes_eq word (codes "settle") then settle_in number words
     else set_by plan (script_wish_of word) number words
 
+-- a line by its words
 unfoldable pub switch_line_of : Plan → ℕ → List (List ℕ) → Result SwitchLine ScriptFault
 switch_line_of plan number words = switchover_line_by plan number (first_of words) words
 

@@ -43,6 +43,7 @@ entry_words_told plan (Said edge peer octets) = codes "said" ∷ edge_name plan 
 entry_words_told plan (Uses edge wire on) = codes "uses" ∷ edge_name plan edge ∷ wire_name plan wire ∷ answer_word on ∷ []
 entry_words_told plan Idle = codes "idle" ∷ []
 
+-- a line for each entry
 abbrev pub told_lines : Plan → List SwitchEntry → List ℕ
 told_lines plan [] = []
 told_lines plan (entry ∷ entries) = line_of (entry_words_told plan entry) ++ told_lines plan entries

@@ -8,6 +8,7 @@ pub record Written : Type 0 where
   pub faults : ℕ
   pub waiting : List ℕ
 
+-- the three together
 abbrev pub lines_written : Option (List ℕ) → ℕ → List ℕ → Written
 lines_written taken faults waiting = record { taken = taken; faults = faults; waiting = waiting }
 

@@ -13,6 +13,7 @@ use Rattle.trace_audit.specs.declared.ears.Ears.{Ears}
 use Rattle.trace_audit.specs.Audited.{FirstOfOnce, FirstOfSplit, FirstStray, IsGoodTrace}
 use Rattle.trace_audit.specs.Judged.{begun, judges_all}
 
+-- the stop that tells a report's fault
 abbrev pub fault_stop : ReportFault → AuditStop
 fault_stop (fault.Form line) = Form line
 fault_stop fault.NoMemory = NoMemory

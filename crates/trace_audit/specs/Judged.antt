@@ -36,17 +36,21 @@ entered_in_service number None frame = None
 entered_in_service number (Some service) None = None
 entered_in_service number (Some service) (Some frame) = Some (record { number = number; service = service.0; frame = frame })
 
+-- the frame that came by a circuit, in the service of the circuit
 abbrev pub entered_at : Plan → CircuitId → ℕ → List ℕ → Option Entered
 entered_at plan circuit number octets = entered_in_service number (service_of plan circuit) (inner_found plan circuit octets)
 
+-- the frame, where there is one, came before
 abbrev pub has_one : List Entered → Option Entered → Bool
 has_one came None = false
 has_one came (Some one) = has_come came one
 
+-- one more frame, where there is one
 abbrev pub with_one : List Entered → Option Entered → List Entered
 with_one came None = came
 with_one came (Some one) = with_came came one
 
+-- what came once an entry was told
 abbrev pub came_after : Plan → Entry → List Entered → List Entered
 came_after plan (In circuit number octets) came = with_one came (entered_at plan circuit number octets)
 came_after plan entry came = came
@@ -64,6 +68,7 @@ crosses plan from wire (arrival.Wire came) = (is_mesh_wire plan wire && is_mesh_
 crosses plan from wire (arrival.Circuit circuit) = false
 crosses plan from wire arrival.Own = false
 
+-- an entry tells of such a packet
 abbrev pub is_crossing : Plan → Entry → Bool
 is_crossing plan (Sent from to wire came packet origin hops octets) = crosses plan from wire came
 is_crossing plan entry = false
@@ -75,6 +80,7 @@ abbrev pub first_line : Option ℕ → Bool → ℕ → Option ℕ
 first_line (Some line) holds here = Some line
 first_line None holds here = if holds then Some here else None
 
+-- what an entry makes of what was judged so far
 unfoldable pub judges : Plan → Entry → Judge → Judge
 judges plan entry judge = record {
   line = judge.line + 1;

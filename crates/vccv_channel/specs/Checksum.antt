@@ -12,6 +12,7 @@ words (high ∷ low ∷ octets) = (high * 256 + low) ∷ words octets
 unfoldable pub ones_plus : ℕ → ℕ → ℕ
 ones_plus a b = (a + b) % 65536 + (a + b) / 65536
 
+-- the sum of all words
 abbrev pub ones_total : List ℕ → ℕ
 ones_total [] = 0
 ones_total (word ∷ rest) = ones_plus word (ones_total rest)

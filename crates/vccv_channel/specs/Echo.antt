@@ -14,12 +14,15 @@ request_header ping =
 abbrev pub request_message : Ping → List ℕ
 request_message ping = summed (8 ∷ 0 ∷ []) (big_bytes 2 ping.number ++ big_bytes 2 ping.sequence)
 
+-- the IP packet of a ping's request
 abbrev pub request_packet : Ping → List ℕ
 request_packet ping = request_header ping ++ request_message ping
 
+-- the source address of an IP packet
 abbrev pub echo_source : List ℕ → List ℕ
 echo_source ip = take 4 (drop 12 ip)
 
+-- its destination address
 abbrev pub echo_destination : List ℕ → List ℕ
 echo_destination ip = take 4 (drop 16 ip)
 
@@ -31,6 +34,7 @@ answer_header ip = summed (take 8 ip ++ (255 ∷ slice_index ip 9 ∷ [])) (echo
 abbrev pub answer_message : List ℕ → List ℕ
 answer_message ip = summed (0 ∷ slice_index ip 21 ∷ []) (drop 24 ip)
 
+-- the IP packet of the answer to a request
 abbrev pub answer_packet : List ℕ → List ℕ
 answer_packet ip = answer_header ip ++ answer_message ip
 

@@ -11,6 +11,7 @@ bit_of Header = 0
 bit_of Alert = 1
 bit_of Expiry = 2
 
+-- the control channel types offer this one
 abbrev pub offers : ℕ → Cc → Bool
 offers types kind = bit_at types (bit_of kind) == 1
 

@@ -22,6 +22,7 @@ is_ip_channel payload = pair_at payload 2 == 0x21
 abbrev pub behind_header : Bool → List ℕ → List ℕ
 behind_header channel payload = if channel then drop 4 payload else payload
 
+-- the Total Length of an IP packet
 abbrev pub total_length : List ℕ → ℕ
 total_length octets = pair_at octets 2
 
@@ -35,6 +36,7 @@ abbrev pub is_of_length : List ℕ → Bool
 is_of_length octets =
     nat_le 28 (total_length octets) && (nat_le (total_length octets) 1500 && nat_le (total_length octets) (length octets))
 
+-- octets are one IP packet with an ICMP message
 abbrev pub is_ip_packet : List ℕ → Bool
 is_ip_packet octets = is_whole_icmp octets && is_of_length octets
 
@@ -71,6 +73,7 @@ echo_in packet =
     then Request (record { 0 = echo_source packet }) (record { 0 = echo_destination packet }) (pair_at packet 26) (total_length packet)
     else Answer (pair_at packet 26)
 
+-- what was read, unless it has a fault
 abbrev pub unless_fault : Option VccvFault → Echo → Result Echo VccvFault
 unless_fault None echo = Ok echo
 unless_fault (Some fault) echo = Err fault

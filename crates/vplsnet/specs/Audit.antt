@@ -25,6 +25,7 @@ outcome_of_stop (stop.Split line) = AuditRefused line rule.Split
 outcome_of_stop (stop.Once line) = AuditRefused line rule.Once
 outcome_of_stop stop.NoMemory = NoMemory
 
+-- the text of a report that keeps all rules
 abbrev pub yes : List ℕ
 yes = codes "audit yes\n"
 

@@ -35,6 +35,7 @@ plan_fault_name (plan_fault.PathTooLong place) = codes "PathTooLong"
 plan_fault_name (plan_fault.PathRepeats place) = codes "PathRepeats"
 plan_fault_name (plan_fault.OutOfRange place) = codes "OutOfRange"
 
+-- where a plan's fault stands
 abbrev pub plan_fault_place : PlanFault → Place
 plan_fault_place (plan_fault.UnknownName place) = place
 plan_fault_place (plan_fault.RepeatedName place) = place

@@ -83,6 +83,7 @@ played_by (Flow count) = []
 played_by (Ticks count) = []
 played_by (Play circuit file) = file ∷ []
 
+-- the files of all commands
 abbrev pub played : List Command → List (List ℕ)
 played [] = []
 played (command ∷ commands) = played_by command ++ played commands
@@ -122,12 +123,15 @@ next_script work (Err (script_fault.Bad line word)) = Refuses (ScriptRefused lin
 next_script work (Err script_fault.NoMemory) = Refuses NoMemory
 next_script work (Ok lines) = Works (work lines)
 
+-- behind a script of discovery
 abbrev pub IsNextDiscovery : Scenario → List ℕ → Next → Type 0
 IsNextDiscovery scenario octets next = next ≡ next_script (Discovery scenario.plan) (discovery_lines_in (names_of scenario.plan) octets)
 
+-- behind a script of switchovers
 abbrev pub IsNextExchange : Scenario → List ℕ → Next → Type 0
 IsNextExchange scenario octets next = next ≡ next_script (Exchange scenario.plan) (switch_lines_in scenario.plan octets)
 
+-- behind a report, which is audited
 abbrev pub IsNextReport : Scenario → List ℕ → Next → Type 0
 IsNextReport scenario octets next = next ≡ Works (Report scenario.plan octets)
 

@@ -66,6 +66,7 @@ TakeMappings plan network = (from to : ℕ) → nat_eq from to ≡ false → Tak
 abbrev pub KeepEchoesApart : Plan → NetworkState → Type 0
 KeepEchoesApart plan network = (number : ℕ) (packet : Packet) → packet_at network number ≡ Some packet → packet.origin ≡ 0 → IsNoFrame plan network packet
 
+-- what holds of every run of a scenario
 pub record KeepsPromises (plan : Plan) (events : List Event) : Type 0 where
   -- customers stay apart, over wires too
   pub isolated : Isolated plan (run plan events).entries

@@ -131,5 +131,6 @@ pub record FlushesFront (outcome : Outcome) (before after : Written) : Type 0 wh
   pub is : outcome ≡ WriteFault
   pub cut : IsCut before after []
 
+-- all that was made is written, or a front of it
 abbrev pub Flushes : Outcome → Outcome → Written → Written → Type 0
 Flushes made outcome before after = FlushesAll made outcome before after ⊎ FlushesFront outcome before after

@@ -55,6 +55,7 @@ pub record TellsRunOf (scenario : Scenario) (captures : List (List (List ℕ))) 
   pub is_run : IsScenarioRun scenario captures left reason
   pub ends : EndsText (run_text asked left reason) (Some left) (outcome_by reason) old now network outcome
 
+-- the same, or memory was refused before
 abbrev pub EndsRun : Scenario → List (List (List ℕ)) → Asked → Written → Written → Option NetLists → Outcome → Type 0
 EndsRun scenario captures asked old now network outcome = TellsRunOf scenario captures asked old now network outcome ⊎ WritesNone old now network outcome
 
@@ -71,6 +72,7 @@ pub record TellsStream (octets : List ℕ) (old now : Written) (network : Option
   pub is_decoding : IsDecoding octets text None made
   pub ends : EndsText text None made old now network outcome ⊎ GivesUp text old now network outcome
 
+-- the same, or memory was refused before
 abbrev pub EndsStream : List ℕ → Written → Written → Option NetLists → Outcome → Type 0
 EndsStream octets old now network outcome = TellsStream octets old now network outcome ⊎ WritesNone old now network outcome
 
@@ -80,6 +82,7 @@ pub record TellsMigration (scenario : Scenario) (old now : Written) (network : O
   pub is_migrated : IsMigrated scenario text
   pub ends : EndsText text None Done old now network outcome
 
+-- the same, or memory was refused before
 abbrev pub EndsMigration : Scenario → Written → Written → Option NetLists → Outcome → Type 0
 EndsMigration scenario old now network outcome = TellsMigration scenario old now network outcome ⊎ WritesNone old now network outcome
 
@@ -91,6 +94,7 @@ pub record TellsScript (plan : Plan) (lines : List ScriptLine) (old now : Writte
   pub is_run : IsDiscoveryRun plan lines left notes reason
   pub ends : EndsText (discovery_text left notes reason) (Some left) (outcome_by reason) old now network outcome
 
+-- the same, or memory was refused before
 abbrev pub EndsDiscovery : Plan → List ScriptLine → Written → Written → Option NetLists → Outcome → Type 0
 EndsDiscovery plan lines old now network outcome = TellsScript plan lines old now network outcome ⊎ WritesNone old now network outcome
 
@@ -99,6 +103,7 @@ pub record TellsExchange (plan : Plan) (lines : List SwitchLine) (old now : Writ
   pub agrees : AgreesBehindEach plan lines
   pub ends : EndsText (switchover_report plan lines) None Done old now network outcome
 
+-- the same, or memory was refused before
 abbrev pub EndsExchange : Plan → List SwitchLine → Written → Written → Option NetLists → Outcome → Type 0
 EndsExchange plan lines old now network outcome = TellsExchange plan lines old now network outcome ⊎ WritesNone old now network outcome
 
@@ -116,6 +121,7 @@ pub record TellsRule (plan : Plan) (octets : List ℕ) (old now : Written) (netw
   pub taken : now.taken ≡ old.taken
   pub no_run : network ≡ None
 
+-- one of the two, or memory was refused before
 abbrev pub EndsAudit : Plan → List ℕ → Written → Written → Option NetLists → Outcome → Type 0
 EndsAudit plan octets old now network outcome = TellsYes plan octets old now network outcome ⊎ TellsRule plan octets old now network outcome ⊎ WritesNone old now network outcome
 

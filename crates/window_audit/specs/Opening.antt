@@ -30,6 +30,7 @@ abbrev pub OpensIn : Plan → Seen → CircuitId → List ℕ → Option Service
 OpensIn plan seen circuit octets None = (service : ServiceId) → MayOpen plan seen circuit octets service → ⊥
 OpensIn plan seen circuit octets (Some service) = MayOpen plan seen circuit octets service
 
+-- a frame that could be read
 abbrev pub is_good : Result (List ℕ) DropCause → Bool
 is_good (Ok frame) = true
 is_good (Err cause) = false

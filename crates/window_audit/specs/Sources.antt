@@ -12,9 +12,11 @@ use Rattle.net_values.specs.declared.mac.Mac.{Mac}
 use Rattle.seen_network.specs.Once.{is_circuit_row_of, is_sourced_by}
 use Rattle.window_audit.specs.declared.source.Source.{Source}
 
+-- the source is this address in this service
 abbrev pub is_source : ℕ → List ℕ → Source → Bool
 is_source service address source = service == source.service && bytes_eq address source.address.0
 
+-- one of them is
 abbrev pub has_source : List Source → ℕ → List ℕ → Bool
 has_source sources service address = list_any (is_source service address) sources
 

@@ -36,6 +36,7 @@ pub record AreReadyFor (plan : Plan) (entry : Entry) (windows : Windows) : Type 
   pub placed : ArePlaced plan windows.entries.items
   pub one : HasNoEvent (drop 1 (windows.entries.items ++ entry ∷ []))
 
+-- an entry can be told to these windows, which have heard this trace
 pub record CanHear (plan : Plan) (trace : List Entry) (entry : Entry) (windows : Windows) : Type 0 where
   pub done : List Entry
   pub is : trace ≡ done ++ windows.entries.items

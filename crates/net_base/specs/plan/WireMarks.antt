@@ -8,6 +8,7 @@ use Rattle.net_base.specs.declared.plan.wire_rule.WireRule.TheVariants.{PwIds, M
 use Rattle.net_base.specs.plan.Paths.{first_edge, last_edge}
 use Rattle.net_base.specs.plan.Places.{is_mesh_class}
 
+-- the number of an edge in a mark, and 0 where there is none
 abbrev pub edge_number : Option EdgeId → ℕ
 edge_number None = 0
 edge_number (Some edge) = edge.0
@@ -28,6 +29,7 @@ end_mark service edge = (service * 64 + edge) % 4096
 unfoldable pub start_mark : ℕ → ℕ → ℕ
 start_mark service edge = 4096 + end_mark service edge
 
+-- the mark of a wire's two terminal edges in its service
 abbrev pub ends_mark : WirePlan → ℕ
 ends_mark wire = pair_mark wire.service.0 (edge_number (first_edge wire.path)) (edge_number (last_edge wire.path))
 
@@ -37,6 +39,7 @@ left_first PwIds wire = pw_id_mark wire.pw_id
 left_first MeshWires wire = ends_mark wire
 left_first SpokeStarts wire = if is_mesh_class wire.class then end_mark wire.service.0 (edge_number (first_edge wire.path)) else start_mark wire.service.0 (edge_number (first_edge wire.path))
 
+-- the second one of the two that it leaves
 abbrev pub left_last : WireRule → WirePlan → ℕ
 left_last PwIds wire = pw_id_mark wire.pw_id
 left_last MeshWires wire = ends_mark wire
@@ -48,6 +51,7 @@ asked_first PwIds wire = pw_id_mark wire.pw_id
 asked_first MeshWires wire = ends_mark wire
 asked_first SpokeStarts wire = if is_mesh_class wire.class then start_mark wire.service.0 (edge_number (first_edge wire.path)) else end_mark wire.service.0 (edge_number (first_edge wire.path))
 
+-- the second one of the two
 abbrev pub asked_last : WireRule → WirePlan → ℕ
 asked_last PwIds wire = pw_id_mark wire.pw_id
 asked_last MeshWires wire = ends_mark wire

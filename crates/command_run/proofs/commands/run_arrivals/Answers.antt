@@ -1,3 +1,4 @@
+-- One more arrival is done. Where the network stops at one, so does the run of the arrivals, and a network that a limit stopped goes on.
 use Rattle.std.proofs.Common.{◌∙◌, subst}
 use Rattle.std.proofs.lemmas.Result.{err_from_is_err_and}
 use Rattle.psn_net.specs.Runs.{Ended, RunHalts}

@@ -1,3 +1,4 @@
+-- One more frame has entered, and those left are frames too; a network that a limit stopped goes on.
 use Rattle.std.proofs.Common.{◌∙◌}
 use Rattle.std.proofs.lemmas.List.Elements.{All-rest}
 use Rattle.net_base.specs.plan.Planned.{IsFrame}

@@ -1,3 +1,5 @@
+-- One more line is done, or the run halts at it; the events done are those of a run. What holds behind each line is a law of the lines
+-- alone.
 use Rattle.std.proofs.Common.{◌≡◌, ◌∙◌, Some, None, arith, rules}
 use Rattle.std.proofs.lemmas.Grind.{common_steps}
 use Rattle.std.proofs.lemmas.List.Elements.{All-rest}

@@ -1,3 +1,4 @@
+-- A value has no fault, and two first faults are one.
 use Rattle.pw_tlvs.proofs.FaultLemmas.{one_first}
 use Rattle.pw_tlvs.proofs.FecLemmas.{never_fec}
 use Rattle.pw_tlvs.proofs.MacLemmas.{never_macs}

@@ -1,6 +1,5 @@
 use Rattle.seen_laws.proofs.SourceLemmas.{runs_seen_once}
 use Rattle.seen_laws.proofs.laws.runs_are_seen_once.Goals as goal
 
--- src/laws.rt:19:1
 pub returns : goal.returns
 returns c = runs_seen_once

@@ -1,3 +1,4 @@
+-- One more line is played. That both ends agree after the lines is a law of the lines alone, whatever the call answers.
 use Rattle.std.proofs.Common.{◌<◌, length, slice_index_or, arith}
 use Rattle.std.proofs.lemmas.List.{get_or_default}
 use Rattle.switchover_model.specs.declared.switch_line.SwitchLine.{SwitchLine}

@@ -1,3 +1,4 @@
+-- The octets of one more call are in the pipe, until those of all are.
 use Rattle.std.proofs.Common.{◌<◌, ◌≤◌, ◌++◌, ◌∙◌, List, ℕ, length, ap, sym, arith}
 use Rattle.net_base.specs.declared.outside.link_call.LinkCall.{LinkCall}
 use Rattle.octet_pipes.specs.Pipes.{pipes_of, with_octets}

@@ -1,3 +1,4 @@
+-- The frames of one more command were read, or not had; the reads are those of what is played.
 use Rattle.std.proofs.Common.{◌∙◌, subst}
 use Rattle.command_text.specs.declared.command.Command.{Command}
 use Rattle.vplsnet.specs.Captures.{GainsPlayed}

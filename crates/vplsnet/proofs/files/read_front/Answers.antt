@@ -1,3 +1,5 @@
+-- One more piece of the same file is read behind the others, at most one octet beyond the limit in all; where that one is read, the octets
+-- are the file's front.
 use Rattle.std.proofs.Common.{arith}
 use Rattle.std.proofs.lemmas.Grind.{common_steps}
 use Rattle.vplsnet.proofs.FileLemmas.{read_next, read_beyond}

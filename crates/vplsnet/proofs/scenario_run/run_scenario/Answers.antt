@@ -1,3 +1,4 @@
+-- One more command is done, and the captures left hold frames; or a limit stops the network, and that is the end of the whole run.
 use Rattle.std.proofs.Common.{◌∙◌, rules, subst, sym}
 use Rattle.std.specs.List.{All}
 use Rattle.std.proofs.lemmas.List.Elements.{All-rest}

@@ -1,3 +1,4 @@
+-- A frame is lost by a sent, copied or aged packet only where it was that packet's; what is said, sessions and wires lose none.
 use Rattle.std.proofs.Common.{◌≡◌, ◌∙◌, false, subst}
 use Rattle.net_base.specs.declared.trace.entry.Entry.{Entry}
 use Rattle.seen_network.specs.Once.{has_seen}

@@ -1,3 +1,5 @@
+-- A frame is lost by an arrival or a discard only where it was that packet's; connections, deliveries, losses, restarts and circuits lose
+-- none.
 use Rattle.std.proofs.Common.{◌≡◌, ◌∙◌, true, false, subst}
 use Rattle.net_base.specs.declared.trace.event.Event.{Event}
 use Rattle.seen_network.specs.Once.{has_seen}

@@ -1,3 +1,4 @@
+-- A frame opens its window; each other event opens none.
 use Rattle.std.proofs.Common.{◌∙◌, List, ℕ, subst, sym}
 use Rattle.net_base.specs.declared.trace.event.Event.{Event}
 use Rattle.seen_windows.specs.Past.{IsOpened}

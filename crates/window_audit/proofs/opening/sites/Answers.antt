@@ -1,3 +1,4 @@
+-- One more circuit is passed: it is a site exactly where a copy is due there.
 use Rattle.std.proofs.Common.{◌≡◌, ◌<◌, ◌&&◌, ◌∙◌, ℕ, List, ap, get_or, length, subst, sym}
 use Rattle.std.proofs.lemmas.Bool.{eqb-false}
 use Rattle.net_values.proofs.NumberLemmas.{not_below_itself}

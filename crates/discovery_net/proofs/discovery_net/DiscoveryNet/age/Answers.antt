@@ -1,3 +1,4 @@
+-- One more peer is passed, or taken down where its adjacency lapsed; at the end, or where the network stops, what was done are the lapses.
 use Rattle.std.proofs.Common.{◌∙◌, List, length, slice_index_or, refl, ap, sym, subst, arith, false}
 use Rattle.std.proofs.lemmas.Result.{err_from_is_err_and}
 use Rattle.ldp_discovery.specs.Adjacencies.{AdjacencyLists}

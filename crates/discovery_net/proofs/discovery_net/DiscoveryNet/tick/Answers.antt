@@ -1,3 +1,5 @@
+-- The adjacencies of one more edge have aged; behind all of them the network has its tick. Where the network stops at one, the acts of the
+-- line halt there.
 use Rattle.std.proofs.Common.{◌∙◌, ℕ, List, length, ap, refl, sym, subst, arith}
 use Rattle.std.proofs.lemmas.Result.{err_from_is_err_and}
 use Rattle.net_base.specs.declared.plan.Plan.{Plan}

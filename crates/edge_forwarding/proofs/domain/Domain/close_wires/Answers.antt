@@ -1,3 +1,4 @@
+-- One more port is passed, which forwards no more where it is a wire's; at the end all ports are passed.
 use Rattle.std.proofs.Common.{◌∙◌, ◌&&◌, List, length, nat_eq, not, slice_get, ap, arith}
 use Rattle.hvpls_spokes.specs.declared.port.Port.{Port}
 use Rattle.hvpls_spokes.specs.PortSet.{holds_port}

@@ -1,3 +1,5 @@
+-- Each domain has forgotten what it has not heard for its age limit; none has heard an address after the edge's ticks. The invariant
+-- stands.
 use Rattle.std.proofs.Common.{◌≡◌, ◌∙◌, List, Option, ap, map, sym, subst}
 use Rattle.edge_model.specs.Tick.{forgetting}
 use Rattle.edge_forwarding.specs.declared.domain.Domain.{Domain}

@@ -1,3 +1,5 @@
+-- A domain stands at the service's place exactly where the service has a port at the edge; its bridge has the service's ports, addresses
+-- and age limit.
 use Rattle.std.proofs.Common.{◌≡◌, ◌<◌, ◌∙◌, true, false, List, Option, Some, None, length, slice_get, ap, refl, sym, subst, arith}
 use Rattle.std.proofs.lemmas.Bool.Decides.{nat_tests}
 use Rattle.std.proofs.lemmas.Option.{slice_get_read}

@@ -1,3 +1,4 @@
+-- Each domain has forgotten its addresses, so nothing is learned at any service; the invariant stands.
 use Rattle.std.proofs.Common.{◌≡◌, ◌∙◌, [], List, Option, ap, map, sym, subst}
 use Rattle.edge_model.specs.State.{with_learned}
 use Rattle.edge_forwarding.specs.declared.domain.Domain.{Domain}

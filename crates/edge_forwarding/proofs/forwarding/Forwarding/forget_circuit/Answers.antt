@@ -1,3 +1,4 @@
+-- The circuit's service is in the plan, and its domain has forgotten what came by the circuit's port; the invariant stands.
 use Rattle.std.proofs.Common.{◌≡◌, Some, position, sym, subst}
 use Rattle.net_base.specs.plan.Places.{circuit_row}
 use Rattle.hvpls_spokes.specs.Port.{is_circuit_port, ports_of}

@@ -1,3 +1,4 @@
+-- The wire's service is in the plan, and its domain has forgotten what came by the wire's port; the invariant stands.
 use Rattle.std.proofs.Common.{◌≡◌, sym, subst}
 use Rattle.net_base.specs.plan.Places.{wire_row}
 use Rattle.hvpls_spokes.specs.Port.{is_wire_port}

@@ -1,3 +1,5 @@
+-- A service with an open port has a domain. Its bridge hears the frame and chooses the targets as the definition does; its addresses stay
+-- few, and none is later than the edge's ticks.
 use Rattle.std.proofs.Common.{◌≡◌, ◌<◌, Some, true, length, sym, subst}
 use Rattle.hvpls_spokes.specs.Port.{ports_of}
 use Rattle.hvpls_spokes.specs.PortSet.{holds_port}

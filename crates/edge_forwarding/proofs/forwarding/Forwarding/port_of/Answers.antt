@@ -1,3 +1,4 @@
+-- The ports of a domain are those of its service at the edge; where there is no domain the service has none.
 use Rattle.std.proofs.Common.{◌≡◌, ◌<◌, ◌∙◌, List, None, length, position, ap, sym, subst}
 use Rattle.hvpls_spokes.specs.declared.port.Port.{Port}
 use Rattle.hvpls_spokes.specs.Port.{is_named_port, ports_of}

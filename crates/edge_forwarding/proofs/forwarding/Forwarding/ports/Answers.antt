@@ -1,3 +1,4 @@
+-- The ports of a domain are those of its service at the edge; where there is no domain the service has none.
 use Rattle.std.proofs.Common.{◌≡◌, ◌<◌, ◌∙◌, [], length, sym, subst}
 use Rattle.hvpls_spokes.specs.Port.{ports_of}
 use Rattle.edge_forwarding.specs.Forwarding.{ForwardingLists}

@@ -1,3 +1,4 @@
+-- The wire's port forwards exactly where there is no cause, and the cause is kept as told; the invariant stands.
 use Rattle.std.proofs.Common.{◌≡◌, sym, subst}
 use Rattle.edge_model.specs.State.{with_told_down}
 use Rattle.edge_forwarding.specs.Forwarding.{ForwardingLists, IsServiceOf, with_forwarding}

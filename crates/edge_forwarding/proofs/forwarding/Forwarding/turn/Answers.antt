@@ -1,3 +1,4 @@
+-- The circuit's service is in the plan; its port there is turned with the circuit, and the invariant stands.
 use Rattle.std.proofs.Common.{◌≡◌, Some, sym, subst}
 use Rattle.net_base.specs.plan.Places.{circuit_row}
 use Rattle.edge_model.specs.State.{with_circuit}

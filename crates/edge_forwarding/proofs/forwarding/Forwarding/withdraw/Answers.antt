@@ -1,3 +1,4 @@
+-- The domain of the service has forgotten what the withdraw names; the invariant stands.
 use Rattle.std.proofs.Common.{◌≡◌, ◌<◌, length, sym, subst}
 use Rattle.edge_model.specs.Clear.{withdrawing_at}
 use Rattle.edge_forwarding.specs.Forwarding.{ForwardingLists, with_forwarding}

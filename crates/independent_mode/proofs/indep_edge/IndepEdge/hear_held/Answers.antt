@@ -1,3 +1,4 @@
+-- Where the messages of a PDU stop the edge, or the receiver gives a stop and no PDU, the hearing of what is held stops there too.
 use Rattle.std.proofs.Common.{◌≡◌, List, Some, Ok, Err, subst}
 use Rattle.net_base.specs.declared.plan.Plan.{Plan}
 use Rattle.net_base.specs.declared.plan.places.EdgeId.{EdgeId}

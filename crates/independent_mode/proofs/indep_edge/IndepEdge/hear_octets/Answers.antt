@@ -1,3 +1,4 @@
+-- Once what was held is heard and one more piece is held, hearing what is left from there is hearing all from the start.
 use Rattle.std.proofs.Common.{◌≡◌, ◌∙◌, drop, subst, arith}
 use Rattle.net_base.specs.declared.plan.Plan.{Plan}
 use Rattle.net_base.specs.declared.plan.places.EdgeId.{EdgeId}

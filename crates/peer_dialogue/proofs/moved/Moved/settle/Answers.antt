@@ -1,3 +1,5 @@
+-- The session has ended, ends since the link did not take what was put, or stands and tells its change: each is settled by the definition.
+-- One that stands keeps its peers.
 use Rattle.std.proofs.Common.{◌≡◌, ◌∙◌, Some, sym, ap, refl}
 use Rattle.session_core.specs.State.{SessionView, Stands}
 use Rattle.session_core.specs.Session.{view_of}

@@ -1,3 +1,5 @@
+-- What is put and then settled is what happens in the definition, between the same peers; a refusal leaves nothing. Each reply has its
+-- data.
 use Rattle.std.proofs.Common.{◌≡◌, Some, sym, subst}
 use Rattle.session_core.specs.Session.{view_of}
 use Rattle.edge_model.specs.Session.{happens}

@@ -1,3 +1,4 @@
+-- A message that the link took leaves a session that has spoken; one that it did not take ends the session.
 use Rattle.std.proofs.Common.{◌≡◌, None, Some, ap, true, false, subst}
 use Rattle.session_core.specs.Session.{view_of}
 use Rattle.edge_model.specs.State.{Peering}

@@ -1,3 +1,4 @@
+-- One more reply is put; behind one that the link did not take, and behind the last, no other is.
 use Rattle.std.proofs.Common.{◌∙◌, sym, arith}
 use Rattle.peer_dialogue.proofs.AtWorkLemmas.{work_both}
 use Rattle.peer_dialogue.proofs.SpeakerLemmas.{agrees_before, all_put, last_put, next_put, replies_end, same_peers}

@@ -1,3 +1,4 @@
+-- What a mapping, a release and a withdrawal of addresses do; on each message of the last arm the edge tells its advice, and does no more.
 use Rattle.std.proofs.Common.{◌≡◌, ◌∙◌, refl}
 use Rattle.pw_messages.specs.LinkAnswers.{Answers}
 use Rattle.edge_model.specs.Hear.{acts_on, advice_of, advises}

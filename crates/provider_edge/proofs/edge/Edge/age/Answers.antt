@@ -1,3 +1,4 @@
+-- The bridges' addresses have aged, as in the definition; that unsettles no end, so the invariant stands.
 use Rattle.std.proofs.Common.{◌≡◌, subst, ◌∙◌, ap, sym}
 use Rattle.edge_model.specs.Tick.{forgetting}
 use Rattle.edge_model.specs.State.{EdgeState}

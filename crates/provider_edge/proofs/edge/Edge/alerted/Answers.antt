@@ -1,3 +1,4 @@
+-- Behind the alert stands no entry, one that is not at the bottom, or a label: of no end, of a switching point, or of a terminal end.
 use Rattle.std.proofs.Common.{◌∙◌, None, Some, Err, ap, sym}
 use Rattle.std.proofs.lemmas.Bool.{not-true, not-false}
 use Rattle.pw_ends.specs.Ends.{place_of}

@@ -1,3 +1,4 @@
+-- The plan and the place of the forwarding are the edge's own, and the addresses of its bridge those that the edge has learned.
 use Rattle.std.proofs.Common.{◌≡◌, ◌⊎◌, ◌↔◌, [], None, Some, subst}
 use Rattle.std.specs.Prelude.{IfSome, IsNone}
 use Rattle.net_base.specs.declared.plan.Plan.{Plan}

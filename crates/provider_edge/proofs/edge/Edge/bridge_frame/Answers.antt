@@ -1,3 +1,4 @@
+-- What has a fault is dropped; a frame of one part, and one that was joined of two, is received as in the definition.
 use Rattle.std.proofs.Common.{◌≡◌, ◌∙◌, ◌++◌, Ok, Err, ap, sym, subst}
 use Rattle.std.specs.Prelude.{MatchResult}
 use Rattle.eth_encap.specs.Fault.{cause_of}

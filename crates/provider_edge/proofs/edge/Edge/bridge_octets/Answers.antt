@@ -1,3 +1,5 @@
+-- Once the frame is heard, one more port is passed, with a copy where it is a target; at the end all are, and a service without ports has
+-- no copies.
 use Rattle.std.proofs.Common.{◌<◌, ◌≤◌, ◌∙◌, List, ap, length, sym, arith}
 use Rattle.hvpls_spokes.specs.declared.port.Port.{Port}
 use Rattle.hvpls_spokes.specs.PortSet.{holds_port}

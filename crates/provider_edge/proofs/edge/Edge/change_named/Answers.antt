@@ -1,3 +1,5 @@
+-- The end that the PW ID names is changed and keeps its label, and without such an end nothing is; without a PW ID each end beside the peer
+-- is changed.
 use Rattle.std.proofs.Common.{◌∙◌, ℕ, Option, ap, sym}
 use Rattle.pw_ends.specs.Changes.{changed}
 use Rattle.pw_ends.specs.Ends.{place_of}

@@ -1,3 +1,4 @@
+-- One more service has its choice. At the end all have: for services past those of the plan the edge has chosen what it would choose.
 use Rattle.std.proofs.Common.{ap, refl, arith}
 use Rattle.net_base.specs.declared.plan.Plan.{Plan}
 use Rattle.edge_model.specs.Spokes.{choice}

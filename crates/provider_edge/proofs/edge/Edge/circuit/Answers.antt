@@ -1,3 +1,4 @@
+-- A circuit of another edge, and one that is so already, are idle. Any other is turned, and the ends are mended.
 use Rattle.std.proofs.Common.{◌≡◌, ◌∙◌, Bool, ap, sym, subst, true, refl}
 use Rattle.std.proofs.Math.Bool.{beq}
 use Rattle.net_base.specs.plan.Places.{circuit_row}

@@ -1,3 +1,5 @@
+-- A switching point tells its other side, if there is one. At a terminal end the bridge forgets by the port of the wire, if there is one,
+-- and the edge passes the addresses on.
 use Rattle.std.proofs.Common.{◌∙◌, ◌≡◌, ◌<◌, ℕ, Option, length, refl, sym, subst, true}
 use Rattle.std.specs.Prelude.{IfSome}
 use Rattle.net_base.specs.declared.plan.Plan.{Plan}

@@ -1,3 +1,5 @@
+-- The connection is put and told, and then its session begins, as in the definition. Where none stood, one whose session is not up yet
+-- unsettles no end.
 use Rattle.std.proofs.Common.{◌∙◌, Option, Some, ap, refl, subst, sym}
 use Rattle.net_base.specs.declared.plan.Plan.{Plan}
 use Rattle.std.specs.Prelude.{IfSome}

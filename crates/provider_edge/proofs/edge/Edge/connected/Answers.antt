@@ -1,3 +1,5 @@
+-- A peer that no segment joins to the edge, one whose end stands, and a pair that lacks a row of the plan, are idle. Any other peer is in
+-- the plan; the session has proper values and begins, and the ends are mended.
 use Rattle.std.proofs.Common.{◌≡◌, ◌∙◌, ap, sym, subst, true, refl}
 use Rattle.net_values.proofs.BoolLemmas.{and_not_held, now_and_not_was}
 use Rattle.net_base.specs.plan.Accepted.{IsChecked}

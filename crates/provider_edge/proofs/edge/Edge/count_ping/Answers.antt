@@ -1,3 +1,4 @@
+-- The next number is written at the wire's place; that unsettles no end, so the invariant stands.
 use Rattle.std.proofs.Common.{◌≡◌, ◌<◌, ◌∙◌, ℕ, length, length-set, slice_set, ap, sym, subst, arith}
 use Rattle.edge_model.specs.Ping.{following_ping}
 use Rattle.edge_model.specs.State.{EdgeState, with_next_ping}

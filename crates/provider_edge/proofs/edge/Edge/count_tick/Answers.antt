@@ -1,3 +1,4 @@
+-- The ticks are counted as in the definition; that unsettles no end, so the invariant stands.
 use Rattle.std.proofs.Common.{◌≡◌, subst, ◌∙◌, ap, sym}
 use Rattle.edge_model.specs.State.{EdgeState, later, with_ticks}
 use Rattle.provider_edge.specs.contracts.edge.Edge.{the_view}

@@ -1,3 +1,4 @@
+-- The slot of the wire's terminal end is that of the place which the plan has for it; without a slot the plan has no such place.
 use Rattle.std.proofs.Common.{◌≡◌, ◌∙◌, None, ap}
 use Rattle.std.specs.List.{find}
 use Rattle.edge_model.specs.EndPlaces.{end_places, is_end_of_wire}

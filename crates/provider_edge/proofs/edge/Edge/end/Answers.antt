@@ -1,3 +1,5 @@
+-- The slot of the segment's end is that of the place which the plan has for it, and its end has the state there; without a slot the plan
+-- has no such place.
 use Rattle.std.proofs.Common.{◌∙◌, None, Some, ap, position}
 use Rattle.std.specs.List.{find}
 use Rattle.pw_signalling.specs.AnyEnd.{end_of}

@@ -1,3 +1,4 @@
+-- What comes for an end that does not forward is dropped; else its frame is bridged by the port of the end's wire.
 use Rattle.std.proofs.Common.{◌∙◌, sym}
 use Rattle.edge_model.specs.Packet.{unpacked_at}
 use Rattle.pw_ends.specs.Ends.{place_of}

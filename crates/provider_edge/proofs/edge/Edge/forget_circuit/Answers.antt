@@ -1,3 +1,4 @@
+-- The circuit is of this service for the forwarding too. What the bridge has forgotten unsettles no end, so the invariant stands.
 use Rattle.std.proofs.Common.{◌≡◌, ◌∙◌, Some, ap, position, subst, sym}
 use Rattle.std.specs.Prelude.{IfSome}
 use Rattle.net_base.specs.declared.plan.Plan.{Plan}

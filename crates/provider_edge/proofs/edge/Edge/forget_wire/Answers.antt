@@ -1,3 +1,4 @@
+-- The wire is one of the forwarding's plan too. What was forgotten at it unsettles no end, so the invariant stands.
 use Rattle.std.proofs.Common.{◌≡◌, ◌<◌, ◌∙◌, ap, length, subst, sym}
 use Rattle.std.specs.Prelude.{IfSome}
 use Rattle.net_base.specs.declared.plan.Plan.{Plan}

@@ -1,3 +1,5 @@
+-- A circuit of another edge, and one that is off, are idle; by any other the frame is received at the circuit's port. That circuit and its
+-- service are in the plan.
 use Rattle.std.proofs.Common.{◌≡◌, ◌<◌, ◌++◌, ◌∙◌, Ok, Err, length, position, ap, sym, subst, true}
 use Rattle.std.specs.Prelude.{MatchResult}
 use Rattle.net_base.specs.declared.plan.Plan.{Plan}

@@ -1,3 +1,5 @@
+-- What is left of a session is put back, and the ends beside the peer are cleared; a refusal has left none. The marks are those of before
+-- where the session stands as it did, and else have those ends too.
 use Rattle.std.proofs.Common.{◌∙◌, None, Some, [], ap, refl, sym}
 use Rattle.edge_model.specs.Session.{happens}
 use Rattle.edge_model.specs.State.{EdgeState}

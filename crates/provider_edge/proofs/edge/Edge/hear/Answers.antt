@@ -1,3 +1,5 @@
+-- What is held and what is left are heard as all: at each piece, where the session has ended, and where nothing is left and the rest is
+-- held. As long as the session stands there is room for a piece more.
 use Rattle.std.proofs.Common.{◌∙◌, ◌+◌, ◌++◌, [], List, ℕ, drop, ap, sym, arith}
 use Rattle.net_values.specs.Octets.{AreOctets}
 use Rattle.ldp_grammar.proofs.OctetLemmas.{octets_drop}

@@ -1,3 +1,4 @@
+-- The frame is heard and its targets are chosen by the definition. By an open port, in an edge in sync, that unsettles no end.
 use Rattle.std.proofs.Common.{◌≡◌, ◌<◌, true, length, sym, subst, ◌∙◌, ap}
 use Rattle.net_base.specs.declared.plan.Plan.{Plan}
 use Rattle.hvpls_spokes.specs.Port.{ports_of}

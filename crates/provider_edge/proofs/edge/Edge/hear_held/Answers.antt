@@ -1,3 +1,4 @@
+-- A KeepAlive or any other PDU in front is heard, and what stands behind it is left. A fault in front ends the session.
 use Rattle.std.proofs.Common.{◌∙◌, ◌++◌, ap, option_copied, refl, sym, subst}
 use Rattle.peer_dialogue.specs.Hearing.{IsAtFault, IsAtPdu, StandsNext, alive}
 use Rattle.peer_dialogue.proofs.HearLemmas.{on_both}

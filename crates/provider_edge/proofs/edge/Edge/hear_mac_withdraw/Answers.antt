@@ -1,3 +1,4 @@
+-- Without a FEC, and where it names no end, nothing is done; else what came is cleared by the end that it names.
 use Rattle.pw_ends.specs.Ends.{place_of}
 use Rattle.peer_dialogue.proofs.SettleLemmas.{map_on}
 use Rattle.provider_edge.proofs.RowLemmas.{named_none, named_some}

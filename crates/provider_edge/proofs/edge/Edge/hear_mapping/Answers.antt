@@ -1,3 +1,4 @@
+-- An end that takes the content is bound. One that does not loses its binding and keeps its label, and the label that came is released.
 use Rattle.std.proofs.Common.{◌∙◌, None}
 use Rattle.pw_signalling.specs.Rows.{unbound}
 use Rattle.peer_dialogue.proofs.SettleLemmas.{map_on}

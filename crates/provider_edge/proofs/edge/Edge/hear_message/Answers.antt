@@ -1,3 +1,5 @@
+-- Without a session nothing is heard. Else the edge acts where the session was up and still stands, and only there, and then mends its
+-- ends.
 use Rattle.std.proofs.Common.{◌≡◌, ◌∙◌, true, false, refl, sym}
 use Rattle.pw_messages.specs.LinkAnswers.{Agrees, Answers}
 use Rattle.edge_model.specs.Hear.{hears_one}

@@ -1,3 +1,4 @@
+-- The sender is heard first, and then one more message.
 use Rattle.std.proofs.Common.{arith}
 use Rattle.peer_dialogue.proofs.SpeakerLemmas.{agrees_before}
 use Rattle.provider_edge.proofs.AtWorkLemmas.{works_both}

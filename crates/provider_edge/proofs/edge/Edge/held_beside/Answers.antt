@@ -1,3 +1,5 @@
+-- What the end beside the peer holds can be told on, and has room for a point at a switching point, since the ends of a wire are terminal
+-- alike. Without such an end nothing is held.
 use Rattle.std.proofs.Common.{◌≡◌, ◌<◌, ◌∙◌, ap, length, subst}
 use Rattle.std.specs.Option.{option_copied}
 use Rattle.pw_signalling.specs.AnyEnd.{end_of}

@@ -1,3 +1,4 @@
+-- The octets are held where a session stands, and nothing changes where none does; octets held unsettle no end.
 use Rattle.std.proofs.Common.{◌∙◌, ap, subst, sym}
 use Rattle.net_base.specs.declared.plan.Plan.{Plan}
 use Rattle.std.specs.Prelude.{IfSome}

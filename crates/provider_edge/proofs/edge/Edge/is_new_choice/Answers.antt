@@ -1,3 +1,4 @@
+-- The row of the wire names its service; a spoke that is chosen now is new where it was not before, and one that is not chosen is not new.
 use Rattle.std.proofs.Common.{◌∙◌, None, ap, slice_get, sym}
 use Rattle.net_base.specs.declared.plan.Plan.{Plan}
 use Rattle.edge_model.specs.Role.{is_chosen_wire}

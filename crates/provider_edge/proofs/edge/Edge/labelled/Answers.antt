@@ -1,3 +1,5 @@
+-- A reserved label, an entry that is not at the bottom, and a label of no end are dropped; at a switching point the packet is switched, at
+-- a terminal end taken.
 use Rattle.edge_model.specs.Packet.{advertiser}
 use Rattle.pw_ends.specs.Ends.{place_of}
 use Rattle.peer_dialogue.proofs.SettleLemmas.{map_on}

@@ -1,3 +1,5 @@
+-- Without a session the loss is idle. Else the session is closed, the ends beside the peer are cleared and have marks, and the ends are
+-- mended.
 use Rattle.std.proofs.Common.{◌≡◌, ◌∙◌, Some, ap, sym, subst, true, refl}
 use Rattle.net_base.specs.declared.trace.state_name.Reason.TheVariants as reason
 use Rattle.session_core.specs.Table.{Closed}

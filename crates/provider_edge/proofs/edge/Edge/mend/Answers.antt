@@ -1,3 +1,5 @@
+-- A tidy edge has nothing to mend. Else one more round follows where the link did not take a message; behind a round in which it took each
+-- nothing is left to mend.
 use Rattle.std.proofs.Common.{◌≡◌, ◌+◌, ◌∙◌, List, suc, length, ap, subst, sym, arith}
 use Rattle.net_base.specs.declared.outside.link_call.LinkCall.{LinkCall}
 use Rattle.net_base.specs.declared.plan.Plan.{Plan}

@@ -1,3 +1,4 @@
+-- A spoke that is not newly chosen tells nothing; one that is puts a withdrawal with an empty list of addresses.
 use Rattle.std.proofs.Common.{None}
 use Rattle.pw_ends.specs.Ends.{place_of}
 use Rattle.edge_forwarding.specs.Views.{view}

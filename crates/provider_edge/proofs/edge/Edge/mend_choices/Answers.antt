@@ -1,3 +1,4 @@
+-- Where the choices are those of before, no end has one to tell; else one more end is passed, until all are.
 use Rattle.std.proofs.Common.{None, ◌<◌, length, arith}
 use Rattle.edge_model.specs.EndPlaces.{end_places}
 use Rattle.edge_model.specs.Mend.{mends_choice}

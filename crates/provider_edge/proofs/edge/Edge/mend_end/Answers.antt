@@ -1,3 +1,5 @@
+-- An idle end that has not declined puts its mapping. One that advertises withdraws its label where what it told no longer stands. Any
+-- other end stays.
 use Rattle.std.proofs.Common.{◌∙◌, ℕ, Option, ap, refl, sym}
 use Rattle.pw_messages.specs.Content.{withdrawal}
 use Rattle.edge_model.specs.declared.end_place.EndPlace.{EndPlace}

@@ -1,3 +1,4 @@
+-- The ends before the first mark and behind the last one are settled; of those between one more is mended, until all are.
 use Rattle.std.proofs.Common.{◌<◌, false, length, arith}
 use Rattle.edge_model.specs.Mend.{mends_end}
 use Rattle.pw_ends.specs.Ends.{place_of}

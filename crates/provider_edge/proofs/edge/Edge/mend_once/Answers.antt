@@ -1,3 +1,4 @@
+-- The steps of a round come in the definition's order, each over the same plan and place.
 use Rattle.std.proofs.Common.{◌∙◌, List, None, Option, ap}
 use Rattle.net_base.specs.declared.plan.places.WireId.{WireId}
 use Rattle.edge_forwarding.specs.Views.{view}

@@ -1,3 +1,4 @@
+-- An end that advertises tells its status where its mapping has one that has changed, and keeps its label; any other end tells none.
 use Rattle.std.proofs.Common.{◌∙◌, ap, sym}
 use Rattle.std.proofs.lemmas.Bool.{eq-eqb, ne_eqb}
 use Rattle.pw_messages.specs.Content.{status_notification}

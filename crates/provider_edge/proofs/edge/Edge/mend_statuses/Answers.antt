@@ -1,3 +1,4 @@
+-- The ends before the first mark and behind the last one are settled; of those between one more has its status told, until all have.
 use Rattle.std.proofs.Common.{◌<◌, length, arith}
 use Rattle.edge_model.specs.Mend.{mends_status}
 use Rattle.pw_ends.specs.Ends.{place_of}

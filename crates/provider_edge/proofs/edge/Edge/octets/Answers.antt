@@ -1,3 +1,4 @@
+-- Octets of a peer without a session are idle. Else they are heard behind those that were held, and the ends are mended.
 use Rattle.std.proofs.Common.{◌≡◌, ◌∙◌, ◌++◌, [], ap, refl, sym, subst, true}
 use Rattle.net_base.specs.declared.plan.Plan.{Plan}
 use Rattle.edge_model.specs.declared.effects.Effects.{Effects}

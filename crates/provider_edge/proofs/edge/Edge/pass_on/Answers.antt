@@ -1,3 +1,4 @@
+-- One more port is told where the addresses pass to it, and is passed by where they do not; at the end all are, over the same plan.
 use Rattle.std.proofs.Common.{◌<◌, ◌≤◌, ◌∙◌, length, ap, sym, arith}
 use Rattle.net_base.specs.declared.plan.Plan.{Plan}
 use Rattle.hvpls_spokes.specs.Port.{ports_of}

@@ -1,3 +1,4 @@
+-- Without a neighbour on the other side nothing is wished; else it is what is held of that neighbour, behind the edge's own point.
 use Rattle.std.proofs.Common.{◌≡◌, ◌∙◌, Option, ap}
 use Rattle.std.specs.Option.{option_copied}
 use Rattle.net_base.specs.plan.Paths.{edge_address, mate}

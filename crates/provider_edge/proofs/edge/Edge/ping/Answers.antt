@@ -1,3 +1,5 @@
+-- A wire without a terminal end here, and an end that can ask no request, are idle; else the ping is counted, and its request is sent by
+-- that end.
 use Rattle.std.proofs.Common.{ap, position, refl, subst, true, sym, ◌∙◌, ◌≡◌}
 use Rattle.edge_model.specs.EndPlaces.{is_end_of_wire}
 use Rattle.edge_model.specs.Ping.{ping_input}

@@ -1,3 +1,4 @@
+-- A ping has both addresses, the wire's number and the next sequence number; without one of the addresses there is none.
 use Rattle.std.proofs.Common.{◌≡◌, ◌∙◌, ℕ, Option, Some, ap, refl, sym}
 use Rattle.net_values.specs.declared.addr.Addr.{Addr}
 use Rattle.edge_model.specs.Ping.{far_address}

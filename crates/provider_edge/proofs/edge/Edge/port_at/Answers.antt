@@ -1,3 +1,4 @@
+-- The forwarding's ports are the edge's; the port of a wire whose end forwards is open, since the edge is in sync.
 use Rattle.std.proofs.Common.{◌≡◌, ◌∙◌, ◌<◌, true, length, position, ap, sym, subst}
 use Rattle.std.specs.Prelude.{IfSome}
 use Rattle.net_base.specs.declared.plan.Plan.{Plan}

@@ -1,3 +1,4 @@
+-- The forwarding's ports are the edge's; the port of a circuit that is on is open.
 use Rattle.std.proofs.Common.{◌≡◌, ◌∙◌, ◌<◌, true, length, position, ap, sym, subst}
 use Rattle.std.specs.Prelude.{IfSome}
 use Rattle.net_base.specs.declared.plan.Plan.{Plan}

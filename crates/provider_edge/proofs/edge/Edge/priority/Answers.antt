@@ -1,3 +1,4 @@
+-- A wire that is no spoke from this edge, and a priority that is set already, are idle; else it is set, and the ends are mended.
 use Rattle.std.proofs.Common.{◌≡◌, ◌∙◌, ap, sym, subst, true, refl}
 use Rattle.std.proofs.lemmas.Bool.{eq-eqb, ne_eqb}
 use Rattle.edge_model.specs.declared.effects.Effects.{Effects}

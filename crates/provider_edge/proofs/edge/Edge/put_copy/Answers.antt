@@ -1,3 +1,4 @@
+-- By a mesh or a spoke port the copy is sent on the wire; by a circuit's port the frame leaves with the circuit's tag.
 use Rattle.std.proofs.Common.{◌≡◌, ◌∙◌, ◌++◌, ◌∷◌, [], ℕ, List, ap, rules, sym, slice_get}
 use Rattle.net_base.specs.trace.Frame.{dress}
 use Rattle.hvpls_spokes.specs.PortSet.{holds_port}

@@ -1,3 +1,5 @@
+-- An end that may not tell, wishes nothing, or finds no label left tells nothing; else it advertises the label that it took, and its
+-- mapping is put.
 use Rattle.std.proofs.Common.{◌∙◌, ap}
 use Rattle.pw_messages.specs.Content.{mapping}
 use Rattle.edge_model.specs.declared.end_place.EndPlace.{EndPlace}

@@ -1,3 +1,4 @@
+-- An end that has told no label, holds no binding, or has picked no channel asks nothing; else it asks the next ping, where there is one.
 use Rattle.std.proofs.Common.{Some, ap, option_copied, subst, sym, ◌∙◌}
 use Rattle.pw_signalling.specs.End.{EndState}
 use Rattle.pw_stitch.specs.Stitch.{has_told}

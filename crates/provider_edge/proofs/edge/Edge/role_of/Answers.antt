@@ -1,3 +1,4 @@
+-- The row of the wire tells the role: that of a mesh wire, or what the end is to a spoke that is chosen or not.
 use Rattle.std.proofs.Common.{◌∙◌, ap, refl, slice_get, sym}
 use Rattle.net_base.specs.declared.plan.Plan.{Plan}
 use Rattle.edge_model.specs.Role.{end_role_of, is_chosen_wire}

@@ -1,3 +1,5 @@
+-- Without a session nothing is put; what is left of one is put back, and the ends beside the peer are cleared. The marks are those of
+-- before where the session stands as it did, and else have those ends too.
 use Rattle.std.proofs.Common.{◌∙◌, Bool, Some, ap}
 use Rattle.edge_model.specs.State.{EdgeState}
 use Rattle.edge_model.specs.Work.{Work}

@@ -1,3 +1,4 @@
+-- What the link took was sent to the end's peer; what it did not take is dropped.
 use Rattle.std.proofs.Common.{true, false, refl, subst, Err}
 use Rattle.net_base.specs.declared.outside.link_stop.LinkStop.{LinkStop}
 use Rattle.net_base.specs.outside.Link.{IsCallAnswer}

@@ -1,3 +1,4 @@
+-- Without an end, a row of the wire or a binding no copy is sent; else the packet under the binding is.
 use Rattle.std.proofs.Common.{◌≡◌, ◌∙◌, ap, sym, subst, position, slice_get, option_copied}
 use Rattle.edge_model.specs.EndPlaces.{is_end_of_wire}
 use Rattle.edge_model.specs.Ends.{wire_end}

@@ -1,3 +1,4 @@
+-- The circuit is of this service for the forwarding too. Turning it unsettles no end, so the invariant stands.
 use Rattle.std.proofs.Common.{◌≡◌, ◌∙◌, Some, ap, subst, sym}
 use Rattle.std.specs.Prelude.{IfSome}
 use Rattle.net_base.specs.declared.plan.Plan.{Plan}

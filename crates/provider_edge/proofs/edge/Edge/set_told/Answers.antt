@@ -1,3 +1,4 @@
+-- What is told of the wire can unsettle its own ends alone, and these have marks.
 use Rattle.std.proofs.Common.{◌≡◌, ◌<◌, ◌∙◌, ap, length, refl, subst, sym}
 use Rattle.std.specs.Prelude.{IfSome}
 use Rattle.net_base.specs.declared.plan.Plan.{Plan}

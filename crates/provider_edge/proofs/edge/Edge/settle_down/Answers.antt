@@ -1,3 +1,5 @@
+-- A switching point settles nothing. A terminal end that forwards forgets nothing, and one that does not forgets its wire; then its cause
+-- is told.
 use Rattle.std.proofs.Common.{◌∙◌, Bool, ap, cond, not, sym}
 use Rattle.net_base.specs.plan.Places.{wire_row}
 use Rattle.edge_model.specs.declared.end_place.EndPlace.{EndPlace}

@@ -1,3 +1,4 @@
+-- The ends before the first mark and behind the last one are settled; of those between one more is settled, until all are.
 use Rattle.std.proofs.Common.{◌<◌, length, arith}
 use Rattle.provider_edge.proofs.ListLemmas.{keeps_both, keeps_same}
 use Rattle.provider_edge.proofs.MarkedLemmas.{settles_begin, settles_stop}

@@ -1,3 +1,4 @@
+-- The end on the other side is the one of the same wire beside the mate; without a mate there is none.
 use Rattle.std.proofs.Common.{◌∙◌, ap, None, option_map, position, subst, sym}
 use Rattle.edge_model.specs.declared.end_place.EndPlace.{EndPlace}
 use Rattle.edge_model.specs.Across.{end_beside}

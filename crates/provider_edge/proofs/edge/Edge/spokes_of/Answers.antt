@@ -1,3 +1,4 @@
+-- Each slot is that of an end. One more spoke is read, until all of the service are, in their order.
 use Rattle.std.proofs.Common.{◌∙◌, List, ℕ, length, ap}
 use Rattle.std.proofs.lemmas.List.{length-map}
 use Rattle.spoke_redundancy.specs.declared.spoke.Spoke.{Spoke}

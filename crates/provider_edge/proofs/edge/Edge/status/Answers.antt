@@ -1,3 +1,4 @@
+-- A wire that does not end at the edge, and bits that are set already, are idle; else they are set, and the ends are mended.
 use Rattle.std.proofs.Common.{◌≡◌, ◌∙◌, ap, sym, subst, true, refl}
 use Rattle.std.proofs.lemmas.Bool.{eq-eqb, ne_eqb}
 use Rattle.edge_model.specs.declared.effects.Effects.{Effects}

@@ -1,3 +1,5 @@
+-- The work is the step of the definition. By this step the effects tell what the links took, fit the plan and stay local, and the edge is
+-- in sync again.
 use Rattle.std.proofs.Common.{rules, ◌≡◌, ◌∙◌, List, true, false, ap, sym, subst}
 use Rattle.net_base.specs.declared.outside.link_call.LinkCall.{LinkCall}
 use Rattle.net_base.specs.declared.plan.Plan.{Plan}

@@ -1,3 +1,4 @@
+-- Of a peer past the plan nothing is kept. Else what stood at its place is taken, and the edge has no marks.
 use Rattle.std.proofs.Common.{◌≡◌, ◌∙◌, None, length-set, slice_set, ap, sym, subst, arith, false}
 use Rattle.edge_model.specs.State.{with_peering}
 use Rattle.provider_edge.specs.contracts.edge.Edge.{the_view}

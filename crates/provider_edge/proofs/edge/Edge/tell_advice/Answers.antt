@@ -1,3 +1,5 @@
+-- Without an advice nothing is told. Else a session stands: the advice is put, what is left of it is put back, and the ends beside the peer
+-- are cleared.
 use Rattle.std.proofs.Common.{◌∙◌, Option, Some, ap, sym}
 use Rattle.session_core.specs.declared.reply.Reply.{Reply}
 use Rattle.edge_model.specs.Hear.{advises}

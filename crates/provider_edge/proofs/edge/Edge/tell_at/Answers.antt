@@ -1,3 +1,4 @@
+-- By a mesh port, and by a spoke's, the addresses are told on the port's wire.
 use Rattle.std.proofs.Common.{slice_get}
 use Rattle.hvpls_spokes.specs.Port.{ports_of}
 use Rattle.edge_model.specs.Clear.{tells_at}

@@ -1,3 +1,4 @@
+-- A cause that was told last is not told again; another one is kept and told. Causes are alike where their numbers are.
 use Rattle.std.proofs.Common.{◌≡◌, ◌<◌, ◌==◌, ◌∙◌, Option, ap, length, subst, sym}
 use Rattle.net_base.specs.declared.plan.Plan.{Plan}
 use Rattle.net_base.specs.declared.trace.down.Down.{Down}

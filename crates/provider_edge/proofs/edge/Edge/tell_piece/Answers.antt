@@ -1,3 +1,4 @@
+-- An end that advertises puts the piece; an idle end, and one that withdraws, put none.
 use Rattle.std.proofs.Common.{◌∙◌, ap, sym}
 use Rattle.pw_messages.specs.Content.{mac_withdrawal}
 use Rattle.pw_ends.specs.Ends.{place_of}

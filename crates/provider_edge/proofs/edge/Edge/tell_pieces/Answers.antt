@@ -1,3 +1,4 @@
+-- One more piece, of few addresses, is told by the same end, until all are.
 use Rattle.std.proofs.Common.{◌∙◌, ◌<◌, List, length, ap, arith, slice_index_or}
 use Rattle.edge_model.specs.declared.end_place.EndPlace.{EndPlace}
 use Rattle.mac_withdraw.specs.Pieces.{piece_count}

@@ -1,3 +1,4 @@
+-- The addresses are told at the slot of the wire's terminal end; without one they are not.
 use Rattle.std.proofs.Common.{◌∙◌, ap, position, subst}
 use Rattle.edge_model.specs.EndPlaces.{is_end_of_wire}
 use Rattle.edge_model.specs.Ends.{wire_end}

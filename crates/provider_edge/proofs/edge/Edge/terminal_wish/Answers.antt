@@ -1,3 +1,5 @@
+-- The wish is made of the wire's offer at this edge, of what its end holds, and of its bits and status; the plan is checked, so the offer
+-- is a proper one.
 use Rattle.std.proofs.Common.{◌∙◌, ap, sym, subst}
 use Rattle.net_base.specs.plan.Accepted.{IsChecked, IsOffer}
 use Rattle.net_base.specs.plan.Paths.{offer_of}

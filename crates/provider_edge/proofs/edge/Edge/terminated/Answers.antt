@@ -1,3 +1,5 @@
+-- An unbound end drops what came. With a control word that decides; without one a TTL that ends here is verified where the end has picked
+-- that, and else a frame enters.
 use Rattle.std.proofs.Common.{◌∙◌, ap, not, sym}
 use Rattle.net_base.specs.plan.Places.{wire_row}
 use Rattle.pw_signalling.specs.End.{EndState}

@@ -1,3 +1,4 @@
+-- Labels, count, sessions and addresses have the tick in the definition's order, and then the ends are mended.
 use Rattle.std.proofs.Common.{◌∙◌, ◌≡◌, ap, length, subst}
 use Rattle.edge_model.specs.declared.effects.Effects.{Effects}
 use Rattle.edge_model.specs.Tick.{counted, forgetting, ticks_sessions}

@@ -1,3 +1,4 @@
+-- In an idle edge the tick passes every peer by; else one more peer has it.
 use Rattle.std.proofs.Common.{◌<◌, ap, length, refl, subst, arith}
 use Rattle.net_base.specs.declared.plan.Plan.{Plan}
 use Rattle.peer_dialogue.proofs.SpeakerLemmas.{agrees_before}

@@ -1,3 +1,5 @@
+-- What has a fault is dropped, and an answer is told. A request lies within the payload, and is answered under the binding that the end
+-- holds.
 use Rattle.std.proofs.Common.{Ok, [], ap, option_copied, subst, sym, ◌∙◌, ◌++◌, ◌∷◌}
 use Rattle.edge_model.specs.declared.effect.Effect.TheVariants.{Pong}
 use Rattle.edge_model.specs.declared.end_place.EndPlace.{EndPlace}

@@ -1,3 +1,4 @@
+-- A channel that the end has not picked is not offered; what came in the one that it has picked is verified.
 use Rattle.std.proofs.Common.{sym, ◌∙◌}
 use Rattle.pw_ends.specs.Ends.{end_in, place_of}
 use Rattle.peer_dialogue.proofs.SettleLemmas.{map_on}

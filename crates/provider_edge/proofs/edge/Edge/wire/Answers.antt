@@ -1,3 +1,4 @@
+-- A wire that does not pass the edge, and one that is so already, are idle; else it is turned, and the ends are mended.
 use Rattle.std.proofs.Common.{◌≡◌, ◌∙◌, Bool, ap, sym, subst, true, refl}
 use Rattle.std.proofs.Math.Bool.{beq}
 use Rattle.edge_model.specs.declared.effects.Effects.{Effects}

@@ -1,3 +1,4 @@
+-- The lists that the edge is made of are those of a new edge, of which the invariant holds.
 use Rattle.std.proofs.Common.{false, refl, None}
 use Rattle.provider_edge.specs.contracts.edge.Edge.{the_view}
 use Rattle.provider_edge.proofs.ListLemmas.{holds_new, is_new_edge, new_lists}

@@ -1,3 +1,4 @@
+-- An empty payload is too short; one of the associated channel is verified, and any other enters as a frame.
 use Rattle.std.proofs.Common.{◌∙◌, sym}
 use Rattle.pw_ends.specs.Ends.{end_in, place_of}
 use Rattle.peer_dialogue.proofs.SettleLemmas.{map_on}

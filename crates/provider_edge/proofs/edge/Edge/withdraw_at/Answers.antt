@@ -1,3 +1,4 @@
+-- The service is one of the forwarding's plan too. What its bridge has forgotten unsettles no end, so the invariant stands.
 use Rattle.std.proofs.Common.{◌≡◌, ◌<◌, length, sym, subst, ◌∙◌, ap}
 use Rattle.net_base.specs.declared.plan.Plan.{Plan}
 use Rattle.edge_model.specs.Clear.{withdrawing_at}

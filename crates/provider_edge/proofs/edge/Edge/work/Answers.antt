@@ -1,3 +1,4 @@
+-- Each input is taken by its own call, whose clause is the step of the definition on that input.
 use Rattle.std.proofs.Common.{◌∙◌, ap, refl}
 use Rattle.edge_model.specs.declared.effects.Effects.{Effects}
 use Rattle.edge_model.specs.declared.input.Input.TheVariants as input

@@ -1,7 +1,6 @@
 use Rattle.psn_net.proofs.WeightLemmas.{counted_more}
 use Rattle.psn_net.proofs.ledger.Ledger.add.Goals as goal
 
--- src/ledger.rt:42:5
 pub invariant_of-self-2 : goal.invariant_of-self-2
 invariant_of-self-2 c =
     let more =

@@ -1,3 +1,4 @@
+-- The next number is free, so both indexes hold one more; where the second has no room, the first is again as it was.
 use Rattle.std.proofs.Common.{◌+◌, ◌<◌, ◌≤◌, List, ℕ, ap, arith, subst, sym}
 use Rattle.psn_net.specs.declared.carried.Carried.{Carried}
 use Rattle.psn_net.specs.Packets.{ArePacketsKept, UnderWay}

@@ -1,3 +1,4 @@
+-- Without a packet of this number nothing is copied. A copy is as old as its packet, which is young, and has the next number.
 use Rattle.std.proofs.Common.{◌∙◌, ◌+◌, ◌<◌, ◌≤◌, ℕ, Option, ap, option_map, subst, sym}
 use Rattle.network_model.specs.declared.packet.Packet.{Packet}
 use Rattle.psn_net.specs.declared.carried.Carried.{Carried}

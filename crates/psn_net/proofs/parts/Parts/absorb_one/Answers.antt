@@ -1,3 +1,4 @@
+-- What was said is told and put into its pipe; a frame that left, a drop, a session, a wire and a pong are each told by one entry.
 use Rattle.std.proofs.Common.{refl}
 use Rattle.psn_net.proofs.BroughtLemmas.{absorbed, told}
 use Rattle.psn_net.proofs.parts.Parts.absorb_one.Goals as goal

@@ -1,3 +1,4 @@
+-- Both edges have their ends, and then what they gave out is absorbed: that is the connection of two different edges that can connect.
 use Rattle.std.proofs.Common.{◌≡◌, Bool, OnOk, cond, false, nat_eq, rules, subst, sym, true}
 use Rattle.std.proofs.lemmas.Result.{on_ok_weaker}
 use Rattle.network_model.specs.Absorb.{idle}

@@ -1,3 +1,5 @@
+-- The edge at this place is over the network's plan, so its step and its effects are those of the network's edge. It keeps its plan and
+-- place, so the invariant stands.
 use Rattle.std.proofs.Common.{◌<◌, length, slice_set, ap, subst, arith}
 use Rattle.edge_model.specs.Step.{edge_step}
 use Rattle.network_model.specs.Absorb.{begin_at, taken_all}
@@ -6,7 +8,6 @@ use Rattle.psn_net.specs.Lists.{HasDriven, NetLists, network_seen}
 use Rattle.psn_net.proofs.NetworkLemmas.{driving_at, edge_kept, fitting_at}
 use Rattle.psn_net.proofs.parts.Parts.drive.Goals as goal
 
--- src/parts.rt:182:5
 pub returns-clause-driven : goal.returns-clause-driven
 returns-clause-driven c =
     let below : c.args.me.0 < length c.self.inside.edges.items =
@@ -25,7 +26,6 @@ returns-clause-driven c =
     subst (λ (n : NetLists). HasDriven c.args.me n (record before { edges = slice_set before.edges c.args.me.0 c.take.new.self })
     (edge_step n.plan taken_all c.args.input (begin_at (network_seen n) c.args.me)) c.in-Ok.effects) c.self.view_is done
 
--- src/parts.rt:182:5
 pub returns-clause-fit : goal.returns-clause-fit
 returns-clause-fit c =
     let below : c.args.me.0 < length c.self.inside.edges.items =

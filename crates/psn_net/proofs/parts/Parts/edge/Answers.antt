@@ -1,3 +1,4 @@
+-- An edge that is lent is over the network's plan, and has the place that was asked for.
 use Rattle.std.proofs.Common.{◌≡◌, List, length, nat_lt, slice_index_or, subst}
 use Rattle.std.specs.Prelude.{IfSome, is_some}
 use Rattle.provider_edge.specs.Lists.{EdgeLists}

@@ -1,3 +1,5 @@
+-- The receiver is over the network's plan, so its step on the front of the pipe and its effects are those of the network's edge. It keeps
+-- its plan and place, so the invariant stands.
 use Rattle.std.proofs.Common.{◌<◌, length, slice_set, take, ap, subst, arith}
 use Rattle.edge_model.specs.declared.input.Input.TheVariants.{Octets}
 use Rattle.network_model.specs.Absorb.{taken_all}

@@ -1,3 +1,4 @@
+-- An event that was told has brought about what its row says, by the clause of its own call.
 use Rattle.std.proofs.lemmas.Result.{on_ok_weaker}
 use Rattle.psn_net.proofs.AnswerLemmas.{circuit_stepped, ping_stepped, priority_stepped, status_stepped, wire_stepped}
 use Rattle.psn_net.proofs.BroughtLemmas.{brought}

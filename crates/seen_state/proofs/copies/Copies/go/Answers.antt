@@ -1,3 +1,4 @@
+-- Without the packet nothing changes; with it one packet fewer is under way, and one fewer of its frame.
 use Rattle.std.proofs.Common.{◌∙◌, List, ℕ, ap, subst, sym}
 use Rattle.std.specs.BTreeMap.{is_at}
 use Rattle.std.specs.Map.{lookup}

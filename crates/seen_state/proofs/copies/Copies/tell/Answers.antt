@@ -1,3 +1,4 @@
+-- An aged packet goes; what is told of octets, sessions and wires changes no packet under way.
 use Rattle.std.proofs.Common.{subst, sym}
 use Rattle.std.proofs.lemmas.Result.{on_ok_weaker}
 use Rattle.net_base.specs.declared.trace.entry.Entry.{Entry}

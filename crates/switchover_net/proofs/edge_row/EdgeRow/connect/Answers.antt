@@ -1,3 +1,4 @@
+-- The edge at this place is over the row's plan and has this place, so its work is the row's. A link that takes all stops none.
 use Rattle.std.proofs.Common.{[], ◌≡◌, ◌<◌, ◌∙◌, length, slice_set, ap, sym, subst, arith}
 use Rattle.net_base.specs.declared.plan.Plan.{Plan}
 use Rattle.independent_model.specs.Calls.{independent_connects}

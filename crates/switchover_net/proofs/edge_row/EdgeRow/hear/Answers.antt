@@ -1,3 +1,5 @@
+-- The edge at this place is over the row's plan and has this place, so its work is the row's. A link that takes all stops none; where the
+-- definition goes on, nothing is refused.
 use Rattle.std.proofs.Common.{[], ◌≡◌, ◌<◌, ◌∙◌, Err, List, length, slice_set, ap, sym, subst, arith}
 use Rattle.net_base.specs.declared.plan.Plan.{Plan}
 use Rattle.independent_model.specs.Calls.{independent_hears as hears}

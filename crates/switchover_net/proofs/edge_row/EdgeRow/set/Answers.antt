@@ -1,3 +1,4 @@
+-- The edge at this place is over the row's plan and has this place, so its work is the row's. A link that takes all stops none.
 use Rattle.std.proofs.Common.{[], ◌≡◌, ◌<◌, ◌∙◌, is_some, length, slice_set, ap, subst, arith}
 use Rattle.net_base.specs.declared.plan.Plan.{Plan}
 use Rattle.net_base.specs.declared.plan.places.EdgeId.{EdgeId}

@@ -1,3 +1,4 @@
+-- One more wire is asked, until all wires of the plan are.
 use Rattle.std.proofs.Common.{◌≡◌, ◌<◌, ◌≤◌, ◌∙◌, Bool, List, length, ap, arith}
 use Rattle.net_base.specs.declared.plan.Plan.{Plan}
 use Rattle.switchover_model.specs.Text.{used}

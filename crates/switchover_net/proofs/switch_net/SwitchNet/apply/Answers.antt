@@ -1,3 +1,5 @@
+-- A line that is not idle cuts two different edges, and sets a wire that has another end. What its call made is what the line does and
+-- tells.
 use Rattle.std.proofs.Common.{◌≡◌, ◌∙◌, false, OnOk, sym, subst, refl}
 use Rattle.independent_model.proofs.WireLemmas.{other_within}
 use Rattle.switchover_model.specs.declared.switch_line.SwitchLine.{SwitchLine}

@@ -1,3 +1,4 @@
+-- One more octet has come, until as many have as were asked for or lay in front.
 use Rattle.std.proofs.Common.{◌≡◌, ◌<◌, ◌≤◌, ◌∙◌, ℕ, List, length, min, ap, arith}
 use Rattle.switchover_net.specs.Net.{SwitchLists as NetLists}
 use Rattle.octet_pipes.specs.Pipes.{pipes_of}

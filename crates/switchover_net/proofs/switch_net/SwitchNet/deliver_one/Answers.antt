@@ -1,3 +1,4 @@
+-- An edge that holds more than before has put nothing, and uses the wires that it used.
 use Rattle.std.proofs.Common.{rules, ◌≡◌, ◌∙◌, Bool, List, true, length, ap, sym, subst, arith}
 use Rattle.net_base.specs.declared.plan.Plan.{Plan}
 use Rattle.independent_mode.specs.Receiver.{HoldsBy}

@@ -1,3 +1,4 @@
+-- What the edge put is on its way to the other end of the wire, and is told with the wires that it began or ceased to use.
 use Rattle.std.proofs.Common.{◌≡◌, ◌++◌, ◌∙◌, Some, OnOk, ap, sym, subst}
 use Rattle.net_base.specs.declared.plan.Plan.{Plan}
 use Rattle.independent_model.specs.Wires.{other_end}

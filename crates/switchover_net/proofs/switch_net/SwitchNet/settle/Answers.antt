@@ -1,3 +1,4 @@
+-- The octets of one more pair have come, until so many times are done; where no pair waits, nothing more is done.
 use Rattle.std.proofs.Common.{◌≡◌, ◌<◌, ◌≤◌, ◌∙◌, Some, None, length, sym, subst, arith}
 use Rattle.switchover_model.specs.Network.{first_differing_pair, is_waiting}
 use Rattle.switchover_net.specs.Net.{SwitchLists as NetLists}

@@ -1,3 +1,4 @@
+-- Room is made and one more piece filled in; where none can be made, the octets are cut there.
 use Rattle.std.proofs.Common.{◌<◌, ◌∙◌, ◌++◌, [], drop, length, take, refl, sym, arith, ap, List, ℕ, length-take, take-append-drop}
 use Rattle.std.proofs.lemmas.Result.{err_from_is_err_and}
 use Rattle.std.proofs.lemmas.Grind.{common_steps}

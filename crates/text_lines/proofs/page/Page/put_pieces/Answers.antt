@@ -1,3 +1,4 @@
+-- The digits of one more piece are put, until those of all are; where the sink fails, they are cut within the piece.
 use Rattle.std.proofs.Common.{◌+◌, ◌++◌, ◌∙◌, ℕ, List, ap, arith, drop, length, sym}
 use Rattle.std.proofs.lemmas.Result.{err_from_is_err_and}
 use Rattle.text_pieces.specs.Pieces.{hex}

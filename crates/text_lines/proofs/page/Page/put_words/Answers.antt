@@ -1,3 +1,4 @@
+-- One more word is put behind its blank; where the sink fails, the words are cut at the blank or within the word.
 use Rattle.std.proofs.Common.{[], ◌∷◌, List, get_or, map}
 use Rattle.std.proofs.lemmas.Result.{err_from_is_err_and}
 use Rattle.std.proofs.lemmas.List.{at_drop_more}

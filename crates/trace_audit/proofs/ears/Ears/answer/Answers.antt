@@ -1,3 +1,4 @@
+-- The rules are asked in their order, and the first that fails is answered, at its line. That line is a number of 64 bits.
 use Rattle.std.proofs.Common.{◌∙◌, ap, arith, Some, None, Ok}
 use Rattle.trace_audit.proofs.EarLemmas.{answered_crossed, answered_good, answered_once, answered_stray, place_counts, verdict_is}
 use Rattle.trace_audit.proofs.ears.Ears.answer.Goals as goal

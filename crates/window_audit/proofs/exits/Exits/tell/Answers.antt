@@ -1,3 +1,4 @@
+-- A frame that left is counted; any other entry has no frame leave.
 use Rattle.std.proofs.Common.{◌≡◌, ◌++◌, ◌∷◌, [], false, refl, subst, sym}
 use Rattle.std.proofs.lemmas.Result.{on_ok_weaker}
 use Rattle.net_base.specs.declared.trace.entry.Entry.{Entry}

@@ -1,3 +1,4 @@
+-- The entries are at ports. What was seen is that of the longer trace, where an event leads them and where they stand before the first one.
 use Rattle.std.proofs.Common.{arith, drop, sym}
 use Rattle.std.proofs.lemmas.Result.{on_ok_weaker}
 use Rattle.net_values.proofs.RowLemmas.{drop_next}

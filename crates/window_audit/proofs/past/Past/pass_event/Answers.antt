@@ -1,3 +1,4 @@
+-- Behind the event and its entries what is known, remembered, lasting and owed is that of the longer trace.
 use Rattle.std.proofs.lemmas.Result.{on_ok_weaker}
 use Rattle.std.proofs.Common.{◌++◌, ◌∷◌, List, ℕ, subst}
 use Rattle.net_base.specs.declared.trace.entry.Entry.TheVariants.{Did}

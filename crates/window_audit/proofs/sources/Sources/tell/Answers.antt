@@ -1,3 +1,4 @@
+-- A frame that came in names a source; any other entry names none.
 use Rattle.std.proofs.Common.{◌++◌, ◌∷◌, ◌≡◌, [], List, ℕ, false, refl, subst, sym}
 use Rattle.std.proofs.lemmas.Result.{on_ok_weaker}
 use Rattle.net_base.specs.declared.trace.entry.Entry.{Entry}
