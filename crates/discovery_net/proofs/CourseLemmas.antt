@@ -9,7 +9,7 @@ use Rattle.network_model.specs.Step.{step}
 use Rattle.psn_net.specs.declared.net_stop.NetStop.{NetStop}
 use Rattle.psn_net.specs.declared.net_stop.NetStop.TheVariants.{Crowded, TooMuch, NoMemory}
 use Rattle.psn_net.specs.Applying.{Stops}
-use Rattle.psn_net.specs.Lists.{network_seen as seen}
+use Rattle.psn_net.specs.Lists.{network_seen}
 use Rattle.psn_net.specs.Runs.{Ended, GivesNetwork, RunHalts, ended, ran}
 use Rattle.psn_net.specs.Runs as runs
 use Rattle.psn_net.specs.Weight.{stop_at}
@@ -37,35 +37,37 @@ course_ran plan s t notes (Does event ∷ acts) =
     by (Some stop) c e same = refl
 
 -- the state behind acts
-pub state_done : (old now : DiscoveryLists) (acts : List Act) → HasDoneActs old now acts → seen now.network ≡ state_after old.network.plan (seen old.network) (events_in acts)
+pub state_done : (old now : DiscoveryLists) (acts : List Act) → HasDoneActs old now acts → network_seen now.network ≡ state_after old.network.plan (network_seen old.network) (events_in acts)
 state_done old now acts done =
     let events : List Event = events_in (acts ++ []) in
-    let end : network_of (course_on now []) ≡ ran old.network.plan (seen old.network) old.network.trace events =
-    ap network_of (done []) ∙ course_ran old.network.plan (seen old.network) old.network.trace old.notes (acts ++ []) in
-    let stops : (ran old.network.plan (seen old.network) old.network.trace events).stop ≡ None = sym (ap (λ (e : Ended). e.stop) end) in
+    let end : network_of (course_on now []) ≡ ran old.network.plan (network_seen old.network) old.network.trace events =
+    ap network_of (done []) ∙ course_ran old.network.plan (network_seen old.network) old.network.trace old.notes (acts ++ []) in
+    let stops : (ran old.network.plan (network_seen old.network) old.network.trace events).stop ≡ None = sym (ap (λ (e : Ended). e.stop) end) in
     ap (λ (e : Ended). e.state) end
-    ∙ (ran_state old.network.plan (seen old.network) old.network.trace events stops ∙ ap (λ (acts : List Act). state_after old.network.plan (seen old.network) (events_in acts)) (append-nil acts))
+    ∙ (ran_state old.network.plan (network_seen old.network) old.network.trace events stops
+    ∙ ap (λ (acts : List Act). state_after old.network.plan (network_seen old.network) (events_in acts)) (append-nil acts))
 
 -- ---- one act
 
-pub does_one : (old now : DiscoveryLists) (event : Event) → now.network.plan ≡ old.network.plan → stop_at old.network.trace (length (seen old.network).under_way) event ≡ None
-    → seen now.network ≡ (step old.network.plan (seen old.network) event).state → now.network.trace ≡ old.network.trace ++ (step old.network.plan (seen old.network) event).entries
+pub does_one : (old now : DiscoveryLists) (event : Event) → now.network.plan ≡ old.network.plan → stop_at old.network.trace (length (network_seen old.network).under_way) event ≡ None
+    → network_seen now.network ≡ (step old.network.plan (network_seen old.network) event).state → now.network.trace
+    ≡ old.network.trace ++ (step old.network.plan (network_seen old.network) event).entries
     → now.notes ≡ old.notes
     → HasDoneActs old now (Does event ∷ [])
 does_one old now event kept none state trace same rest =
-    let behind : Course = course old.network.plan (step old.network.plan (seen old.network) event).state
-    (old.network.trace ++ (step old.network.plan (seen old.network) event).entries) old.notes rest in
+    let behind : Course = course old.network.plan (step old.network.plan (network_seen old.network) event).state
+    (old.network.trace ++ (step old.network.plan (network_seen old.network) event).entries) old.notes rest in
     (λ i. course (kept i) (state i) (trace i) (same i) rest)
-    ∙ sym (ap (λ (o : Option NetStop). unless_stopped o (course_of (seen old.network) old.network.trace old.notes None) behind) none)
+    ∙ sym (ap (λ (o : Option NetStop). unless_stopped o (course_of (network_seen old.network) old.network.trace old.notes None) behind) none)
 
-refused_one : (old now : DiscoveryLists) (event : Event) (stop : NetStop) → stop_at old.network.trace (length (seen old.network).under_way) event ≡ Some stop → now.network
+refused_one : (old now : DiscoveryLists) (event : Event) (stop : NetStop) → stop_at old.network.trace (length (network_seen old.network).under_way) event ≡ Some stop → now.network
     ≡ old.network → now.notes ≡ old.notes
     → (rest : List Act) → ended_at now (Some stop) ≡ course_on old (Does event ∷ rest)
 refused_one old now event stop met kept same rest =
-    let behind : Course = course old.network.plan (step old.network.plan (seen old.network) event).state
-    (old.network.trace ++ (step old.network.plan (seen old.network) event).entries) old.notes rest in
-    (λ i. course_of (seen (kept i)) (kept i).trace (same i) (Some stop))
-    ∙ sym (ap (λ (o : Option NetStop). unless_stopped o (course_of (seen old.network) old.network.trace old.notes None) behind) met)
+    let behind : Course = course old.network.plan (step old.network.plan (network_seen old.network) event).state
+    (old.network.trace ++ (step old.network.plan (network_seen old.network) event).entries) old.notes rest in
+    (λ i. course_of (network_seen (kept i)) (kept i).trace (same i) (Some stop))
+    ∙ sym (ap (λ (o : Option NetStop). unless_stopped o (course_of (network_seen old.network) old.network.trace old.notes None) behind) met)
 
 pub does_none : (old now : DiscoveryLists) (event : Event) (stop : NetStop) → Stops old.network now.network event stop → now.notes ≡ old.notes → HaltsIn stop old now (Does event ∷ [])
 does_none old now event (Crowded count number) stops same rest = refused_one old now event (Crowded count number) stops.0 stops.1 same rest
@@ -73,7 +75,7 @@ does_none old now event (TooMuch weight number) stops same rest = refused_one ol
 does_none old now event NoMemory stops same rest = tt
 
 pub tells_one : (old now : DiscoveryLists) (note : Note) → now.network ≡ old.network → now.notes ≡ noted old.network.trace old.notes note → HasDoneActs old now (Tells note ∷ [])
-tells_one old now note kept more rest = λ i. course (kept i).plan (seen (kept i)) (kept i).trace (more i) rest
+tells_one old now note kept more rest = λ i. course (kept i).plan (network_seen (kept i)) (kept i).trace (more i) rest
 
 -- ---- events in turn
 
@@ -99,28 +101,28 @@ course_events plan s t notes (e ∷ es) rest =
     by (Some stop) c r same = refl
 
 pub events_done : (old now : DiscoveryLists) (es : List Event) → now.network.plan ≡ old.network.plan → now.notes ≡ old.notes → ended now.network None
-    ≡ ran old.network.plan (seen old.network) old.network.trace es
+    ≡ ran old.network.plan (network_seen old.network) old.network.trace es
     → HasDoneActs old now (all_done es)
 events_done old now es kept same is rest =
-    (λ i. course (kept i) (seen now.network) now.network.trace (same i) rest)
+    (λ i. course (kept i) (network_seen now.network) now.network.trace (same i) rest)
     ∙ ap (goes_on old.network.plan old.notes rest) is
-    ∙ sym (course_events old.network.plan (seen old.network) old.network.trace old.notes es rest)
+    ∙ sym (course_events old.network.plan (network_seen old.network) old.network.trace old.notes es rest)
 
-halted : (old now : DiscoveryLists) (es : List Event) (stop : NetStop) → now.notes ≡ old.notes → ended now.network (Some stop) ≡ ran old.network.plan (seen old.network) old.network.trace es
+halted : (old now : DiscoveryLists) (es : List Event) (stop : NetStop) → now.notes ≡ old.notes → ended now.network (Some stop) ≡ ran old.network.plan (network_seen old.network) old.network.trace es
     → (rest : List Act) → ended_at now (Some stop) ≡ course_on old (all_done es ++ rest)
 halted old now es stop same is rest =
-    (λ i. course_of (seen now.network) now.network.trace (same i) (Some stop))
+    (λ i. course_of (network_seen now.network) now.network.trace (same i) (Some stop))
     ∙ ap (goes_on old.network.plan old.notes rest) is
-    ∙ sym (course_events old.network.plan (seen old.network) old.network.trace old.notes es rest)
+    ∙ sym (course_events old.network.plan (network_seen old.network) old.network.trace old.notes es rest)
 
 pub events_halted : (old now : DiscoveryLists) (es : List Event) (stop : NetStop) → now.notes ≡ old.notes
-    → RunHalts stop now.network (ran old.network.plan (seen old.network) old.network.trace es) → HaltsIn stop old now (all_done es)
+    → RunHalts stop now.network (ran old.network.plan (network_seen old.network) old.network.trace es) → HaltsIn stop old now (all_done es)
 events_halted old now es (Crowded count event) same halts rest = halted old now es (Crowded count event) same halts rest
 events_halted old now es (TooMuch weight event) same halts rest = halted old now es (TooMuch weight event) same halts rest
 events_halted old now es NoMemory same halts rest = tt
 
 pub events_come : {A : Type 0} (result : Result A NetStop) (old now : DiscoveryLists) (es : List Event) → now.network.plan ≡ old.network.plan → now.notes ≡ old.notes
-    → GivesNetwork result now.network (ran old.network.plan (seen old.network) old.network.trace es) → Acts result old now (all_done es)
+    → GivesNetwork result now.network (ran old.network.plan (network_seen old.network) old.network.trace es) → Acts result old now (all_done es)
 events_come (Ok done) old now es kept same gives = events_done old now es kept same gives
 events_come (Err stop) old now es kept same gives = events_halted old now es stop same gives
 

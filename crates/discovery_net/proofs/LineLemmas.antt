@@ -21,7 +21,7 @@ use Rattle.network_model.specs.State.{NetworkState, empty_network}
 use Rattle.network_model.specs.Step.{step}
 use Rattle.psn_net.specs.declared.net_stop.NetStop.{NetStop}
 use Rattle.psn_net.specs.declared.net_stop.NetStop.TheVariants.{NoMemory}
-use Rattle.psn_net.specs.Lists.{NetLists, network_seen as seen}
+use Rattle.psn_net.specs.Lists.{NetLists, network_seen}
 use Rattle.psn_net.specs.Runs.{Ended, GivesNetwork, ended, ran}
 use Rattle.psn_net.proofs.RunLemmas.{ran_state}
 use Rattle.command_text.specs.declared.command.Command.{Command}
@@ -32,15 +32,15 @@ use Rattle.discovery_script.specs.declared.placed_note.PlacedNote.{PlacedNote}
 use Rattle.discovery_script.specs.declared.script_line.ScriptLine.TheVariants as line
 use Rattle.discovery_net.specs.declared.said_hello.SaidHello.{SaidHello}
 use Rattle.discovery_net.specs.Acts.{Act, Course, Does, Tells, all_done, course, events_in}
-use Rattle.discovery_net.specs.Deeds.{Discovery, Hello, adjacency_lives, hello_numbered, hello_octets_by, octets_of_hello as octets_of, discovery_opened}
+use Rattle.discovery_net.specs.Deeds.{Discovery, Hello, adjacency_lives, hello_numbered, hello_octets_by, octets_of_hello, discovery_opened}
 use Rattle.discovery_net.specs.Lines.{acts_of, after_line, bring_acts, heard_at, may_open, next_hello}
-use Rattle.discovery_net.specs.Lists.{Acts, DiscoveryLists, HaltsAt, HaltsIn, HasDoneActs, IsAt, IsDiscovery, IsHelloFit as IsHello, IsOfPlan, said_hello}
+use Rattle.discovery_net.specs.Lists.{Acts, DiscoveryLists, HaltsAt, HaltsIn, HasDoneActs, IsAt, IsDiscovery, IsHelloFit, IsOfPlan, said_hello}
 use Rattle.discovery_net.proofs.CourseLemmas.{done_alone, events_come}
 
 -- ---- before the first line
 
-pub at_first : (plan : Plan) (n : DiscoveryLists) → seen n.network ≡ empty_network plan → AreAfter (λ k. []) n.adjacencies → n.hellos ≡ [] → IsAt (discovery_opened plan) n
-at_first plan n state histories none = record { network = state; histories = histories; hellos = none; fit = All-nil IsHello }
+pub at_first : (plan : Plan) (n : DiscoveryLists) → network_seen n.network ≡ empty_network plan → AreAfter (λ k. []) n.adjacencies → n.hellos ≡ [] → IsAt (discovery_opened plan) n
+at_first plan n state histories none = record { network = state; histories = histories; hellos = none; fit = All-nil IsHelloFit }
 
 -- ---- what always holds
 
@@ -65,7 +65,7 @@ said_discovery old table hello notes is edges of_plan = record {
 
 at_same : (d : Discovery) (old now : DiscoveryLists) → IsAt d old → now.network ≡ old.network → now.adjacencies ≡ old.adjacencies → now.hellos ≡ old.hellos → IsAt d now
 at_same d old now at net table hellos = record {
-  network = ap (λ n. seen n) net ∙ at.network;
+  network = ap (λ n. network_seen n) net ∙ at.network;
   histories = subst (AreAfter d.histories) (sym table) at.histories;
   hellos = hellos ∙ (at.hellos ∙ ap (λ (n : NetLists). map (said_hello n.plan) d.hellos) (sym net));
   fit = at.fit;
@@ -76,7 +76,7 @@ on_ok (Ok done) p = p
 on_ok (Err stop) p = tt
 
 abbrev course_from : NetLists → List PlacedNote → List Act → Course
-course_from network notes acts = course network.plan (seen network) network.trace notes acts
+course_from network notes acts = course network.plan (network_seen network) network.trace notes acts
 
 -- acts of a network that has kept its state, its trace and its notes
 acts_from : {A : Type 0} (result : Result A NetStop) (mid old now : DiscoveryLists) (acts : List Act) → old.network ≡ mid.network → old.notes ≡ mid.notes → Acts result mid now acts
@@ -106,7 +106,7 @@ address_of plan edge within = by plan.edges edge.0 within
 
 -- what was said are the octets of the next Hello
 said_is : (plan : Plan) (d : Discovery) (from to : EdgeId) (hold : ℕ) (octets : List ℕ) → from.0 < length plan.edges
-    → ((address : Addr) → edge_address plan from ≡ Some address → octets ≡ hello_octets address (id_behind (d.histories from.0)) hold) → octets ≡ octets_of plan (next_hello d from to hold)
+    → ((address : Addr) → edge_address plan from ≡ Some address → octets ≡ hello_octets address (id_behind (d.histories from.0)) hold) → octets ≡ octets_of_hello plan (next_hello d from to hold)
 said_is plan d from to hold octets within said_so =
     let there = address_of plan from within in
     said_so there.0 there.1 ∙ sym (ap (λ (o : Option Addr). hello_octets_by o (next_hello d from to hold)) there.1)
@@ -121,7 +121,7 @@ id_small (ticked ∷ earlier) = id_small earlier
 pub record HasSaid (d : Discovery) (old mid : DiscoveryLists) (from to : EdgeId) (hold : ℕ) (octets : List ℕ) : Type 0 where
   pub network : mid.network ≡ old.network
   pub histories : AreAfter (with_deed from (said to.0 hold) d.histories) mid.adjacencies
-  pub octets_are : octets ≡ octets_of old.network.plan (next_hello d from to hold)
+  pub octets_are : octets ≡ octets_of_hello old.network.plan (next_hello d from to hold)
   pub hellos : mid.hellos ≡ old.hellos ++ record { from = from; to = to; bytes = octets } ∷ []
 
 pub has_said : (d : Discovery) (old mid : DiscoveryLists) (from to : EdgeId) (hold : ℕ) (octets : List ℕ) → from.0 < length old.network.plan.edges → AreEdgesOf old.network.plan old.adjacencies
@@ -146,43 +146,43 @@ at_said : (d : Discovery) (old mid now : DiscoveryLists) (from to : EdgeId) (hol
 at_said d old mid now from to hold octets at has fit net table hellos =
     let same : now.network ≡ old.network = net ∙ has.network in
     record {
-      network = ap (λ n. seen n) same ∙ at.network;
+      network = ap (λ n. network_seen n) same ∙ at.network;
       histories = subst (AreAfter (with_deed from (said to.0 hold) d.histories)) (sym table) has.histories;
       hellos =
           hellos ∙ (has.hellos
           ∙ ((λ i. at.hellos i ++ record { from = from; to = to; bytes = has.octets_are i } ∷ [])
           ∙ (sym (map_more (said_hello old.network.plan) d.hellos (next_hello d from to hold))
           ∙ ap (λ (n : NetLists). map (said_hello n.plan) (d.hellos ++ next_hello d from to hold ∷ [])) (sym same))));
-      fit = All-append IsHello d.hellos (next_hello d from to hold ∷ []) at.fit
-          (All-cons IsHello (next_hello d from to hold) [] (record { id = id_small (d.histories from.0); hold = fit }) (All-nil IsHello));
+      fit = All-append IsHelloFit d.hellos (next_hello d from to hold ∷ []) at.fit
+          (All-cons IsHelloFit (next_hello d from to hold) [] (record { id = id_small (d.histories from.0); hold = fit }) (All-nil IsHelloFit));
     }
 
 -- ---- commands
 
 pub command_acts : {A : Type 0} (result : Result A NetStop) (old now : DiscoveryLists) (d : Discovery) (command : Command) (captures : List (List (List ℕ))) → captures ≡ []
     → now.network.plan ≡ old.network.plan → now.notes ≡ old.notes
-    → GivesNetwork result now.network (ran old.network.plan (seen old.network) old.network.trace (made_by old.network.plan (seen old.network) captures command)) → IsAt d old
+    → GivesNetwork result now.network (ran old.network.plan (network_seen old.network) old.network.trace (made_by old.network.plan (network_seen old.network) captures command)) → IsAt d old
     → Acts result old now (acts_of old.network.plan d (line.Do command))
 command_acts result old now d command captures none kept same gives at =
     subst (λ (s : NetworkState). Acts result old now (all_done (made_by old.network.plan s [] command))) at.network
-    (events_come result old now (made_by old.network.plan (seen old.network) [] command) kept same
+    (events_come result old now (made_by old.network.plan (network_seen old.network) [] command) kept same
     (subst (λ (c : List (List (List ℕ))). GivesNetwork result now.network
-    (ran old.network.plan (seen old.network) old.network.trace (made_by old.network.plan (seen old.network) c command))) none gives))
+    (ran old.network.plan (network_seen old.network) old.network.trace (made_by old.network.plan (network_seen old.network) c command))) none gives))
 
 pub command_after : {A : Type 0} (result : Result A NetStop) (old now : DiscoveryLists) (d : Discovery) (command : Command) (captures : List (List (List ℕ))) → captures ≡ []
     → now.network.plan ≡ old.network.plan → now.adjacencies ≡ old.adjacencies → now.hellos ≡ old.hellos
-    → GivesNetwork result now.network (ran old.network.plan (seen old.network) old.network.trace (made_by old.network.plan (seen old.network) captures command)) → IsAt d old
+    → GivesNetwork result now.network (ran old.network.plan (network_seen old.network) old.network.trace (made_by old.network.plan (network_seen old.network) captures command)) → IsAt d old
     → OnOk result (IsAt (after_line old.network.plan d (line.Do command)) now)
 command_after (Err stop) old now d command captures none kept table hellos gives at = tt
 command_after (Ok done) old now d command captures none kept table hellos gives at =
     let plan : Plan = old.network.plan in
     let events : List Event = made_by plan d.network [] command in
-    let made : made_by plan (seen old.network) captures command ≡ events = (λ i. made_by plan (at.network i) (none i) command) in
-    let run : ended now.network None ≡ ran plan (seen old.network) old.network.trace events = gives ∙ ap (ran plan (seen old.network) old.network.trace) made in
+    let made : made_by plan (network_seen old.network) captures command ≡ events = (λ i. made_by plan (at.network i) (none i) command) in
+    let run : ended now.network None ≡ ran plan (network_seen old.network) old.network.trace events = gives ∙ ap (ran plan (network_seen old.network) old.network.trace) made in
     let alone : events ≡ events_in (all_done events) = sym (done_alone events) in
-    let stops : (ran plan (seen old.network) old.network.trace events).stop ≡ None = sym (ap (λ (e : Ended). e.stop) run) in
+    let stops : (ran plan (network_seen old.network) old.network.trace events).stop ≡ None = sym (ap (λ (e : Ended). e.stop) run) in
     record {
-      network = ap (λ (e : Ended). e.state) run ∙ (ran_state plan (seen old.network) old.network.trace events stops ∙ (λ i. state_after plan (at.network i) (alone i)));
+      network = ap (λ (e : Ended). e.state) run ∙ (ran_state plan (network_seen old.network) old.network.trace events stops ∙ (λ i. state_after plan (at.network i) (alone i)));
       histories = subst (AreAfter d.histories) (sym table) at.histories;
       hellos = hellos ∙ (at.hellos ∙ ap (λ (p : Plan). map (said_hello p) d.hellos) (sym kept));
       fit = at.fit;
@@ -198,8 +198,8 @@ hello_said_acts result old mid now plan d from to hold number octets joined coun
     let count : number ≡ length d.hellos + 1 =
     counted ∙ (ap (λ (l : List SaidHello). length l) (has.hellos ∙ ap (λ (l : List SaidHello). l ++ record { from = from; to = to; bytes = octets } ∷ []) at.hellos)
     ∙ one_more (said_hello old.network.plan) d.hellos (record { from = from; to = to; bytes = octets })) in
-    let written : octets ≡ octets_of plan (next_hello d from to hold) = has.octets_are ∙ ap (λ (p : Plan). octets_of p (next_hello d from to hold)) (sym same) in
-    rw joined (acts_from result mid old now (Tells (note.Hello (length d.hellos + 1) from to (octets_of plan (next_hello d from to hold))) ∷ []) (sym has.network) (sym notes)
+    let written : octets ≡ octets_of_hello plan (next_hello d from to hold) = has.octets_are ∙ ap (λ (p : Plan). octets_of_hello p (next_hello d from to hold)) (sym same) in
+    rw joined (acts_from result mid old now (Tells (note.Hello (length d.hellos + 1) from to (octets_of_hello plan (next_hello d from to hold))) ∷ []) (sym has.network) (sym notes)
     (subst (λ (n : Note). Acts result mid now (Tells n ∷ [])) (λ i. note.Hello (count i) from to (written i)) acts))
   where
     one_more : (f : Hello → SaidHello) (xs : List Hello) (x : SaidHello) → length (map f xs ++ x ∷ []) ≡ length xs + 1
@@ -257,19 +257,19 @@ no_event plan d hello = by (adjacency_lives d hello.to.0 hello.from.0)
     by false = refl
 
 -- the Hello of a number is one that was said
-fit_of : (d : Discovery) (number : ℕ) (hello : Hello) → All IsHello d.hellos → hello_numbered d number ≡ Some hello → IsHello hello
+fit_of : (d : Discovery) (number : ℕ) (hello : Hello) → All IsHelloFit d.hellos → hello_numbered d number ≡ Some hello → IsHelloFit hello
 fit_of d number hello fit found = elim (cases_Bool (number == 0)) [
   | inl first ↦ (let none : None ≡ Some hello = rw first at found in absurd (cc (none)))
   | inr other ↦
       let there : slice_get d.hellos (number - 1) ≡ Some hello = rw other at found in
-      subst IsHello (get_or_from_slice_get d.hellos (number - 1) hello hello there) (All-get_or IsHello d.hellos (number - 1) hello (slice_get_within d.hellos (number - 1) hello there) fit)
+      subst IsHelloFit (get_or_from_slice_get d.hellos (number - 1) hello hello there) (All-get_or IsHelloFit d.hellos (number - 1) hello (slice_get_within d.hellos (number - 1) hello there) fit)
 ]
 
 -- the Hello that was found, with what it stands for
 pub record IsFound (d : Discovery) (n : DiscoveryLists) (number : ℕ) (hello : SaidHello) : Type 0 where
   pub said_is : Hello
   pub there : hello_numbered d number ≡ Some said_is
-  pub fit : IsHello said_is
+  pub fit : IsHelloFit said_is
   pub same : hello ≡ said_hello n.network.plan said_is
 
 found_as : (d : Discovery) (n : DiscoveryLists) (number : ℕ) (hello : SaidHello) → IsAt d n → Some hello ≡ option_map (said_hello n.network.plan) (hello_numbered d number) → IsFound d n number hello
@@ -281,7 +281,7 @@ found_as d n number hello at found = by (hello_numbered d number) refl found
 
 pub bring_acts_of : {A : Type 0} (result : Result A NetStop) (old now : DiscoveryLists) (d : Discovery) (number : ℕ) (hello : SaidHello) → Some hello
     ≡ option_map (said_hello old.network.plan) (hello_numbered d number)
-    → ((d : Discovery) (said_so : Hello) → IsAt d old → IsHello said_so → hello ≡ said_hello old.network.plan said_so → Acts result old now (bring_acts d (Some said_so)))
+    → ((d : Discovery) (said_so : Hello) → IsAt d old → IsHelloFit said_so → hello ≡ said_hello old.network.plan said_so → Acts result old now (bring_acts d (Some said_so)))
     → IsAt d old → Acts result old now (acts_of old.network.plan d (line.Bring number))
 bring_acts_of result old now d number hello found heard_so at =
     let found_so : IsFound d old number hello = found_as d old number hello at found in
@@ -289,7 +289,7 @@ bring_acts_of result old now d number hello found heard_so at =
 
 pub bring_after_of : {A : Type 0} (result : Result A NetStop) (old now : DiscoveryLists) (d : Discovery) (number : ℕ) (hello : SaidHello) → Some hello
     ≡ option_map (said_hello old.network.plan) (hello_numbered d number)
-    → ((d : Discovery) (said_so : Hello) → IsAt d old → IsHello said_so → hello ≡ said_hello old.network.plan said_so
+    → ((d : Discovery) (said_so : Hello) → IsAt d old → IsHelloFit said_so → hello ≡ said_hello old.network.plan said_so
     → OnOk result (IsAt (record d { histories = heard_at (Some said_so) d.histories }) now))
     → IsAt d old → OnOk result (IsAt (after_line old.network.plan d (line.Bring number)) now)
 bring_after_of result old now d number hello found heard_so at =
@@ -309,7 +309,7 @@ HearsSaid old now hello =
 
 -- the histories then
 pub heard_at_is : (d : Discovery) (old : DiscoveryLists) (table : List AdjacencyLists) (hello : SaidHello) (said_so : Hello) → IsAt d old → AreEdgesOf old.network.plan old.adjacencies
-    → IsOfPlan old.network.plan hello → IsHello said_so
+    → IsOfPlan old.network.plan hello → IsHelloFit said_so
     → hello ≡ said_hello old.network.plan said_so → HearsSaid old.adjacencies table hello → AreAfter (heard_at (Some said_so) d.histories) table
 heard_at_is d old table hello said_so at edges of_plan fit same hears =
     let plan : Plan = old.network.plan in
@@ -324,7 +324,7 @@ pub at_heard : (d : Discovery) (old now : DiscoveryLists) (said_so : Hello) → 
     → now.hellos ≡ old.hellos
     → IsAt (record d { histories = heard_at (Some said_so) d.histories }) now
 at_heard d old now said_so at histories net hellos = record {
-  network = ap (λ n. seen n) net ∙ at.network;
+  network = ap (λ n. network_seen n) net ∙ at.network;
   histories = histories;
   hellos = hellos ∙ (at.hellos ∙ ap (λ (n : NetLists). map (said_hello n.plan) d.hellos) (sym net));
   fit = at.fit;
@@ -382,7 +382,7 @@ open_done_acts result old now plan d from to joined may acts = rw (joined, may) 
 
 pub open_done_after : {A : Type 0} (result : Result A NetStop) (old now : DiscoveryLists) (plan : Plan) (d : Discovery) (from to : EdgeId) → are_joined plan from.0 to.0 ≡ true
     → may_open d from to ≡ true → plan ≡ old.network.plan → now.network.plan ≡ old.network.plan
-    → OnOk result (seen now.network ≡ (step old.network.plan (seen old.network) (event.Connect from to)).state) → now.adjacencies ≡ old.adjacencies → now.hellos ≡ old.hellos
+    → OnOk result (network_seen now.network ≡ (step old.network.plan (network_seen old.network) (event.Connect from to)).state) → now.adjacencies ≡ old.adjacencies → now.hellos ≡ old.hellos
     → IsAt d old → OnOk result (IsAt (after_line plan d (line.Open from to)) now)
 open_done_after (Err stop) old now plan d from to joined may same kept state table hellos at = tt
 open_done_after (Ok done) old now plan d from to joined may same kept state table hellos at = rw (joined, may) (record {

@@ -26,7 +26,7 @@ use Rattle.command_run.specs.Made.{event_and, made_by, turns}
 use Rattle.discovery_script.specs.declared.script_line.ScriptLine.{ScriptLine}
 use Rattle.discovery_script.specs.declared.script_line.ScriptLine.TheVariants as line
 use Rattle.discovery_script.specs.declared.note.Note.TheVariants as note
-use Rattle.discovery_script.specs.Planned.{AreOfPlan, IsDiscoveryLineOf as IsLineOf, IsScripted}
+use Rattle.discovery_script.specs.Planned.{AreOfPlan, IsDiscoveryLineOf, IsScripted}
 use Rattle.discovery_net.specs.Acts.{Does, Tells, events_in}
 use Rattle.adjacency_table.specs.Histories.{ends_by_tick, with_deed}
 use Rattle.discovery_net.specs.Deeds.{Discovery, Hello, adjacency_lives, hello_numbered, octets_of_hello, discovery_opened}
@@ -307,27 +307,27 @@ module _ (plan : Plan) where
 
   -- ---- lines one after another
 
-  held_line : (d : Discovery) (l : ScriptLine) → IsLineOf plan l → Held plan d.network d.histories → Held plan (after_line plan d l).network (after_line plan d l).histories
+  held_line : (d : Discovery) (l : ScriptLine) → IsDiscoveryLineOf plan l → Held plan d.network d.histories → Held plan (after_line plan d l).network (after_line plan d l).histories
   held_line d (line.Hello from to hold) of_plan held = held_hello d from to hold held
   held_line d (line.Bring number) of_plan held = held_bring d number held
   held_line d (line.Open from to) of_plan held = held_open d from to of_plan held
   held_line d line.Tick of_plan held = held_tick d held
   held_line d (line.Do command) of_plan held = held_do d command of_plan.1 held
 
-  held_lines : (d : Discovery) (lines : List ScriptLine) → AllByRecursion (IsLineOf plan) lines → Held plan d.network d.histories
+  held_lines : (d : Discovery) (lines : List ScriptLine) → AllByRecursion (IsDiscoveryLineOf plan) lines → Held plan d.network d.histories
       → Held plan (after_lines plan d lines).network (after_lines plan d lines).histories
   held_lines d [] are held = held
   held_lines d (l ∷ lines) are held = held_lines (after_line plan d l) lines are.1 (held_line d l are.0 held)
 
-  front_of : (front behind : List ScriptLine) → AllByRecursion (IsLineOf plan) (front ++ behind) → AllByRecursion (IsLineOf plan) front
+  front_of : (front behind : List ScriptLine) → AllByRecursion (IsDiscoveryLineOf plan) (front ++ behind) → AllByRecursion (IsDiscoveryLineOf plan) front
   front_of [] behind are = tt
   front_of (l ∷ front) behind are = (are.0, front_of front behind are.1)
 
-pub holds_behind_each : (plan : Plan) (lines : List ScriptLine) → All (IsLineOf plan) lines → HoldsBehindEach plan lines
+pub holds_behind_each : (plan : Plan) (lines : List ScriptLine) → All (IsDiscoveryLineOf plan) lines → HoldsBehindEach plan lines
 holds_behind_each plan lines are front behind split edge peer is =
-    let each : AllByRecursion (IsLineOf plan) (front ++ behind) = all_by_recursion (front ++ behind) (subst (All (IsLineOf plan)) split are) in
+    let each : AllByRecursion (IsDiscoveryLineOf plan) (front ++ behind) = all_by_recursion (front ++ behind) (subst (All (IsDiscoveryLineOf plan)) split are) in
     (held_lines plan (discovery_opened plan) front (front_of plan front behind each) (held_first plan) edge peer is).1.1
   where
-    all_by_recursion : (ls : List ScriptLine) → All (IsLineOf plan) ls → AllByRecursion (IsLineOf plan) ls
+    all_by_recursion : (ls : List ScriptLine) → All (IsDiscoveryLineOf plan) ls → AllByRecursion (IsDiscoveryLineOf plan) ls
     all_by_recursion [] all = tt
-    all_by_recursion (l ∷ ls) all = (All-head (IsLineOf plan) l ls all, all_by_recursion ls (All-tail (IsLineOf plan) l ls all))
+    all_by_recursion (l ∷ ls) all = (All-head (IsDiscoveryLineOf plan) l ls all, all_by_recursion ls (All-tail (IsDiscoveryLineOf plan) l ls all))

@@ -33,7 +33,7 @@ use Rattle.edge_model.specs.Aging.{AddressesLastTheirAge, entry_at, ticks_passin
 use Rattle.edge_model.specs.declared.end_place.EndPlace.{EndPlace}
 use Rattle.edge_model.specs.EndPlaces.{end_places, is_end_of_wire}
 use Rattle.edge_model.specs.Ends.{wire_end}
-use Rattle.edge_model.specs.Mend.{advertises_under, advertises_wish, advertising, and_says, each_end, forgets_down, forgets_downs, forgetting_wire, is_new_choice, mends, mends_choice, mends_end, mends_local, mends_status, mends_status_of, tells_downs, tells_over, telling_status, then_changes, wish, withdrawing, withdraws_unless, offer_stands as stands, withdraws}
+use Rattle.edge_model.specs.Mend.{advertises_under, advertises_wish, advertising, and_says, each_end, forgets_down, forgets_downs, forgetting_wire, is_new_choice, mends, mends_choice, mends_end, mends_local, mends_status, mends_status_of, tells_downs, tells_over, telling_status, then_changes, wish, withdrawing, withdraws_unless, offer_stands, withdraws}
 use Rattle.edge_model.specs.Mended.{HasFitPaths}
 use Rattle.edge_model.specs.Put.{Spoken, stays}
 use Rattle.edge_model.specs.Role.{down_at, status_to_tell}
@@ -70,7 +70,7 @@ module _ (plan : Plan) (told : Answers) where
     idle (Some content) = left content (label_to_give work.edge)
 
     told_it : (label : ℕ) (content : Told) (wished : Option Told) → (withdraws_unless told place label content wished work).work.edge.learned ≡ work.edge.learned
-    told_it label content wished = by (stands place content wished) where
+    told_it label content wished = by (offer_stands place content wished) where
       by : (b : Bool) → (cond b (stays work) (withdraws told place label content work)).work.edge.learned ≡ work.edge.learned
       by true = refl
       by false = said_learned told place.peer (withdrawal place.pw_id label content) (changes (withdrawing place) work)

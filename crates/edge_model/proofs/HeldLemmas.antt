@@ -48,7 +48,7 @@ use Rattle.edge_model.specs.EndPlaces.{end_named, end_places}
 use Rattle.edge_model.specs.Ends.{wire_end}
 use Rattle.edge_model.specs.Frame.{copies}
 use Rattle.edge_model.specs.Hear.{acts, acts_on, advice_of, advises, hears_few, hears_front, hears_message, hears_messages, hears_one, hears_pdu, hears_within, holds, was_up}
-use Rattle.edge_model.specs.Mend.{passed_wish, advertises_under, advertises_wish, advertising, and_says, cause_number, each_end, forgets_down, forgets_downs, forgetting_wire, is_new_choice, is_up_with, mends, mends_again, mends_choice, mends_end, mends_few, mends_local, mends_once, mends_status, mends_status_of, port_of_wire, telling_status, tells_down, tells_downs, tells_over, terminal_wish, then_changes, wish, wish_of, withdrawing, withdraws_unless, offer_stands as stands, withdraws}
+use Rattle.edge_model.specs.Mend.{passed_wish, advertises_under, advertises_wish, advertising, and_says, cause_number, each_end, forgets_down, forgets_downs, forgetting_wire, is_new_choice, is_up_with, mends, mends_again, mends_choice, mends_end, mends_few, mends_local, mends_once, mends_status, mends_status_of, port_of_wire, telling_status, tells_down, tells_downs, tells_over, terminal_wish, then_changes, wish, wish_of, withdrawing, withdraws_unless, offer_stands, withdraws}
 use Rattle.edge_model.specs.Put.{Spoken, having_spoken, message_octets_of, octets_of, put_octets, put_replies, put_reply, put_reply_to, puts_on, with_spoken, stays}
 use Rattle.edge_model.specs.Role.{down_at, status_to_tell}
 use Rattle.edge_model.specs.Session.{clears_ends, comes_of, ends, had_put, had_said, happens, happens_to, happens_with_ends, is_same_phase, says, says_to, tells_change, went_on, with_session, losing_ends}
@@ -247,7 +247,7 @@ advertises_held told other place (Some content) work = by (label_to_give work.ed
 withdraws_held : (told : Answers) (other : Holding) (place : EndPlace) (label : ℕ) (content : Told) (wished : Option Told) (work : Work)
     → withdraws_unless told place label content wished (rehold other work) ≡ rehold_spoken other (withdraws_unless told place label content wished work)
 unfolding changes with_end with_kept
-withdraws_held told other place label content wished work = by (stands place content wished) where
+withdraws_held told other place label content wished work = by (offer_stands place content wished) where
   by : (b : Bool) → cond b (stays (rehold other work)) (withdraws told place label content (rehold other work)) ≡ rehold_spoken other (cond b (stays work) (withdraws told place label content work))
   by true = refl
   by false = says_held told other place.peer (withdrawal place.pw_id label content) (changes (withdrawing place) work)

@@ -14,7 +14,7 @@ use Rattle.pw_messages.specs.Content.{mac_withdrawal, mapping, status_notificati
 use Rattle.pw_messages.specs.LinkAnswers.{Answers}
 use Rattle.edge_model.specs.declared.end_place.EndPlace.{EndPlace}
 use Rattle.edge_model.specs.EndPlaces.{end_places}
-use Rattle.edge_model.specs.Mend.{advertises_under, advertises_wish, advertising, and_says, each_end, is_new_choice, mends, mends_again, mends_choice, mends_end, mends_few, mends_local, mends_once, mends_status, mends_status_of, telling_status, tells_over, then_changes, wish, withdrawing, withdraws_unless, offer_stands as stands, withdraws}
+use Rattle.edge_model.specs.Mend.{advertises_under, advertises_wish, advertising, and_says, each_end, is_new_choice, mends, mends_again, mends_choice, mends_end, mends_few, mends_local, mends_once, mends_status, mends_status_of, telling_status, tells_over, then_changes, wish, withdrawing, withdraws_unless, offer_stands, withdraws}
 use Rattle.edge_model.specs.Put.{Spoken, having_spoken, message_octets_of, put_octets, with_spoken, stays}
 use Rattle.edge_model.specs.Role.{status_to_tell}
 use Rattle.edge_model.specs.Session.{clears_ends, had_said, says, says_to}
@@ -70,7 +70,7 @@ module _ (plan : Plan) (told : Answers) (takes : TakesAll told) where
       by (Some label) = says_takes told place.peer (mapping place.pw_id label content) (changes (advertising place label content) work) takes
 
     withdraws_it : (label : ℕ) (content : Told) (wished : Option Told) → (withdraws_unless told place label content wished work).failed ≡ false
-    withdraws_it label content wished = by (stands place content wished) where
+    withdraws_it label content wished = by (offer_stands place content wished) where
       by : (b : Bool) → (cond b (stays work) (withdraws told place label content work)).failed ≡ false
       by true = refl
       by false = says_takes told place.peer (withdrawal place.pw_id label content) (changes (withdrawing place) work) takes

@@ -31,7 +31,7 @@ use Rattle.spoke_redundancy.specs.Telling.{is_not_chosen}
 use Rattle.edge_model.specs.declared.effect.Effect.TheVariants.{Wire}
 use Rattle.edge_model.specs.declared.end_place.EndPlace.{EndPlace}
 use Rattle.edge_model.specs.EndPlaces.{end_places, is_terminal}
-use Rattle.edge_model.specs.Mend.{passed_wish, advertises_under, advertises_wish, advertising, and_says, cause_number, each_end, forgets_down, forgets_downs, forgetting_wire, is_new_choice, is_up_with, mends, mends_again, mends_choice, mends_end, mends_few, mends_local, mends_once, mends_status, mends_status_of, port_of_wire, status_held, status_offered, telling_status, tells_down, tells_downs, tells_over, tells_status, then_changes, wish, wish_of, withdrawing, offer_stands as stands, withdraws, passed_from, terminal_wish}
+use Rattle.edge_model.specs.Mend.{passed_wish, advertises_under, advertises_wish, advertising, and_says, cause_number, each_end, forgets_down, forgets_downs, forgetting_wire, is_new_choice, is_up_with, mends, mends_again, mends_choice, mends_end, mends_few, mends_local, mends_once, mends_status, mends_status_of, port_of_wire, status_held, status_offered, telling_status, tells_down, tells_downs, tells_over, tells_status, then_changes, wish, wish_of, withdrawing, offer_stands, withdraws, passed_from, terminal_wish}
 use Rattle.edge_model.specs.Put.{Spoken, having_spoken, message_octets_of, put_octets, with_spoken, stays}
 use Rattle.edge_model.specs.Role.{down_at, is_chosen, role_in, status_to_tell, own_status}
 use Rattle.edge_model.specs.Session.{had_said, says, says_to}
@@ -75,7 +75,7 @@ mends_end_not plan told place work = of (end_at work.edge place).local where
   of : (local : LocalPart) → tells_wish place (wish plan work.edge place) none_left local ≡ true → mends_local plan told place local work ≡ stays work
   of (Idle true) e = refl
   of (Idle false) e = idle (wish plan work.edge place) e
-  of (Advertised label content) e = told_it label content (stands place content (wish plan work.edge place)) e
+  of (Advertised label content) e = told_it label content (offer_stands place content (wish plan work.edge place)) e
   of (Withdrawing label) e = refl
 
 pub mends_status_not : (plan : Plan) (told : Answers) (place : EndPlace) (work : Work) → is_told plan work.edge place ≡ true → mends_status plan told place work ≡ stays work
@@ -423,14 +423,14 @@ mended_by plan edge place wished none_left local w n l =
     ∙ (ap (λ (b : Bool). tells_wish place wished b (end_at edge place).local) n ∙ ap (tells_wish place wished none_left) l)
 
 -- what an end should tell still stands where it has told just that
-stands_itself : (place : EndPlace) (content : Told) → stands place content (Some content) ≡ true
+stands_itself : (place : EndPlace) (content : Told) → offer_stands place content (Some content) ≡ true
 stands_itself place content = by place.terminal where
   by : (terminal : Bool) → terminal || is_same_but_status content content ≡ true
   by true = refl
   by false = (same_without_status content content).1 refl
 
 -- whether it still stands does not go by the status that was told
-stands_alike : (place : EndPlace) (content : Told) (status : PwStatus) (wished : Option Told) → stands place (with_status status content) wished ≡ stands place content wished
+stands_alike : (place : EndPlace) (content : Told) (status : PwStatus) (wished : Option Told) → offer_stands place (with_status status content) wished ≡ offer_stands place content wished
 stands_alike place content status None = refl
 stands_alike place content status (Some wished) = refl
 
@@ -474,7 +474,7 @@ end_mends plan told place work = of (end_at work.edge place).local refl where
         advertises_it label content is wished given (says told place.peer (mapping place.pw_id label content) (changes (advertising place label content) work))
         (says_spoken told place.peer (mapping place.pw_id label content) (changes (advertising place label content) work) none)
 
-  told_it : (label : ℕ) (content : Told) → (end_at a place).local ≡ Advertised label content → (b : Bool) → stands place content (wish plan a place) ≡ b
+  told_it : (label : ℕ) (content : Told) → (end_at a place).local ≡ Advertised label content → (b : Bool) → offer_stands place content (wish plan a place) ≡ b
       → (cond b (stays work) (withdraws told place label content work)).failed ≡ false → EndMends plan place a (cond b (stays work) (withdraws told place label content work)).work.edge
   told_it label content is false changed none = after (says told place.peer message begun) (says_spoken told place.peer message begun none) where
     begun : Work
@@ -498,7 +498,7 @@ end_mends plan told place work = of (end_at work.edge place).local refl where
   of : (local : LocalPart) → (end_at a place).local ≡ local → (mends_local plan told place local work).failed ≡ false → EndMends plan place a (mends_local plan told place local work).work.edge
   of (Idle true) is none = stayed (mended_by plan a place (wish plan a place) (none_to_give a) (Idle true) refl refl is)
   of (Idle false) is none = idle is (wish plan a place) refl none
-  of (Advertised label content) is none = told_it label content is (stands place content (wish plan a place)) refl none
+  of (Advertised label content) is none = told_it label content is (offer_stands place content (wish plan a place)) refl none
   of (Withdrawing label) is none = stayed (mended_by plan a place (wish plan a place) (none_to_give a) (Withdrawing label) refl refl is)
 
 -- ---- a status is told

@@ -34,7 +34,7 @@ use Rattle.edge_model.specs.declared.end_place.EndPlace.{EndPlace}
 use Rattle.edge_model.specs.EndPlaces.{end_named, ends_here, passes}
 use Rattle.edge_model.specs.Frame.{is_own}
 use Rattle.edge_model.specs.Hear.{acts_on, hears, hears_message, hears_messages, hears_on, hears_one, hears_pdu, octets_input}
-use Rattle.edge_model.specs.Mend.{advertises_under, advertises, advertises_wish, advertising, and_says, cause_number, each_end, forgets_downs, forgetting_wire, is_new_choice, mends, mends_choice, mends_end, mends_local, mends_once, mends_status, mends_status_of, tells_down, tells_downs, tells_new_status, tells_over, telling_status, wish, withdrawing, withdraws, withdraws_unless, offer_stands as stands}
+use Rattle.edge_model.specs.Mend.{advertises_under, advertises, advertises_wish, advertising, and_says, cause_number, each_end, forgets_downs, forgetting_wire, is_new_choice, mends, mends_choice, mends_end, mends_local, mends_once, mends_status, mends_status_of, tells_down, tells_downs, tells_new_status, tells_over, telling_status, wish, withdrawing, withdraws, withdraws_unless, offer_stands}
 use Rattle.edge_model.specs.Put.{Spoken, put_reply, stays}
 use Rattle.edge_model.specs.Role.{down_at, status_to_tell}
 use Rattle.edge_model.specs.Session.{had_said, happens_with_ends, says}
@@ -204,7 +204,7 @@ advertises_wish_signals told place (Some content) work = advertises_end_signals 
 
 pub withdraws_unless_signals : (told : Answers) (place : EndPlace) (label : ℕ) (content : Told) (wished : Option Told) (work : Work)
     → IsSignalWork work (withdraws_unless told place label content wished work).work
-withdraws_unless_signals told place label content wished work = by (stands place content wished) where
+withdraws_unless_signals told place label content wished work = by (offer_stands place content wished) where
   by : (b : Bool) → IsSignalWork work (cond b (stays work) (withdraws told place label content work)).work
   by true = signals_not work
   by false = withdraws_signals told place label content work

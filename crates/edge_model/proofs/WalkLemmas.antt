@@ -75,7 +75,7 @@ use Rattle.edge_model.specs.Echo.{channel_octets, channel_under, echoes, is_pick
 use Rattle.edge_model.specs.Ends.{is_up, wire_end}
 use Rattle.edge_model.specs.Frame.{copies, copy_by, frame_input, hearing, is_own, port_at, received, targets_of}
 use Rattle.edge_model.specs.Hear.{acts, acts_on, advice_of, advises, hears, hears_few, hears_front, hears_message, hears_messages, hears_on, hears_one, hears_pdu, hears_within, holds, octets_input, was_up}
-use Rattle.edge_model.specs.Mend.{advertises, advertises_under, advertises_wish, advertising, and_says, cause_number, each_end, forgets_down, forgets_downs, forgetting_wire, is_new_choice, mends, mends_choice, mends_end, mends_few, mends_local, mends_once, mends_status, mends_status_of, port_of_wire, tells_down, tells_downs, tells_new_status, tells_over, telling_status, then_changes, wish, offer_stands as stands, withdrawing, withdraws, withdraws_unless}
+use Rattle.edge_model.specs.Mend.{advertises, advertises_under, advertises_wish, advertising, and_says, cause_number, each_end, forgets_down, forgets_downs, forgetting_wire, is_new_choice, mends, mends_choice, mends_end, mends_few, mends_local, mends_once, mends_status, mends_status_of, port_of_wire, tells_down, tells_downs, tells_new_status, tells_over, telling_status, then_changes, wish, offer_stands, withdrawing, withdraws, withdraws_unless}
 use Rattle.edge_model.specs.Packet.{switched_by, switched_to, switched_under, towards, advertiser, alerted, alerts_by, alerts_end, behind_entry, bridges_frame, by_offer, enters, is_alert, is_channel, labelled, least_label, opened_by, owned, packet_input, switched, terminated, unpacked_at}
 use Rattle.edge_model.specs.Put.{Spoken, put_reply, stays}
 use Rattle.edge_model.specs.Ping.{asks, far_address, ping_between, ping_input, pinging, pings_at, pings_by, pings_in, pings_under}
@@ -111,7 +111,7 @@ pub record MendSteps (plan : Plan) (told : Answers) (R : Work → Work → Type 
       → R work (says told place.peer (mapping place.pw_id label content) (changes (advertising place label content) work)).work
   -- one is withdrawn
   pub withdraws : (place : EndPlace) (label : ℕ) (content : Told) (work : Work) → IsEndAt plan work.edge.me place
-      → (end_at work.edge place).local ≡ Advertised label content → stands place content (wish plan work.edge place) ≡ false
+      → (end_at work.edge place).local ≡ Advertised label content → offer_stands place content (wish plan work.edge place) ≡ false
       → R work (withdraws told place label content work).work
   -- the edge chooses among its spokes
   pub chooses : (work : Work) → R work (changes (choosing plan) work)
@@ -169,11 +169,11 @@ module _ (plan : Plan) (told : Answers) (R : Work → Work → Type 0) (steps : 
   withdraws_walks : (place : EndPlace) (label : ℕ) (content : Told) (wished : Option Told) (work : Work) → IsEndAt plan work.edge.me place
       → (end_at work.edge place).local ≡ Advertised label content → wish plan work.edge place ≡ wished → Walks R work (withdraws_unless told place label content wished work).work
   unfolding changes with_end with_kept
-  withdraws_walks place label content wished work here told_it is = by (stands place content wished) refl where
-    by : (b : Bool) → stands place content wished ≡ b → Walks R work (cond b (stays work) (withdraws told place label content work)).work
+  withdraws_walks place label content wished work here told_it is = by (offer_stands place content wished) refl where
+    by : (b : Bool) → offer_stands place content wished ≡ b → Walks R work (cond b (stays work) (withdraws told place label content work)).work
     by true still = walks_not steps work
     by false changed = record {
-      holds = steps.withdraws place label content work here told_it (ap (stands place content) is ∙ changed);
+      holds = steps.withdraws place label content work here told_it (ap (offer_stands place content) is ∙ changed);
       me = (says_works told any place.peer (withdrawal place.pw_id label content) (changes (withdrawing place) work) refl).edge.me;
     }
 

@@ -44,7 +44,7 @@ use Rattle.network_model.specs.Absorb.{taken_all}
 use Rattle.flight_laws.specs.Ends.{AreFieldOffers, HasTypes, IsFieldOffer, ends_at}
 use Rattle.flight_laws.specs.Messages.{HaveOctets}
 use Rattle.flight_laws.specs.Rules.{BindsGiven, FarTells, MayName, NearTells, TellsExpected, part_owns, point_of}
-use Rattle.flight_laws.specs.Sound.{CanBeMapped as CanBeTold, IsSoundTold}
+use Rattle.flight_laws.specs.Sound.{CanBeMapped, IsSoundTold}
 use Rattle.network_model.proofs.PointLemmas.{points_three}
 use Rattle.network_model.proofs.WayLemmas.{joins_is}
 use Rattle.flight_laws.proofs.AcceptLemmas.{wanted_tells}
@@ -96,11 +96,11 @@ pw_id_fits plan wire row checked is = below_32_bits row.pw_id (wire_fits plan wi
 
 -- what the plan has an edge tell can be told
 pub told_can : (plan : Plan) (wire : WireId) (row : WirePlan) (from to label : ℕ) (told : Told) → HasTypes plan → wire_row plan wire ≡ Some row → TellsExpected plan row from to told
-    → IsLabel label → CanBeTold label told
+    → IsLabel label → CanBeMapped label told
 told_can plan wire row from to label told types is tells label_is =
     let field : IsFieldOffer (expected plan row from to).offer =
     one_of (follows row.path from to) row.near row.far IsFieldOffer (offer_fits plan wire row types is).near (offer_fits plan wire row types is).far in
-    let can : CanBeTold label (content_of (expected plan row from to).offer told.status) = content_can label (expected plan row from to).offer told.status label_is field in
+    let can : CanBeMapped label (content_of (expected plan row from to).offer told.status) = content_can label (expected plan row from to).offer told.status label_is field in
     record {
       is_label = label_is;
       kind = subst (λ (k : ℕ). k ≤ 0x7FFF) (sym (ap (λ (t : Told). t.kind) tells.content)) can.kind;

@@ -28,7 +28,7 @@ use Rattle.independent_model.specs.Calls.{independent_hears, independent_hears_o
 use Rattle.independent_mode.specs.Heard.{HearsTo}
 use Rattle.independent_model.specs.State.{ConnectionState, Stopped, Receiver, IndepState, Receiving, Broken, receiver_set, with_connection, with_receiver, with_remote, without_remotes}
 use Rattle.independent_model.specs.Wires.{is_between, is_row_between}
-use Rattle.independent_model.specs.Work.{Comes, Goes, NeverRefused, IndepOutcome as Outcome, Stops, and_works}
+use Rattle.independent_model.specs.Work.{Comes, Goes, NeverRefused, IndepOutcome, Stops, and_works}
 use Rattle.independent_model.proofs.CommonLemmas.{then_same}
 
 -- ---- messages in order
@@ -116,11 +116,11 @@ module _ (plan : Plan) (told : Answers) (me : ℕ) (peer : EdgeId) where
       ∙ ap (λ (receiver : Receiver). hears_at plan told me peer receiver more e c) (sym (going_is new got.going))))
 
   -- one PDU was heard
-  pub at_got : (old new : StreamState) (pdu : Pdu) (more : List ℕ) (whole : Outcome) (edge next : IndepState) (calls after : List LinkCall) → IsGot old new pdu → AreOctets more
+  pub at_got : (old new : StreamState) (pdu : Pdu) (more : List ℕ) (whole : IndepOutcome) (edge next : IndepState) (calls after : List LinkCall) → IsGot old new pdu → AreOctets more
       → whole ≡ hears_at plan told me peer (receiver_of old) more edge calls → independent_hears_messages plan told me peer pdu.messages edge calls ≡ Goes next after
       → whole ≡ hears_at plan told me peer (receiver_of new) more next after
   at_got old new pdu more whole edge next calls after got octets was heard =
-      was ∙ (got_at old new pdu more edge calls got octets ∙ ap (λ (o : Outcome). and_works o (λ e c. hears_at plan told me peer (receiver_of new) more e c)) heard)
+      was ∙ (got_at old new pdu more edge calls got octets ∙ ap (λ (o : IndepOutcome). and_works o (λ e c. hears_at plan told me peer (receiver_of new) more e c)) heard)
 
   -- more octets are wanted
   pub at_waits : (s : StreamState) (edge : IndepState) (calls : List LinkCall) → IsReceiverWaiting s → hears_at plan told me peer (receiver_of s) [] edge calls
@@ -172,32 +172,33 @@ module _ (plan : Plan) (told : Answers) (me : ℕ) (peer : EdgeId) where
   -- ---- what a call has answered
 
   -- a message of a PDU was not taken
-  pub hears_stopped : (T U : Type 0) (why : IndepStop) (old new : StreamState) (pdu : Pdu) (more : List ℕ) (whole : Outcome) (edge next : IndepState) (calls after : List LinkCall)
+  pub hears_stopped : (T U : Type 0) (why : IndepStop) (old new : StreamState) (pdu : Pdu) (more : List ℕ) (whole : IndepOutcome) (edge next : IndepState) (calls after : List LinkCall)
       → IsGot old new pdu → AreOctets more
       → whole ≡ hears_at plan told me peer (receiver_of old) more edge calls → NeverRefused {T = T} (Err why)
       → Comes {T = T} (Err why) next after (independent_hears_messages plan told me peer pdu.messages edge calls)
       → HearsTo {T = U} plan told me peer (Err why) new more next after whole
   hears_stopped T U stop.Link old new pdu more whole edge next calls after got octets was never comes =
-      was ∙ (got_at old new pdu more edge calls got octets ∙ ap (λ (o : Outcome). and_works o (λ e c. hears_at plan told me peer (receiver_of new) more e c)) comes)
+      was ∙ (got_at old new pdu more edge calls got octets ∙ ap (λ (o : IndepOutcome). and_works o (λ e c. hears_at plan told me peer (receiver_of new) more e c)) comes)
   hears_stopped T U (stop.Refused answer) old new pdu more whole edge next calls after got octets was never comes = absurd never
   hears_stopped T U stop.NoMemory old new pdu more whole edge next calls after got octets was never comes = tt
 
   -- the octets were refused, or there was no memory for them
-  pub next_stopped : (U : Type 0) (why : IndepStop) (old new : StreamState) (more : List ℕ) (whole : Outcome) (edge : IndepState) (calls : List LinkCall) → IsNext old new (Err why) → AreOctets more
+  pub next_stopped : (U : Type 0) (why : IndepStop) (old new : StreamState) (more : List ℕ) (whole : IndepOutcome) (edge : IndepState) (calls : List LinkCall)
+      → IsNext old new (Err why) → AreOctets more
       → whole ≡ hears_at plan told me peer (receiver_of old) more edge calls → HearsTo {T = U} plan told me peer (Err why) new more edge calls whole
   next_stopped U stop.Link old new more whole edge calls next octets was = absurd next
   next_stopped U (stop.Refused answer) old new more whole edge calls next octets was = was ∙ at_refused old new answer more edge calls next octets
   next_stopped U stop.NoMemory old new more whole edge calls next octets was = tt
 
   -- nothing was left to hear
-  pub all_heard : (s : StreamState) (octets : List ℕ) (at : ℕ) (whole : Outcome) (edge : IndepState) (calls : List LinkCall) → IsReceiverWaiting s → at ≡ length octets → whole
+  pub all_heard : (s : StreamState) (octets : List ℕ) (at : ℕ) (whole : IndepOutcome) (edge : IndepState) (calls : List LinkCall) → IsReceiverWaiting s → at ≡ length octets → whole
       ≡ hears_at plan told me peer (receiver_of s) (drop at octets) edge calls
       → whole ≡ Goes (with_receiver peer.0 (receiver_of s) edge) calls
   all_heard s octets at whole edge calls waits end was =
       was ∙ (ap (λ (l : List ℕ). hears_at plan told me peer (receiver_of s) l edge calls) (ap (λ (n : ℕ). drop n octets) end ∙ drop_end octets) ∙ at_waits s edge calls waits)
 
   -- what a call on octets in parts has answered
-  pub part_stopped : (T U : Type 0) (why : IndepStop) (s : StreamState) (more : List ℕ) (whole start : Outcome) (edge : IndepState) (calls : List LinkCall) → start ≡ whole
+  pub part_stopped : (T U : Type 0) (why : IndepStop) (s : StreamState) (more : List ℕ) (whole start : IndepOutcome) (edge : IndepState) (calls : List LinkCall) → start ≡ whole
       → HearsTo {T = T} plan told me peer (Err why) s more edge calls whole
       → Comes {T = U} (Err why) (kept_after {T = U} peer.0 s (Err why) edge) calls start
   part_stopped T U stop.Link s more whole start edge calls was to = was ∙ to
@@ -205,7 +206,7 @@ module _ (plan : Plan) (told : Answers) (me : ℕ) (peer : EdgeId) where
   part_stopped T U stop.NoMemory s more whole start edge calls was to = tt
 
 -- all that is held was heard
-pub on_ok : {T : Type 0} (plan : Plan) (told : Answers) (me : ℕ) (peer : EdgeId) (r : Result T IndepStop) (done : T) (s : StreamState) (more : List ℕ) (edge : IndepState) (calls : List LinkCall) (whole : Outcome) → r ≡ Ok done
+pub on_ok : {T : Type 0} (plan : Plan) (told : Answers) (me : ℕ) (peer : EdgeId) (r : Result T IndepStop) (done : T) (s : StreamState) (more : List ℕ) (edge : IndepState) (calls : List LinkCall) (whole : IndepOutcome) → r ≡ Ok done
     → HearsTo plan told me peer r s more edge calls whole → whole ≡ hears_at plan told me peer (receiver_of s) more edge calls
 on_ok plan told me peer r done s more edge calls whole is to = subst (λ x. HearsTo plan told me peer x s more edge calls whole) is to
 
@@ -268,7 +269,7 @@ pub heard_comes : {T : Type 0} (plan : Plan) (told : Answers) (me : ℕ) (peer :
     → IsTakenOut peer.0 edge first (Some s) → Comes r (kept_after peer.0 now r next) after (hears_at plan told me peer (receiver_of s) octets first calls) → last ≡ kept_after peer.0 now r next
     → Comes r last after (independent_hears plan told me peer octets edge calls)
 heard_comes {T = T} plan told me peer octets s now r edge first next last calls after out comes is =
-    subst (λ (o : Outcome). Comes r last after o) (sym (hears_stream plan told me peer octets s edge calls out.1))
+    subst (λ (o : IndepOutcome). Comes r last after o) (sym (hears_stream plan told me peer octets s edge calls out.1))
     (subst (λ (e : IndepState). Comes r e after (hears_at plan told me peer (receiver_of s) octets (with_receiver peer.0 Stopped edge) calls)) (sym is)
     (subst (λ (e : IndepState). Comes r (kept_after peer.0 now r next) after (hears_at plan told me peer (receiver_of s) octets e calls)) out.0 comes))
 

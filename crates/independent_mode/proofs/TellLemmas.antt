@@ -14,7 +14,7 @@ use Rattle.ldp_stream.specs.State.{StreamState}
 use Rattle.independent_mode.specs.Lists.{IndepLists, KeepsIndependent}
 use Rattle.independent_mode.specs.Receiver.{HasReceiver, HasNoReceiver, IsTakenOut, receiver_in, receiver_of}
 use Rattle.independent_model.specs.Tell.{octets_on, independent_puts, tells, independent_tells_by, tells_from, tells_in, tells_place}
-use Rattle.independent_model.specs.Work.{Goes, CallsGoOn, IndepOutcome as Outcome, Stops, and_works}
+use Rattle.independent_model.specs.Work.{Goes, CallsGoOn, IndepOutcome, Stops, and_works}
 
 -- ---- calls that go on
 
@@ -157,8 +157,9 @@ module _ (plan : Plan) (told : Answers) (me : ℕ) (peer : EdgeId) (wire : ℕ) 
 -- ---- one after another
 
 -- it goes on from what it came to
-pub goes_then : (o whole : Outcome) (edge : IndepState) (calls : List LinkCall) (f : IndepState → List LinkCall → Outcome) → whole ≡ and_works o f → o ≡ Goes edge calls → whole ≡ f edge calls
-goes_then o whole edge calls f is goes = is ∙ ap (λ (p : Outcome). and_works p f) goes
+pub goes_then : (o whole : IndepOutcome) (edge : IndepState) (calls : List LinkCall) (f : IndepState → List LinkCall → IndepOutcome) → whole ≡ and_works o f → o ≡ Goes edge calls
+    → whole ≡ f edge calls
+goes_then o whole edge calls f is goes = is ∙ ap (λ (p : IndepOutcome). and_works p f) goes
 
 pub from_more : (plan : Plan) (told : Answers) (me : ℕ) (peer : EdgeId) (i n : ℕ) (edge : IndepState) (calls : List LinkCall) → i < n
     → tells_from plan told me peer i (n - i) edge calls ≡ and_works (tells_place plan told me peer i edge calls) (λ e c. tells_from plan told me peer (i + 1) (n - (i + 1)) e c)

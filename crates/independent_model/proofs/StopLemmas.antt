@@ -23,7 +23,7 @@ use Rattle.independent_model.specs.Hear.{hears_at, hears_by, independent_hears_f
 use Rattle.independent_model.specs.State.{ConnectionState, Stopped, Receiver, IndepState, Receiving, Broken, fresh_connection, with_connection, with_receiver, with_local}
 use Rattle.independent_model.specs.Tell.{octets_on, independent_puts, tells, independent_tells_by, tells_from, tells_in, tells_place}
 use Rattle.independent_model.specs.Wires.{is_between, other_end, wire_named}
-use Rattle.independent_model.specs.Work.{Comes, Goes, NeverRefused, IndepOutcome as Outcome, Stops, and_works}
+use Rattle.independent_model.specs.Work.{Comes, Goes, NeverRefused, IndepOutcome, Stops, and_works}
 use Rattle.independent_model.specs.Stops.{AllTaken, CallsEnd, EndsAs, EndsBy, answers_of}
 
 module _ (told : Answers) where
@@ -34,7 +34,7 @@ module _ (told : Answers) where
   both_taken a b c one two k least less = ⊎_elim (λ (h : k < b). one k least h) (λ (h : b ≤ k). two k h less) (cases_lt k b)
 
   -- more puts before, which were taken
-  earlier : (a b : ℕ) (o : Outcome) → a ≤ b → AllTaken told a b → EndsAs told b o → EndsAs told a o
+  earlier : (a b : ℕ) (o : IndepOutcome) → a ≤ b → AllTaken told a b → EndsAs told b o → EndsAs told a o
   earlier a b (Goes e c) less taken is = (omega (arith, less, is.0), both_taken a b (length c) taken is.1)
   earlier a b (Stops stop.Link e c) less taken is = record { last = is.last; is = is.is; least = omega (arith, less, is.least); taken = both_taken a b is.last taken is.taken; failed = is.failed }
   earlier a b (Stops (stop.Refused f) e c) less taken is = (omega (arith, less, is.0), both_taken a b (length c) taken is.1)
@@ -43,7 +43,7 @@ module _ (told : Answers) where
   done_ends : (e : IndepState) (c : List LinkCall) → EndsAs told (length c) (Goes e c)
   done_ends e c = (omega arith, none_taken (length c))
 
-  then_ends : (from : ℕ) (o : Outcome) (f : IndepState → List LinkCall → Outcome) → EndsAs told from o → ((e : IndepState) (c : List LinkCall) → EndsAs told (length c) (f e c))
+  then_ends : (from : ℕ) (o : IndepOutcome) (f : IndepState → List LinkCall → IndepOutcome) → EndsAs told from o → ((e : IndepState) (c : List LinkCall) → EndsAs told (length c) (f e c))
       → EndsAs told from (and_works o f)
   then_ends from (Goes e c) f is more = earlier from (length c) (f e c) is.0 is.1 (more e c)
   then_ends from (Stops why e c) f is more = is
@@ -166,15 +166,15 @@ agrees_self calls = record { each = each calls }
     each (call ∷ calls) zero other within = refl
     each (call ∷ calls) (suc k) other within = each calls k other (omega (arith, within))
 
-ends_by : {T : Type 0} (result : Result T IndepStop) (edge : IndepState) (old new : List LinkCall) (outcome : Outcome) → Comes result edge new outcome
+ends_by : {T : Type 0} (result : Result T IndepStop) (edge : IndepState) (old new : List LinkCall) (outcome : IndepOutcome) → Comes result edge new outcome
     → EndsAs (answers_of new) (length old) outcome → EndsBy old new result
-ends_by (Ok done) edge old new outcome comes ends = (subst (λ (o : Outcome). EndsAs (answers_of new) (length old) o) comes ends).1
-ends_by (Err stop.Link) edge old new outcome comes ends = subst (λ (o : Outcome). EndsAs (answers_of new) (length old) o) comes ends
-ends_by (Err (stop.Refused fault)) edge old new outcome comes ends = (subst (λ (o : Outcome). EndsAs (answers_of new) (length old) o) comes ends).1
+ends_by (Ok done) edge old new outcome comes ends = (subst (λ (o : IndepOutcome). EndsAs (answers_of new) (length old) o) comes ends).1
+ends_by (Err stop.Link) edge old new outcome comes ends = subst (λ (o : IndepOutcome). EndsAs (answers_of new) (length old) o) comes ends
+ends_by (Err (stop.Refused fault)) edge old new outcome comes ends = (subst (λ (o : IndepOutcome). EndsAs (answers_of new) (length old) o) comes ends).1
 ends_by (Err stop.NoMemory) edge old new outcome comes ends = tt
 
 -- a call that does not go on answers what another one has answered
-pub comes_err : (T U : Type 0) (why : IndepStop) (edge : IndepState) (calls : List LinkCall) (outcome : Outcome) → Comes {T = T} (Err why) edge calls outcome
+pub comes_err : (T U : Type 0) (why : IndepStop) (edge : IndepState) (calls : List LinkCall) (outcome : IndepOutcome) → Comes {T = T} (Err why) edge calls outcome
     → Comes {T = U} (Err why) edge calls outcome
 comes_err T U stop.Link edge calls outcome comes = comes
 comes_err T U (stop.Refused fault) edge calls outcome comes = comes

@@ -23,7 +23,7 @@ use Rattle.ldp_grammar.specs.Layouts.{Layout, CountedOctets, FamilyAddresses, Ma
 use Rattle.ldp_grammar.specs.Rows.{row_of, fec, label, switching_point}
 use Rattle.ldp_grammar.specs.Tlvs.{Tlv, IsTlv, spell_tlv, type_in, count_of, values_of, first_unknown, missing, needs_pw_id, IsFitting, IsFec, KeepsTo}
 use Rattle.ldp_grammar.specs.Values.{IsStatus, IsHello, IsSession, ArePoints}
-use Rattle.ldp_grammar.specs.Written.{bit_as, status_octets, hello_parameters_octets as hello_octets, session_octets, id_octets, addresses_octets, are_whole, AreParams, point_tlvs, tlv, ignorable}
+use Rattle.ldp_grammar.specs.Written.{bit_as, status_octets, hello_parameters_octets, session_octets, id_octets, addresses_octets, are_whole, AreParams, point_tlvs, tlv, ignorable}
 use Rattle.ldp_grammar.proofs.OctetLemmas.{read_two, read_four}
 use Rattle.ldp_grammar.proofs.TlvLemmas.{size_of, count-append}
 
@@ -77,10 +77,10 @@ octet_bits true false = (refl, refl)
 octet_bits false true = (refl, refl)
 octet_bits false false = (refl, refl)
 
-pub hello_back : (hold : ℕ) (t r : Bool) → hold < 65536 → IsHello (hello_octets hold t r) hold t r
+pub hello_back : (hold : ℕ) (t r : Bool) → hold < 65536 → IsHello (hello_parameters_octets hold t r) hold t r
 hello_back hold t r small =
     let bits = high_bits t r in
-    let flags : two_at 2 (hello_octets hold t r) ≡ bit_as 15 t + bit_as 14 r = read_two (bit_as 15 t + bit_as 14 r) [] bits.2 in
+    let flags : two_at 2 (hello_parameters_octets hold t r) ≡ bit_as 15 t + bit_as 14 r = read_two (bit_as 15 t + bit_as 14 r) [] bits.2 in
     record {
       time = sym (read_two hold (two (bit_as 15 t + bit_as 14 r)) small);
       t_bit = bits.0 ∙ ap (bit 15) (sym flags);

@@ -17,7 +17,7 @@ use Rattle.flight_laws.proofs.PlaceLemmas.{IsEndOf, member_by_pw_id, same_row}
 use Rattle.flight_laws.proofs.SoundLemmas.{sound_giving, sound_same, sound_with_end}
 use Rattle.flight_laws.proofs.SteadyLemmas.{IsSilent, WishesSoundly, advertised_up, end_small, next_is_label, status_small, wishes, with_end_rest, advertising_rest}
 use Rattle.flight_laws.specs.Ends.{HasTypes}
-use Rattle.flight_laws.specs.Sound.{CanBeMapped as CanBeTold, IsSoundEnd, IsSoundPart, TellsSoundly, point_limit}
+use Rattle.flight_laws.specs.Sound.{CanBeMapped, IsSoundEnd, IsSoundPart, TellsSoundly, point_limit}
 use Rattle.move_laws.specs.Moves.{has_short_paths}
 use Rattle.edge_model.specs.Labels.{giving, label_to_give}
 use Rattle.ldp_grammar.specs.declared.message.Message.{Message}
@@ -157,7 +157,7 @@ module _ (plan : Plan) (service : ServiceId) (me : EdgeId) (checked : IsChecked 
   mesh_label label edge mesh = record { told = mesh.told; on = mesh.on; whole = mesh.whole }
 
   advertising_sound : (place : EndPlace) (label : ℕ) (content : Told) (edge : EdgeState) → is_up_with (edge.peering place.peer.0) ≡ true → (end_at edge place).local ≡ Idle false
-      → CanBeTold label content
+      → CanBeMapped label content
       → TellsSoundly (point_limit plan me.0) edge → TellsSoundly (point_limit plan me.0) (advertising place label content edge)
   unfolding with_end
   advertising_sound place label content edge up at can sound =
@@ -185,7 +185,7 @@ module _ (plan : Plan) (service : ServiceId) (me : EdgeId) (checked : IsChecked 
     row_advertises place label content work is at wished give i =
         let told : WishesSoundly work.edge place content = wishes plan me checked types work.edge place content i.sound is wished in
         let one : IsLabel label = next_is_label work.edge label i.sound give in
-        let can : CanBeTold label content = sound_can 3 label content one told.sound in
+        let can : CanBeMapped label content = sound_can 3 label content one told.sound in
         let rest = advertising_rest place content label work.edge in
         let message : IsOfWires (mapping place.pw_id label content) = mapping_sound place.pw_id label content (end_small plan me place checked is) one told.sound in
         says_speaks plan service network me peer base place.peer (mapping place.pw_id label content) (changes (advertising place label content) work) message
@@ -226,7 +226,7 @@ module _ (plan : Plan) (service : ServiceId) (me : EdgeId) (checked : IsChecked 
         (rw at (told_on label content status can.1)) (i.sound.ends place.wire.0 place.peer.0)) i.sound)
         (mesh_end work.edge place (telling status (end_at work.edge place)) (advertises_it label (with_status status content) _ local) i.mesh) i)
       where
-        told_on : (label : ℕ) (content : Told) (status : PwStatus) → CanBeTold label content → CanBeTold label (with_status status content)
+        told_on : (label : ℕ) (content : Told) (status : PwStatus) → CanBeMapped label content → CanBeMapped label (with_status status content)
         told_on label content status can = record { is_label = can.is_label; kind = can.kind; group = can.group }
 
     row_clears : (place : EndPlace) (label : ℕ) (content : Told) (addresses : List Mac) (work : Work) → IsEndOf plan me place → (end_at work.edge place).local

@@ -12,7 +12,7 @@ use Rattle.net_base.specs.declared.plan.wire_rule.WireRule.TheVariants.{PwIds, M
 use Rattle.net_base.specs.plan.Paths.{first_edge, last_edge, share_segment, is_same_edge, have_same_ends}
 use Rattle.net_base.specs.plan.Places.{is_mesh_class}
 use Rattle.net_base.specs.plan.WireFaults.{breaks, have_same_service, starts_in_mesh}
-use Rattle.net_base.specs.plan.WireMarks.{edge_number, pw_id_mark, pair_mark, end_mark, start_mark, ends_mark, left_first, left_last, is_wire_marked as is_marked, marks_with, IsMarkLeft, AreMarksLeft}
+use Rattle.net_base.specs.plan.WireMarks.{edge_number, pw_id_mark, pair_mark, end_mark, start_mark, ends_mark, left_first, left_last, is_wire_marked, marks_with, IsMarkLeft, AreMarksLeft}
 
 same_edge : (a b : Option EdgeId) → is_same_edge a b ≡ true → edge_number a ≡ edge_number b
 same_edge None b e = absurd (cc)
@@ -131,7 +131,7 @@ first_number wire = edge_number (first_edge wire.path)
 abbrev last_number : WirePlan → ℕ
 last_number wire = edge_number (last_edge wire.path)
 
-caught : (rule : WireRule) (marks : List Bool) (old later : WirePlan) → IsMarkLeft rule marks old → breaks rule old later ≡ true → is_marked rule marks later ≡ true
+caught : (rule : WireRule) (marks : List Bool) (old later : WirePlan) → IsMarkLeft rule marks old → breaks rule old later ≡ true → is_wire_marked rule marks later ≡ true
 caught PwIds marks old later left e =
     both_of (old.pw_id == later.pw_id) (share_segment old.path later.path) e (λ h g.
     or_left _ _ (ap (λ n. get_or marks (pw_id_mark n) false) (sym (eqb-true old.pw_id later.pw_id h)) ∙ left.first))
@@ -154,8 +154,8 @@ caught SpokeStarts marks old later left e =
 
 -- a wire that asks for no mark that was left breaks the rule with none
 pub none_broken : (rule : WireRule) (marks : List Bool) (wires : List WirePlan) (later : WirePlan) → AreMarksLeft rule marks wires
-    → is_marked rule marks later ≡ false → list_any (λ old. breaks rule old later) wires ≡ false
+    → is_wire_marked rule marks later ≡ false → list_any (λ old. breaks rule old later) wires ≡ false
 none_broken rule marks [] later are none = refl
 none_broken rule marks (old ∷ rest) later are none =
-    rw (false_from_ne_true (breaks rule old later) (λ h. let is : is_marked rule marks later ≡ true = caught rule marks old later are.0 h in absurd (cc)))
+    rw (false_from_ne_true (breaks rule old later) (λ h. let is : is_wire_marked rule marks later ≡ true = caught rule marks old later are.0 h in absurd (cc)))
     (none_broken rule marks rest later are.1 none)

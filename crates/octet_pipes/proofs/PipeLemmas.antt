@@ -2,7 +2,7 @@
 use Rattle.std.proofs.Common.{◌≡◌, ◌==◌, ◌<◌, ◌≤◌, ◌+◌, ◌∷◌, [], ℕ, Bool, true, false, suc, zero, List, cond, refl, ap, arith, nat_lt, length, slice_index_or, slice_set, ◌∙◌}
 use Rattle.std.proofs.lemmas.Bool.Decides.{nat_tests}
 use Rattle.std.proofs.lemmas.List.{get_or_past}
-use Rattle.octet_pipes.specs.Pipes.{PipeLists, emptied_to, pipes_of, with_octets, without_to}
+use Rattle.octet_pipes.specs.Pipes.{PipeLists, emptied_to, pipes_of, with_pipe_octets, without_to}
 
 pub view_set : {X : Type 0} (d : X) (xs : List X) (i : ℕ) (v : X) (k : ℕ) → i < length xs → slice_index_or (slice_set xs i v) k d ≡ cond (k == i) v (slice_index_or xs k d)
 view_set d (x ∷ xs) zero v zero h = refl
@@ -12,12 +12,12 @@ view_set d (x ∷ xs) (suc i) v (suc k) h = grind (arith, nat_tests, view_set d 
 view_set d [] i v k h = grind arith
 
 pub seen_set : (p : PipeLists) (from to : ℕ) (v : List ℕ) → from < length p.rows → to < length (slice_index_or p.rows from [])
-    → pipes_of (record p { rows = slice_set p.rows from (slice_set (slice_index_or p.rows from []) to v) }) ≡ with_octets from to v (pipes_of p)
+    → pipes_of (record p { rows = slice_set p.rows from (slice_set (slice_index_or p.rows from []) to v) }) ≡ with_pipe_octets from to v (pipes_of p)
 unfolding pipes_of
 seen_set p from to v h g = λ z i j. at_each i j z
   where
     at_each : (i j : ℕ) → slice_index_or (slice_index_or (slice_set p.rows from (slice_set (slice_index_or p.rows from []) to v)) i []) j []
-        ≡ with_octets from to v (λ a b. slice_index_or (slice_index_or p.rows a []) b []) i j
+        ≡ with_pipe_octets from to v (λ a b. slice_index_or (slice_index_or p.rows a []) b []) i j
     at_each i j = grind (arith, nat_tests, view_set [] p.rows from (slice_set (slice_index_or p.rows from []) to v) i h, view_set [] (slice_index_or p.rows from []) to v j g)
 
 -- pipes to one edge that are emptied one after another
@@ -27,10 +27,10 @@ emptied_none me pipes = λ z i j. at_each i j z
     at_each : (i j : ℕ) → pipes i j ≡ emptied_to me 0 pipes i j
     at_each i j = grind (arith, nat_tests)
 
-pub emptied_more : (me place : ℕ) (old pipes : ℕ → ℕ → List ℕ) → pipes ≡ emptied_to me place old → with_octets place me [] pipes ≡ emptied_to me (place + 1) old
-emptied_more me place old pipes e = ap (λ (p : ℕ → ℕ → List ℕ). with_octets place me [] p) e ∙ (λ z i j. at_each i j z)
+pub emptied_more : (me place : ℕ) (old pipes : ℕ → ℕ → List ℕ) → pipes ≡ emptied_to me place old → with_pipe_octets place me [] pipes ≡ emptied_to me (place + 1) old
+emptied_more me place old pipes e = ap (λ (p : ℕ → ℕ → List ℕ). with_pipe_octets place me [] p) e ∙ (λ z i j. at_each i j z)
   where
-    at_each : (i j : ℕ) → with_octets place me [] (emptied_to me place old) i j ≡ emptied_to me (place + 1) old i j
+    at_each : (i j : ℕ) → with_pipe_octets place me [] (emptied_to me place old) i j ≡ emptied_to me (place + 1) old i j
     at_each i j = grind (arith, nat_tests)
 
 emptied_all : (p : PipeLists) (me count : ℕ) → length p.rows ≤ count → emptied_to me count (pipes_of p) ≡ without_to me (pipes_of p)

@@ -20,8 +20,8 @@ abbrev pub no_octets : ℕ → ℕ → List ℕ
 no_octets from to = []
 
 -- other octets on their way from an edge to another one
-abbrev pub with_octets : ℕ → ℕ → List ℕ → (ℕ → ℕ → List ℕ) → ℕ → ℕ → List ℕ
-with_octets from to octets pipes i = if i == from then (λ j. if j == to then octets else pipes from j) else pipes i
+abbrev pub with_pipe_octets : ℕ → ℕ → List ℕ → (ℕ → ℕ → List ℕ) → ℕ → ℕ → List ℕ
+with_pipe_octets from to octets pipes i = if i == from then (λ j. if j == to then octets else pipes from j) else pipes i
 
 -- nothing is on its way to an edge
 abbrev pub without_to : ℕ → (ℕ → ℕ → List ℕ) → ℕ → ℕ → List ℕ

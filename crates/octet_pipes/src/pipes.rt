@@ -1,6 +1,6 @@
 //! The pipes between edges.
 ghost use Rattle.std.specs.Prelude.{◌≡◌, ◌++◌, ◌<◌, [], drop, length, take, IfOk, OnErr, OnOk};
-ghost use Rattle.octet_pipes.specs.Pipes.{no_octets, pipes_of, with_octets, without_to};
+ghost use Rattle.octet_pipes.specs.Pipes.{no_octets, pipes_of, with_pipe_octets, without_to};
 
 use crate::pipe_row::PipeRow;
 use net_base::{EdgeId, NoMemory};
@@ -44,7 +44,7 @@ impl Pipes {
         requires from { from.0 < self.old.size }
         requires to { to.0 < self.old.size }
         ensures size { self.new.size ≡ self.old.size }
-        ensures ok { OnOk result (pipes_of self.new ≡ with_octets from.0 to.0 (pipes_of self.old from.0 to.0 ++ piece.now) (pipes_of self.old)) }
+        ensures ok { OnOk result (pipes_of self.new ≡ with_pipe_octets from.0 to.0 (pipes_of self.old from.0 to.0 ++ piece.now) (pipes_of self.old)) }
         ensures err { OnErr result (pipes_of self.new ≡ pipes_of self.old) }
     {
         self.rows[from.0 as usize].pipes[to.0 as usize].put(piece)
@@ -83,7 +83,7 @@ impl Pipes {
         requires from { from.0 < self.old.size }
         requires to { to.0 < self.old.size }
         ensures size { self.new.size ≡ self.old.size }
-        ensures rest { pipes_of self.new ≡ with_octets from.0 to.0 (drop count (pipes_of self.old from.0 to.0)) (pipes_of self.old) }
+        ensures rest { pipes_of self.new ≡ with_pipe_octets from.0 to.0 (drop count (pipes_of self.old from.0 to.0)) (pipes_of self.old) }
     {
         self.rows[from.0 as usize].pipes[to.0 as usize].skip(count);
     }
@@ -93,7 +93,7 @@ impl Pipes {
         requires from { from.0 < self.old.size }
         requires to { to.0 < self.old.size }
         ensures size { self.new.size ≡ self.old.size }
-        ensures empty { pipes_of self.new ≡ with_octets from.0 to.0 [] (pipes_of self.old) }
+        ensures empty { pipes_of self.new ≡ with_pipe_octets from.0 to.0 [] (pipes_of self.old) }
     {
         self.clear_at(from.0 as usize, to.0 as usize);
     }
@@ -104,7 +104,7 @@ impl Pipes {
         requires from { from < self.old.size }
         requires to { to < self.old.size }
         ensures size { self.new.size ≡ self.old.size }
-        ensures empty { pipes_of self.new ≡ with_octets from to [] (pipes_of self.old) }
+        ensures empty { pipes_of self.new ≡ with_pipe_octets from to [] (pipes_of self.old) }
     {
         self.rows[from].pipes[to].clear();
     }

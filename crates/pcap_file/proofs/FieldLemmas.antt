@@ -8,7 +8,7 @@ use Rattle.pcap_file.specs.declared.capture_field.CaptureField.TheVariants.{Majo
 use Rattle.pcap_file.specs.declared.endianness.Endianness.{Endianness}
 use Rattle.pcap_file.specs.declared.endianness.Endianness.TheVariants.{Big}
 use Rattle.pcap_file.specs.Fields.{field_place, field_size, value_fault, field_fault, first_field_fault, header_fields, record_fields}
-use Rattle.pcap_file.specs.Numbers.{number_in_order as number_at, order_told}
+use Rattle.pcap_file.specs.Numbers.{number_in_order, order_told}
 use Rattle.pcap_file.specs.Records.{HasHeader}
 
 -- neither of two has a fault
@@ -41,28 +41,28 @@ all_sound base order octets (field ∷ fields) none =
     (one, all_sound base order octets fields others)
 
 -- a header whose fields have no fault is one
-pub header_sound : (order : Endianness) (octets : List ℕ) → 4 ≤ length octets → order_told (number_at Big 4 0 octets) ≡ Some order → first_field_fault 0 order octets header_fields
+pub header_sound : (order : Endianness) (octets : List ℕ) → 4 ≤ length octets → order_told (number_in_order Big 4 0 octets) ≡ Some order → first_field_fault 0 order octets header_fields
     ≡ None → HasHeader order octets
 header_sound order octets there told none =
     let sound = all_sound 0 order octets header_fields none in
     let (whole, network) = field_sound 0 order octets Network sound.1.1.1.1.1.0 in
-    let major_is : number_at order 2 4 octets == 2 ≡ true = passed _ _ (field_sound 0 order octets Major sound.0).1 in
-    let minor_is : number_at order 2 6 octets == 4 ≡ true = passed _ _ (field_sound 0 order octets Minor sound.1.0).1 in
-    let network_is : number_at order 4 20 octets == 1 ≡ true = passed _ _ network in
+    let major_is : number_in_order order 2 4 octets == 2 ≡ true = passed _ _ (field_sound 0 order octets Major sound.0).1 in
+    let minor_is : number_in_order order 2 6 octets == 4 ≡ true = passed _ _ (field_sound 0 order octets Minor sound.1.0).1 in
+    let network_is : number_in_order order 4 20 octets == 1 ≡ true = passed _ _ network in
     record { there = omega (arith, whole); magic = told; major = grind (arith, major_is); minor = grind (arith, minor_is); network = grind (arith, network_is) }
 
 -- octets that begin with a record of so many octets of a frame
 pub record BeginsRecord (order : Endianness) (octets : List ℕ) (count : ℕ) : Type 0 where
   pub whole : 16 + count ≤ length octets
-  pub captured : number_at order 4 8 octets ≡ count
+  pub captured : number_in_order order 4 8 octets ≡ count
   pub most : count ≤ 262144
 
 -- where no field of a record has a fault, octets begin with one
 
-pub record_sound : (base : ℕ) (order : Endianness) (octets : List ℕ) → first_field_fault base order octets record_fields ≡ None → BeginsRecord order octets (number_at order 4 8 octets)
+pub record_sound : (base : ℕ) (order : Endianness) (octets : List ℕ) → first_field_fault base order octets record_fields ≡ None → BeginsRecord order octets (number_in_order order 4 8 octets)
 record_sound base order octets none =
     let sound = all_sound base order octets record_fields none in
-    let most : nat_le (number_at order 4 8 octets) 262144 ≡ true = passed _ _ (field_sound base order octets Captured sound.1.1.0).1 in
+    let most : nat_le (number_in_order order 4 8 octets) 262144 ≡ true = passed _ _ (field_sound base order octets Captured sound.1.1.0).1 in
     record { whole = (field_sound base order octets Data sound.1.1.1.1.0).0; captured = refl; most = grind (arith, most) }
 
 -- a field that is whole, with a right value, has no fault

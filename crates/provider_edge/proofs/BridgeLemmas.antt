@@ -21,7 +21,7 @@ use Rattle.pw_messages.specs.LinkAnswers.{Agrees, Answers}
 use Rattle.hvpls_spokes.specs.declared.port.Port.{Port}
 use Rattle.hvpls_spokes.specs.declared.port.Port.TheVariants as port
 use Rattle.hvpls_spokes.specs.Port.{ports_of}
-use Rattle.hvpls_spokes.specs.PortSet.{holds_port as has}
+use Rattle.hvpls_spokes.specs.PortSet.{holds_port}
 use Rattle.pw_signalling.specs.declared.binding.Binding.{Binding}
 use Rattle.vsi_bridge.specs.Targets.{is_target, known_port}
 use Rattle.edge_model.specs.declared.effect.Effect.{Effect}
@@ -154,8 +154,9 @@ heard_edge c f service frame arrival is keeps step = seen_kept (hearing service 
 
 pub heard_targets : (c : EdgeLists) (f : ForwardingLists) (service : ServiceId) (frame : List ℕ) (arrival : ℕ) (targets : List ℕ) → IsEdge c → InSync c.plan (seen c) → KeepsForwarding c.forwarding f
     → ((edge : EdgeState) → with_forwarding f edge ≡ hearing service frame arrival (with_forwarding c.forwarding edge))
-    → has targets ≡ is_target (ports_of c.forwarding.plan service c.forwarding.me) (open_ports c.forwarding service) arrival (known_port (entries_of (domain_of f service.0)) (destination frame))
-    → has targets ≡ targets_of c.plan (seen (record c { forwarding = f })) service (ports_of c.plan service c.me) frame arrival
+    → holds_port targets ≡ is_target (ports_of c.forwarding.plan service c.forwarding.me) (open_ports c.forwarding service) arrival
+    (known_port (entries_of (domain_of f service.0)) (destination frame))
+    → holds_port targets ≡ targets_of c.plan (seen (record c { forwarding = f })) service (ports_of c.plan service c.me) frame arrival
 heard_targets c f service frame arrival targets is synced keeps step decided =
     let now : EdgeState = seen (record c { forwarding = f }) in
     let ports : List Port = ports_of c.plan service c.me in

@@ -100,7 +100,7 @@ use Rattle.edge_model.specs.Session.{clears_ends, comes_of, losing_ends, ends, h
 use Rattle.edge_model.specs.declared.end_place.EndPlace.{EndPlace}
 use Rattle.edge_model.specs.EndPlaces.{end_places, ends_here, is_at, is_end_of_wire, passes}
 use Rattle.edge_model.specs.Ends.{is_up, wire_end}
-use Rattle.edge_model.specs.Mend.{advertises_under, advertises_wish, advertising, and_says, cause_number, each_end, forgets_down, forgets_downs, forgetting_wire, is_new_choice, mends, mends_choice, mends_end, mends_few, mends_local, mends_once, mends_status, mends_status_of, port_of_wire, offer_stands as stands, telling_status, tells_down, tells_downs, tells_new_status, tells_over, then_changes, wish, withdrawing, withdraws, withdraws_unless}
+use Rattle.edge_model.specs.Mend.{advertises_under, advertises_wish, advertising, and_says, cause_number, each_end, forgets_down, forgets_downs, forgetting_wire, is_new_choice, mends, mends_choice, mends_end, mends_few, mends_local, mends_once, mends_status, mends_status_of, port_of_wire, offer_stands, telling_status, tells_down, tells_downs, tells_new_status, tells_over, then_changes, wish, withdrawing, withdraws, withdraws_unless}
 use Rattle.edge_model.specs.Role.{down_at, status_to_tell}
 use Rattle.edge_model.specs.Signal.{end_of_fec, hears_status, maps_to, releases_label, takes_content, with_end_changed, with_named, with_released}
 use Rattle.edge_model.specs.Spokes.{choosing}
@@ -543,7 +543,7 @@ end_kept plan Holds kept told place placed work here = to (end_at work.edge plac
         (kept.changed (advertising place label content) work here)
 
   unless : (label : ℕ) (content : Told) (w : Option Told) → Holds (withdraws_unless told place label content w work).work
-  unless label content w = by (stands place content w) where
+  unless label content w = by (offer_stands place content w) where
     by : (b : Bool) → Holds (cond b (stays work) (withdraws told place label content work)).work
     by true = here
     by false = says_kept plan Holds kept told place.peer placed.peer (withdrawal place.pw_id label content) (changes (withdrawing place) work) (kept.changed (withdrawing place) work here)

@@ -29,7 +29,7 @@ use Rattle.edge_model.specs.Clear.{withdrawing_at}
 use Rattle.edge_model.specs.EndPlaces.{end_places}
 use Rattle.edge_model.specs.Hear.{was_up}
 use Rattle.edge_model.specs.Labels.{label_to_give, meeting}
-use Rattle.edge_model.specs.Mend.{forgetting_wire, is_up_with, mends_once, port_of_wire, offer_stands as stands, wish, wish_by, wish_of}
+use Rattle.edge_model.specs.Mend.{forgetting_wire, is_up_with, mends_once, port_of_wire, offer_stands, wish, wish_by, wish_of}
 use Rattle.edge_model.specs.Put.{Spoken}
 use Rattle.edge_model.specs.Session.{clears_ends, losing_ends}
 use Rattle.edge_model.specs.Settled.{IsSettled, is_mended}
@@ -238,7 +238,7 @@ mended_up plan edge peering place ups = by (end_at edge place).local where
 
   by : (local : LocalPart) → is_mended plan (record edge { peering = peering; ends = with_local local }) place ≡ is_mended plan (record edge { ends = with_local local }) place
   by (Idle declined) = ap (λ (wished : Option Told). declined || (not (is_some wished) || not (is_some (label_to_give edge)))) same
-  by (Advertised label content) = ap (λ (wished : Option Told). stands place content wished) same
+  by (Advertised label content) = ap (λ (wished : Option Told). offer_stands place content wished) same
   by (Withdrawing label) = refl
 
 pub tidy_up : (plan : Plan) (edge : EdgeState) (peering : ℕ → Option Peering) (marks : Option EndMarks) → ((k : ℕ) → is_up_with (peering k) ≡ is_up_with (edge.peering k))

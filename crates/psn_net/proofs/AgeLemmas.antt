@@ -7,7 +7,7 @@ use Rattle.net_base.specs.declared.trace.entry.Entry.TheVariants.{Aged}
 use Rattle.network_model.specs.declared.packet.Packet.{Packet}
 use Rattle.network_model.specs.Age.{aged_entries, ageing}
 use Rattle.network_model.specs.State.{NetworkState, all_older, lives_on, older, with_older, without_number, without_packet}
-use Rattle.psn_net.specs.Lists.{HasStepped, NetLists, network_seen as seen}
+use Rattle.psn_net.specs.Lists.{HasStepped, NetLists, network_seen}
 use Rattle.psn_net.specs.Packets.{ArePacketsOf, is_aged, number_of, without_aged}
 
 -- ---- lists of packets
@@ -74,34 +74,36 @@ left_shorter n (p ∷ ps) is = by (lives_on p) is (λ rest. left_shorter n ps re
   by false is rest = omega arith
 
 -- one fewer is under way
-pub age_shrinks : (old mid now : NetLists) (n : ℕ) → Some n ≡ option_map number_of (find is_aged (seen old).under_way) → without_number n (seen old).under_way ≡ without_aged (seen old).under_way
-    → seen mid ≡ without_packet n (seen old) → seen now ≡ seen mid → length (seen now).under_way < length (seen old).under_way
+pub age_shrinks : (old mid now : NetLists) (n : ℕ) → Some n ≡ option_map number_of (find is_aged (network_seen old).under_way) → without_number n (network_seen old).under_way
+    ≡ without_aged (network_seen old).under_way
+    → network_seen mid ≡ without_packet n (network_seen old) → network_seen now ≡ network_seen mid → length (network_seen now).under_way < length (network_seen old).under_way
 unfolding without_packet
 age_shrinks old mid now n is left taken kept =
-    let less : length (without_aged (seen old).under_way) < length (seen old).under_way = left_shorter n (seen old).under_way (sym is) in
-    let same : (seen now).under_way ≡ without_aged (seen old).under_way = ap (λ (s : NetworkState). s.under_way) (kept ∙ taken) ∙ left in
-    subst (λ (ps : List Packet). length ps < length (seen old).under_way) (sym same) less
+    let less : length (without_aged (network_seen old).under_way) < length (network_seen old).under_way = left_shorter n (network_seen old).under_way (sym is) in
+    let same : (network_seen now).under_way ≡ without_aged (network_seen old).under_way = ap (λ (s : NetworkState). s.under_way) (kept ∙ taken) ∙ left in
+    subst (λ (ps : List Packet). length ps < length (network_seen old).under_way) (sym same) less
 
 -- one more has gone, and was told
-pub age_goes_on : (first old mid now : NetLists) (n : ℕ) → Some n ≡ option_map number_of (find is_aged (seen old).under_way) → without_number n (seen old).under_way ≡ without_aged (seen old).under_way
-    → seen mid ≡ without_packet n (seen old) → mid.trace ≡ old.trace → seen now ≡ seen mid → now.trace ≡ mid.trace ++ Aged n ∷ []
-    → with_older (seen old) ≡ with_older (seen first) → old.trace ++ aged_entries (seen old).under_way ≡ first.trace ++ aged_entries (seen first).under_way
-    → (with_older (seen now) ≡ with_older (seen first)) × (now.trace ++ aged_entries (seen now).under_way ≡ first.trace ++ aged_entries (seen first).under_way)
+pub age_goes_on : (first old mid now : NetLists) (n : ℕ) → Some n ≡ option_map number_of (find is_aged (network_seen old).under_way) → without_number n (network_seen old).under_way
+    ≡ without_aged (network_seen old).under_way
+    → network_seen mid ≡ without_packet n (network_seen old) → mid.trace ≡ old.trace → network_seen now ≡ network_seen mid → now.trace ≡ mid.trace ++ Aged n ∷ []
+    → with_older (network_seen old) ≡ with_older (network_seen first) → old.trace ++ aged_entries (network_seen old).under_way ≡ first.trace ++ aged_entries (network_seen first).under_way
+    → (with_older (network_seen now) ≡ with_older (network_seen first)) × (now.trace ++ aged_entries (network_seen now).under_way ≡ first.trace ++ aged_entries (network_seen first).under_way)
 age_goes_on first old mid now n is left taken same kept told older tells = (
-  ap with_older (kept ∙ taken) ∙ (left_older (seen old) n left ∙ older),
+  ap with_older (kept ∙ taken) ∙ (left_older (network_seen old) n left ∙ older),
   ap (λ (s : NetworkState). now.trace ++ aged_entries s.under_way) (kept ∙ taken)
-      ∙ (ap (λ (t : List Entry). t ++ aged_entries (without_packet n (seen old)).under_way) (told ∙ ap (λ (t : List Entry). t ++ Aged n ∷ []) same)
-      ∙ (append_assoc old.trace (Aged n ∷ []) (aged_entries (without_packet n (seen old)).under_way)
-      ∙ (ap (λ (es : List Entry). old.trace ++ es) (sym (left_told (seen old) n (sym is) left)) ∙ tells))),
+      ∙ (ap (λ (t : List Entry). t ++ aged_entries (without_packet n (network_seen old)).under_way) (told ∙ ap (λ (t : List Entry). t ++ Aged n ∷ []) same)
+      ∙ (append_assoc old.trace (Aged n ∷ []) (aged_entries (without_packet n (network_seen old)).under_way)
+      ∙ (ap (λ (es : List Entry). old.trace ++ es) (sym (left_told (network_seen old) n (sym is) left)) ∙ tells))),
 )
 
 -- all have gone, and the others are older
-pub age_ends : (first old now : NetLists) → find is_aged (seen old).under_way ≡ None → seen now ≡ with_older (seen old) → now.trace ≡ old.trace
-    → with_older (seen old) ≡ with_older (seen first) → old.trace ++ aged_entries (seen old).under_way ≡ first.trace ++ aged_entries (seen first).under_way
-    → HasStepped first now (ageing (seen first))
+pub age_ends : (first old now : NetLists) → find is_aged (network_seen old).under_way ≡ None → network_seen now ≡ with_older (network_seen old) → now.trace ≡ old.trace
+    → with_older (network_seen old) ≡ with_older (network_seen first) → old.trace ++ aged_entries (network_seen old).under_way ≡ first.trace ++ aged_entries (network_seen first).under_way
+    → HasStepped first now (ageing (network_seen first))
 age_ends first old now none counted same older tells = record {
   state = counted ∙ older;
-  told = same ∙ (sym (append-nil old.trace) ∙ (ap (λ (es : List Entry). old.trace ++ es) (sym (none_told (seen old).under_way none)) ∙ tells));
+  told = same ∙ (sym (append-nil old.trace) ∙ (ap (λ (es : List Entry). old.trace ++ es) (sym (none_told (network_seen old).under_way none)) ∙ tells));
 }
 
 pub ruleset age_steps = (none_aged, age_shrinks, age_goes_on, age_ends)

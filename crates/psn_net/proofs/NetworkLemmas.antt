@@ -28,23 +28,23 @@ use Rattle.edge_model.specs.declared.input.Input.{Input}
 use Rattle.edge_model.specs.Step.{edge_step}
 use Rattle.edge_model.specs.Work.{Work, beginning}
 use Rattle.network_model.specs.Absorb.{Stepped, absorb, absorb_all, all_entries_of, begin_at, taken_all}
-use Rattle.psn_net.specs.Lists.{AreOpen, HasDriven, HasEntered, HasStepped, IsNetwork, NetLists, edge_lists, edge_of, edge_outside as no_edge, network_seen as seen}
+use Rattle.psn_net.specs.Lists.{AreOpen, HasDriven, HasEntered, HasStepped, IsNetwork, NetLists, edge_lists, edge_of, edge_outside, network_seen}
 use Rattle.psn_net.specs.Packets.{ArePacketsOf, UnderWay}
 use Rattle.octet_pipes.specs.Pipes.{PipeLists, no_octets}
 use Rattle.octet_pipes.specs.Pipes.{pipes_of}
 
 pub seen_edge_set : (n : NetLists) (me : EdgeId) (now : EdgeLists) (state : EdgeState) → me.0 < length n.edges → edge.seen now ≡ state
-    → seen (record n { edges = slice_set n.edges me.0 now }) ≡ with_edge me state (seen n)
-unfolding seen with_edge
+    → network_seen (record n { edges = slice_set n.edges me.0 now }) ≡ with_edge me state (network_seen n)
+unfolding network_seen with_edge
 seen_edge_set n me now state h w = λ i. record { edges = λ k. at_each k i; pipes = seen-pipes i; under_way = n.packets.list; sent = n.packets.last; entered = n.entered }
   where
-    seen-pipes : (seen n).pipes ≡ (seen n).pipes
+    seen-pipes : (network_seen n).pipes ≡ (network_seen n).pipes
     seen-pipes = refl
 
-    at_each : (k : ℕ) → edge.seen (slice_index_or (slice_set n.edges me.0 now) k (no_edge n.plan k)) ≡ put_at (λ j. edge.seen (slice_index_or n.edges j (no_edge n.plan j))) me.0 state k
-    at_each k = ap edge.seen (view_set (no_edge n.plan k) n.edges me.0 now k h) ∙ by (k == me.0)
+    at_each : (k : ℕ) → edge.seen (slice_index_or (slice_set n.edges me.0 now) k (edge_outside n.plan k)) ≡ put_at (λ j. edge.seen (slice_index_or n.edges j (edge_outside n.plan j))) me.0 state k
+    at_each k = ap edge.seen (view_set (edge_outside n.plan k) n.edges me.0 now k h) ∙ by (k == me.0)
       where
-        by : (b : Bool) → edge.seen (cond b now (slice_index_or n.edges k (no_edge n.plan k))) ≡ cond b state (edge.seen (slice_index_or n.edges k (no_edge n.plan k)))
+        by : (b : Bool) → edge.seen (cond b now (slice_index_or n.edges k (edge_outside n.plan k))) ≡ cond b state (edge.seen (slice_index_or n.edges k (edge_outside n.plan k)))
         by true = w
         by false = refl
 
@@ -52,26 +52,26 @@ seen_edge_set n me now state h w = λ i. record { edges = λ k. at_each k i; pip
 pub driving : (n : NetLists) (me : EdgeId) (now : EdgeLists) (calls : List LinkCall) (effects : Effects) (input : Input)
     → me.0 < length n.edges → (edge_lists n me.0).plan ≡ n.plan
     → edge.worked now calls effects ≡ edge_step (edge_lists n me.0).plan taken_all input (beginning (edge.seen (edge_lists n me.0)) [])
-    → HasDriven me n (record n { edges = slice_set n.edges me.0 now }) (edge_step n.plan taken_all input (begin_at (seen n) me)) effects
-unfolding edge.worked seen
+    → HasDriven me n (record n { edges = slice_set n.edges me.0 now }) (edge_step n.plan taken_all input (begin_at (network_seen n) me)) effects
+unfolding edge.worked network_seen
 driving n me now calls effects input h planned took =
-    let same : edge.worked now calls effects ≡ edge_step n.plan taken_all input (begin_at (seen n) me) = took ∙ begins in
+    let same : edge.worked now calls effects ≡ edge_step n.plan taken_all input (begin_at (network_seen n) me) = took ∙ begins in
     record {
-      state = seen_edge_set n me now (edge_step n.plan taken_all input (begin_at (seen n) me)).edge h (ap (λ (w : Work). w.edge) same);
+      state = seen_edge_set n me now (edge_step n.plan taken_all input (begin_at (network_seen n) me)).edge h (ap (λ (w : Work). w.edge) same);
       effects_are = ap (λ (w : Work). w.effects) same;
       idle_is = ap (λ (w : Work). w.idle) same;
       told = refl;
     } where
-      begins : edge_step (edge_lists n me.0).plan taken_all input (beginning (edge.seen (edge_lists n me.0)) []) ≡ edge_step n.plan taken_all input (begin_at (seen n) me)
+      begins : edge_step (edge_lists n me.0).plan taken_all input (beginning (edge.seen (edge_lists n me.0)) []) ≡ edge_step n.plan taken_all input (begin_at (network_seen n) me)
       begins = ap (λ (p : Plan). edge_step p taken_all input (beginning (edge.seen (edge_lists n me.0)) [])) planned
 
 -- the same of the edge that was looked up, over a link that had no calls
 pub driving_at : (n : NetLists) (me : EdgeId) (found now : EdgeLists) (before calls : List LinkCall) (effects : Effects) (input : Input)
     → me.0 < length n.edges → (edge_lists n me.0).plan ≡ n.plan → found ≡ slice_index_or n.edges me.0 found → before ≡ []
     → edge.worked now calls effects ≡ edge_step found.plan taken_all input (beginning (edge.seen found) before)
-    → HasDriven me n (record n { edges = slice_set n.edges me.0 now }) (edge_step n.plan taken_all input (begin_at (seen n) me)) effects
+    → HasDriven me n (record n { edges = slice_set n.edges me.0 now }) (edge_step n.plan taken_all input (begin_at (network_seen n) me)) effects
 driving_at n me found now before calls effects input h planned is none took =
-    let same : found ≡ edge_lists n me.0 = is ∙ same_read n.edges me.0 found (no_edge n.plan me.0) h in
+    let same : found ≡ edge_lists n me.0 = is ∙ same_read n.edges me.0 found (edge_outside n.plan me.0) h in
     driving n me now calls effects input h planned
     (took ∙ (ap (λ (e : EdgeLists). edge_step e.plan taken_all input (beginning (edge.seen e) before)) same
     ∙ ap (λ (l : List LinkCall). edge_step (edge_lists n me.0).plan taken_all input (beginning (edge.seen (edge_lists n me.0)) l)) none))
@@ -79,7 +79,7 @@ driving_at n me found now before calls effects input h planned is none took =
 pub fitting_at : (n : NetLists) (me : EdgeId) (found : EdgeLists) (effects : List Effect)
     → me.0 < length n.edges → (edge_lists n me.0).plan ≡ n.plan → found ≡ slice_index_or n.edges me.0 found → AllFit found.plan effects → AllFit n.plan effects
 fitting_at n me found effects h planned is fit =
-    let same : found ≡ edge_lists n me.0 = is ∙ same_read n.edges me.0 found (no_edge n.plan me.0) h in
+    let same : found ≡ edge_lists n me.0 = is ∙ same_read n.edges me.0 found (edge_outside n.plan me.0) h in
     subst (λ (p : Plan). AllFit p effects) (ap (λ (e : EdgeLists). e.plan) same ∙ planned) fit
 
 -- an entry more, or none
@@ -110,15 +110,15 @@ edge_kept n me found now is below at kept stays = record {
   checked = is.checked;
   count = set_length n.edges me.0 now ∙ is.count;
   square = is.square;
-  planned = λ k within. ap (λ (e : EdgeLists). e.plan) (view_set (no_edge n.plan k) n.edges me.0 now k below) ∙ by (k == me.0) k (subst (λ (m : ℕ). k < m) (set_length n.edges me.0 now) within);
-  placed = λ k. ap (λ (e : EdgeLists). e.me) (view_set (no_edge n.plan k) n.edges me.0 now k below) ∙ place_by (k == me.0) k refl;
+  planned = λ k within. ap (λ (e : EdgeLists). e.plan) (view_set (edge_outside n.plan k) n.edges me.0 now k below) ∙ by (k == me.0) k (subst (λ (m : ℕ). k < m) (set_length n.edges me.0 now) within);
+  placed = λ k. ap (λ (e : EdgeLists). e.me) (view_set (edge_outside n.plan k) n.edges me.0 now k below) ∙ place_by (k == me.0) k refl;
   packets = is.packets;
   packets_told = is.packets_told;
   frames_told = is.frames_told;
   ticks_told = is.ticks_told;
 } where
   by : (b : Bool) (k : ℕ) → k < length n.edges → (cond b now (edge_lists n k)).plan ≡ n.plan
-  by true k within = kept ∙ (ap (λ (e : EdgeLists). e.plan) (at ∙ same_read n.edges me.0 found (no_edge n.plan me.0) below) ∙ is.planned me.0 below)
+  by true k within = kept ∙ (ap (λ (e : EdgeLists). e.plan) (at ∙ same_read n.edges me.0 found (edge_outside n.plan me.0) below) ∙ is.planned me.0 below)
   by false k within = is.planned k within
 
   edge_id : ℕ → EdgeId
@@ -126,7 +126,7 @@ edge_kept n me found now is below at kept stays = record {
 
   place_by : (b : Bool) (k : ℕ) → (k == me.0) ≡ b → (cond b now (edge_lists n k)).me ≡ record { 0 = k }
   place_by true k here =
-      stays ∙ (ap (λ (e : EdgeLists). e.me) (at ∙ same_read n.edges me.0 found (no_edge n.plan me.0) below) ∙ (is.placed me.0 ∙ ap edge_id (sym (eqb-true k me.0 here))))
+      stays ∙ (ap (λ (e : EdgeLists). e.me) (at ∙ same_read n.edges me.0 found (edge_outside n.plan me.0) below) ∙ (is.placed me.0 ∙ ap edge_id (sym (eqb-true k me.0 here))))
   place_by false k apart = is.placed k
 
 -- an edge that stays as it is
@@ -183,11 +183,11 @@ frame_taken plan circuit octets (Some row) me network at idle =
 
 pub frame_idle_stepped : (old mid now : NetLists) (circuit : CircuitId) (octets : List ℕ) (me : EdgeId) (effects : Effects)
     → edge_of (circuit_row old.plan circuit) ≡ Some me
-    → HasDriven me old mid (frame_input old.plan taken_all circuit octets (circuit_row old.plan circuit) (begin_at (seen old) me)) effects
-    → effects.idle ≡ true → seen now ≡ seen mid → now.trace ≡ mid.trace ++ Idle ∷ []
-    → HasStepped old now (frame_event old.plan circuit octets (circuit_row old.plan circuit) (seen old))
+    → HasDriven me old mid (frame_input old.plan taken_all circuit octets (circuit_row old.plan circuit) (begin_at (network_seen old) me)) effects
+    → effects.idle ≡ true → network_seen now ≡ network_seen mid → now.trace ≡ mid.trace ++ Idle ∷ []
+    → HasStepped old now (frame_event old.plan circuit octets (circuit_row old.plan circuit) (network_seen old))
 frame_idle_stepped old mid now circuit octets me effects at driven idle state told =
-    let both = frame_idle old.plan circuit octets (circuit_row old.plan circuit) me (seen old) at (sym driven.idle_is ∙ idle) in
+    let both = frame_idle old.plan circuit octets (circuit_row old.plan circuit) me (network_seen old) at (sym driven.idle_is ∙ idle) in
     record {
       state = state ∙ (driven.state ∙ both.0);
       told = told ∙ (ap (λ (t : List Entry). t ++ Idle ∷ []) driven.told ∙ ap (λ (es : List Entry). old.trace ++ es) (sym both.1));
@@ -195,49 +195,52 @@ frame_idle_stepped old mid now circuit octets me effects at driven idle state to
 
 pub frame_stepped : (old mid in_ now : NetLists) (circuit : CircuitId) (octets : List ℕ) (me : EdgeId) (effects : Effects) (origin : ℕ)
     → edge_of (circuit_row old.plan circuit) ≡ Some me
-    → HasDriven me old mid (frame_input old.plan taken_all circuit octets (circuit_row old.plan circuit) (begin_at (seen old) me)) effects
+    → HasDriven me old mid (frame_input old.plan taken_all circuit octets (circuit_row old.plan circuit) (begin_at (network_seen old) me)) effects
     → effects.idle ≡ false → HasEntered mid in_ circuit octets origin
-    → HasStepped in_ now (record { state = absorb_all me origin 0 effects.list (seen in_); entries = all_entries_of me origin 0 effects.list (seen in_) })
-    → HasStepped old now (frame_event old.plan circuit octets (circuit_row old.plan circuit) (seen old))
+    → HasStepped in_ now (record { state = absorb_all me origin 0 effects.list (network_seen in_); entries = all_entries_of me origin 0 effects.list (network_seen in_) })
+    → HasStepped old now (frame_event old.plan circuit octets (circuit_row old.plan circuit) (network_seen old))
 unfolding with_edge with_frame
 frame_stepped old mid in_ now circuit octets me effects origin at driven idle entered absorbed = record {
   state = absorbed.state ∙ (ap (λ (n : NetworkState). absorb_all me origin 0 effects.list n) network
-      ∙ (ap (λ (o : ℕ). absorb_all me o 0 effects.list (with_edge me work.edge (with_frame (seen old)))) number
-      ∙ (ap (λ (es : List Effect). absorb_all me (next_origin (seen old)) 0 es (with_edge me work.edge (with_frame (seen old)))) driven.effects_are ∙ sym (ap (λ (s : Stepped). s.state) event))));
-  told = absorbed.told ∙ (ap (λ (t : List Entry). t ++ all_entries_of me origin 0 effects.list (seen in_)) (entered.told ∙ ap (λ (t : List Entry). t ++ In circuit origin octets ∷ []) driven.told)
-      ∙ (append_assoc old.trace (In circuit origin octets ∷ []) (all_entries_of me origin 0 effects.list (seen in_)) ∙ ap (λ (es : List Entry). old.trace ++ es) entries));
+      ∙ (ap (λ (o : ℕ). absorb_all me o 0 effects.list (with_edge me work.edge (with_frame (network_seen old)))) number
+      ∙ (ap (λ (es : List Effect). absorb_all me (next_origin (network_seen old)) 0 es (with_edge me work.edge (with_frame (network_seen old)))) driven.effects_are
+      ∙ sym (ap (λ (s : Stepped). s.state) event))));
+  told = absorbed.told ∙ (ap (λ (t : List Entry). t ++ all_entries_of me origin 0 effects.list (network_seen in_))
+      (entered.told ∙ ap (λ (t : List Entry). t ++ In circuit origin octets ∷ []) driven.told)
+      ∙ (append_assoc old.trace (In circuit origin octets ∷ []) (all_entries_of me origin 0 effects.list (network_seen in_)) ∙ ap (λ (es : List Entry). old.trace ++ es) entries));
 } where
   work : Work
-  work = frame_input old.plan taken_all circuit octets (circuit_row old.plan circuit) (begin_at (seen old) me)
+  work = frame_input old.plan taken_all circuit octets (circuit_row old.plan circuit) (begin_at (network_seen old) me)
 
-  event : frame_event old.plan circuit octets (circuit_row old.plan circuit) (seen old) ≡ entering_at (seen old) circuit octets me work
-  event = frame_taken old.plan circuit octets (circuit_row old.plan circuit) me (seen old) at (sym driven.idle_is ∙ idle)
+  event : frame_event old.plan circuit octets (circuit_row old.plan circuit) (network_seen old) ≡ entering_at (network_seen old) circuit octets me work
+  event = frame_taken old.plan circuit octets (circuit_row old.plan circuit) me (network_seen old) at (sym driven.idle_is ∙ idle)
 
-  network : seen in_ ≡ with_edge me work.edge (with_frame (seen old))
+  network : network_seen in_ ≡ with_edge me work.edge (with_frame (network_seen old))
   network = entered.state ∙ ap with_frame driven.state
 
-  number : origin ≡ next_origin (seen old)
+  number : origin ≡ next_origin (network_seen old)
   number = entered.number_is ∙ ap (λ (n : NetworkState). n.entered + 1) driven.state
 
-  entries : In circuit origin octets ∷ all_entries_of me origin 0 effects.list (seen in_) ≡ (frame_event old.plan circuit octets (circuit_row old.plan circuit) (seen old)).entries
+  entries : In circuit origin octets ∷ all_entries_of me origin 0 effects.list (network_seen in_) ≡ (frame_event old.plan circuit octets (circuit_row old.plan circuit) (network_seen old)).entries
   entries =
       ap (λ (n : NetworkState). In circuit origin octets ∷ all_entries_of me origin 0 effects.list n) network
-      ∙ (ap (λ (o : ℕ). In circuit o octets ∷ all_entries_of me o 0 effects.list (with_edge me work.edge (with_frame (seen old)))) number
-      ∙ (ap (λ (es : List Effect). In circuit (next_origin (seen old)) octets ∷ all_entries_of me (next_origin (seen old)) 0 es (with_edge me work.edge (with_frame (seen old)))) driven.effects_are
+      ∙ (ap (λ (o : ℕ). In circuit o octets ∷ all_entries_of me o 0 effects.list (with_edge me work.edge (with_frame (network_seen old)))) number
+      ∙ (ap (λ (es : List Effect). In circuit (next_origin (network_seen old)) octets ∷ all_entries_of me (next_origin (network_seen old)) 0 es
+      (with_edge me work.edge (with_frame (network_seen old)))) driven.effects_are
       ∙ sym (ap (λ (s : Stepped). s.entries) event)))
 
 -- the network of a plan before its first event
 pub opening : (plan : Plan) (edges : List EdgeLists) (pipes : PipeLists) → AreOpen plan (length plan.edges) edges → pipes_of pipes ≡ no_octets
-    → seen (record { plan = plan; edges = edges; pipes = pipes; packets = record { list = []; last = 0; ticks = 0 }; entered = 0; trace = []; failed = false }) ≡ empty_network plan
-unfolding seen
+    → network_seen (record { plan = plan; edges = edges; pipes = pipes; packets = record { list = []; last = 0; ticks = 0 }; entered = 0; trace = []; failed = false }) ≡ empty_network plan
+unfolding network_seen
 opening plan edges pipes are empty = λ i. record { edges = λ k. are.empty k i; pipes = empty i; under_way = []; sent = 0; entered = 0 }
 
 -- the network of a plan before its first event, by its parts
 pub opened_state : (plan own : Plan) (count : ℕ) (edges : List EdgeLists) (pipes : PipeLists) (packets : UnderWay) (trace : List Entry)
     → own ≡ plan → count ≡ length plan.edges → AreOpen own count edges → pipes_of pipes ≡ no_octets → packets ≡ record { list = []; last = 0; ticks = 0 } → trace ≡ []
-    → seen (record { plan = own; edges = edges; pipes = pipes; packets = packets; entered = 0; trace = trace; failed = false }) ≡ empty_network plan
+    → network_seen (record { plan = own; edges = edges; pipes = pipes; packets = packets; entered = 0; trace = trace; failed = false }) ≡ empty_network plan
 opened_state plan own count edges pipes packets trace planned counted are empty sent told =
-    (λ i. seen (record { plan = own; edges = edges; pipes = pipes; packets = sent i; entered = 0; trace = told i; failed = false }))
+    (λ i. network_seen (record { plan = own; edges = edges; pipes = pipes; packets = sent i; entered = 0; trace = told i; failed = false }))
     ∙ (opening own edges pipes (subst (λ (m : ℕ). AreOpen own m edges) (counted ∙ ap (λ (p : Plan). length p.edges) (sym planned)) are) empty ∙ ap empty_network planned)
 
 pub opened_network : (plan own : Plan) (count : ℕ) (edges : List EdgeLists) (pipes : PipeLists) (packets : UnderWay) (trace : List Entry)
@@ -265,10 +268,10 @@ pub open_more : (plan : Plan) (count : ℕ) (edges : List EdgeLists) (more : Edg
     → AreOpen plan (count + 1) (edges ++ more ∷ [])
 open_more plan count edges more are planned empty = record {
   len = length-append edges (more ∷ []) ∙ omega (arith, are.len);
-  planned = λ k below. ap (λ (e : EdgeLists). e.plan) (index_end edges more (no_edge plan k) k) ∙ planned_by k below (nat_eq k (length edges)) refl;
-  empty = λ k. ap edge.seen (index_end edges more (no_edge plan k) k) ∙ empty_by k (nat_eq k (length edges)) refl;
+  planned = λ k below. ap (λ (e : EdgeLists). e.plan) (index_end edges more (edge_outside plan k) k) ∙ planned_by k below (nat_eq k (length edges)) refl;
+  empty = λ k. ap edge.seen (index_end edges more (edge_outside plan k) k) ∙ empty_by k (nat_eq k (length edges)) refl;
 } where
-  planned_by : (k : ℕ) → k < count + 1 → (b : Bool) → nat_eq k (length edges) ≡ b → (cond b more (slice_index_or edges k (no_edge plan k))).plan ≡ plan
+  planned_by : (k : ℕ) → k < count + 1 → (b : Bool) → nat_eq k (length edges) ≡ b → (cond b more (slice_index_or edges k (edge_outside plan k))).plan ≡ plan
   planned_by k below true e = planned
   planned_by k below false e =
       let apart : (nat_eq k (length edges) ≡ true) → ⊥ = λ same. let wrong : false ≡ true = sym e ∙ same in absurd (cc (wrong)) in
@@ -277,7 +280,7 @@ open_more plan count edges more are planned empty = record {
         | inr rest ↦ omega (arith, below, are.len)
       ])
 
-  empty_by : (k : ℕ) (b : Bool) → nat_eq k (length edges) ≡ b → edge.seen (cond b more (slice_index_or edges k (no_edge plan k))) ≡ empty_edge plan (record { 0 = k })
+  empty_by : (k : ℕ) (b : Bool) → nat_eq k (length edges) ≡ b → edge.seen (cond b more (slice_index_or edges k (edge_outside plan k))) ≡ empty_edge plan (record { 0 = k })
   empty_by k true e = empty ∙ ap (λ (n : ℕ). empty_edge plan (record { 0 = n })) (sym are.len ∙ sym (eqb-true k (length edges) e))
   empty_by k false e = are.empty k
 

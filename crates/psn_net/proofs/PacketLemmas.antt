@@ -3,7 +3,7 @@ use Rattle.std.proofs.Common.{◌≡◌, ◌==◌, ◌<◌, ◌≤◌, ◌+◌, 
 use Rattle.std.proofs.lemmas.Bool.{eqb-true}
 use Rattle.std.proofs.lemmas.Bool.Decides.{nat_tests}
 use Rattle.std.specs.BTreeMap.{insert_entry, is_at}
-use Rattle.std.specs.List.{AllByRecursion, find, list_any}
+use Rattle.std.specs.List.{AllByRecursion, find}
 use Rattle.std.specs.List.Sorted.{IsStrictlySortedBy}
 use Rattle.std.specs.Map.{keys_of, remove_entry}
 use Rattle.std.specs.declared.cmp.Ordering.TheVariants.{Less, Equal, Greater}
@@ -13,7 +13,7 @@ use Rattle.network_model.specs.declared.packet.Packet.{Packet}
 use Rattle.network_model.specs.State.{all_older, older, without_number}
 use Rattle.psn_net.specs.declared.carried.Carried.{Carried}
 use Rattle.psn_net.specs.declared.sending.Sending.{Sending}
-use Rattle.psn_net.specs.Packets.{ArePacketsKept as AreKept, IsIndex, UnderWay, has_sending, is_aged, is_numbered, is_since, kept_under, number_of, kept_packet as packet_of, packets_of, sending_order, with_copy_of, without_aged}
+use Rattle.psn_net.specs.Packets.{ArePacketsKept, IsIndex, UnderWay, has_sending, is_aged, is_numbered, is_since, kept_under, number_of, kept_packet, packets_of, sending_order, with_copy_of, without_aged}
 
 -- ---- by number
 
@@ -29,41 +29,41 @@ pub same_number : (a x : ℕ) → is_at (nat_cmp a) x ≡ (x == a)
 same_number a x = grind (arith, nat_tests)
 
 -- the packet that is kept under a number is the one with that number
-pub found_kept : (t l n : ℕ) (es : List (ℕ × Carried)) → AreKept t l es → find (is_numbered n) (packets_of t es) ≡ option_map (λ c. packet_of t (n, c)) (kept_under n es)
+pub found_kept : (t l n : ℕ) (es : List (ℕ × Carried)) → ArePacketsKept t l es → find (is_numbered n) (packets_of t es) ≡ option_map (λ c. kept_packet t (n, c)) (kept_under n es)
 found_kept t l n [] k = refl
 found_kept t l n (e ∷ es) k = rw (same_number n e.0) (by (e.0 == n) refl (found_kept t l n es k.3)) where
-  by : (b : Bool) → (e.0 == n) ≡ b → find (is_numbered n) (packets_of t es) ≡ option_map (λ c. packet_of t (n, c)) (kept_under n es)
-      → cond b (Some (packet_of t e)) (find (is_numbered n) (packets_of t es)) ≡ option_map (λ c. packet_of t (n, c)) (cond b (Some e.1) (kept_under n es))
-  by true here rest = ap (λ (m : ℕ). Some (packet_of t (m, e.1))) (eqb-true e.0 n here)
+  by : (b : Bool) → (e.0 == n) ≡ b → find (is_numbered n) (packets_of t es) ≡ option_map (λ c. kept_packet t (n, c)) (kept_under n es)
+      → cond b (Some (kept_packet t e)) (find (is_numbered n) (packets_of t es)) ≡ option_map (λ c. kept_packet t (n, c)) (cond b (Some e.1) (kept_under n es))
+  by true here rest = ap (λ (m : ℕ). Some (kept_packet t (m, e.1))) (eqb-true e.0 n here)
   by false away rest = rest
 
 -- without it the others are left
-pub removed_kept : (t l n : ℕ) (es : List (ℕ × Carried)) → AreKept t l es → packets_of t (remove_entry (is_at (nat_cmp n)) es) ≡ without_number n (packets_of t es)
+pub removed_kept : (t l n : ℕ) (es : List (ℕ × Carried)) → ArePacketsKept t l es → packets_of t (remove_entry (is_at (nat_cmp n)) es) ≡ without_number n (packets_of t es)
 removed_kept t l n [] k = refl
 removed_kept t l n (e ∷ es) k = grind (arith, nat_tests, removed_kept t l n es k.3)
 
 -- and they are kept as before
-pub still_kept : (t l n : ℕ) (es : List (ℕ × Carried)) → AreKept t l es → AreKept t l (remove_entry (is_at (nat_cmp n)) es)
+pub still_kept : (t l n : ℕ) (es : List (ℕ × Carried)) → ArePacketsKept t l es → ArePacketsKept t l (remove_entry (is_at (nat_cmp n)) es)
 still_kept t l n [] k = k
 still_kept t l n (e ∷ es) k = grind (arith, nat_tests, k, still_kept t l n es k.3)
 
 -- a packet with the next number stands at the end
-pub values_added : (t l : ℕ) (c : Carried) (es : List (ℕ × Carried)) → AreKept t l es → packets_of t (insert_entry nat_cmp es (l + 1) c) ≡ packets_of t es ++ packet_of t (l + 1, c) ∷ []
+pub values_added : (t l : ℕ) (c : Carried) (es : List (ℕ × Carried)) → ArePacketsKept t l es → packets_of t (insert_entry nat_cmp es (l + 1) c) ≡ packets_of t es ++ kept_packet t (l + 1, c) ∷ []
 values_added t l c [] k = refl
 values_added t l c (e ∷ es) k = grind (arith, nat_tests, k.0, values_added t l c es k.3)
 
 -- and is kept under it
-pub more_kept : (t l : ℕ) (c : Carried) (es : List (ℕ × Carried)) → c.since ≤ t → t < c.since + 64 → AreKept t l es → AreKept t (l + 1) (insert_entry nat_cmp es (l + 1) c)
+pub more_kept : (t l : ℕ) (c : Carried) (es : List (ℕ × Carried)) → c.since ≤ t → t < c.since + 64 → ArePacketsKept t l es → ArePacketsKept t (l + 1) (insert_entry nat_cmp es (l + 1) c)
 more_kept t l c [] h g k = grind (arith, h, g)
 more_kept t l c (e ∷ es) h g k = grind (arith, nat_tests, k, more_kept t l c es h g k.3)
 
 -- no number is past the last one
-pub next_free : (t l : ℕ) (es : List (ℕ × Carried)) → AreKept t l es → kept_under (l + 1) es ≡ None
+pub next_free : (t l : ℕ) (es : List (ℕ × Carried)) → ArePacketsKept t l es → kept_under (l + 1) es ≡ None
 next_free t l [] k = refl
 next_free t l (e ∷ es) k = grind (arith, nat_tests, k.0, next_free t l es k.3)
 
 -- one that is kept was sent, and fewer than 64 ticks ago
-pub kept_young : (t l n : ℕ) (es : List (ℕ × Carried)) → AreKept t l es → IfSome (kept_under n es) (λ c. (c.since ≤ t) × (t < c.since + 64))
+pub kept_young : (t l n : ℕ) (es : List (ℕ × Carried)) → ArePacketsKept t l es → IfSome (kept_under n es) (λ c. (c.since ≤ t) × (t < c.since + 64))
 kept_young t l n [] k = tt
 kept_young t l n (e ∷ es) k = by (is_at (nat_cmp n) e.0) (kept_young t l n es k.3) where
   by : (b : Bool) → IfSome (kept_under n es) (λ c. (c.since ≤ t) × (t < c.since + 64)) → IfSome (cond b (Some e.1) (kept_under n es)) (λ c. (c.since ≤ t) × (t < c.since + 64))
@@ -87,7 +87,7 @@ pub index_none : IsIndex [] []
 index_none = record { each = λ s has. absurd (cc (has)); in_order = λ m n a b less first second none. absurd (cc (first)) }
 
 -- no kept number is past the last one
-pub kept_low : (t l n : ℕ) (es : List (ℕ × Carried)) → AreKept t l es → IfSome (kept_under n es) (λ c. n ≤ l)
+pub kept_low : (t l n : ℕ) (es : List (ℕ × Carried)) → ArePacketsKept t l es → IfSome (kept_under n es) (λ c. n ≤ l)
 kept_low t l n [] k = tt
 kept_low t l n (e ∷ es) k = by (e.0 == n) refl (kept_low t l n es k.3) where
   by : (b : Bool) → (e.0 == n) ≡ b → IfSome (kept_under n es) (λ c. n ≤ l) → IfSome (kept_under n (e ∷ es)) (λ c. n ≤ l)
@@ -112,7 +112,7 @@ had_other x s to old away = ap (λ (b : Bool). cond b to old) (sending_at x s) �
   by false b is = refl
 
 -- one more packet, under the next number; the set has it where it is older than it might be
-pub index_added : (t l : ℕ) (es es2 : List (ℕ × Carried)) (ss ss2 : List Sending) (c : Carried) → AreKept t l es → IsIndex es ss
+pub index_added : (t l : ℕ) (es es2 : List (ℕ × Carried)) (ss ss2 : List Sending) (c : Carried) → ArePacketsKept t l es → IsIndex es ss
     → ((m : ℕ) → kept_under m es2 ≡ cond (is_at (nat_cmp (l + 1)) m) (Some c) (kept_under m es))
     → ((s : Sending) → has_sending ss2 s ≡ cond (nat_lt c.since t && is_at (sending_order (record { since = c.since; number = l + 1 })) s) true (has_sending ss s))
     → IsIndex es2 ss2
@@ -230,7 +230,7 @@ abbrev pub is_aged_under : ℕ → Option Carried → Bool
 is_aged_under t None = false
 is_aged_under t (Some c) = not (nat_lt (t - c.since + 1) 64)
 
-below_kept : (x n : ℕ) (es : List (ℕ × Carried)) (c : Carried) → AllByRecursion (λ y. nat_cmp x y ≡ Less) (keys_of es) → kept_under n es ≡ Some c → x < n
+pub below_kept : (x n : ℕ) (es : List (ℕ × Carried)) (c : Carried) → AllByRecursion (λ y. nat_cmp x y ≡ Less) (keys_of es) → kept_under n es ≡ Some c → x < n
 below_kept x n [] c below is = absurd (cc (is))
 below_kept x n (e ∷ es) c below is = by (e.0 == n) refl (ap (λ (b : Bool). cond b (Some e.1) (kept_under n es)) (sym (same_number n e.0)) ∙ is) (λ rest. below_kept x n es c below.1 rest) where
   less : (a b : ℕ) → nat_cmp a b ≡ Less → a < b
@@ -272,8 +272,8 @@ first_found t n (e ∷ es) sorted old least = by (nat_lt (t - e.1.since + 1) 64)
   by : (lives : Bool) → nat_lt (t - e.1.since + 1) 64 ≡ lives → (b : Bool) → (e.0 == n) ≡ b
       → (is_aged_under t (kept_under n es) ≡ true → ((m : ℕ) → is_aged_under t (kept_under m es) ≡ true → n ≤ m)
       → (option_map number_of (find is_aged (packets_of t es)) ≡ Some n) × (without_number n (packets_of t es) ≡ without_aged (packets_of t es)))
-      → (option_map number_of (cond (not lives) (Some (packet_of t e)) (find is_aged (packets_of t es))) ≡ Some n)
-      × (cond b (packets_of t es) (packet_of t e ∷ without_number n (packets_of t es)) ≡ cond lives (packet_of t e ∷ without_aged (packets_of t es)) (packets_of t es))
+      → (option_map number_of (cond (not lives) (Some (kept_packet t e)) (find is_aged (packets_of t es))) ≡ Some n)
+      × (cond b (packets_of t es) (kept_packet t e ∷ without_number n (packets_of t es)) ≡ cond lives (kept_packet t e ∷ without_aged (packets_of t es)) (packets_of t es))
   by false dies true here goes_on = (ap (λ (m : ℕ). Some m) (eqb-true e.0 n here), refl)
   by true lives true here goes_on =
       let young : is_aged_under t (kept_under n (e ∷ es)) ≡ false = ap (is_aged_under t) (at_first true here) ∙ ap not lives in
@@ -285,7 +285,7 @@ first_found t n (e ∷ es) sorted old least = by (nat_lt (t - e.1.since + 1) 64)
       absurd (omega (arith, later.1, first))
   by true lives false away goes_on =
       let rest = goes_on (sym (ap (is_aged_under t) (at_first false away)) ∙ old) (λ m aged. least m (rest_kept e es m sorted.0 t aged).0) in
-      (rest.0, ap (λ (ps : List Packet). packet_of t e ∷ ps) rest.1)
+      (rest.0, ap (λ (ps : List Packet). kept_packet t e ∷ ps) rest.1)
 
 -- where there is none of them, none is found
 pub none_found : (t : ℕ) (es : List (ℕ × Carried)) → IsStrictlySortedBy nat_cmp (keys_of es) → ((m : ℕ) → is_aged_under t (kept_under m es) ≡ false) → find is_aged (packets_of t es) ≡ None
@@ -302,7 +302,7 @@ none_found t (e ∷ es) sorted none = by (nat_lt (t - e.1.since + 1) 64) refl (n
   rest m false young = young
 
   by : (lives : Bool) → nat_lt (t - e.1.since + 1) 64 ≡ lives → (((m : ℕ) → is_aged_under t (kept_under m es) ≡ false) → find is_aged (packets_of t es) ≡ None)
-      → cond (not lives) (Some (packet_of t e)) (find is_aged (packets_of t es)) ≡ None
+      → cond (not lives) (Some (kept_packet t e)) (find is_aged (packets_of t es)) ≡ None
   by true lives goes_on = goes_on (λ m. rest m (is_aged_under t (kept_under m es)) refl)
   by false dies goes_on =
       let wrong : true ≡ false = sym (ap (is_aged_under t) own ∙ ap not dies) ∙ none e.0 in
@@ -312,7 +312,7 @@ not_after : (a b : Sending) → is_gt (sending_order a b) ≡ false → (a.since
 not_after a b h = (grind (arith, nat_tests, h), λ same. grind (arith, nat_tests, h, same))
 
 -- what the set has is kept: it was sent, and fewer than 64 ticks ago
-pub sent_young : (t l : ℕ) (es : List (ℕ × Carried)) (ss : List Sending) (s : Sending) → AreKept t l es → IsIndex es ss → has_sending ss s ≡ true → (s.since ≤ t) × (t < s.since + 64)
+pub sent_young : (t l : ℕ) (es : List (ℕ × Carried)) (ss : List Sending) (s : Sending) → ArePacketsKept t l es → IsIndex es ss → has_sending ss s ≡ true → (s.since ≤ t) × (t < s.since + 64)
 sent_young t l es ss s kept index has = by (kept_under s.number es) (index.each s has) (kept_young t l s.number es kept) where
   by : (o : Option Carried) → is_since s.since o ≡ true → IfSome o (λ c. (c.since ≤ t) × (t < c.since + 64)) → (s.since ≤ t) × (t < s.since + 64)
   by None sent young = absurd (cc (sent))
@@ -331,8 +331,8 @@ front_aged t n c (e ∷ es) is old = by (nat_lt (t - e.1.since + 1) 64) refl (e.
   same = ap entry_of is
 
   by : (lives : Bool) → nat_lt (t - e.1.since + 1) 64 ≡ lives → (b : Bool) → (e.0 == n) ≡ b
-      → (option_map number_of (cond (not lives) (Some (packet_of t e)) (find is_aged (packets_of t es))) ≡ Some n)
-      × (cond b (packets_of t es) (packet_of t e ∷ without_number n (packets_of t es)) ≡ cond lives (packet_of t e ∷ without_aged (packets_of t es)) (packets_of t es))
+      → (option_map number_of (cond (not lives) (Some (kept_packet t e)) (find is_aged (packets_of t es))) ≡ Some n)
+      × (cond b (packets_of t es) (kept_packet t e ∷ without_number n (packets_of t es)) ≡ cond lives (kept_packet t e ∷ without_aged (packets_of t es)) (packets_of t es))
   by true lives b is = absurd (young (subst (λ (x : ℕ × Carried). nat_lt (t - x.1.since + 1) 64 ≡ true) same lives)) where
     young : nat_lt (t - c.since + 1) 64 ≡ true → ⊥
     young h = grind (arith, nat_tests, h, old)
@@ -344,7 +344,7 @@ front_aged t n c (e ∷ es) is old = by (nat_lt (t - e.1.since + 1) 64) refl (e.
   by false dies true here = (ap (λ (m : ℕ). Some m) (eqb-true e.0 n here), refl)
 
 -- where it is not too old, the set has each that is
-pub aged_older : (t l : ℕ) (es : List (ℕ × Carried)) (ss : List Sending) (n : ℕ) (c : Carried) → IsStrictlySortedBy nat_cmp (keys_of es) → AreKept t l es → IsIndex es ss → slice_get es 0 ≡ Some (n, c)
+pub aged_older : (t l : ℕ) (es : List (ℕ × Carried)) (ss : List Sending) (n : ℕ) (c : Carried) → IsStrictlySortedBy nat_cmp (keys_of es) → ArePacketsKept t l es → IsIndex es ss → slice_get es 0 ≡ Some (n, c)
     → t - c.since + 1 < 64 → (m : ℕ) (d : Carried) → kept_under m es ≡ Some d → not (nat_lt (t - d.since + 1) 64) ≡ true → has_sending ss (record { since = d.since; number = m }) ≡ true
 unfolding IsStrictlySortedBy
 aged_older t l [] ss n c sorted kept index first young m d is aged = absurd (cc (first))
@@ -383,7 +383,7 @@ aged_older t l (e ∷ es) ss n c sorted kept index first young m d is aged = by 
   by false none = absurd (at (e.0 == m) refl none)
 
 -- what the set has first is the first that a further tick makes too old, where it makes that one so, and not the first of all
-pub aged_first : (t l : ℕ) (es : List (ℕ × Carried)) (ss : List Sending) (n : ℕ) (c : Carried) (first : Sending) → IsStrictlySortedBy nat_cmp (keys_of es) → AreKept t l es → IsIndex es ss
+pub aged_first : (t l : ℕ) (es : List (ℕ × Carried)) (ss : List Sending) (n : ℕ) (c : Carried) (first : Sending) → IsStrictlySortedBy nat_cmp (keys_of es) → ArePacketsKept t l es → IsIndex es ss
     → slice_get es 0 ≡ Some (n, c) → t - c.since + 1 < 64
     → has_sending ss first ≡ true → ((s : Sending) → has_sending ss s ≡ true → is_gt (sending_order first s) ≡ false) → 64 ≤ t - first.since + 1
     → (option_map number_of (find is_aged (packets_of t es)) ≡ Some first.number) × (without_number first.number (packets_of t es) ≡ without_aged (packets_of t es))
@@ -411,7 +411,7 @@ aged_first t l es ss n c first sorted kept index front young has least old = fir
         order.1 (same d.since old late.1)
 
 -- where it does not make that one too old, it makes none so
-pub aged_none : (t l : ℕ) (es : List (ℕ × Carried)) (ss : List Sending) (n : ℕ) (c : Carried) (first : Sending) → IsStrictlySortedBy nat_cmp (keys_of es) → AreKept t l es → IsIndex es ss
+pub aged_none : (t l : ℕ) (es : List (ℕ × Carried)) (ss : List Sending) (n : ℕ) (c : Carried) (first : Sending) → IsStrictlySortedBy nat_cmp (keys_of es) → ArePacketsKept t l es → IsIndex es ss
     → slice_get es 0 ≡ Some (n, c) → t - c.since + 1 < 64
     → ((s : Sending) → has_sending ss s ≡ true → is_gt (sending_order first s) ≡ false) → t - first.since + 1 < 64 → find is_aged (packets_of t es) ≡ None
 aged_none t l es ss n c first sorted kept index front front_young least young = none_found t es sorted (λ m. by m (kept_under m es) refl) where
@@ -428,7 +428,7 @@ aged_none t l es ss n c first sorted kept index front front_young least young = 
         absurd (later d.since (not_after first here (least here (aged_older t l es ss n c sorted kept index front front_young m d is old))).0 old)
 
 -- nor where the set has nothing
-pub aged_nowhere : (t l : ℕ) (es : List (ℕ × Carried)) (ss : List Sending) (n : ℕ) (c : Carried) → IsStrictlySortedBy nat_cmp (keys_of es) → AreKept t l es → IsIndex es ss
+pub aged_nowhere : (t l : ℕ) (es : List (ℕ × Carried)) (ss : List Sending) (n : ℕ) (c : Carried) → IsStrictlySortedBy nat_cmp (keys_of es) → ArePacketsKept t l es → IsIndex es ss
     → slice_get es 0 ≡ Some (n, c) → t - c.since + 1 < 64 → (0 < length ss → ⊥) → find is_aged (packets_of t es) ≡ None
 aged_nowhere t l es (s ∷ ss) n c sorted kept index front young empty = absurd (empty (omega arith))
 aged_nowhere t l es [] n c sorted kept index front young empty = none_found t es sorted (λ m. by m (kept_under m es) refl) where
@@ -445,7 +445,7 @@ aged_empty t [] empty = refl
 aged_empty t (e ∷ es) empty = absurd (empty (omega arith))
 
 -- a tick after which none is too old
-pub ticked_kept : (t l : ℕ) (es : List (ℕ × Carried)) → AreKept t l es → find is_aged (packets_of t es) ≡ None → (packets_of (t + 1) es ≡ all_older (packets_of t es)) × AreKept (t + 1) l es
+pub ticked_kept : (t l : ℕ) (es : List (ℕ × Carried)) → ArePacketsKept t l es → find is_aged (packets_of t es) ≡ None → (packets_of (t + 1) es ≡ all_older (packets_of t es)) × ArePacketsKept (t + 1) l es
 ticked_kept t l [] kept none = (refl, tt)
 ticked_kept t l (e ∷ es) kept none = by (nat_lt (t - e.1.since + 1) 64) refl none (ticked_kept t l es kept.3) where
   aged : (since : ℕ) → since ≤ t → (t + 1) - since ≡ t - since + 1
@@ -454,14 +454,14 @@ ticked_kept t l (e ∷ es) kept none = by (nat_lt (t - e.1.since + 1) 64) refl n
   young : (since : ℕ) → nat_lt (t - since + 1) 64 ≡ true → t + 1 < since + 64
   young since h = grind (arith, nat_tests, h)
 
-  by : (lives : Bool) → nat_lt (t - e.1.since + 1) 64 ≡ lives → cond (not lives) (Some (packet_of t e)) (find is_aged (packets_of t es)) ≡ None
-      → (find is_aged (packets_of t es) ≡ None → (packets_of (t + 1) es ≡ all_older (packets_of t es)) × AreKept (t + 1) l es)
-      → (packets_of (t + 1) (e ∷ es) ≡ cond lives (older (packet_of t e) ∷ all_older (packets_of t es)) (all_older (packets_of t es))) × AreKept (t + 1) l (e ∷ es)
+  by : (lives : Bool) → nat_lt (t - e.1.since + 1) 64 ≡ lives → cond (not lives) (Some (kept_packet t e)) (find is_aged (packets_of t es)) ≡ None
+      → (find is_aged (packets_of t es) ≡ None → (packets_of (t + 1) es ≡ all_older (packets_of t es)) × ArePacketsKept (t + 1) l es)
+      → (packets_of (t + 1) (e ∷ es) ≡ cond lives (older (kept_packet t e) ∷ all_older (packets_of t es)) (all_older (packets_of t es))) × ArePacketsKept (t + 1) l (e ∷ es)
   by false dies none goes_on = absurd (cc (none))
   by true lives none goes_on =
       let rest = goes_on none in
-      let first : packet_of (t + 1) e ≡ older (packet_of t e) = ap (λ (age : ℕ). record (packet_of t e) { age = age }) (aged e.1.since kept.1) in (
-        ap (λ (p : Packet). p ∷ packets_of (t + 1) es) first ∙ ap (λ (ps : List Packet). older (packet_of t e) ∷ ps) rest.0,
+      let first : kept_packet (t + 1) e ≡ older (kept_packet t e) = ap (λ (age : ℕ). record (kept_packet t e) { age = age }) (aged e.1.since kept.1) in (
+        ap (λ (p : Packet). p ∷ packets_of (t + 1) es) first ∙ ap (λ (ps : List Packet). older (kept_packet t e) ∷ ps) rest.0,
         (kept.0, omega (arith, kept.1), young e.1.since lives, rest.1),
       )
 
@@ -470,47 +470,47 @@ ticked_kept t l (e ∷ es) kept none = by (nat_lt (t - e.1.since + 1) 64) refl n
 abbrev pub seen_packets : ℕ → ℕ → List (ℕ × Carried) → UnderWay
 seen_packets t l es = record { list = packets_of t es; last = l; ticks = t }
 
-pub seen_ticked : (t l : ℕ) (es : List (ℕ × Carried)) (u : UnderWay) → seen_packets t l es ≡ u → AreKept t l es → find is_aged u.list ≡ None
-    → (AreKept (t + 1) l es) × (seen_packets (t + 1) l es ≡ record { list = all_older u.list; last = u.last; ticks = u.ticks + 1 })
+pub seen_ticked : (t l : ℕ) (es : List (ℕ × Carried)) (u : UnderWay) → seen_packets t l es ≡ u → ArePacketsKept t l es → find is_aged u.list ≡ None
+    → (ArePacketsKept (t + 1) l es) × (seen_packets (t + 1) l es ≡ record { list = all_older u.list; last = u.last; ticks = u.ticks + 1 })
 seen_ticked t l es u seen kept young =
     let ticked = ticked_kept t l es kept (ap (λ (v : UnderWay). find is_aged v.list) seen ∙ young) in (
       ticked.1,
       (λ i. record { list = ticked.0 i; last = l; ticks = t + 1 }) ∙ ap (λ (v : UnderWay). record { list = all_older v.list; last = v.last; ticks = v.ticks + 1 }) seen,
     )
 
-pub seen_added : (t l : ℕ) (c : Carried) (es es2 : List (ℕ × Carried)) (u : UnderWay) → seen_packets t l es ≡ u → AreKept t l es → es2 ≡ insert_entry nat_cmp es (l + 1) c
-    → seen_packets t (l + 1) es2 ≡ record { list = u.list ++ packet_of u.ticks (u.last + 1, c) ∷ []; last = u.last + 1; ticks = u.ticks }
+pub seen_added : (t l : ℕ) (c : Carried) (es es2 : List (ℕ × Carried)) (u : UnderWay) → seen_packets t l es ≡ u → ArePacketsKept t l es → es2 ≡ insert_entry nat_cmp es (l + 1) c
+    → seen_packets t (l + 1) es2 ≡ record { list = u.list ++ kept_packet u.ticks (u.last + 1, c) ∷ []; last = u.last + 1; ticks = u.ticks }
 seen_added t l c es es2 u seen kept added =
     (λ i. record { list = (ap (packets_of t) added ∙ values_added t l c es kept) i; last = l + 1; ticks = t })
-    ∙ ap (λ (v : UnderWay). record { list = v.list ++ packet_of v.ticks (v.last + 1, c) ∷ []; last = v.last + 1; ticks = v.ticks }) seen
+    ∙ ap (λ (v : UnderWay). record { list = v.list ++ kept_packet v.ticks (v.last + 1, c) ∷ []; last = v.last + 1; ticks = v.ticks }) seen
 
 -- the packet with a number is the one that is kept under it
-pub seen_found : (t l n : ℕ) (es : List (ℕ × Carried)) (u : UnderWay) → seen_packets t l es ≡ u → AreKept t l es → find (is_numbered n) u.list
-    ≡ option_map (λ c. packet_of u.ticks (n, c)) (kept_under n es)
-seen_found t l n es u seen kept = subst (λ (v : UnderWay). find (is_numbered n) v.list ≡ option_map (λ c. packet_of v.ticks (n, c)) (kept_under n es)) seen (found_kept t l n es kept)
+pub seen_found : (t l n : ℕ) (es : List (ℕ × Carried)) (u : UnderWay) → seen_packets t l es ≡ u → ArePacketsKept t l es → find (is_numbered n) u.list
+    ≡ option_map (λ c. kept_packet u.ticks (n, c)) (kept_under n es)
+seen_found t l n es u seen kept = subst (λ (v : UnderWay). find (is_numbered n) v.list ≡ option_map (λ c. kept_packet v.ticks (n, c)) (kept_under n es)) seen (found_kept t l n es kept)
 
-pub found_young : (t l n : ℕ) (c : Carried) (es : List (ℕ × Carried)) → AreKept t l es → Some c ≡ kept_under n es → (c.since ≤ t) × (t < c.since + 64)
+pub found_young : (t l n : ℕ) (c : Carried) (es : List (ℕ × Carried)) → ArePacketsKept t l es → Some c ≡ kept_under n es → (c.since ≤ t) × (t < c.since + 64)
 found_young t l n c es kept is = subst (λ (o : Option Carried). IfSome o (λ c. (c.since ≤ t) × (t < c.since + 64))) (sym is) (kept_young t l n es kept)
 
 -- a copy of it has the next number
-pub seen_copied : (t l n : ℕ) (c copy : Carried) (es : List (ℕ × Carried)) (u after : UnderWay) → seen_packets t l es ≡ u → AreKept t l es → Some c ≡ kept_under n es → copy ≡ c
-    → after ≡ record { list = u.list ++ packet_of u.ticks (u.last + 1, copy) ∷ []; last = u.last + 1; ticks = u.ticks } → after ≡ with_copy_of (find (is_numbered n) u.list) u
+pub seen_copied : (t l n : ℕ) (c copy : Carried) (es : List (ℕ × Carried)) (u after : UnderWay) → seen_packets t l es ≡ u → ArePacketsKept t l es → Some c ≡ kept_under n es → copy ≡ c
+    → after ≡ record { list = u.list ++ kept_packet u.ticks (u.last + 1, copy) ∷ []; last = u.last + 1; ticks = u.ticks } → after ≡ with_copy_of (find (is_numbered n) u.list) u
 seen_copied t l n c copy es u after seen kept is same put =
-    let found : find (is_numbered n) u.list ≡ Some (packet_of u.ticks (n, c)) = seen_found t l n es u seen kept ∙ ap (option_map (λ c. packet_of u.ticks (n, c))) (sym is) in
-    put ∙ (ap (λ (d : Carried). record u { list = u.list ++ packet_of u.ticks (u.last + 1, d) ∷ []; last = u.last + 1 }) same ∙ sym (ap (λ (o : Option Packet). with_copy_of o u) found))
+    let found : find (is_numbered n) u.list ≡ Some (kept_packet u.ticks (n, c)) = seen_found t l n es u seen kept ∙ ap (option_map (λ c. kept_packet u.ticks (n, c))) (sym is) in
+    put ∙ (ap (λ (d : Carried). record u { list = u.list ++ kept_packet u.ticks (u.last + 1, d) ∷ []; last = u.last + 1 }) same ∙ sym (ap (λ (o : Option Packet). with_copy_of o u) found))
 
-pub numbered_copy : (t l n last : ℕ) (c : Carried) (es : List (ℕ × Carried)) (u : UnderWay) → seen_packets t l es ≡ u → AreKept t l es → Some c ≡ kept_under n es → last ≡ u.last + 1
+pub numbered_copy : (t l n last : ℕ) (c : Carried) (es : List (ℕ × Carried)) (u : UnderWay) → seen_packets t l es ≡ u → ArePacketsKept t l es → Some c ≡ kept_under n es → last ≡ u.last + 1
     → Some last ≡ option_map (λ packet. u.last + 1) (find (is_numbered n) u.list)
 numbered_copy t l n last c es u seen kept is next =
-    let found : find (is_numbered n) u.list ≡ Some (packet_of u.ticks (n, c)) = seen_found t l n es u seen kept ∙ ap (option_map (λ c. packet_of u.ticks (n, c))) (sym is) in
+    let found : find (is_numbered n) u.list ≡ Some (kept_packet u.ticks (n, c)) = seen_found t l n es u seen kept ∙ ap (option_map (λ c. kept_packet u.ticks (n, c))) (sym is) in
     ap (λ (m : ℕ). Some m) next ∙ sym (ap (option_map (λ packet. u.last + 1)) found)
 
 -- there is none to copy
-pub copied_none : (t l n : ℕ) (es : List (ℕ × Carried)) (u : UnderWay) → seen_packets t l es ≡ u → AreKept t l es → None ≡ kept_under n es → find (is_numbered n) u.list ≡ None
-copied_none t l n es u seen kept is = seen_found t l n es u seen kept ∙ ap (option_map (λ c. packet_of u.ticks (n, c))) (sym is)
+pub copied_none : (t l n : ℕ) (es : List (ℕ × Carried)) (u : UnderWay) → seen_packets t l es ≡ u → ArePacketsKept t l es → None ≡ kept_under n es → find (is_numbered n) u.list ≡ None
+copied_none t l n es u seen kept is = seen_found t l n es u seen kept ∙ ap (option_map (λ c. kept_packet u.ticks (n, c))) (sym is)
 
 -- it was not added after all
-pub index_undone : (t l : ℕ) (es es2 : List (ℕ × Carried)) (ss ss2 ss3 : List Sending) (since : ℕ) → AreKept t l es → IsIndex es ss → es2 ≡ es
+pub index_undone : (t l : ℕ) (es es2 : List (ℕ × Carried)) (ss ss2 ss3 : List Sending) (since : ℕ) → ArePacketsKept t l es → IsIndex es ss → es2 ≡ es
     → ((s : Sending) → has_sending ss2 s ≡ cond (nat_lt since t && is_at (sending_order (record { since = since; number = l + 1 })) s) true (has_sending ss s))
     → ((s : Sending) → has_sending ss3 s ≡ cond (is_at (sending_order (record { since = since; number = l + 1 })) s) false (has_sending ss2 s))
     → IsIndex es2 ss3

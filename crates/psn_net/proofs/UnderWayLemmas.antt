@@ -11,7 +11,7 @@ use Rattle.network_model.specs.Absorb.{Stepped, absorb}
 use Rattle.network_model.specs.Absorb.{idle as idle_event}
 use Rattle.network_model.specs.Packet.{again_event, arrive_event, arriving, discard_event, packet_at, packet_work}
 use Rattle.network_model.specs.State.{NetworkState, with_copy, without_number, without_packet}
-use Rattle.psn_net.specs.Lists.{HasRoom, HasStepped, IsNetwork, NetLists, copied, network_seen as seen}
+use Rattle.psn_net.specs.Lists.{HasRoom, HasStepped, IsNetwork, NetLists, copied, network_seen}
 use Rattle.psn_net.specs.Packets.{ArePacketsOf, IsPacketOf, UnderWay, is_numbered, with_copy_of}
 
 -- ---- the packets are those of the plan
@@ -73,10 +73,10 @@ repeated_network n now number (Ok copy) is room ok err = subst (λ (u : UnderWay
 repeated_network n now number (Err fault) is room ok err = subst (λ (u : UnderWay). IsNetwork (record n { packets = u })) (sym err) is
 
 pub repeated_seen : (n : NetLists) (now : UnderWay) (number : ℕ) → now ≡ with_copy_of (find (is_numbered number) n.packets.list) n.packets
-    → seen (record n { packets = now }) ≡ copied (packet_at (seen n) number) (seen n)
-unfolding seen with_copy
-repeated_seen n now number is = ap (λ (u : UnderWay). seen (record n { packets = u })) is ∙ by (find (is_numbered number) n.packets.list) where
-  by : (o : Option Packet) → seen (record n { packets = with_copy_of o n.packets }) ≡ copied o (seen n)
+    → network_seen (record n { packets = now }) ≡ copied (packet_at (network_seen n) number) (network_seen n)
+unfolding network_seen with_copy
+repeated_seen n now number is = ap (λ (u : UnderWay). network_seen (record n { packets = u })) is ∙ by (find (is_numbered number) n.packets.list) where
+  by : (o : Option Packet) → network_seen (record n { packets = with_copy_of o n.packets }) ≡ copied o (network_seen n)
   by None = refl
   by (Some p) = refl
 
@@ -109,35 +109,36 @@ told_from : (old mid now : NetLists) (stepped : Stepped) → mid.trace ≡ old.t
 told_from old mid now stepped told next = record { state = next.state; told = next.told ∙ ap (λ (t : List Entry). t ++ stepped.entries) told }
 
 -- the event does not apply
-pub idle_stepped : (old mid now : NetLists) (number : ℕ) → packet_at (seen old) number ≡ None → seen mid ≡ without_packet number (seen old) → mid.trace ≡ old.trace
-    → seen now ≡ seen mid → now.trace ≡ mid.trace ++ Idle ∷ [] → HasStepped old now (idle_event (seen old))
+pub idle_stepped : (old mid now : NetLists) (number : ℕ) → packet_at (network_seen old) number ≡ None → network_seen mid ≡ without_packet number (network_seen old) → mid.trace ≡ old.trace
+    → network_seen now ≡ network_seen mid → now.trace ≡ mid.trace ++ Idle ∷ [] → HasStepped old now (idle_event (network_seen old))
 idle_stepped old mid now number none taken same state told = record {
-  state = state ∙ (taken ∙ none_taken number (seen old) none);
+  state = state ∙ (taken ∙ none_taken number (network_seen old) none);
   told = told ∙ ap (λ (t : List Entry). t ++ Idle ∷ []) same;
 }
 
-pub arrive_idle_stepped : (old mid now : NetLists) (number : ℕ) → packet_at (seen old) number ≡ None → seen mid ≡ without_packet number (seen old) → mid.trace ≡ old.trace
-    → seen now ≡ seen mid → now.trace ≡ mid.trace ++ Idle ∷ [] → HasStepped old now (arrive_event old.plan (packet_at (seen old) number) (seen old))
+pub arrive_idle_stepped : (old mid now : NetLists) (number : ℕ) → packet_at (network_seen old) number ≡ None → network_seen mid ≡ without_packet number (network_seen old) → mid.trace ≡ old.trace
+    → network_seen now ≡ network_seen mid → now.trace ≡ mid.trace ++ Idle ∷ [] → HasStepped old now (arrive_event old.plan (packet_at (network_seen old) number) (network_seen old))
 arrive_idle_stepped old mid now number none taken same state told =
-    let event = ap (λ (o : Option Packet). arrive_event old.plan o (seen old)) none in
+    let event = ap (λ (o : Option Packet). arrive_event old.plan o (network_seen old)) none in
     subst (λ (s : Stepped). HasStepped old now s) (sym event) (idle_stepped old mid now number none taken same state told)
 
-pub discard_idle_stepped : (old mid now : NetLists) (number : ℕ) → packet_at (seen old) number ≡ None → seen mid ≡ without_packet number (seen old) → mid.trace ≡ old.trace
-    → seen now ≡ seen mid → now.trace ≡ mid.trace ++ Idle ∷ [] → HasStepped old now (discard_event (packet_at (seen old) number) (seen old))
+pub discard_idle_stepped : (old mid now : NetLists) (number : ℕ) → packet_at (network_seen old) number ≡ None → network_seen mid ≡ without_packet number (network_seen old) → mid.trace ≡ old.trace
+    → network_seen now ≡ network_seen mid → now.trace ≡ mid.trace ++ Idle ∷ [] → HasStepped old now (discard_event (packet_at (network_seen old) number) (network_seen old))
 discard_idle_stepped old mid now number none taken same state told =
-    let event = ap (λ (o : Option Packet). discard_event o (seen old)) none in
+    let event = ap (λ (o : Option Packet). discard_event o (network_seen old)) none in
     subst (λ (s : Stepped). HasStepped old now s) (sym event) (idle_stepped old mid now number none taken same state told)
 
 -- the packet is on its way no more
 without_found : (network : NetworkState) (number : ℕ) (packet : Packet) → packet_at network number ≡ Some packet → without_packet number network ≡ without_packet packet.number network
 without_found network number packet found = ap (λ (n : ℕ). without_packet n network) (sym (found_number number network.under_way packet found))
 
-pub discard_stepped : (old mid : NetLists) (number : ℕ) (packet : Packet) → packet_at (seen old) number ≡ Some packet → seen mid ≡ without_packet number (seen old) → mid.trace ≡ old.trace
-    → HasStepped old mid (discard_event (packet_at (seen old) number) (seen old))
+pub discard_stepped : (old mid : NetLists) (number : ℕ) (packet : Packet) → packet_at (network_seen old) number ≡ Some packet → network_seen mid
+    ≡ without_packet number (network_seen old) → mid.trace ≡ old.trace
+    → HasStepped old mid (discard_event (packet_at (network_seen old) number) (network_seen old))
 discard_stepped old mid number packet found taken told =
-    let event = ap (λ (o : Option Packet). discard_event o (seen old)) found in
+    let event = ap (λ (o : Option Packet). discard_event o (network_seen old)) found in
     subst (λ (s : Stepped). HasStepped old mid s) (sym event) (record {
-      state = taken ∙ without_found (seen old) number packet found;
+      state = taken ∙ without_found (network_seen old) number packet found;
       told = told ∙ sym (append-nil old.trace);
     })
 
@@ -146,25 +147,25 @@ same_work : (plan : Plan) (network : NetworkState) (number : ℕ) (packet : Pack
 unfolding without_packet
 same_work plan network number packet = refl
 
-pub arrive_stepped : (old mid now : NetLists) (number : ℕ) (packet : Packet) → packet_at (seen old) number ≡ Some packet → mid.plan ≡ old.plan
-    → seen mid ≡ without_packet number (seen old) → mid.trace ≡ old.trace
-    → HasStepped mid now (absorb packet.to packet.origin packet.hops (packet_work mid.plan (seen mid) packet) (seen mid))
-    → HasStepped old now (arrive_event old.plan (packet_at (seen old) number) (seen old))
+pub arrive_stepped : (old mid now : NetLists) (number : ℕ) (packet : Packet) → packet_at (network_seen old) number ≡ Some packet → mid.plan ≡ old.plan
+    → network_seen mid ≡ without_packet number (network_seen old) → mid.trace ≡ old.trace
+    → HasStepped mid now (absorb packet.to packet.origin packet.hops (packet_work mid.plan (network_seen mid) packet) (network_seen mid))
+    → HasStepped old now (arrive_event old.plan (packet_at (network_seen old) number) (network_seen old))
 arrive_stepped old mid now number packet found planned taken told next =
-    told_from old mid now (arrive_event old.plan (packet_at (seen old) number) (seen old)) told (subst (λ (s : Stepped). HasStepped mid now s) (same ∙ sym event) next)
+    told_from old mid now (arrive_event old.plan (packet_at (network_seen old) number) (network_seen old)) told (subst (λ (s : Stepped). HasStepped mid now s) (same ∙ sym event) next)
   where
     rest : NetworkState
-    rest = without_packet packet.number (seen old)
+    rest = without_packet packet.number (network_seen old)
 
-    event : arrive_event old.plan (packet_at (seen old) number) (seen old) ≡ arriving old.plan packet (seen old)
-    event = ap (λ (o : Option Packet). arrive_event old.plan o (seen old)) found
+    event : arrive_event old.plan (packet_at (network_seen old) number) (network_seen old) ≡ arriving old.plan packet (network_seen old)
+    event = ap (λ (o : Option Packet). arrive_event old.plan o (network_seen old)) found
 
-    work : packet_work mid.plan (seen mid) packet ≡ packet_work old.plan (seen old) packet
-    work = ap (λ (p : Plan). packet_work p (seen mid) packet) planned ∙ (ap (λ (n : NetworkState). packet_work old.plan n packet) taken ∙ same_work old.plan (seen old) number packet)
+    work : packet_work mid.plan (network_seen mid) packet ≡ packet_work old.plan (network_seen old) packet
+    work = ap (λ (p : Plan). packet_work p (network_seen mid) packet) planned ∙ (ap (λ (n : NetworkState). packet_work old.plan n packet) taken ∙ same_work old.plan (network_seen old) number packet)
 
-    same : absorb packet.to packet.origin packet.hops (packet_work mid.plan (seen mid) packet) (seen mid) ≡ arriving old.plan packet (seen old)
-    same = ap (λ (w : Work). absorb packet.to packet.origin packet.hops w (seen mid)) work
-        ∙ ap (λ (n : NetworkState). absorb packet.to packet.origin packet.hops (packet_work old.plan (seen old) packet) n) (taken ∙ without_found (seen old) number packet found)
+    same : absorb packet.to packet.origin packet.hops (packet_work mid.plan (network_seen mid) packet) (network_seen mid) ≡ arriving old.plan packet (network_seen old)
+    same = ap (λ (w : Work). absorb packet.to packet.origin packet.hops w (network_seen mid)) work
+        ∙ ap (λ (n : NetworkState). absorb packet.to packet.origin packet.hops (packet_work old.plan (network_seen old) packet) n) (taken ∙ without_found (network_seen old) number packet found)
 
 pub ruleset arrive_steps = (arrive_idle_stepped, arrive_stepped)
 
@@ -172,14 +173,16 @@ pub ruleset discard_steps = (discard_idle_stepped, discard_stepped)
 
 -- ---- one is repeated
 
-pub again_stepped : (old mid now : NetLists) (number copy : ℕ) → Some copy ≡ option_map (λ packet. (seen old).sent + 1) (packet_at (seen old) number) → seen mid
-    ≡ copied (packet_at (seen old) number) (seen old)
-    → mid.trace ≡ old.trace → seen now ≡ seen mid → now.trace ≡ mid.trace ++ Copied copy number ∷ [] → HasStepped old now (again_event (packet_at (seen old) number) (seen old))
-again_stepped old mid now number copy given state same kept told = by (packet_at (seen old) number) refl given state where
+pub again_stepped : (old mid now : NetLists) (number copy : ℕ) → Some copy ≡ option_map (λ packet. (network_seen old).sent + 1) (packet_at (network_seen old) number) → network_seen mid
+    ≡ copied (packet_at (network_seen old) number) (network_seen old)
+    → mid.trace ≡ old.trace → network_seen now ≡ network_seen mid → now.trace ≡ mid.trace ++ Copied copy number ∷ []
+    → HasStepped old now (again_event (packet_at (network_seen old) number) (network_seen old))
+again_stepped old mid now number copy given state same kept told = by (packet_at (network_seen old) number) refl given state where
   next : ℕ
-  next = (seen old).sent + 1
+  next = (network_seen old).sent + 1
 
-  by : (o : Option Packet) → packet_at (seen old) number ≡ o → Some copy ≡ option_map (λ packet. next) o → seen mid ≡ copied o (seen old) → HasStepped old now (again_event o (seen old))
+  by : (o : Option Packet) → packet_at (network_seen old) number ≡ o → Some copy ≡ option_map (λ packet. next) o → network_seen mid ≡ copied o (network_seen old)
+      → HasStepped old now (again_event o (network_seen old))
   by None found given state = absurd (cc (given))
   by (Some p) found given state =
       let new : copy ≡ next = cc (given) in
@@ -187,20 +190,20 @@ again_stepped old mid now number copy given state same kept told = by (packet_at
         state = kept ∙ state;
         told = told ∙ (ap (λ (t : List Entry). t ++ Copied copy number ∷ []) same
             ∙ (ap (λ (m : ℕ). old.trace ++ Copied m number ∷ []) new
-            ∙ ap (λ (m : ℕ). old.trace ++ Copied next m ∷ []) (sym (found_number number (seen old).under_way p found))));
+            ∙ ap (λ (m : ℕ). old.trace ++ Copied next m ∷ []) (sym (found_number number (network_seen old).under_way p found))));
       }
 
-pub again_idle_stepped : (old mid now : NetLists) (number : ℕ) → None ≡ option_map (λ packet. (seen old).sent + 1) (packet_at (seen old) number) → seen mid
-    ≡ copied (packet_at (seen old) number) (seen old)
-    → mid.trace ≡ old.trace → seen now ≡ seen mid → now.trace ≡ mid.trace ++ Idle ∷ [] → HasStepped old now (again_event (packet_at (seen old) number) (seen old))
-again_idle_stepped old mid now number given state same kept told = by (packet_at (seen old) number) given state where
+pub again_idle_stepped : (old mid now : NetLists) (number : ℕ) → None ≡ option_map (λ packet. (network_seen old).sent + 1) (packet_at (network_seen old) number) → network_seen mid
+    ≡ copied (packet_at (network_seen old) number) (network_seen old)
+    → mid.trace ≡ old.trace → network_seen now ≡ network_seen mid → now.trace ≡ mid.trace ++ Idle ∷ [] → HasStepped old now (again_event (packet_at (network_seen old) number) (network_seen old))
+again_idle_stepped old mid now number given state same kept told = by (packet_at (network_seen old) number) given state where
   next : ℕ
-  next = (seen old).sent + 1
+  next = (network_seen old).sent + 1
 
   none : Option ℕ
   none = None
 
-  by : (o : Option Packet) → none ≡ option_map (λ packet. next) o → seen mid ≡ copied o (seen old) → HasStepped old now (again_event o (seen old))
+  by : (o : Option Packet) → none ≡ option_map (λ packet. next) o → network_seen mid ≡ copied o (network_seen old) → HasStepped old now (again_event o (network_seen old))
   by None given state = record { state = kept ∙ state; told = told ∙ ap (λ (t : List Entry). t ++ Idle ∷ []) same }
   by (Some p) given state = absurd (cc (given))
 

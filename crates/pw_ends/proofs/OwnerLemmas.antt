@@ -17,7 +17,7 @@ use Rattle.edge_model.specs.declared.end_place.EndPlace.{EndPlace}
 use Rattle.edge_model.specs.Labels.{left_label}
 use Rattle.pw_ends.specs.declared.owned_labels.OwnedLabel.{OwnedLabel}
 use Rattle.pw_ends.specs.Ends.{is_label, owns_label}
-use Rattle.pw_ends.specs.Kept.{Differ, IsOwnerIndex as IsIndex, IsOwned, OwnApart, freed_one, own_of}
+use Rattle.pw_ends.specs.Kept.{Differ, IsOwnerIndex, IsOwned, OwnApart, freed_one, own_of}
 use Rattle.pw_ends.specs.Owned.{OwnedList, has_label, label_in, slot_of, with_owned_label, without_owned, without_owned_one}
 use Rattle.pw_ends.proofs.FindLemmas.{find_left, find_left_other, find_put, numbers_left, numbers_put}
 
@@ -127,7 +127,7 @@ number_opened label (suc count) = omega (arith, number_opened label count)
 
 -- ---- opened
 
-pub index_opened : (room count first : ℕ) → IsIndex (replicate count None) (opened_space first room) (record { room = room; labels = [] })
+pub index_opened : (room count first : ℕ) → IsOwnerIndex (replicate count None) (opened_space first room) (record { room = room; labels = [] })
 index_opened room count first = record {
   room = refl;
   same = refl;
@@ -150,9 +150,9 @@ unindexed label (x ∷ xs) (o ∷ owners) same none =
           rw away (unindexed label xs owners tail (rw other at none)))
     ]
 
-pub index_issued : (own_list : List (Option ℕ)) (labels : LabelNumbers) (index : OwnedList) (slot label : ℕ) (key : SegKey) (side : ℕ) (peer : EdgeId) → IsIndex own_list labels index
+pub index_issued : (own_list : List (Option ℕ)) (labels : LabelNumbers) (index : OwnedList) (slot label : ℕ) (key : SegKey) (side : ℕ) (peer : EdgeId) → IsOwnerIndex own_list labels index
     → AllByRecursion (Differ (Some label)) own_list → slot_of label index.labels ≡ None → slot < length own_list → get_or own_list slot None ≡ None
-    → IsIndex (set own_list slot (Some label)) (given_to key side peer (Some label) labels) (with_owned_label label slot index)
+    → IsOwnerIndex (set own_list slot (Some label)) (given_to key side peer (Some label) labels) (with_owned_label label slot index)
 index_issued own_list labels index slot label key side peer is differ unowned within at = record {
   room = is.room;
   same =
@@ -169,8 +169,8 @@ index_issued own_list labels index slot label key side peer is differ unowned wi
 
 -- ---- a label is freed
 
-index_freed : (own_list : List (Option ℕ)) (labels : LabelNumbers) (index : OwnedList) (slot label : ℕ) → IsIndex own_list labels index → OwnApart own_list
-    → IsOwned labels.owners (Some label) → slot < length own_list → get_or own_list slot None ≡ Some label → IsIndex (set own_list slot None) (freed label labels) (without_owned label index)
+index_freed : (own_list : List (Option ℕ)) (labels : LabelNumbers) (index : OwnedList) (slot label : ℕ) → IsOwnerIndex own_list labels index → OwnApart own_list
+    → IsOwned labels.owners (Some label) → slot < length own_list → get_or own_list slot None ≡ Some label → IsOwnerIndex (set own_list slot None) (freed label labels) (without_owned label index)
 index_freed own_list labels index slot label is apart owned within at = of_found (find (owns label) labels.owners) refl where
   same_left : map (λ o. o.label) (filter (λ o. not (has_label label o)) index.labels) ≡ map (λ o. o.label) (filter (λ o. not (owns label o)) labels.owners)
   same_left =
@@ -186,14 +186,14 @@ index_freed own_list labels index slot label is apart owned within at = of_found
       ap (option_map (λ (o : OwnedLabel). o.slot)) (find_left_other label_in label other index.labels differ)
       ∙ (is.slot other ∙ sym (position_set other own_list slot None within (sym (ap (is_label other) at ∙ differ))))
 
-  of_found : (r : Option Owner) → find (owns label) labels.owners ≡ r → IsIndex (set own_list slot None) (freed_of label r labels) (without_owned label index)
+  of_found : (r : Option Owner) → find (owns label) labels.owners ≡ r → IsOwnerIndex (set own_list slot None) (freed_of label r labels) (without_owned label index)
   of_found None none = absurd (owned (owner_of-find label labels.owners ∙ ap (option_map (λ o. (o.key, o.side))) none))
   of_found (Some owner) found = record { room = is.room; same = same_left; slot = λ other. by other (cases_Bool (label == other)) }
 
 -- after a change each label that is left has its slot
-pub index_changed : (own_list : List (Option ℕ)) (labels : LabelNumbers) (index : OwnedList) (slot : ℕ) (before after : Option ℕ) → IsIndex own_list labels index → OwnApart own_list
+pub index_changed : (own_list : List (Option ℕ)) (labels : LabelNumbers) (index : OwnedList) (slot : ℕ) (before after : Option ℕ) → IsOwnerIndex own_list labels index → OwnApart own_list
     → IsOwned labels.owners before → slot < length own_list → get_or own_list slot None ≡ before → (after ≡ before) ⊎ (after ≡ None)
-    → IsIndex (set own_list slot after) (freed_one (left_label before after) labels) (without_owned_one (left_label before after) index)
+    → IsOwnerIndex (set own_list slot after) (freed_one (left_label before after) labels) (without_owned_one (left_label before after) index)
 index_changed own_list labels index slot None None is apart owned within at either = rw (set_same own_list slot None None within (sym at)) is
 index_changed own_list labels index slot None (Some label) is apart owned within at (inl same) = absurd (something {X = ℕ} label same)
 index_changed own_list labels index slot None (Some label) is apart owned within at (inr none) = absurd (something {X = ℕ} label none)
@@ -208,7 +208,7 @@ length_map f [] = refl
 length_map f (x ∷ xs) = ap suc (length_map f xs)
 
 -- there are as many of them
-pub index_count : (own_list : List (Option ℕ)) (labels : LabelNumbers) (index : OwnedList) → IsIndex own_list labels index → length index.labels ≡ length labels.owners
+pub index_count : (own_list : List (Option ℕ)) (labels : LabelNumbers) (index : OwnedList) → IsOwnerIndex own_list labels index → length index.labels ≡ length labels.owners
 index_count own_list labels index is = sym (length_map (λ (o : OwnedLabel). o.label) index.labels) ∙ (ap (λ (l : List ℕ). length l) is.same ∙ length_map (λ (o : Owner). o.label) labels.owners)
 
 number_own : (label : ℕ) (ends : List EndState) → position_or_len (is_label label) (map own_of ends) ≡ position_or_len (owns_label label) ends
@@ -220,7 +220,7 @@ count_own [] = refl
 count_own (e ∷ es) = ap suc (count_own es)
 
 -- the end of the slot is the first one that owns the label
-pub owner_found : (label : ℕ) (ends : List EndState) (labels : LabelNumbers) (index : OwnedList) → IsIndex (map own_of ends) labels index → slot_of label index.labels
+pub owner_found : (label : ℕ) (ends : List EndState) (labels : LabelNumbers) (index : OwnedList) → IsOwnerIndex (map own_of ends) labels index → slot_of label index.labels
     ≡ position (owns_label label) ends
 owner_found label ends labels index is = is.slot label ∙ rw (number_own label ends, count_own ends) refl
 

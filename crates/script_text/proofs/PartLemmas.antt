@@ -7,7 +7,7 @@ use Rattle.std.proofs.lemmas.List.Sums.{prefix_len-le-length}
 use Rattle.std.proofs.lemmas.List.Recursion.{is_count_by}
 use Rattle.std.specs.List.{position, position_or_len, after_first}
 use Rattle.net_values.proofs.OptionLemmas.{found_at, none_of}
-use Rattle.script_text.specs.Parts.{before_part, parted_by as parted, part_before, after_part}
+use Rattle.script_text.specs.Parts.{before_part, parted_by, part_before, after_part}
 use Rattle.script_text.specs.Script.{space, bad_word, is_word, spaced_words, words_of}
 
 -- the place of the first such octet
@@ -53,7 +53,7 @@ first_and part (Some parts) = part ∷ parts
 
 abbrev parts_of : ℕ → Option (List ℕ) → Option (List (List ℕ))
 parts_of by None = None
-parts_of by (Some rest) = Some (parted by rest)
+parts_of by (Some rest) = Some (parted_by by rest)
 
 -- an octet more before the first part
 longer : (by octet : ℕ) (rest : List ℕ) → (octet == by) ≡ false → place_in by (octet ∷ rest) ≡ place_in by rest + 1
@@ -81,35 +81,35 @@ before_and octet part None = refl
 before_and octet part (Some parts) = refl
 
 -- a text is its first part, and the parts of what follows it
-pub cut_first : (by : ℕ) (text : List ℕ) → parted by text ≡ first_and (part_before by text) (parts_of by (after_part by text))
-unfolding parted
+pub cut_first : (by : ℕ) (text : List ℕ) → parted_by by text ≡ first_and (part_before by text) (parts_of by (after_part by text))
+unfolding parted_by
 cut_first by [] = refl
 cut_first by (octet ∷ rest) = elim (cases_Bool (octet == by)) [
   | inl same ↦ at_once same
   | inr other ↦ later other (cut_first by rest)
 ]
   where
-    at_once : (octet == by) ≡ true → (if octet == by then [] ∷ parted by rest else before_part octet (parted by rest))
+    at_once : (octet == by) ≡ true → (if octet == by then [] ∷ parted_by by rest else before_part octet (parted_by by rest))
         ≡ first_and (part_before by (octet ∷ rest)) (parts_of by (after_part by (octet ∷ rest)))
     at_once same =
         let here : place_in by (octet ∷ rest) ≡ 0 = rw same refl in
         let after : after_part by (octet ∷ rest) ≡ Some rest = part_after by (octet ∷ rest) (omega (arith, here)) ∙ ap Some (ap (λ n. drop (n + 1) (octet ∷ rest)) here) in
-        let test : (if octet == by then [] ∷ parted by rest else before_part octet (parted by rest)) ≡ [] ∷ parted by rest = rw same refl in
-        test ∙ ap (λ n. take n (octet ∷ rest) ∷ parted by rest) (sym here) ∙ ap (λ o. first_and (part_before by (octet ∷ rest)) (parts_of by o)) (sym after)
+        let test : (if octet == by then [] ∷ parted_by by rest else before_part octet (parted_by by rest)) ≡ [] ∷ parted_by by rest = rw same refl in
+        test ∙ ap (λ n. take n (octet ∷ rest) ∷ parted_by by rest) (sym here) ∙ ap (λ o. first_and (part_before by (octet ∷ rest)) (parts_of by o)) (sym after)
 
-    later : (octet == by) ≡ false → parted by rest ≡ first_and (part_before by rest) (parts_of by (after_part by rest))
-        → (if octet == by then [] ∷ parted by rest else before_part octet (parted by rest)) ≡ first_and (part_before by (octet ∷ rest)) (parts_of by (after_part by (octet ∷ rest)))
+    later : (octet == by) ≡ false → parted_by by rest ≡ first_and (part_before by rest) (parts_of by (after_part by rest))
+        → (if octet == by then [] ∷ parted_by by rest else before_part octet (parted_by by rest)) ≡ first_and (part_before by (octet ∷ rest)) (parts_of by (after_part by (octet ∷ rest)))
     later other ih =
-        let test : (if octet == by then [] ∷ parted by rest else before_part octet (parted by rest)) ≡ before_part octet (parted by rest) = rw other refl in
+        let test : (if octet == by then [] ∷ parted_by by rest else before_part octet (parted_by by rest)) ≡ before_part octet (parted_by by rest) = rw other refl in
         test ∙ ap (before_part octet) ih ∙ before_and octet (part_before by rest) (parts_of by (after_part by rest))
         ∙ ap (λ part. first_and part (parts_of by (after_part by rest))) (sym (first_more by octet rest other))
         ∙ ap (λ o. first_and (part_before by (octet ∷ rest)) (parts_of by o)) (sym (after_more by octet rest other))
 
 -- a text without such an octet is one part
-pub parted_one : (by : ℕ) (text : List ℕ) → None ≡ after_part by text → parted by text ≡ part_before by text ∷ []
+pub parted_one : (by : ℕ) (text : List ℕ) → None ≡ after_part by text → parted_by by text ≡ part_before by text ∷ []
 parted_one by text none = cut_first by text ∙ ap (λ after. first_and (part_before by text) (parts_of by after)) (sym none)
 
-pub parted_more : (by : ℕ) (text rest : List ℕ) → Some rest ≡ after_part by text → parted by text ≡ part_before by text ∷ parted by rest
+pub parted_more : (by : ℕ) (text rest : List ℕ) → Some rest ≡ after_part by text → parted_by by text ≡ part_before by text ∷ parted_by by rest
 parted_more by text rest some = cut_first by text ∙ ap (λ after. first_and (part_before by text) (parts_of by after)) (sym some)
 
 -- a text without such an octet is its first part
@@ -163,29 +163,29 @@ before_length : (octet : ℕ) (parts : List (List ℕ)) → 0 < length parts →
 before_length octet [] some = absurd (omega arith)
 before_length octet (part ∷ parts) some = refl
 
-pub some_parts : (by : ℕ) (text : List ℕ) → 0 < length (parted by text)
-unfolding parted
+pub some_parts : (by : ℕ) (text : List ℕ) → 0 < length (parted_by by text)
+unfolding parted_by
 some_parts by [] = omega arith
 some_parts by (octet ∷ rest) = elim (cases_Bool (octet == by)) [
   | inl same ↦ rw same (omega arith)
-  | inr other ↦ rw other (omega (arith, before_length octet (parted by rest) (some_parts by rest), some_parts by rest))
+  | inr other ↦ rw other (omega (arith, before_length octet (parted_by by rest) (some_parts by rest), some_parts by rest))
 ]
 
-nothing : length (parted space []) - 1 ≡ 0
-unfolding parted
+nothing : length (parted_by space []) - 1 ≡ 0
+unfolding parted_by
 nothing = refl
 
-of_test : (test : Bool) (octet : ℕ) (rest : List ℕ) → 0 < length (parted space rest)
-    → length (if test then [] ∷ parted space rest else before_part octet (parted space rest)) - 1 ≡ cond test (1 + (length (parted space rest) - 1)) (length (parted space rest) - 1)
+of_test : (test : Bool) (octet : ℕ) (rest : List ℕ) → 0 < length (parted_by space rest)
+    → length (if test then [] ∷ parted_by space rest else before_part octet (parted_by space rest)) - 1 ≡ cond test (1 + (length (parted_by space rest) - 1)) (length (parted_by space rest) - 1)
 of_test true octet rest some = omega (arith, some)
-of_test false octet rest some = omega (arith, before_length octet (parted space rest) some)
+of_test false octet rest some = omega (arith, before_length octet (parted_by space rest) some)
 
-more : (octet : ℕ) (rest : List ℕ) → length (parted space (octet ∷ rest)) - 1 ≡ cond (octet == space) (1 + (length (parted space rest) - 1)) (length (parted space rest) - 1)
-unfolding parted
+more : (octet : ℕ) (rest : List ℕ) → length (parted_by space (octet ∷ rest)) - 1 ≡ cond (octet == space) (1 + (length (parted_by space rest) - 1)) (length (parted_by space rest) - 1)
+unfolding parted_by
 more octet rest = of_test (octet == space) octet rest (some_parts space rest)
 
 pub count_parts : (text : List ℕ) → length (words_of text) ≡ count_by (λ octet. octet == space) text + 1
-count_parts text = omega (arith, is_count_by (λ t. length (parted space t) - 1) (λ octet. octet == space) nothing more text, some_parts space text)
+count_parts text = omega (arith, is_count_by (λ t. length (parted_by space t) - 1) (λ octet. octet == space) nothing more text, some_parts space text)
 
 -- ---- words with a space between each two
 
@@ -200,7 +200,7 @@ spaced_more (part ∷ parts) some = refl
 
 -- the words of a line make the line again
 words_back : (text : List ℕ) → spaced_words (words_of text) ≡ text
-unfolding parted
+unfolding parted_by
 words_back [] = refl
 words_back (octet ∷ rest) = of_test (nat_eq octet space) (λ is. eqb-true octet space is) (words_back rest)
   where

@@ -21,7 +21,7 @@ use Rattle.network_model.specs.Absorb.{absorb, absorb_all, absorb_one, all_entri
 use Rattle.network_model.specs.State.{NetworkState, held, held_by, stands, with_edge, with_packet, with_pipe}
 use Rattle.network_model.proofs.CommonLemmas.{one_edges}
 use Rattle.seen_network.specs.Seen.{Seen, is_shown_up}
-use Rattle.seen_laws.specs.Shows.{IsReadyToShow as IsReady, Shows, tolds}
+use Rattle.seen_laws.specs.Shows.{IsReadyToShow, Shows, tolds}
 use Rattle.seen_laws.specs.Work.{TellsChanges, is_told_ended, up_after}
 use Rattle.seen_laws.proofs.SeenLemmas.{SeesPackets, ShownBy, all_show, all_way}
 
@@ -60,7 +60,7 @@ all_own me origin hops (e ∷ es) network alone =
 
 -- ---- all of the work
 
-module _ (plan : Plan) (network : NetworkState) (me : EdgeId) (origin hops : ℕ) (work : Work) (seen : Seen) (ready : IsReady plan network me work seen) where
+module _ (plan : Plan) (network : NetworkState) (me : EdgeId) (origin hops : ℕ) (work : Work) (seen : Seen) (ready : IsReadyToShow plan network me work seen) where
   abbrev begun : NetworkState
   begun = with_edge me work.edge network
 
@@ -189,7 +189,7 @@ module _ (plan : Plan) (network : NetworkState) (me : EdgeId) (first work : Work
       ∙ ap (λ (es : List Effect). is_there ((network.edges me.0).peering k) && not (is_told_ended k es)) (sym effects))
 
   -- whatever circuits are seen on
-  pub works_ready : IsReady plan network me work (record seen { on = turned })
+  pub works_ready : IsReadyToShow plan network me work (record seen { on = turned })
   works_ready = record {
     alone = shows.standing me.0 me.0 ∙ alone;
     near = λ k. ap (λ (b : Bool). b && not (is_told_ended k work.effects)) (shows.standing me.0 k) ∙ sym (stood k);
@@ -207,7 +207,7 @@ module _ (plan : Plan) (network : NetworkState) (me : EdgeId) (first work : Work
   }
 
 -- no edge has an end towards itself then
-pub ready_alone : (plan : Plan) (network : NetworkState) (me : EdgeId) (origin hops : ℕ) (work : Work) (seen : Seen) → IsReady plan network me work seen
+pub ready_alone : (plan : Plan) (network : NetworkState) (me : EdgeId) (origin hops : ℕ) (work : Work) (seen : Seen) → IsReadyToShow plan network me work seen
     → ((a : ℕ) → stands network a a ≡ false) → (a : ℕ) → stands (absorb me origin hops work network).state a a ≡ false
 ready_alone plan network me origin hops work seen ready alone a = elim (cases_Bool (nat_eq a me.0)) [
   | inl same ↦ subst (λ (n : ℕ). stands (absorb me origin hops work network).state n n ≡ false) (sym (eqb-true a me.0 same))

@@ -23,7 +23,7 @@ use Rattle.edge_model.proofs.HeldLemmas.{Holding, hears_pdu_held, mends_held, re
 use Rattle.edge_model.proofs.WalkLemmas.{hears_pdu_holds}
 use Rattle.network_model.specs.State.{held_by}
 use Rattle.seen_network.specs.Seen.{cut}
-use Rattle.seen_laws.specs.Work.{TellsChanges as Tells, is_told_ended}
+use Rattle.seen_laws.specs.Work.{TellsChanges, is_told_ended}
 use Rattle.seen_laws.proofs.CutLemmas.{got_cut, more_stay}
 use Rattle.seen_laws.proofs.TellLemmas.{any, happens_with_ends_tells, hear_tells}
 
@@ -110,7 +110,7 @@ few_rest plan told peer (suc n) octets work few are fits = within (λ rest next.
       let shorter = front_is_read.shorter kept.session.max_pdu octets rest pdu are most stands in
       let later : HoldsRest peer rest next (hears_few plan told peer n rest next) =
       again rest next (omega (arith, shorter, few)) (front_is_read.behind kept.session.max_pdu octets rest pdu are most stands) (hears_pdu_fits plan told peer.0 peer pdu work fits) in
-      let tells : Tells any work next = hears_pdu_holds plan told (Tells any) (hear_tells plan told) peer pdu work in
+      let tells : TellsChanges any work next = hears_pdu_holds plan told (TellsChanges any) (hear_tells plan told) peer pdu work in
       record {
         stood = λ k there. first_holds (is_there (work.edge.peering k)) (not (is_told_ended k tells.more)) (sym (tells.stands k) ∙ later.stood k there);
         rest = λ there. later.rest there ∙ sym (got_cut kept.session.max_pdu octets rest pdu are most stands);
@@ -118,7 +118,7 @@ few_rest plan told peer (suc n) octets work few are fits = within (λ rest next.
       }
   front again kept is most (Bad fault) stands =
       let refused : Work = happens_with_ends told peer (Refused (refusal_of fault)) work in
-      let tells : Tells any work refused = happens_with_ends_tells any told peer (Refused (refusal_of fault)) work in
+      let tells : TellsChanges any work refused = happens_with_ends_tells any told peer (Refused (refusal_of fault)) work in
       record {
         stood = λ k there. first_holds (is_there (work.edge.peering k)) (not (is_told_ended k tells.more)) (sym (tells.stands k) ∙ there);
         rest = λ there. gone (refused.edge.peering peer.0) (refused_gone told peer (refusal_of fault) work) there;

@@ -24,23 +24,23 @@ use Rattle.edge_model.proofs.WalkLemmas.{hears_holds, mends_holds}
 use Rattle.flight_laws.specs.Meeting.{closes}
 use Rattle.network_model.specs.State.{held_by}
 use Rattle.seen_network.specs.Seen.{is_shown_up}
-use Rattle.seen_laws.specs.Work.{TellsChanges as Tells, is_told_ended, up_after}
+use Rattle.seen_laws.specs.Work.{TellsChanges, is_told_ended, up_after}
 use Rattle.seen_laws.proofs.TellLemmas.{any, changes_tell, happens_with_ends_tells, hear_tells, mend_tells, tells_not, tells_then}
 
 -- of no peer the edge hears
 abbrev pub none : ℕ → Bool
 none k = false
 
-pub mends_tell : (plan : Plan) (told : Answers) (work : Work) → Tells none work (mends plan told work)
-mends_tell plan told work = mends_holds plan told (Tells none) (mend_tells none plan told) work
+pub mends_tell : (plan : Plan) (told : Answers) (work : Work) → TellsChanges none work (mends plan told work)
+mends_tell plan told work = mends_holds plan told (TellsChanges none) (mend_tells none plan told) work
 
 -- the edge mends after something
-pub then_mends : (plan : Plan) (told : Answers) (first work : Work) → Tells none first work → Tells none first (mends plan told work)
+pub then_mends : (plan : Plan) (told : Answers) (first work : Work) → TellsChanges none first work → TellsChanges none first (mends plan told work)
 then_mends plan told first work tells = tells_then none first work (mends plan told work) tells (mends_tell plan told work)
 
 -- ---- an end is lost
 
-pub lost_tells : (plan : Plan) (told : Answers) (peer : EdgeId) (work : Work) → Tells none work (mends plan told (happens_with_ends told peer (Closed reason.Closed) work))
+pub lost_tells : (plan : Plan) (told : Answers) (peer : EdgeId) (work : Work) → TellsChanges none work (mends plan told (happens_with_ends told peer (Closed reason.Closed) work))
 lost_tells plan told peer work = then_mends plan told work (happens_with_ends told peer (Closed reason.Closed) work) (happens_with_ends_tells none told peer (Closed reason.Closed) work)
 
 ended_gone : (peer : EdgeId) (why : Rattle.net_base.specs.declared.trace.state_name.Reason.Reason) (work : Work) → (ends peer why work).edge.peering peer.0 ≡ None
@@ -57,26 +57,26 @@ closed_gone told peer work = ap (λ (peering : ℕ → Option Peering). peering 
 pub lost_gone : (plan : Plan) (told : Answers) (peer : EdgeId) (work : Work) → is_there ((mends plan told (happens_with_ends told peer (Closed reason.Closed) work)).edge.peering peer.0) ≡ false
 lost_gone plan told peer work =
     let lost : Work = happens_with_ends told peer (Closed reason.Closed) work in
-    let tells : Tells none lost (mends plan told lost) = mends_tell plan told lost in
+    let tells : TellsChanges none lost (mends plan told lost) = mends_tell plan told lost in
     tells.stands peer.0 ∙ ap (λ (o : Option Peering). is_there o && not (is_told_ended peer.0 tells.more)) (closed_gone told peer work)
 
 -- ---- a tick
 
-ticks_tell : (told : Answers) (place count : ℕ) (work : Work) → Tells none work (ticks_sessions told place count work)
+ticks_tell : (told : Answers) (place count : ℕ) (work : Work) → TellsChanges none work (ticks_sessions told place count work)
 ticks_tell told place zero work = tells_not none work
 ticks_tell told place (suc count) work =
     let first : Work = happens_with_ends told (record { 0 = place }) Ticked work in
     tells_then none work first (ticks_sessions told (place + 1) count first) (happens_with_ends_tells none told (record { 0 = place }) Ticked work) (ticks_tell told (place + 1) count first)
 
-counted_tells : (work : Work) → Tells none work (changes counted work)
+counted_tells : (work : Work) → TellsChanges none work (changes counted work)
 unfolding with_kept with_ticks
 counted_tells work = changes_tell none counted work refl refl refl refl
 
-forgetting_tells : (plan : Plan) (work : Work) → Tells none work (changes (forgetting plan) work)
+forgetting_tells : (plan : Plan) (work : Work) → TellsChanges none work (changes (forgetting plan) work)
 unfolding with_learned
 forgetting_tells plan work = changes_tell none (forgetting plan) work refl refl refl refl
 
-pub tick_tells : (plan : Plan) (told : Answers) (work : Work) → Tells none work (tick_input plan told work)
+pub tick_tells : (plan : Plan) (told : Answers) (work : Work) → TellsChanges none work (tick_input plan told work)
 tick_tells plan told work =
     let first : Work = changes counted work in
     let ticked : Work = ticks_sessions told 0 (length plan.edges) first in
@@ -86,16 +86,16 @@ tick_tells plan told work =
 
 -- ---- what is set
 
-pub wire_tells : (wire : WireId) (on : Bool) (work : Work) → Tells none work (changes (turned_wire wire on) work)
+pub wire_tells : (wire : WireId) (on : Bool) (work : Work) → TellsChanges none work (changes (turned_wire wire on) work)
 unfolding with_wire with_renewed
 wire_tells wire true work = changes_tell none (turned_wire wire true) work refl refl refl refl
 wire_tells wire false work = changes_tell none (turned_wire wire false) work refl refl refl refl
 
-pub bits_tell : (wire : WireId) (bits : ℕ) (work : Work) → Tells none work (changes (with_bits wire bits) work)
+pub bits_tell : (wire : WireId) (bits : ℕ) (work : Work) → TellsChanges none work (changes (with_bits wire bits) work)
 unfolding with_bits
 bits_tell wire bits work = changes_tell none (with_bits wire bits) work refl refl refl refl
 
-pub priority_tells : (wire : WireId) (priority : ℕ) (work : Work) → Tells none work (changes (with_priority wire priority) work)
+pub priority_tells : (wire : WireId) (priority : ℕ) (work : Work) → TellsChanges none work (changes (with_priority wire priority) work)
 unfolding with_priority
 priority_tells wire priority work = changes_tell none (with_priority wire priority) work refl refl refl refl
 
@@ -122,7 +122,7 @@ stays_there true x is = ap (λ (y : Bool). not y) (sym is)
 stays_there false x is = refl
 
 pub bridged_tells : (old new : Work) → new.edge.me ≡ old.edge.me → new.edge.circuit_on ≡ old.edge.circuit_on → new.edge.peering ≡ old.edge.peering → new.edge.told_down
-    ≡ old.edge.told_down → GivesOnly is_of_bridging old.effects new.effects → Tells none old new
+    ≡ old.edge.told_down → GivesOnly is_of_bridging old.effects new.effects → TellsChanges none old new
 bridged_tells old new me circuits peering downs gives =
     let nothing : TellsNothing gives.more = bridging_tells gives.more gives.own in
     record {
@@ -138,7 +138,8 @@ bridged_tells old new me circuits peering downs gives =
 
 -- ---- octets
 
-pub hears_tell : (plan : Plan) (told : Answers) (peer : EdgeId) (octets : List ℕ) (work : Work) → Tells any work (mends plan told (hears plan told peer octets work))
+pub hears_tell : (plan : Plan) (told : Answers) (peer : EdgeId) (octets : List ℕ) (work : Work) → TellsChanges any work (mends plan told (hears plan told peer octets work))
 hears_tell plan told peer octets work =
     let heard : Work = hears plan told peer octets work in
-    tells_then any work heard (mends plan told heard) (hears_holds plan told (Tells any) (hear_tells plan told) peer octets work) (mends_holds plan told (Tells any) (mend_tells any plan told) heard)
+    tells_then any work heard (mends plan told heard) (hears_holds plan told (TellsChanges any) (hear_tells plan told) peer octets work)
+    (mends_holds plan told (TellsChanges any) (mend_tells any plan told) heard)

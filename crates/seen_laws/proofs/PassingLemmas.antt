@@ -31,7 +31,7 @@ use Rattle.network_model.proofs.PacketListLemmas.{AreNumbered}
 use Rattle.flight_laws.proofs.SettleLemmas.{edge_else, edge_there}
 use Rattle.seen_network.specs.Seen.{Seen, SeenCopy, copy_goes, origin_among, repeats, with_copies, with_on, without_copy, without_edge}
 use Rattle.seen_laws.specs.Events.{HasGone, IsShown, NoneAlone, WasIdle}
-use Rattle.seen_laws.specs.Shows.{AreTold, IsReadyToShow as IsReady, Shows, copy_of, tolds}
+use Rattle.seen_laws.specs.Shows.{AreTold, IsReadyToShow, Shows, copy_of, tolds}
 use Rattle.seen_laws.specs.Work.{TellsChanges}
 use Rattle.seen_laws.proofs.AbsorbLemmas.{BeginsFrom, OnAfter, absorb_shows, on_still, ready_alone, works_ready}
 use Rattle.seen_laws.proofs.AgeLemmas.{aged_shows, aged_told}
@@ -43,7 +43,7 @@ use Rattle.seen_laws.proofs.SeenLemmas.{sent_more, told-append, tolds-append, wo
 -- ---- restarts
 
 module _ (plan : Plan) (network : NetworkState) (seen : Seen) (shows : Shows plan network seen) (alone : NoneAlone network) where
-  restart_ready : (me : EdgeId) → IsReady plan (without_octets_to me network) me (restart_input (begin_at network me)) (without_edge me.0 seen)
+  restart_ready : (me : EdgeId) → IsReadyToShow plan (without_octets_to me network) me (restart_input (begin_at network me)) (without_edge me.0 seen)
   unfolding changes with_kept with_learned without_ends without_peerings without_edge without_octets_to
   restart_ready me = record {
     alone = rw (same_number me.0) refl;
@@ -75,7 +75,7 @@ ticks_show plan place (suc count) network seen shows alone =
     let me : EdgeId = record { 0 = place } in
     let work : Work = tick_input plan taken_all (begin_at network me) in
     let first = tick_at plan me network in
-    let ready : IsReady plan network me work seen = plain_ready plan network me work seen shows alone (tick_tells plan taken_all (begin_at network me)) in
+    let ready : IsReadyToShow plan network me work seen = plain_ready plan network me work seen shows alone (tick_tells plan taken_all (begin_at network me)) in
     let rest : TicksShow plan (tolds first.entries seen) (ticks_from plan (place + 1) count first.state) =
     ticks_show plan (place + 1) count first.state (tolds first.entries seen) (absorb_shows plan network me 0 0 work seen ready) (ready_alone plan network me 0 0 work seen ready alone) in
     record {
@@ -141,7 +141,7 @@ module _ (plan : Plan) (network : NetworkState) (seen : Seen) (shows : Shows pla
       | inr away ↦ shows.on other line at ∙ sym (ap (λ (e : EdgeState). e.circuit_on other.0) (edge_else row.edge (mends plan taken_all done).edge network line.edge.0 away))
     ]
 
-  turned_ready : IsReady plan network row.edge (mends plan taken_all done) (with_on circuit.0 on seen)
+  turned_ready : IsReadyToShow plan network row.edge (mends plan taken_all done) (with_on circuit.0 on seen)
   unfolding with_on
   turned_ready = works_ready plan network row.edge done (mends plan taken_all done) seen shows (turned_begins plan network circuit row on) none tells
       (λ k there. tells.kept k refl there ∙ ap (λ (p : ℕ → Option _). Rattle.network_model.specs.State.held_by (p k)) (turned_begins plan network circuit row on).peering) (alone row.edge.0) _ now_on
@@ -149,7 +149,7 @@ module _ (plan : Plan) (network : NetworkState) (seen : Seen) (shows : Shows pla
   pub turned_shown : IsShown plan (Circuit circuit on) network seen (circuit_event plan circuit on (Some row) network)
   turned_shown = answer_shown plan (Circuit circuit on) network seen row.edge _
       (applied (is_own (begin_at network row.edge).edge row && not (is_same on (is_on (begin_at network row.edge).edge circuit))) (mends plan taken_all done)
-      (begin_at network row.edge) (λ w. IsReady plan network row.edge w (with_on circuit.0 on seen)) turned_ready)
+      (begin_at network row.edge) (λ w. IsReadyToShow plan network row.edge w (with_on circuit.0 on seen)) turned_ready)
 
 pub circuit_shown : (plan : Plan) (network : NetworkState) (seen : Seen) → Shows plan network seen → NoneAlone network → (circuit : CircuitId) (on : Bool)
     → IsShown plan (Circuit circuit on) network seen (circuit_event plan circuit on (circuit_row plan circuit) network)
@@ -187,7 +187,7 @@ frame_shown plan network seen shows alone circuit octets (Some row) = idle_or pl
   work : Work
   work = frame_work plan network circuit octets row
 
-  ready : IsReady plan (with_frame network) row.edge work seen
+  ready : IsReadyToShow plan (with_frame network) row.edge work seen
   ready =
       let bridges = frame_bridges plan taken_all circuit octets (Some row) (begin_at network row.edge) in
       plain_ready plan (with_frame network) row.edge work seen (entered_shows plan network seen shows) (entered_alone network alone)
@@ -245,7 +245,7 @@ module _ (plan : Plan) (network : NetworkState) (seen : Seen) (shows : Shows pla
     work : Work
     work = packet_work plan network packet
 
-    ready : IsReady plan (without_packet packet.number network) packet.to work (copy_goes number seen)
+    ready : IsReadyToShow plan (without_packet packet.number network) packet.to work (copy_goes number seen)
     ready =
         let bridges = packet_bridges plan taken_all packet.bytes (begin_at network packet.to) in
         plain_ready plan (without_packet packet.number network) packet.to work (copy_goes number seen)

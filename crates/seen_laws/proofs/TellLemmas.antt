@@ -43,7 +43,7 @@ use Rattle.flight_laws.specs.Meeting.{closes}
 use Rattle.flight_laws.proofs.WorkLemmas.{closes-append}
 use Rattle.network_model.specs.State.{held_by}
 use Rattle.seen_network.specs.Seen.{is_shown_up}
-use Rattle.seen_laws.specs.Work.{TellsChanges as Tells, is_told_ended, is_ended, up_after}
+use Rattle.seen_laws.specs.Work.{TellsChanges, is_told_ended, is_ended, up_after}
 
 -- ---- joined effects
 
@@ -73,7 +73,7 @@ up-append wire (effect.Closed peer ∷ es) fs up = up-append wire es fs up
 -- ---- no work, and one after another
 
 module _ (heard : ℕ → Bool) where
-  pub tells_not : (work : Work) → Tells heard work work
+  pub tells_not : (work : Work) → TellsChanges heard work work
   tells_not work = record {
     more = [];
     given = sym (append-nil work.effects);
@@ -85,7 +85,7 @@ module _ (heard : ℕ → Bool) where
     kept = λ k apart there_spoken. refl;
   }
 
-  pub tells_then : (a b c : Work) → Tells heard a b → Tells heard b c → Tells heard a c
+  pub tells_then : (a b c : Work) → TellsChanges heard a b → TellsChanges heard b c → TellsChanges heard a c
   tells_then a b c first next = record {
     more = first.more ++ next.more;
     given = next.given ∙ (ap (λ (l : List Effect). l ++ next.more) first.given ∙ append_assoc a.effects first.more next.more);
@@ -106,7 +106,7 @@ module _ (heard : ℕ → Bool) where
 
   -- a change of the edge that touches none of it
   pub changes_tell : (change : EdgeState → EdgeState) (work : Work) → (change work.edge).me ≡ work.edge.me → (change work.edge).circuit_on ≡ work.edge.circuit_on
-      → (change work.edge).peering ≡ work.edge.peering → (change work.edge).told_down ≡ work.edge.told_down → Tells heard work (changes change work)
+      → (change work.edge).peering ≡ work.edge.peering → (change work.edge).told_down ≡ work.edge.told_down → TellsChanges heard work (changes change work)
   unfolding changes
   changes_tell change work me circuits peering downs = record {
     more = [];
@@ -121,7 +121,7 @@ module _ (heard : ℕ → Bool) where
 
   -- what is kept for a peer becomes something else, with what was held of it
   peering_tells : (peer : EdgeId) (kept : Option Peering) (work : Work) → is_there kept ≡ is_there (work.edge.peering peer.0) → held_by kept ≡ held_by (work.edge.peering peer.0)
-      → Tells heard work (changes (with_peering peer kept) work)
+      → TellsChanges heard work (changes (with_peering peer kept) work)
   unfolding changes with_peering
   peering_tells peer kept work there_spoken held = record {
     more = [];
@@ -148,7 +148,7 @@ module _ (heard : ℕ → Bool) where
 
   -- an effect that tells nothing of it
   pub gives_tell : (e : Effect) (work : Work) → ((k : ℕ) → is_told_ended k (e ∷ []) ≡ false) → ((k : ℕ) → closes k (e ∷ []) ≡ false) → ((wire : ℕ) (up : Bool) → up_after wire (e ∷ []) up ≡ up)
-      → Tells heard work (gives e work)
+      → TellsChanges heard work (gives e work)
   unfolding gives
   gives_tell e work none shuts still = record {
     more = e ∷ [];
@@ -161,7 +161,7 @@ module _ (heard : ℕ → Bool) where
     kept = λ k apart there_spoken. refl;
   }
 
-  puts_tell : (peer : EdgeId) (bytes : List ℕ) (taken : Bool) (work : Work) → Tells heard work (puts peer bytes taken work)
+  puts_tell : (peer : EdgeId) (bytes : List ℕ) (taken : Bool) (work : Work) → TellsChanges heard work (puts peer bytes taken work)
   unfolding puts
   puts_tell peer bytes taken work = record {
     more = [];
@@ -174,7 +174,7 @@ module _ (heard : ℕ → Bool) where
     kept = λ k apart there_spoken. refl;
   }
 
-  spoken_tells : (peer : EdgeId) (work : Work) → Tells heard work (changes (with_spoken peer) work)
+  spoken_tells : (peer : EdgeId) (work : Work) → TellsChanges heard work (changes (with_spoken peer) work)
   unfolding changes with_spoken
   spoken_tells peer work = peering_tells peer (option_map having_spoken (work.edge.peering peer.0)) work (there_spoken (work.edge.peering peer.0)) (held (work.edge.peering peer.0)) where
     held : (kept : Option Peering) → held_by (option_map having_spoken kept) ≡ held_by kept
@@ -182,7 +182,7 @@ module _ (heard : ℕ → Bool) where
     held (Some kept) = refl
 
   -- the session with a peer has ended
-  ends_tell : (peer : EdgeId) (why : Reason) (work : Work) → Tells heard work (ends peer why work)
+  ends_tell : (peer : EdgeId) (why : Reason) (work : Work) → TellsChanges heard work (ends peer why work)
   unfolding changes gives with_peering
   ends_tell peer why work = record {
     more = effect.Session peer (name.Ended why) ∷ effect.Closed peer ∷ [];
@@ -209,12 +209,12 @@ module _ (heard : ℕ → Bool) where
         by true o there_spoken = absurd (cc there_spoken)
         by false o there_spoken = refl
 
-  said_tells : (peer : EdgeId) (bytes : List ℕ) (work : Work) → Tells heard work (gives (effect.Said peer bytes) work)
+  said_tells : (peer : EdgeId) (bytes : List ℕ) (work : Work) → TellsChanges heard work (gives (effect.Said peer bytes) work)
   said_tells peer bytes work = gives_tell (effect.Said peer bytes) work (λ k. refl) (λ k. refl) (λ wire up. refl)
 
   -- ---- messages are put
 
-  put_octets_tell : (peer : EdgeId) (bytes : List ℕ) (taken : Bool) (work : Work) → Tells heard work (put_octets peer bytes taken work).work
+  put_octets_tell : (peer : EdgeId) (bytes : List ℕ) (taken : Bool) (work : Work) → TellsChanges heard work (put_octets peer bytes taken work).work
   put_octets_tell peer bytes false work = puts_tell peer bytes false work
   put_octets_tell peer bytes true work =
       let called : Work = puts peer bytes true work in
@@ -222,18 +222,18 @@ module _ (heard : ℕ → Bool) where
       tells_then work called (gives (effect.Said peer bytes) spoken) (puts_tell peer bytes true work)
       (tells_then called spoken (gives (effect.Said peer bytes) spoken) (spoken_tells peer called) (said_tells peer bytes spoken))
 
-  put_reply_tells : (told : Answers) (peer : EdgeId) (reply : Reply) (kept : Option Peering) (work : Work) → Tells heard work (put_reply_to told peer reply kept work).work
+  put_reply_tells : (told : Answers) (peer : EdgeId) (reply : Reply) (kept : Option Peering) (work : Work) → TellsChanges heard work (put_reply_to told peer reply kept work).work
   put_reply_tells told peer reply None work = tells_not work
   put_reply_tells told peer reply (Some kept) work = put_octets_tell peer (octets_of kept reply) (next_answer told work) work
 
-  put_replies_tell : (told : Answers) (peer : EdgeId) (replies : List Reply) (work : Work) → Tells heard work (put_replies told peer replies work).work
+  put_replies_tell : (told : Answers) (peer : EdgeId) (replies : List Reply) (work : Work) → TellsChanges heard work (put_replies told peer replies work).work
   put_replies_tell told peer [] work = tells_not work
   put_replies_tell told peer (reply ∷ replies) work =
       tells_then work (put_reply told peer reply work).work _ (put_reply_tells told peer reply (work.edge.peering peer.0) work)
       (on (put_reply told peer reply work).failed (put_replies_tell told peer replies (put_reply told peer reply work).work))
     where
-      on : (failed : Bool) → Tells heard (put_reply told peer reply work).work (put_replies told peer replies (put_reply told peer reply work).work).work
-          → Tells heard (put_reply told peer reply work).work (puts_on (put_replies told peer replies) failed (put_reply told peer reply work).work).work
+      on : (failed : Bool) → TellsChanges heard (put_reply told peer reply work).work (put_replies told peer replies (put_reply told peer reply work).work).work
+          → TellsChanges heard (put_reply told peer reply work).work (puts_on (put_replies told peer replies) failed (put_reply told peer reply work).work).work
       on true rest = tells_not (put_reply told peer reply work).work
       on false rest = rest
 
@@ -246,22 +246,23 @@ module _ (heard : ℕ → Bool) where
   going phase.OpenRec = refl
   going phase.Operational = refl
 
-  name_tells : (peer : EdgeId) (p : Phase) (work : Work) → Tells heard work (gives (effect.Session peer (phase_name p)) work)
+  name_tells : (peer : EdgeId) (p : Phase) (work : Work) → TellsChanges heard work (gives (effect.Session peer (phase_name p)) work)
   name_tells peer p work = gives_tell (effect.Session peer (phase_name p)) work (λ k. rw (going p) refl) (λ k. refl) (λ wire up. refl)
 
-  tells_change_tells : (peer : EdgeId) (old new : Phase) (work : Work) → Tells heard work (tells_change peer old new work)
+  tells_change_tells : (peer : EdgeId) (old new : Phase) (work : Work) → TellsChanges heard work (tells_change peer old new work)
   tells_change_tells peer old new work = by (is_same_phase old new) where
-    by : (same : Bool) → Tells heard work (cond same work (gives (effect.Session peer (phase_name new)) work))
+    by : (same : Bool) → TellsChanges heard work (cond same work (gives (effect.Session peer (phase_name new)) work))
     by true = tells_not work
     by false = name_tells peer new work
 
-  went_on_tells : (peer : EdgeId) (old new : Phase) (put : Spoken) → Tells heard put.work (went_on peer old new put)
+  went_on_tells : (peer : EdgeId) (old new : Phase) (put : Spoken) → TellsChanges heard put.work (went_on peer old new put)
   went_on_tells peer old new put = by put.failed where
-    by : (failed : Bool) → Tells heard put.work (cond failed (ends peer reason.LinkFault put.work) (tells_change peer old new put.work))
+    by : (failed : Bool) → TellsChanges heard put.work (cond failed (ends peer reason.LinkFault put.work) (tells_change peer old new put.work))
     by true = ends_tell peer reason.LinkFault put.work
     by false = tells_change_tells peer old new put.work
 
-  comes_of_tells : (told : Answers) (peer : EdgeId) (kept : Peering) (outcome : Outcome) (work : Work) → work.edge.peering peer.0 ≡ Some kept → Tells heard work (comes_of told peer kept outcome work)
+  comes_of_tells : (told : Answers) (peer : EdgeId) (kept : Peering) (outcome : Outcome) (work : Work) → work.edge.peering peer.0 ≡ Some kept
+      → TellsChanges heard work (comes_of told peer kept outcome work)
   comes_of_tells told peer kept Stay work is = tells_not work
   comes_of_tells told peer kept (Goes next replies) work is =
       let gone : Work = changes (with_peering peer (Some (with_session next kept))) work in
@@ -272,72 +273,72 @@ module _ (heard : ℕ → Bool) where
       let put : Spoken = put_replies told peer replies work in
       tells_then work put.work (ends peer why put.work) (put_replies_tell told peer replies work) (ends_tell peer why put.work)
 
-  happens_tells : (told : Answers) (peer : EdgeId) (event : SessionEvent) (work : Work) → Tells heard work (happens told peer event work)
+  happens_tells : (told : Answers) (peer : EdgeId) (event : SessionEvent) (work : Work) → TellsChanges heard work (happens told peer event work)
   happens_tells told peer event work = by (work.edge.peering peer.0) refl where
-    by : (kept : Option Peering) → work.edge.peering peer.0 ≡ kept → Tells heard work (happens_to told peer event kept work)
+    by : (kept : Option Peering) → work.edge.peering peer.0 ≡ kept → TellsChanges heard work (happens_to told peer event kept work)
     by None is = tells_not work
     by (Some kept) is = comes_of_tells told peer kept (outcome_of kept.session event) work is
 
-  beside_tells : (peer : EdgeId) (change : EndState → EndState) (work : Work) → Tells heard work (changes (with_ends_beside peer change) work)
+  beside_tells : (peer : EdgeId) (change : EndState → EndState) (work : Work) → TellsChanges heard work (changes (with_ends_beside peer change) work)
   unfolding with_ends_beside
   beside_tells peer change work = changes_tell (with_ends_beside peer change) work refl refl refl refl
 
-  losing_tells : (peer : EdgeId) (work : Work) → Tells heard work (changes (losing_ends peer) work)
+  losing_tells : (peer : EdgeId) (work : Work) → TellsChanges heard work (changes (losing_ends peer) work)
   unfolding with_ends_beside with_kept
   losing_tells peer work = changes_tell (losing_ends peer) work refl refl refl refl
 
-  clears_tell : (peer : EdgeId) (work : Work) → Tells heard work (clears_ends peer work)
+  clears_tell : (peer : EdgeId) (work : Work) → TellsChanges heard work (clears_ends peer work)
   clears_tell peer work = by (has_end work.edge peer) where
-    by : (stands : Bool) → Tells heard work (cond stands work (changes (losing_ends peer) work))
+    by : (stands : Bool) → TellsChanges heard work (cond stands work (changes (losing_ends peer) work))
     by true = tells_not work
     by false = losing_tells peer work
 
-  pub happens_with_ends_tells : (told : Answers) (peer : EdgeId) (event : SessionEvent) (work : Work) → Tells heard work (happens_with_ends told peer event work)
+  pub happens_with_ends_tells : (told : Answers) (peer : EdgeId) (event : SessionEvent) (work : Work) → TellsChanges heard work (happens_with_ends told peer event work)
   happens_with_ends_tells told peer event work =
       let happened : Work = happens told peer event work in
       tells_then work happened (clears_ends peer happened) (happens_tells told peer event work) (clears_tell peer happened)
 
-  had_put_tells : (peer : EdgeId) (put : Spoken) → Tells heard put.work (had_put peer put)
+  had_put_tells : (peer : EdgeId) (put : Spoken) → TellsChanges heard put.work (had_put peer put)
   had_put_tells peer put = by put.failed where
-    by : (failed : Bool) → Tells heard put.work (cond failed (ends peer reason.LinkFault put.work) put.work)
+    by : (failed : Bool) → TellsChanges heard put.work (cond failed (ends peer reason.LinkFault put.work) put.work)
     by true = ends_tell peer reason.LinkFault put.work
     by false = tells_not put.work
 
-  had_said_tells : (peer : EdgeId) (put : Spoken) (work : Work) → Tells heard work put.work → Tells heard work (had_said peer put).work
+  had_said_tells : (peer : EdgeId) (put : Spoken) (work : Work) → TellsChanges heard work put.work → TellsChanges heard work (had_said peer put).work
   had_said_tells peer put work said =
       let had : Work = had_put peer put in
       tells_then work put.work (clears_ends peer had) said (tells_then put.work had (clears_ends peer had) (had_put_tells peer put) (clears_tell peer had))
 
-  says_tells : (told : Answers) (peer : EdgeId) (message : ℕ → Message) (work : Work) → Tells heard work (says told peer message work).work
+  says_tells : (told : Answers) (peer : EdgeId) (message : ℕ → Message) (work : Work) → TellsChanges heard work (says told peer message work).work
   says_tells told peer message work = by (work.edge.peering peer.0) where
-    by : (kept : Option Peering) → Tells heard work (says_to told peer message kept work).work
+    by : (kept : Option Peering) → TellsChanges heard work (says_to told peer message kept work).work
     by None = tells_not work
     by (Some kept) = had_said_tells peer (put_octets peer (message_octets_of kept message) (next_answer told work) work) work
         (put_octets_tell peer (message_octets_of kept message) (next_answer told work) work)
 
-  advises_tells : (told : Answers) (peer : EdgeId) (reply : Reply) (work : Work) → Tells heard work (had_said peer (put_reply told peer reply work)).work
+  advises_tells : (told : Answers) (peer : EdgeId) (reply : Reply) (work : Work) → TellsChanges heard work (had_said peer (put_reply told peer reply work)).work
   advises_tells told peer reply work = had_said_tells peer (put_reply told peer reply work) work (put_reply_tells told peer reply (work.edge.peering peer.0) work)
 
   -- ---- ends
 
-  then_says_tells : (told : Answers) (peer : EdgeId) (message : ℕ → Message) (change : EdgeState → EdgeState) (work : Work) → Tells heard work (changes change work)
-      → Tells heard work (says told peer message (changes change work)).work
+  then_says_tells : (told : Answers) (peer : EdgeId) (message : ℕ → Message) (change : EdgeState → EdgeState) (work : Work) → TellsChanges heard work (changes change work)
+      → TellsChanges heard work (says told peer message (changes change work)).work
   then_says_tells told peer message change work first =
       tells_then work (changes change work) (says told peer message (changes change work)).work first (says_tells told peer message (changes change work))
 
-  end_tells : (place : EndPlace) (end : EdgeState → EndState) (work : Work) → Tells heard work (changes (λ edge. with_end place (end edge) edge) work)
+  end_tells : (place : EndPlace) (end : EdgeState → EndState) (work : Work) → TellsChanges heard work (changes (λ edge. with_end place (end edge) edge) work)
   unfolding with_end
   end_tells place end work = changes_tell (λ edge. with_end place (end edge) edge) work refl refl refl refl
 
-  advertising_tells : (place : EndPlace) (label : ℕ) (content : Told) (work : Work) → Tells heard work (changes (advertising place label content) work)
+  advertising_tells : (place : EndPlace) (label : ℕ) (content : Told) (work : Work) → TellsChanges heard work (changes (advertising place label content) work)
   unfolding with_end with_kept with_next_label
   advertising_tells place label content work = changes_tell (advertising place label content) work refl refl refl refl
 
-  choosing_tells : (plan : Plan) (work : Work) → Tells heard work (changes (choosing plan) work)
+  choosing_tells : (plan : Plan) (work : Work) → TellsChanges heard work (changes (choosing plan) work)
   unfolding with_chosen
   choosing_tells plan work = changes_tell (choosing plan) work refl refl refl refl
 
-  forget_tells : (a b : Work) → ForgetsOnly a b → Tells heard a b
+  forget_tells : (a b : Work) → ForgetsOnly a b → TellsChanges heard a b
   forget_tells a b only = record {
     more = [];
     given = only.effects ∙ sym (append-nil a.effects);
@@ -350,7 +351,7 @@ module _ (heard : ℕ → Bool) where
   }
 
   -- why a wire is down is told
-  wire_tells : (wire : WireId) (down : Option Down) (work : Work) → Tells heard work (gives (effect.Wire wire down) (changes (with_told_down wire down) work))
+  wire_tells : (wire : WireId) (down : Option Down) (work : Work) → TellsChanges heard work (gives (effect.Wire wire down) (changes (with_told_down wire down) work))
   unfolding changes gives with_told_down
   wire_tells wire down work = record {
     more = effect.Wire wire down ∷ [];
@@ -367,7 +368,7 @@ module _ (heard : ℕ → Bool) where
       by true old = refl
       by false old = refl
 
-  pub mend_tells : (plan : Plan) (told : Answers) → MendSteps plan told (Tells heard)
+  pub mend_tells : (plan : Plan) (told : Answers) → MendSteps plan told (TellsChanges heard)
   mend_tells plan told = record {
     same = tells_not;
     joined = tells_then;
@@ -385,25 +386,26 @@ module _ (heard : ℕ → Bool) where
         (forgetting_only plan place.wire (wire_row plan place.wire) work);
   }
 
-  changed_tells : (change : EndState → EndState) (place : EdgeState → Option EndPlace) (work : Work) → Tells heard work (changes (λ edge. with_end_changed change (place edge) edge) work)
+  changed_tells : (change : EndState → EndState) (place : EdgeState → Option EndPlace) (work : Work) → TellsChanges heard work (changes (λ edge. with_end_changed change (place edge) edge) work)
   unfolding changes
   changed_tells change place work = by (place work.edge) where
-    by : (o : Option EndPlace) → Tells heard work (changes (λ edge. with_end_changed change o edge) work)
+    by : (o : Option EndPlace) → TellsChanges heard work (changes (λ edge. with_end_changed change o edge) work)
     by None = changes_tell (λ edge. edge) work refl refl refl refl
     by (Some p) = end_tells p (λ edge. change (end_at edge p)) work
 
-  releasing_tells : (label : Option ℕ) (place : EndPlace) (work : Work) → Tells heard work (changes (releasing label place) work)
+  releasing_tells : (label : Option ℕ) (place : EndPlace) (work : Work) → TellsChanges heard work (changes (releasing label place) work)
   unfolding with_end with_kept
   releasing_tells label place work = changes_tell (releasing label place) work refl refl refl refl
 
-  released_tells : (label : Option ℕ) (place : EdgeState → Option EndPlace) (work : Work) → Tells heard work (changes (λ edge. with_released label (place edge) edge) work)
+  released_tells : (label : Option ℕ) (place : EdgeState → Option EndPlace) (work : Work) → TellsChanges heard work (changes (λ edge. with_released label (place edge) edge) work)
   unfolding changes
   released_tells label place work = by (place work.edge) where
-    by : (o : Option EndPlace) → Tells heard work (changes (λ edge. with_released label o edge) work)
+    by : (o : Option EndPlace) → TellsChanges heard work (changes (λ edge. with_released label o edge) work)
     by None = changes_tell (λ edge. edge) work refl refl refl refl
     by (Some p) = releasing_tells label p work
 
-  named_tells : (plan : Plan) (peer : EdgeId) (fec : PwFec) (one all : EndState → EndState) (pw_id : Option ℕ) (work : Work) → Tells heard work (changes (with_named plan peer fec one all pw_id) work)
+  named_tells : (plan : Plan) (peer : EdgeId) (fec : PwFec) (one all : EndState → EndState) (pw_id : Option ℕ) (work : Work)
+      → TellsChanges heard work (changes (with_named plan peer fec one all pw_id) work)
   named_tells plan peer fec one all None work = beside_tells peer all work
   named_tells plan peer fec one all (Some pw_id) work = changed_tells one (λ edge. end_named plan edge.me peer pw_id) work
 
@@ -413,7 +415,7 @@ any k = true
 
 -- other octets of a peer are held
 holds_tells : (peer : EdgeId) (kept : Peering) (octets : List ℕ) (work : Work) → work.edge.peering peer.0 ≡ Some kept
-    → Tells any work (changes (with_peering peer (Some (record kept { held = octets }))) work)
+    → TellsChanges any work (changes (with_peering peer (Some (record kept { held = octets }))) work)
 unfolding changes with_peering
 holds_tells peer kept octets work is = record {
   more = [];
@@ -432,7 +434,7 @@ holds_tells peer kept octets work is = record {
       | inr other ↦ rw other refl
     ]
 
-pub hear_tells : (plan : Plan) (told : Answers) → HearSteps plan told (Tells any)
+pub hear_tells : (plan : Plan) (told : Answers) → HearSteps plan told (TellsChanges any)
 hear_tells plan told = record {
   mend = mend_tells any plan told;
   happens = happens_with_ends_tells any told;

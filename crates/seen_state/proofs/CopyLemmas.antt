@@ -11,7 +11,7 @@ use Rattle.net_base.specs.declared.trace.state_name.StateName.{StateName}
 use Rattle.net_base.specs.declared.trace.state_name.StateName.TheVariants as state
 use Rattle.seen_network.specs.Once.{has_seen, is_seen_copy, names_seen}
 use Rattle.seen_network.specs.Seen.{Seen, SeenCopy, copy_comes, copy_goes, origin_among, repeats, said_towards, session_told, with_copies, with_octets, with_rest, with_standing, with_up, without_copy}
-use Rattle.seen_state.specs.Copies.{is_number, AreFew, CopyMaps, HaveOwnNumbers, TellsPackets as Tells, copies_of, count_in, origin_under}
+use Rattle.seen_state.specs.Copies.{is_number, AreFew, CopyMaps, HaveOwnNumbers, TellsPackets, copies_of, count_in, origin_under}
 
 same_number : (a x : ℕ) → is_at (nat_cmp a) x ≡ (x == a)
 same_number a x = grind (arith, nat_tests)
@@ -21,7 +21,7 @@ same_number a x = grind (arith, nat_tests)
 pub none_few : AreFew (record { origins = []; counts = []; comings = 0 })
 none_few = λ o. omega arith
 
-pub none_told : Tells (record { origins = []; counts = []; comings = 0 }) []
+pub none_told : TellsPackets (record { origins = []; counts = []; comings = 0 }) []
 none_told = record { origins = λ n. refl; counts = λ o. refl; own = tt }
 
 -- another count at one origin
@@ -162,13 +162,13 @@ own_more (d ∷ ds) c none own = by (d.number == c.number) refl none (λ rest. o
 -- ---- the maps tell of the list
 
 -- no packet with this number is under way
-pub went_none : (maps : CopyMaps) (number : ℕ) (copies : List SeenCopy) → origin_under maps number ≡ None → Tells maps copies → Tells maps (without_copy number copies)
-went_none maps number copies none told = subst (λ (xs : List SeenCopy). Tells maps xs) (sym (without_none number copies (sym (told.origins number) ∙ none))) told
+pub went_none : (maps : CopyMaps) (number : ℕ) (copies : List SeenCopy) → origin_under maps number ≡ None → TellsPackets maps copies → TellsPackets maps (without_copy number copies)
+went_none maps number copies none told = subst (λ (xs : List SeenCopy). TellsPackets maps xs) (sym (without_none number copies (sym (told.origins number) ∙ none))) told
 
 pub went_one : (old new : CopyMaps) (number gone : ℕ) → origin_under old number ≡ Some gone
     → ((q : ℕ) → lookup (is_at (nat_cmp q)) new.origins ≡ cond (is_at (nat_cmp number) q) None (lookup (is_at (nat_cmp q)) old.origins))
     → ((o : ℕ) → count_in new.counts o ≡ count_in old.counts o - cond (o == gone) 1 0)
-    → (copies : List SeenCopy) → Tells old copies → Tells new (without_copy number copies)
+    → (copies : List SeenCopy) → TellsPackets old copies → TellsPackets new (without_copy number copies)
 went_one old new number gone some origins counts copies told = record {
   origins = λ n. origins n ∙ (ap (λ (b : Bool). cond b None (origin_under old n)) (same_number number n)
       ∙ (ap (λ (x : Option ℕ). cond (n == number) None x) (told.origins n) ∙ sym (among_without number n copies told.own)));
@@ -185,7 +185,8 @@ gone_from number copies own = among_without number number copies own ∙ ap (λ 
 pub came_one : (mid new : CopyMaps) (number origin : ℕ)
     → ((n : ℕ) → origin_under new n ≡ cond (n == number) (Some origin) (origin_under mid n))
     → ((o : ℕ) → count_in new.counts o ≡ count_in mid.counts o + cond (o == origin) 1 0)
-    → (copies : List SeenCopy) → HaveOwnNumbers copies → Tells mid (without_copy number copies) → Tells new (without_copy number copies ++ record { number = number; origin = origin } ∷ [])
+    → (copies : List SeenCopy) → HaveOwnNumbers copies → TellsPackets mid (without_copy number copies)
+    → TellsPackets new (without_copy number copies ++ record { number = number; origin = origin } ∷ [])
 came_one mid new number origin origins counts copies own told = record {
   origins = λ n. origins n
       ∙ (ap (λ (x : Option ℕ). cond (n == number) (Some origin) x) (told.origins n)
@@ -205,7 +206,7 @@ one false n any is = ap (λ (k : ℕ). not (k == 0)) same ∙ is where
   same = omega arith
 
 -- some copy of the frame
-pub seen_some : (maps : CopyMaps) (seen : Seen) (origin : ℕ) → Tells maps seen.under_way → not (count_in maps.counts origin == 0) ≡ has_seen seen origin
+pub seen_some : (maps : CopyMaps) (seen : Seen) (origin : ℕ) → TellsPackets maps seen.under_way → not (count_in maps.counts origin == 0) ≡ has_seen seen origin
 seen_some maps seen origin told = ap (λ (k : ℕ). not (k == 0)) (told.counts origin) ∙ of seen.under_way where
   of : (cs : List SeenCopy) → not (copies_of origin cs == 0) ≡ list_any (λ copy. copy.origin == origin) cs
   of [] = refl
@@ -225,28 +226,29 @@ among_named number origin (c ∷ cs) own = by (c.number == number) refl (c.origi
   by true here true is rest = is
   by true here false is rest = is ∙ sym (none here rest)
 
-pub seen_named : (maps : CopyMaps) (seen : Seen) (origin number : ℕ) → Tells maps seen.under_way → is_number origin (origin_under maps number) ≡ names_seen seen origin number
+pub seen_named : (maps : CopyMaps) (seen : Seen) (origin number : ℕ) → TellsPackets maps seen.under_way → is_number origin (origin_under maps number) ≡ names_seen seen origin number
 seen_named maps seen origin number told = ap (is_number origin) (told.origins number) ∙ among_named number origin seen.under_way told.own
 
 -- ---- entries
 
-pub repeated_none : (maps : CopyMaps) (number of : ℕ) (seen : Seen) → origin_under maps of ≡ None → Tells maps seen.under_way
-    → Tells maps (repeats number (origin_among of seen.under_way) seen).under_way
-repeated_none maps number of seen none told = subst (λ (o : Option ℕ). Tells maps (repeats number o seen).under_way) (sym none ∙ told.origins of) told
+pub repeated_none : (maps : CopyMaps) (number of : ℕ) (seen : Seen) → origin_under maps of ≡ None → TellsPackets maps seen.under_way
+    → TellsPackets maps (repeats number (origin_among of seen.under_way) seen).under_way
+repeated_none maps number of seen none told = subst (λ (o : Option ℕ). TellsPackets maps (repeats number o seen).under_way) (sym none ∙ told.origins of) told
 
-pub repeated_one : (old new : CopyMaps) (number of origin : ℕ) (seen : Seen) → origin_under old of ≡ Some origin → Tells old seen.under_way → Tells new (copy_comes number origin seen).under_way
-    → Tells new (repeats number (origin_among of seen.under_way) seen).under_way
-repeated_one old new number of origin seen some told come = subst (λ (o : Option ℕ). Tells new (repeats number o seen).under_way) (sym some ∙ told.origins of) come
+pub repeated_one : (old new : CopyMaps) (number of origin : ℕ) (seen : Seen) → origin_under old of ≡ Some origin → TellsPackets old seen.under_way
+    → TellsPackets new (copy_comes number origin seen).under_way
+    → TellsPackets new (repeats number (origin_among of seen.under_way) seen).under_way
+repeated_one old new number of origin seen some told come = subst (λ (o : Option ℕ). TellsPackets new (repeats number o seen).under_way) (sym some ∙ told.origins of) come
 
 -- what tells nothing of packets
-pub told_said : (maps : CopyMaps) (from to : ℕ) (octets : List ℕ) (seen : Seen) → Tells maps seen.under_way → Tells maps (said_towards from to octets seen).under_way
+pub told_said : (maps : CopyMaps) (from to : ℕ) (octets : List ℕ) (seen : Seen) → TellsPackets maps seen.under_way → TellsPackets maps (said_towards from to octets seen).under_way
 unfolding with_octets
 told_said maps from to octets seen told = by (seen.stands to from) where
-  by : (b : Bool) → Tells maps (cond b (with_octets from to (seen.pipes from to ++ octets) seen) seen).under_way
+  by : (b : Bool) → TellsPackets maps (cond b (with_octets from to (seen.pipes from to ++ octets) seen) seen).under_way
   by true = told
   by false = told
 
-pub told_session : (maps : CopyMaps) (edge peer : ℕ) (name : StateName) (seen : Seen) → Tells maps seen.under_way → Tells maps (session_told edge peer name seen).under_way
+pub told_session : (maps : CopyMaps) (edge peer : ℕ) (name : StateName) (seen : Seen) → TellsPackets maps seen.under_way → TellsPackets maps (session_told edge peer name seen).under_way
 unfolding with_octets with_rest with_standing
 told_session maps edge peer (state.Ended why) seen told = told
 told_session maps edge peer state.NonExistent seen told = told
@@ -255,11 +257,11 @@ told_session maps edge peer state.OpenSent seen told = told
 told_session maps edge peer state.OpenRec seen told = told
 told_session maps edge peer state.Operational seen told = told
 
-pub told_wire : (maps : CopyMaps) (edge wire : ℕ) (up : Bool) (seen : Seen) → Tells maps seen.under_way → Tells maps (with_up edge wire up seen).under_way
+pub told_wire : (maps : CopyMaps) (edge wire : ℕ) (up : Bool) (seen : Seen) → TellsPackets maps seen.under_way → TellsPackets maps (with_up edge wire up seen).under_way
 unfolding with_up
 told_wire maps edge wire up seen told = told
 
-pub told_aged : (maps : CopyMaps) (number : ℕ) (seen : Seen) → Tells maps (without_copy number seen.under_way) → Tells maps (copy_goes number seen).under_way
+pub told_aged : (maps : CopyMaps) (number : ℕ) (seen : Seen) → TellsPackets maps (without_copy number seen.under_way) → TellsPackets maps (copy_goes number seen).under_way
 unfolding with_copies
 told_aged maps number seen told = told
 

@@ -5,7 +5,7 @@ use Rattle.std.proofs.lemmas.List.{get_or_default}
 use Rattle.net_values.proofs.BoolLemmas.{and_turned}
 use Rattle.seen_network.specs.Seen.{Seen, SeenCopy, at, at_both, cut, delivers, end_goes, said_towards, repeats, with_copies, with_octets, with_on, with_rest, with_standing, with_up, without_copy, without_edge}
 use Rattle.seen_state.specs.PeerEnd.{EndSeen, no_end, taken_from_way}
-use Rattle.seen_state.specs.Sight.{EdgeSeen, IsWhole, ShowsSight as Shows, SightLists, edge_seen, end_seen, unseen_edge as no_edge, shown_with as shown}
+use Rattle.seen_state.specs.Sight.{EdgeSeen, IsWhole, ShowsSight, SightLists, edge_seen, end_seen, unseen_edge, shown_with}
 use Rattle.seen_state.proofs.RowLemmas.{set_at}
 
 -- with another end
@@ -16,7 +16,7 @@ with_end me peer end sight = record sight { edges = slice_set sight.edges me (re
 end_at : (s : SightLists) (me peer : ℕ) (v : EndSeen) (i j : ℕ) → me < length s.edges → peer < length (edge_seen s me).ends
     → end_seen (with_end me peer v s) i j ≡ cond (i == me && j == peer) v (end_seen s i j)
 end_at s me peer v i j h g =
-    ap (λ (e : EdgeSeen). slice_index_or e.ends j no_end) (set_at no_edge s.edges me (record (edge_seen s me) { ends = slice_set (edge_seen s me).ends peer v }) i h)
+    ap (λ (e : EdgeSeen). slice_index_or e.ends j no_end) (set_at unseen_edge s.edges me (record (edge_seen s me) { ends = slice_set (edge_seen s me).ends peer v }) i h)
     ∙ by (i == me) refl (j == peer) refl where
       by : (a : Bool) → (i == me) ≡ a → (b : Bool) → (j == peer) ≡ b
           → slice_index_or (cond a (record (edge_seen s me) { ends = slice_set (edge_seen s me).ends peer v }) (edge_seen s i)).ends j no_end ≡ cond (a && b) v (end_seen s i j)
@@ -33,7 +33,7 @@ read_end f s me peer v i j h g = ap f (end_at s me peer v i j h g) ∙ by (i == 
 
 -- the wires are as they were
 up_kept : (s : SightLists) (me peer : ℕ) (v : EndSeen) (i : ℕ) → me < length s.edges → (edge_seen (with_end me peer v s) i).up ≡ (edge_seen s i).up
-up_kept s me peer v i h = ap (λ (e : EdgeSeen). e.up) (set_at no_edge s.edges me (record (edge_seen s me) { ends = slice_set (edge_seen s me).ends peer v }) i h) ∙ by (i == me) refl where
+up_kept s me peer v i h = ap (λ (e : EdgeSeen). e.up) (set_at unseen_edge s.edges me (record (edge_seen s me) { ends = slice_set (edge_seen s me).ends peer v }) i h) ∙ by (i == me) refl where
   by : (a : Bool) → (i == me) ≡ a → (cond a (record (edge_seen s me) { ends = slice_set (edge_seen s me).ends peer v }) (edge_seen s i)).up ≡ (edge_seen s i).up
   by true here = ap (λ (k : ℕ). (edge_seen s k).up) (sym (eqb-true i me here))
   by false away = refl
@@ -51,8 +51,8 @@ abbrev put_all : ℕ → ℕ → EndSeen → Seen → Seen
 put_all me peer v seen = record seen { stands = at_both seen.stands me peer v.stands; pipes = at_both seen.pipes peer me v.way; rests = at_both seen.rests me peer v.rest }
 
 shown_end : (s : SightLists) (copies : List SeenCopy) (me peer : ℕ) (v : EndSeen) → me < length s.edges → peer < length (edge_seen s me).ends
-    → shown (with_end me peer v s) copies ≡ put_all me peer v (shown s copies)
-unfolding shown
+    → shown_with (with_end me peer v s) copies ≡ put_all me peer v (shown_with s copies)
+unfolding shown_with
 shown_end s copies me peer v h g = λ z. record {
   stands = λ i j. read_end (λ (e : EndSeen). e.stands) s me peer v i j h g z;
   pipes = λ i j. (read_end (λ (e : EndSeen). e.way) s me peer v j i h g ∙ ap (λ (b : Bool). cond b v.way (end_seen s j i).way) (and_turned (j == me) (i == peer))) z;
@@ -63,82 +63,83 @@ shown_end s copies me peer v h g = λ z. record {
 }
 
 -- one that stands
-pub stood_up : (s : SightLists) (seen : Seen) (me peer : ℕ) → me < length s.edges → peer < length (edge_seen s me).ends → Shows s seen
-    → Shows (with_end me peer (record (end_seen s me peer) { stands = true }) s) (with_standing me peer true seen)
-unfolding with_standing shown
+pub stood_up : (s : SightLists) (seen : Seen) (me peer : ℕ) → me < length s.edges → peer < length (edge_seen s me).ends → ShowsSight s seen
+    → ShowsSight (with_end me peer (record (end_seen s me peer) { stands = true }) s) (with_standing me peer true seen)
+unfolding with_standing shown_with
 stood_up s seen me peer h g shows =
     shown_end s seen.under_way me peer (record (end_seen s me peer) { stands = true }) h g
     ∙ ((λ z. record {
-      stands = at_both (shown s seen.under_way).stands me peer true;
-      pipes = λ i j. same_both (shown s seen.under_way).pipes peer me (end_seen s me peer).way refl i j z;
-      rests = λ i j. same_both (shown s seen.under_way).rests me peer (end_seen s me peer).rest refl i j z;
-      up = (shown s seen.under_way).up;
-      on = (shown s seen.under_way).on;
+      stands = at_both (shown_with s seen.under_way).stands me peer true;
+      pipes = λ i j. same_both (shown_with s seen.under_way).pipes peer me (end_seen s me peer).way refl i j z;
+      rests = λ i j. same_both (shown_with s seen.under_way).rests me peer (end_seen s me peer).rest refl i j z;
+      up = (shown_with s seen.under_way).up;
+      on = (shown_with s seen.under_way).on;
       under_way = seen.under_way;
     })
     ∙ ap (with_standing me peer true) shows)
 
 -- one that goes
-pub gone_away : (s : SightLists) (seen : Seen) (me peer : ℕ) → me < length s.edges → peer < length (edge_seen s me).ends → Shows s seen
-    → Shows (with_end me peer no_end s) (end_goes me peer seen)
+pub gone_away : (s : SightLists) (seen : Seen) (me peer : ℕ) → me < length s.edges → peer < length (edge_seen s me).ends → ShowsSight s seen
+    → ShowsSight (with_end me peer no_end s) (end_goes me peer seen)
 unfolding with_standing with_octets with_rest
 gone_away s seen me peer h g shows = shown_end s seen.under_way me peer no_end h g ∙ ap (end_goes me peer) shows
 
 -- one of which nothing changes
-unchanged : (s : SightLists) (seen : Seen) (me peer : ℕ) → put_all me peer (end_seen s me peer) (shown s seen.under_way) ≡ shown s seen.under_way
-unfolding shown
+unchanged : (s : SightLists) (seen : Seen) (me peer : ℕ) → put_all me peer (end_seen s me peer) (shown_with s seen.under_way) ≡ shown_with s seen.under_way
+unfolding shown_with
 unchanged s seen me peer = λ z. record {
-  stands = λ i j. same_both (shown s seen.under_way).stands me peer (end_seen s me peer).stands refl i j z;
-  pipes = λ i j. same_both (shown s seen.under_way).pipes peer me (end_seen s me peer).way refl i j z;
-  rests = λ i j. same_both (shown s seen.under_way).rests me peer (end_seen s me peer).rest refl i j z;
-  up = (shown s seen.under_way).up;
-  on = (shown s seen.under_way).on;
+  stands = λ i j. same_both (shown_with s seen.under_way).stands me peer (end_seen s me peer).stands refl i j z;
+  pipes = λ i j. same_both (shown_with s seen.under_way).pipes peer me (end_seen s me peer).way refl i j z;
+  rests = λ i j. same_both (shown_with s seen.under_way).rests me peer (end_seen s me peer).rest refl i j z;
+  up = (shown_with s seen.under_way).up;
+  on = (shown_with s seen.under_way).on;
   under_way = seen.under_way;
 }
 
 -- one towards which octets are put
 more_way : (s : SightLists) (seen : Seen) (me peer : ℕ) (octets : List ℕ)
-    → put_all me peer (record (end_seen s me peer) { way = (end_seen s me peer).way ++ octets }) (shown s seen.under_way)
-    ≡ with_octets peer me ((shown s seen.under_way).pipes peer me ++ octets) (shown s seen.under_way)
-unfolding with_octets shown
+    → put_all me peer (record (end_seen s me peer) { way = (end_seen s me peer).way ++ octets }) (shown_with s seen.under_way)
+    ≡ with_octets peer me ((shown_with s seen.under_way).pipes peer me ++ octets) (shown_with s seen.under_way)
+unfolding with_octets shown_with
 more_way s seen me peer octets = λ z. record {
-  stands = λ i j. same_both (shown s seen.under_way).stands me peer (end_seen s me peer).stands refl i j z;
-  pipes = at_both (shown s seen.under_way).pipes peer me ((end_seen s me peer).way ++ octets);
-  rests = λ i j. same_both (shown s seen.under_way).rests me peer (end_seen s me peer).rest refl i j z;
-  up = (shown s seen.under_way).up;
-  on = (shown s seen.under_way).on;
+  stands = λ i j. same_both (shown_with s seen.under_way).stands me peer (end_seen s me peer).stands refl i j z;
+  pipes = at_both (shown_with s seen.under_way).pipes peer me ((end_seen s me peer).way ++ octets);
+  rests = λ i j. same_both (shown_with s seen.under_way).rests me peer (end_seen s me peer).rest refl i j z;
+  up = (shown_with s seen.under_way).up;
+  on = (shown_with s seen.under_way).on;
   under_way = seen.under_way;
 }
 
-stands_of : (s : SightLists) (seen : Seen) (me peer : ℕ) → Shows s seen → (end_seen s me peer).stands ≡ seen.stands me peer
-unfolding shown
+stands_of : (s : SightLists) (seen : Seen) (me peer : ℕ) → ShowsSight s seen → (end_seen s me peer).stands ≡ seen.stands me peer
+unfolding shown_with
 stands_of s seen me peer shows = ap (λ (x : Seen). x.stands me peer) shows
 
-pub put_on_way : (s : SightLists) (seen : Seen) (me peer : ℕ) (octets : List ℕ) → me < length s.edges → peer < length (edge_seen s me).ends → Shows s seen
-    → Shows (with_end me peer (cond (end_seen s me peer).stands (record (end_seen s me peer) { way = (end_seen s me peer).way ++ octets }) (end_seen s me peer)) s) (said_towards peer me octets seen)
+pub put_on_way : (s : SightLists) (seen : Seen) (me peer : ℕ) (octets : List ℕ) → me < length s.edges → peer < length (edge_seen s me).ends → ShowsSight s seen
+    → ShowsSight (with_end me peer (cond (end_seen s me peer).stands (record (end_seen s me peer) { way = (end_seen s me peer).way ++ octets }) (end_seen s me peer)) s)
+    (said_towards peer me octets seen)
 unfolding with_octets
 put_on_way s seen me peer octets h g shows = by (end_seen s me peer).stands (stands_of s seen me peer shows) where
   by : (b : Bool) → b ≡ seen.stands me peer
-      → Shows (with_end me peer (cond b (record (end_seen s me peer) { way = (end_seen s me peer).way ++ octets }) (end_seen s me peer)) s) (said_towards peer me octets seen)
+      → ShowsSight (with_end me peer (cond b (record (end_seen s me peer) { way = (end_seen s me peer).way ++ octets }) (end_seen s me peer)) s) (said_towards peer me octets seen)
   by true is = rw (sym is) (shown_end s seen.under_way me peer (record (end_seen s me peer) { way = (end_seen s me peer).way ++ octets }) h g
       ∙ (more_way s seen me peer octets ∙ ap (λ (x : Seen). with_octets peer me (x.pipes peer me ++ octets) x) shows))
   by false is = rw (sym is) (shown_end s seen.under_way me peer (end_seen s me peer) h g ∙ (unchanged s seen me peer ∙ shows))
 
 -- one of which octets are taken
 less_way : (s : SightLists) (seen : Seen) (me peer count : ℕ)
-    → put_all me peer (taken_from_way count (end_seen s me peer)) (shown s seen.under_way) ≡ delivers peer me count (shown s seen.under_way)
-unfolding taken_from_way with_octets with_rest shown
+    → put_all me peer (taken_from_way count (end_seen s me peer)) (shown_with s seen.under_way) ≡ delivers peer me count (shown_with s seen.under_way)
+unfolding taken_from_way with_octets with_rest shown_with
 less_way s seen me peer count = λ z. record {
-  stands = λ i j. same_both (shown s seen.under_way).stands me peer (end_seen s me peer).stands refl i j z;
-  pipes = at_both (shown s seen.under_way).pipes peer me (drop count (end_seen s me peer).way);
-  rests = at_both (shown s seen.under_way).rests me peer (cut ((end_seen s me peer).rest ++ take count (end_seen s me peer).way));
-  up = (shown s seen.under_way).up;
-  on = (shown s seen.under_way).on;
+  stands = λ i j. same_both (shown_with s seen.under_way).stands me peer (end_seen s me peer).stands refl i j z;
+  pipes = at_both (shown_with s seen.under_way).pipes peer me (drop count (end_seen s me peer).way);
+  rests = at_both (shown_with s seen.under_way).rests me peer (cut ((end_seen s me peer).rest ++ take count (end_seen s me peer).way));
+  up = (shown_with s seen.under_way).up;
+  on = (shown_with s seen.under_way).on;
   under_way = seen.under_way;
 }
 
-pub taken_from : (s : SightLists) (seen : Seen) (me peer count : ℕ) → me < length s.edges → peer < length (edge_seen s me).ends → Shows s seen
-    → Shows (with_end me peer (taken_from_way count (end_seen s me peer)) s) (delivers peer me count seen)
+pub taken_from : (s : SightLists) (seen : Seen) (me peer count : ℕ) → me < length s.edges → peer < length (edge_seen s me).ends → ShowsSight s seen
+    → ShowsSight (with_end me peer (taken_from_way count (end_seen s me peer)) s) (delivers peer me count seen)
 unfolding with_octets with_rest
 taken_from s seen me peer count h g shows = shown_end s seen.under_way me peer (taken_from_way count (end_seen s me peer)) h g ∙ (less_way s seen me peer count ∙ ap (delivers peer me count) shows)
 
@@ -148,7 +149,7 @@ abbrev pub with_edge : ℕ → EdgeSeen → SightLists → SightLists
 with_edge me edge sight = record sight { edges = slice_set sight.edges me edge }
 
 read_edge : {X : Type 0} (f : EdgeSeen → X) (s : SightLists) (me : ℕ) (e : EdgeSeen) (i : ℕ) → me < length s.edges → f (edge_seen (with_edge me e s) i) ≡ cond (i == me) (f e) (f (edge_seen s i))
-read_edge f s me e i h = ap f (set_at no_edge s.edges me e i h) ∙ by (i == me) where
+read_edge f s me e i h = ap f (set_at unseen_edge s.edges me e i h) ∙ by (i == me) where
   by : (b : Bool) → f (cond b e (edge_seen s i)) ≡ cond b (f e) (f (edge_seen s i))
   by true = refl
   by false = refl
@@ -158,10 +159,10 @@ under true x y z e = e
 under false x y z e = refl
 
 pub restarted_edge : (s : SightLists) (seen : Seen) (me : ℕ) (e : EdgeSeen) → me < length s.edges
-    → ((k : ℕ) → slice_index_or e.ends k no_end ≡ no_end) → ((k : ℕ) → slice_index_or e.up k false ≡ false) → Shows s seen → Shows (with_edge me e s) (without_edge me seen)
-unfolding shown without_edge
+    → ((k : ℕ) → slice_index_or e.ends k no_end ≡ no_end) → ((k : ℕ) → slice_index_or e.up k false ≡ false) → ShowsSight s seen → ShowsSight (with_edge me e s) (without_edge me seen)
+unfolding shown_with without_edge
 restarted_edge s seen me e h ends ups shows = fresh ∙ ap (without_edge me) shows where
-  fresh : shown (with_edge me e s) seen.under_way ≡ without_edge me (shown s seen.under_way)
+  fresh : shown_with (with_edge me e s) seen.under_way ≡ without_edge me (shown_with s seen.under_way)
   fresh = λ z. record {
     stands = λ i j. (read_edge (λ (x : EdgeSeen). (slice_index_or x.ends j no_end).stands) s me e i h
         ∙ under (i == me) (slice_index_or e.ends j no_end).stands false (end_seen s i j).stands (ap (λ (x : EndSeen). x.stands) (ends j))) z;
@@ -181,9 +182,9 @@ part_kept f s me e i h same = read_edge f s me e i h ∙ by (i == me) refl where
   by true here = same ∙ ap (λ (k : ℕ). f (edge_seen s k)) (sym (eqb-true i me here))
   by false away = refl
 
-pub wire_set : (s : SightLists) (seen : Seen) (me wire : ℕ) (v : Bool) → me < length s.edges → wire < length (edge_seen s me).up → Shows s seen
-    → Shows (with_edge me (record (edge_seen s me) { up = slice_set (edge_seen s me).up wire v }) s) (with_up me wire v seen)
-unfolding shown with_up
+pub wire_set : (s : SightLists) (seen : Seen) (me wire : ℕ) (v : Bool) → me < length s.edges → wire < length (edge_seen s me).up → ShowsSight s seen
+    → ShowsSight (with_edge me (record (edge_seen s me) { up = slice_set (edge_seen s me).up wire v }) s) (with_up me wire v seen)
+unfolding shown_with with_up
 wire_set s seen me wire v h g shows = set_one ∙ ap (with_up me wire v) shows where
   e : EdgeSeen
   e = record (edge_seen s me) { up = slice_set (edge_seen s me).up wire v }
@@ -194,7 +195,7 @@ wire_set s seen me wire v h g shows = set_one ∙ ap (with_up me wire v) shows w
     by false away = refl
     by true here = set_at false (edge_seen s me).up wire v j g ∙ ap (λ (k : ℕ). cond (j == wire) v (slice_index_or (edge_seen s k).up j false)) (sym (eqb-true i me here))
 
-  set_one : shown (with_edge me e s) seen.under_way ≡ with_up me wire v (shown s seen.under_way)
+  set_one : shown_with (with_edge me e s) seen.under_way ≡ with_up me wire v (shown_with s seen.under_way)
   set_one = λ z. record {
     stands = λ i j. part_kept (λ (x : EdgeSeen). (slice_index_or x.ends j no_end).stands) s me e i h refl z;
     pipes = λ i j. part_kept (λ (x : EdgeSeen). (slice_index_or x.ends i no_end).way) s me e j h refl z;
@@ -204,28 +205,28 @@ wire_set s seen me wire v h g shows = set_one ∙ ap (with_up me wire v) shows w
     under_way = seen.under_way;
   }
 
-pub circuit_set : (s : SightLists) (seen : Seen) (circuit : ℕ) (v : Bool) → circuit < length s.on → Shows s seen
-    → Shows (record s { on = slice_set s.on circuit v }) (with_on circuit v seen)
-unfolding shown with_on
+pub circuit_set : (s : SightLists) (seen : Seen) (circuit : ℕ) (v : Bool) → circuit < length s.on → ShowsSight s seen
+    → ShowsSight (record s { on = slice_set s.on circuit v }) (with_on circuit v seen)
+unfolding shown_with with_on
 circuit_set s seen circuit v h shows = set_one ∙ ap (with_on circuit v) shows where
-  set_one : shown (record s { on = slice_set s.on circuit v }) seen.under_way ≡ with_on circuit v (shown s seen.under_way)
+  set_one : shown_with (record s { on = slice_set s.on circuit v }) seen.under_way ≡ with_on circuit v (shown_with s seen.under_way)
   set_one = λ z. record {
-    stands = (shown s seen.under_way).stands;
-    pipes = (shown s seen.under_way).pipes;
-    rests = (shown s seen.under_way).rests;
-    up = (shown s seen.under_way).up;
+    stands = (shown_with s seen.under_way).stands;
+    pipes = (shown_with s seen.under_way).pipes;
+    rests = (shown_with s seen.under_way).rests;
+    up = (shown_with s seen.under_way).up;
     on = λ i. set_at true s.on circuit v i h z;
     under_way = seen.under_way;
   }
 
 -- whatever is under way
-pub other_copies : (s : SightLists) (seen : Seen) (copies : List SeenCopy) → Shows s seen → Shows s (with_copies copies seen)
-unfolding shown with_copies
+pub other_copies : (s : SightLists) (seen : Seen) (copies : List SeenCopy) → ShowsSight s seen → ShowsSight s (with_copies copies seen)
+unfolding shown_with with_copies
 other_copies s seen copies shows = other ∙ ap (with_copies copies) shows where
-  other : shown s copies ≡ with_copies copies (shown s seen.under_way)
+  other : shown_with s copies ≡ with_copies copies (shown_with s seen.under_way)
   other = refl
 
-pub repeats_shown : (s : SightLists) (seen : Seen) (number : ℕ) (origin : Option ℕ) → Shows s seen → Shows s (repeats number origin seen)
+pub repeats_shown : (s : SightLists) (seen : Seen) (number : ℕ) (origin : Option ℕ) → ShowsSight s seen → ShowsSight s (repeats number origin seen)
 repeats_shown s seen number None shows = shows
 repeats_shown s seen number (Some origin) shows = other_copies s seen (without_copy number seen.under_way ++ record { number = number; origin = origin } ∷ []) shows
 
@@ -235,12 +236,12 @@ pub ruleset any_copies = (other_copies, repeats_shown)
 
 -- an end that was read and put back
 pub one_end : (f : EndSeen → EndSeen) (g : Seen → Seen) (me peer : ℕ)
-    → ((s : SightLists) (seen : Seen) → me < length s.edges → peer < length (edge_seen s me).ends → Shows s seen → Shows (with_end me peer (f (end_seen s me peer)) s) (g seen))
+    → ((s : SightLists) (seen : Seen) → me < length s.edges → peer < length (edge_seen s me).ends → ShowsSight s seen → ShowsSight (with_end me peer (f (end_seen s me peer)) s) (g seen))
     → (before now : SightLists) (row raw : EdgeSeen) (one v : EndSeen) → before ≡ now → IsWhole before → me < now.sizes.edges → peer < now.sizes.edges
     → raw ≡ row → row ≡ slice_index_or before.edges me row → one ≡ slice_index_or raw.ends peer one → v ≡ f one
-    → (seen : Seen) → Shows now seen → Shows (record before { edges = slice_set before.edges me (record raw { ends = slice_set raw.ends peer v }) }) (g seen)
+    → (seen : Seen) → ShowsSight now seen → ShowsSight (record before { edges = slice_set before.edges me (record raw { ends = slice_set raw.ends peer v }) }) (g seen)
 one_end f g me peer law before now row raw one v same whole mine his raw_is read read_one is seen shows =
-    subst (λ (x : SightLists). Shows x (g seen)) (sym lists) (law before seen within inside (subst (λ (x : SightLists). Shows x seen) (sym same) shows)) where
+    subst (λ (x : SightLists). ShowsSight x (g seen)) (sym lists) (law before seen within inside (subst (λ (x : SightLists). ShowsSight x seen) (sym same) shows)) where
       below : me < before.sizes.edges
       below = subst (λ (x : SightLists). me < x.sizes.edges) (sym same) mine
 
@@ -248,7 +249,7 @@ one_end f g me peer law before now row raw one v same whole mine his raw_is read
       within = omega (arith, below, whole.edges)
 
       row_is : raw ≡ edge_seen before me
-      row_is = raw_is ∙ (read ∙ get_or_default before.edges me row no_edge within)
+      row_is = raw_is ∙ (read ∙ get_or_default before.edges me row unseen_edge within)
 
       inside : peer < length (edge_seen before me).ends
       inside = omega (arith, subst (λ (x : SightLists). peer < x.sizes.edges) (sym same) his, whole.ends me below)
@@ -263,10 +264,10 @@ one_end f g me peer law before now row raw one v same whole mine his raw_is read
 -- a wire that was read and put back
 pub one_wire : (me wire : ℕ) (v : Bool) (before now : SightLists) (row raw : EdgeSeen) → before ≡ now → IsWhole before → me < now.sizes.edges → wire < now.sizes.wires
     → raw ≡ row → row ≡ slice_index_or before.edges me row
-    → (seen : Seen) → Shows now seen → Shows (record before { edges = slice_set before.edges me (record raw { up = slice_set raw.up wire v }) }) (with_up me wire v seen)
+    → (seen : Seen) → ShowsSight now seen → ShowsSight (record before { edges = slice_set before.edges me (record raw { up = slice_set raw.up wire v }) }) (with_up me wire v seen)
 one_wire me wire v before now row raw same whole mine its raw_is read seen shows =
-    subst (λ (x : EdgeSeen). Shows (record before { edges = slice_set before.edges me (record x { up = slice_set x.up wire v }) }) (with_up me wire v seen)) (sym row_is)
-    (wire_set before seen me wire v within inside (subst (λ (x : SightLists). Shows x seen) (sym same) shows)) where
+    subst (λ (x : EdgeSeen). ShowsSight (record before { edges = slice_set before.edges me (record x { up = slice_set x.up wire v }) }) (with_up me wire v seen)) (sym row_is)
+    (wire_set before seen me wire v within inside (subst (λ (x : SightLists). ShowsSight x seen) (sym same) shows)) where
       below : me < before.sizes.edges
       below = subst (λ (x : SightLists). me < x.sizes.edges) (sym same) mine
 
@@ -274,7 +275,7 @@ one_wire me wire v before now row raw same whole mine its raw_is read seen shows
       within = omega (arith, below, whole.edges)
 
       row_is : raw ≡ edge_seen before me
-      row_is = raw_is ∙ (read ∙ get_or_default before.edges me row no_edge within)
+      row_is = raw_is ∙ (read ∙ get_or_default before.edges me row unseen_edge within)
 
       inside : wire < length (edge_seen before me).up
       inside = omega (arith, subst (λ (x : SightLists). wire < x.sizes.wires) (sym same) its, whole.wires me below)

@@ -14,7 +14,7 @@ use Rattle.session_core.specs.Laws.{tells_end, IsFarewell, OneNotice, NeverSilen
 use Rattle.session_core.proofs.AddressLemmas.{numbers_apart, one_larger}
 use Rattle.session_core.specs.Parameters.{longest, proposal, proposal_refusal, refusal_reason}
 use Rattle.session_core.specs.Phase.{Phase, is_agreed}
-use Rattle.session_core.specs.State.{SessionState, SessionView, Stands, EndedBy, IsProper, is_active, opened, address_number as number_of}
+use Rattle.session_core.specs.State.{SessionState, SessionView, Stands, EndedBy, IsProper, is_active, opened, address_number}
 use Rattle.session_core.specs.StatusCodes.{about}
 use Rattle.session_core.specs.Table.{SessionEvent, Start, Heard, Received, Refused, Spoke, Ticked, Closed, Ends, next_of, outcome_of, third, view_after, notified, judged, reason_in, data_refusing}
 
@@ -123,8 +123,9 @@ never_silent ends events s is = ran next_put IsShort short_kept events (opened e
 -- of two ends that face each other one is active
 one_active : (one other : Peers) → IsFacing one other → IsAddress one.me → IsAddress one.peer → IsProper one → is_active other ≡ not (is_active one)
 one_active one other facing me peer proper =
-    let apart : (number_of one.me == number_of one.peer) ≡ false = numbers_apart one.me.0 one.peer.0 me.four peer.four me.octets peer.octets proper.apart in
-    let larger : nat_lt (number_of one.me) (number_of one.peer) ≡ not (nat_lt (number_of one.peer) (number_of one.me)) = one_larger (number_of one.me) (number_of one.peer) apart in
+    let apart : (address_number one.me == address_number one.peer) ≡ false = numbers_apart one.me.0 one.peer.0 me.four peer.four me.octets peer.octets proper.apart in
+    let larger : nat_lt (address_number one.me) (address_number one.peer) ≡ not (nat_lt (address_number one.peer) (address_number one.me)) =
+    one_larger (address_number one.me) (address_number one.peer) apart in
     rw (facing.back, ← facing.there) larger
 
 -- an end accepts what the other one proposes

@@ -6,7 +6,7 @@ use Rattle.net_values.proofs.BoolLemmas.{true_clash}
 use Rattle.net_values.proofs.NumberLemmas.{apart_back, two_same, turned_away}
 use Rattle.pw_tlvs.specs.declared.pw_status.PwStatus.{PwStatus}
 use Rattle.status_exchange.specs.declared.wish.Wish.{Wish}
-use Rattle.status_exchange.specs.Exchange.{EdgeStatuses, Exchange, IsWiring, StatusWork, StatusMessage, Wiring, exchange_absorb, put_at_place as at, at_two, exchange_clears, is_exchange_connected}
+use Rattle.status_exchange.specs.Exchange.{EdgeStatuses, Exchange, IsWiring, StatusWork, StatusMessage, Wiring, exchange_absorb, put_at_place, at_two, exchange_clears, is_exchange_connected}
 use Rattle.status_exchange.specs.Laws.{of_wire}
 use Rattle.status_exchange.specs.Line.{IsLine, status_after}
 use Rattle.status_exchange.proofs.LineLemmas.{turned}
@@ -200,7 +200,7 @@ pub record Minds (w : Wiring) (me peer : ℕ) (old new : EdgeStatuses) : Type 0 
   pub remote : (k : ℕ) → w.joins k me peer ≡ false → new.remote k ≡ old.remote k
   pub others : (p : ℕ) → (p == peer) ≡ false → new.next p ≡ old.next p
 
-pub edge_frame : (w : Wiring) (me peer : ℕ) (edge : EdgeStatuses) (x : Exchange) → Minds w me peer (x.edges me) edge → Frame w me peer x (record x { edges = at me edge x.edges })
+pub edge_frame : (w : Wiring) (me peer : ℕ) (edge : EdgeStatuses) (x : Exchange) → Minds w me peer (x.edges me) edge → Frame w me peer x (record x { edges = put_at_place me edge x.edges })
 edge_frame w me peer edge x minds = record {
   local = λ e k away. by_edge (λ (old new : EdgeStatuses). new.local k ≡ old.local k) e refl (minds.local k away);
   remote = λ e k away. by_edge (λ (old new : EdgeStatuses). new.remote k ≡ old.remote k) e refl (minds.remote k away);
@@ -209,14 +209,14 @@ edge_frame w me peer edge x minds = record {
   heard = λ a b away. refl;
 }
   where
-    by_edge : (P : EdgeStatuses → EdgeStatuses → Type 0) (e : ℕ) → P (x.edges e) (x.edges e) → P (x.edges me) edge → P (x.edges e) (at me edge x.edges e)
+    by_edge : (P : EdgeStatuses → EdgeStatuses → Type 0) (e : ℕ) → P (x.edges e) (x.edges e) → P (x.edges me) edge → P (x.edges e) (put_at_place me edge x.edges e)
     by_edge P e same new = by (e == me) refl
       where
         by : (t : Bool) → (e == me) ≡ t → P (x.edges e) (if t then edge else x.edges e)
         by true is = subst (λ (n : ℕ). P (x.edges n) edge) (sym (eqb-true e me is)) new
         by false is = same
 
-    next : (a b : ℕ) → is_two a b me peer ≡ false → (t : Bool) → (a == me) ≡ t → is_some ((at me edge x.edges a).next b) ≡ is_some ((x.edges a).next b)
+    next : (a b : ℕ) → is_two a b me peer ≡ false → (t : Bool) → (a == me) ≡ t → is_some ((put_at_place me edge x.edges a).next b) ≡ is_some ((x.edges a).next b)
     next a b away true is = rw is (ap is_some (minds.others b (grind (arith, away, is))) ∙ ap (λ (n : ℕ). is_some ((x.edges n).next b)) (sym (eqb-true a me is)))
     next a b away false is = rw is refl
 
@@ -229,7 +229,7 @@ absorb_frame w me peer t x minds = record {
   heard = λ a b away. refl;
 }
   where
-    frame : Frame w me peer x (record x { edges = at me t.edge x.edges })
+    frame : Frame w me peer x (record x { edges = put_at_place me t.edge x.edges })
     frame = edge_frame w me peer t.edge x minds
 
 -- an edge's work has gone in: what is kept of it and its peer

@@ -6,7 +6,7 @@ use Rattle.net_values.proofs.NumberLemmas.{equal_turned, apart_back, turned_away
 use Rattle.pw_tlvs.specs.declared.pw_status.PwStatus.{PwStatus}
 use Rattle.status_exchange.specs.declared.wish.Wish.{Wish}
 use Rattle.status_exchange.specs.declared.wish.Wish.TheVariants.{Active, Standby, Ask}
-use Rattle.status_exchange.specs.Exchange.{Applies, Apply, EdgeStatuses, Exchange, IsWiring, Step, StatusWork, StatusMessage, Wiring, exchange_absorb, put_at_place as at, at_two, exchange_clears, exchange_connects, first, exchange_hears, heard_first, is_exchange_connected, exchange_learns, exchange_loses, exchange_run, exchange_sets, silent, exchange_step, Connects, Loses, Hears, Sets}
+use Rattle.status_exchange.specs.Exchange.{Applies, Apply, EdgeStatuses, Exchange, IsWiring, Step, StatusWork, StatusMessage, Wiring, exchange_absorb, put_at_place, at_two, exchange_clears, exchange_connects, first, exchange_hears, heard_first, is_exchange_connected, exchange_learns, exchange_loses, exchange_run, exchange_sets, silent, exchange_step, Connects, Loses, Hears, Sets}
 use Rattle.status_exchange.specs.Laws.{Agree, ExchangesAgree, IsExchangeAgreed, IsEnd, is_known_active, of_wire}
 use Rattle.status_exchange.specs.Line.{IsLine, status_answer}
 use Rattle.status_exchange.specs.Wish.{becomes, is_wished_active, is_ask, status_of}
@@ -46,7 +46,7 @@ module _ (w : Wiring) (laws : IsWiring w) where
 
   module _ (me peer j : ℕ) (wish : Wish) (x : Exchange) (is : w.joins j me peer ≡ true) (old : Holds w x) where
     abbrev called : EdgeStatuses
-    called = record (x.edges me) { local = at j wish (x.edges me).local }
+    called = record (x.edges me) { local = put_at_place j wish (x.edges me).local }
 
     abbrev statuses : StatusWork
     statuses = exchange_sets peer j wish (x.edges me)
@@ -78,7 +78,7 @@ module _ (w : Wiring) (laws : IsWiring w) where
         → PairOf (statuses.edge.local k) ((x.edges peer).local k) (statuses.edge.remote k) ((x.edges peer).remote k) (is_some (statuses.edge.next peer)) (is_exchange_connected x peer me)
         (x.ways me peer ++ statuses.out) (x.ways peer me) (x.heard me peer) (x.heard peer me) k
     set_this k joined same =
-        let now : at j wish (x.edges me).local k ≡ wish = rw same refl in
+        let now : put_at_place j wish (x.edges me).local k ≡ wish = rw same refl in
         let p = old.pairs me peer k joined in
         rw (stay.local k, now, stay.remote k, stay.there) (record {
           line = λ there.
@@ -241,10 +241,10 @@ module _ (w : Wiring) (laws : IsWiring w) where
 
   module _ (a b : ℕ) (x : Exchange) (apart : (a == b) ≡ false) (old : Holds w x) where
     abbrev one_lost : Exchange
-    one_lost = record x { edges = at a (exchange_loses w a b (x.edges a)) x.edges }
+    one_lost = record x { edges = put_at_place a (exchange_loses w a b (x.edges a)) x.edges }
 
     abbrev both_lost : Exchange
-    both_lost = record x { edges = at b (exchange_loses w b a (x.edges b)) (at a (exchange_loses w a b (x.edges a)) x.edges) }
+    both_lost = record x { edges = put_at_place b (exchange_loses w b a (x.edges b)) (put_at_place a (exchange_loses w a b (x.edges a)) x.edges) }
 
     loses_minds : (me peer : ℕ) → Minds w me peer (x.edges me) (exchange_loses w me peer (x.edges me))
     loses_minds me peer = record {
@@ -263,10 +263,10 @@ module _ (w : Wiring) (laws : IsWiring w) where
         (clears_frame w a b both_lost)
 
     lost_a : both_lost.edges a ≡ exchange_loses w a b (x.edges a)
-    lost_a = at_other b a (exchange_loses w b a (x.edges b)) (at a (exchange_loses w a b (x.edges a)) x.edges) apart ∙ at_same a (exchange_loses w a b (x.edges a)) x.edges
+    lost_a = at_other b a (exchange_loses w b a (x.edges b)) (put_at_place a (exchange_loses w a b (x.edges a)) x.edges) apart ∙ at_same a (exchange_loses w a b (x.edges a)) x.edges
 
     lost_b : both_lost.edges b ≡ exchange_loses w b a (x.edges b)
-    lost_b = at_same b (exchange_loses w b a (x.edges b)) (at a (exchange_loses w a b (x.edges a)) x.edges)
+    lost_b = at_same b (exchange_loses w b a (x.edges b)) (put_at_place a (exchange_loses w a b (x.edges a)) x.edges)
 
     cleared_out : (f : ℕ → ℕ → List StatusMessage) → at_two a b [] (at_two b a [] f) a b ≡ []
     cleared_out f = two_at a b [] (at_two b a [] f)
@@ -295,7 +295,7 @@ module _ (w : Wiring) (laws : IsWiring w) where
     other_status = exchange_connects w b a (x.edges b)
 
     abbrev opened : ℕ → ℕ → EdgeStatuses
-    opened me peer = record (x.edges me) { next = at peer (Some 1) (x.edges me).next }
+    opened me peer = record (x.edges me) { next = put_at_place peer (Some 1) (x.edges me).next }
 
     abbrev one_up : Exchange
     one_up = exchange_absorb a b one_status (exchange_clears a b x)

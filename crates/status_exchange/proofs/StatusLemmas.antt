@@ -6,15 +6,15 @@ use Rattle.net_values.proofs.NumberLemmas.{same_number as is_same}
 use Rattle.pw_tlvs.specs.declared.pw_status.PwStatus.{PwStatus}
 use Rattle.pw_messages.specs.Sender.{following}
 use Rattle.status_exchange.specs.declared.wish.Wish.{Wish}
-use Rattle.status_exchange.specs.Exchange.{EdgeStatuses, StatusWork, StatusMessage, Wiring, put_at_place as at, exchange_hears, exchange_learns, silent, exchange_tells, tells_as, exchange_tells_from}
+use Rattle.status_exchange.specs.Exchange.{EdgeStatuses, StatusWork, StatusMessage, Wiring, put_at_place, exchange_hears, exchange_learns, silent, exchange_tells, tells_as, exchange_tells_from}
 use Rattle.status_exchange.specs.Line.{status_answer}
 use Rattle.status_exchange.specs.Wish.{becomes, is_status_told}
 use Rattle.status_exchange.specs.Laws.{of_wire}
 
-pub at_same : {A : Type 0} (place : ℕ) (value : A) (f : ℕ → A) → at place value f place ≡ value
+pub at_same : {A : Type 0} (place : ℕ) (value : A) (f : ℕ → A) → put_at_place place value f place ≡ value
 at_same place value f = rw (is_same place) refl
 
-pub at_other : {A : Type 0} (place k : ℕ) (value : A) (f : ℕ → A) → (k == place) ≡ false → at place value f k ≡ f k
+pub at_other : {A : Type 0} (place k : ℕ) (value : A) (f : ℕ → A) → (k == place) ≡ false → put_at_place place value f k ≡ f k
 at_other place k value f away = rw away refl
 
 -- ---- of what is told, that of one wire

@@ -14,7 +14,7 @@ use Rattle.pw_messages.specs.Sender.{platform_of}
 use Rattle.status_exchange.specs.Exchange.{EdgeStatuses, StatusMessage}
 use Rattle.status_exchange.specs.Laws as exchange_laws
 use Rattle.status_exchange.specs.Laws.{Agree, is_known_active, of_wire}
-use Rattle.status_exchange.specs.Line.{status_after as after}
+use Rattle.status_exchange.specs.Line.{status_after}
 use Rattle.status_exchange.specs.Wish.{status_of}
 use Rattle.status_exchange.proofs.RunLemmas.{agree}
 use Rattle.status_exchange.proofs.StatusLemmas.{AllTold}
@@ -49,19 +49,19 @@ module _ (plan : Plan) (checked : IsChecked plan) (from to wire : ℕ) (row : Wi
           true_clash (sym (eq-eqb k wire (sym same)) ∙ e)
 
   known_is : (ts : List StatusMessage) (known : Option PwStatus) → AllTold (λ k. is_between plan k from to) ts → AreTold plan ts
-      → known_after_all row.pw_id (messages_told plan from ts) known ≡ after (of_wire wire ts) known
+      → known_after_all row.pw_id (messages_told plan from ts) known ≡ status_after (of_wire wire ts) known
   known_is [] known all told = refl
   known_is (t ∷ ts) known all told = row_at told.0.row told.0.row_is (λ k. known_is ts k all.1 told.1)
     where
-      row_at : (other : WirePlan) → slice_get plan.wires t.wire ≡ Some other → ((k : Option PwStatus) → known_after_all row.pw_id (messages_told plan from ts) k ≡ after (of_wire wire ts) k)
+      row_at : (other : WirePlan) → slice_get plan.wires t.wire ≡ Some other → ((k : Option PwStatus) → known_after_all row.pw_id (messages_told plan from ts) k ≡ status_after (of_wire wire ts) k)
           → known_after_all row.pw_id (message_in_row from t (slice_get plan.wires t.wire) ++ messages_told plan from ts) known
-          ≡ after (if t.wire == wire then t.wish ∷ of_wire wire ts else of_wire wire ts) known
+          ≡ status_after (if t.wire == wire then t.wish ∷ of_wire wire ts else of_wire wire ts) known
       row_at other at again =
           ap (λ (o : Option WirePlan). known_after_all row.pw_id (message_in_row from t o ++ messages_told plan from ts) known) at
           ∙ (ap (λ (b : Bool). known_after_all row.pw_id (messages_told plan from ts) (if b then Some (status_of t.wish) else known)) (same_ids t.wire other at all.0) ∙ by (t.wire == wire))
         where
           by : (b : Bool) → known_after_all row.pw_id (messages_told plan from ts) (if b then Some (status_of t.wish) else known)
-              ≡ after (if b then t.wish ∷ of_wire wire ts else of_wire wire ts) known
+              ≡ status_after (if b then t.wish ∷ of_wire wire ts else of_wire wire ts) known
           by true = again (Some (status_of t.wish))
           by false = again known
 
@@ -122,7 +122,7 @@ module _ (plan : Plan) (checked : IsChecked plan) (types : HasSwitchTypes plan) 
           other_asks_not = rw (local_is b) all.other_asks_not;
         }
 
-    last_is : (f.y.edges a).remote wire ≡ after (of_wire wire (f.y.heard b a)) None
+    last_is : (f.y.edges a).remote wire ≡ status_after (of_wire wire (f.y.heard b a)) None
     last_is = (f.holds.pairs a b wire joined).near_last
 
     agrees : AgreesOn plan x a b wire row

@@ -10,7 +10,7 @@ use Rattle.net_base.specs.plan.Accepted.{IsChecked}
 use Rattle.pw_messages.specs.Sender.{following}
 use Rattle.pw_messages.proofs.CommonLemmas.{following_small}
 use Rattle.status_exchange.specs.declared.wish.Wish.{Wish}
-use Rattle.status_exchange.specs.Exchange.{EdgeStatuses, StatusWork, StatusMessage, put_at_place as at, silent}
+use Rattle.status_exchange.specs.Exchange.{EdgeStatuses, StatusWork, StatusMessage, silent}
 use Rattle.status_exchange.specs.Exchange as exchange
 use Rattle.status_exchange.specs.Wish.{is_same_wish, is_status_told, status_of}
 use Rattle.independent_model.specs.Calls.{independent_connects, sets}
@@ -19,7 +19,7 @@ use Rattle.switchover_model.specs.Network.{edge_numbered, put_to, takes_all}
 use Rattle.independent_model.specs.State.{ConnectionState, Receiver, IndepState, fresh_connection, id_next, spoken_once, statuses_of, with_connection, with_local, with_remote}
 use Rattle.independent_model.specs.Tell.{notification, octets_on, tells, independent_tells_by, tells_from, tells_in}
 use Rattle.independent_model.specs.Wires.{is_between, other_end, wiring}
-use Rattle.independent_model.specs.Work.{Goes, IndepOutcome as Outcome, and_works}
+use Rattle.independent_model.specs.Work.{Goes, IndepOutcome, and_works}
 use Rattle.switchover_model.proofs.FlightLemmas.{AreTold, are_both, octets_in_row, octets_told, told_both}
 use Rattle.switchover_model.proofs.TwoLemmas.{between_two, named_is}
 
@@ -53,7 +53,7 @@ pub record At (plan : Plan) (me peer : ℕ) (start : IndepState) (before : List 
   pub small : (p id : ℕ) → option_map id_next (edge.connection p) ≡ Some id → id < 2 ^ 32
   pub told : AreTold plan out
 
-pub record Does (plan : Plan) (me peer : ℕ) (start : IndepState) (before : List LinkCall) (t : StatusWork) (o : Outcome) : Type 0 where
+pub record Does (plan : Plan) (me peer : ℕ) (start : IndepState) (before : List LinkCall) (t : StatusWork) (o : IndepOutcome) : Type 0 where
   pub edge : IndepState
   pub calls : List LinkCall
   pub out : List StatusMessage
@@ -146,7 +146,7 @@ module _ (plan : Plan) (me peer : ℕ) (start : IndepState) (before : List LinkC
             edge = r.edge;
             calls = r.calls;
             out = r.out;
-            is = ap (λ (o : Outcome). and_works o (λ e c. tells_from plan takes_all me (edge_numbered peer) (k + 1) n e c)) d.is ∙ r.is;
+            is = ap (λ (o : IndepOutcome). and_works o (λ e c. tells_from plan takes_all me (edge_numbered peer) (k + 1) n e c)) d.is ∙ r.is;
             statuses = ap (exchange.exchange_tells_from (wiring plan) me peer (k + 1) n) d.statuses ∙ r.statuses;
             at = r.at;
           }

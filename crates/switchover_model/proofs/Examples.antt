@@ -13,7 +13,7 @@ use Rattle.independent_model.specs.Tell.{octets_on}
 use Rattle.independent_model.specs.Wires.{is_between}
 use Rattle.switchover_model.specs.declared.switch_line.SwitchLine.{SwitchLine}
 use Rattle.switchover_model.specs.declared.switch_line.SwitchLine.TheVariants.{Connect}
-use Rattle.switchover_model.specs.Network.{SwitchState, done_all, first_network, switch_flight as flight}
+use Rattle.switchover_model.specs.Network.{SwitchState, done_all, first_network, switch_flight}
 
 abbrev an_edge : ℕ → EdgePlan
 an_edge last = record { name = codes "pe"; address = record { 0 = 10 ∷ 0 ∷ 0 ∷ last ∷ [] }; first_label = 16; keepalive = 180; max_pdu = 4096 }
@@ -45,6 +45,6 @@ told_answer = refl
 abbrev after : List SwitchLine → SwitchState
 after lines = done_all plan lines first_network
 
-said_first : flight (after (Connect (record { 0 = 0 }) (record { 0 = 1 }) ∷ [])) 0 1 ≡ octets_on plan 0 a_wire Standby 1
+said_first : switch_flight (after (Connect (record { 0 = 0 }) (record { 0 = 1 }) ∷ [])) 0 1 ≡ octets_on plan 0 a_wire Standby 1
 unfolding is_between with_connection
 said_first = refl

@@ -23,7 +23,7 @@ use Rattle.independent_model.specs.Hear.{hears_all, hears_by, independent_hears_
 use Rattle.independent_model.specs.State.{ConnectionState, Stopped, Receiver, IndepState, Receiving, Broken, receiver_set, with_connection, with_receiver, with_local, with_remote}
 use Rattle.independent_model.specs.Tell.{octets_on, independent_puts, tells, independent_tells_by, tells_in}
 use Rattle.independent_model.specs.Wires.{wire_named}
-use Rattle.independent_model.specs.Work.{Goes, IndepOutcome as Outcome, Stops, and_works}
+use Rattle.independent_model.specs.Work.{Goes, IndepOutcome, Stops, and_works}
 use Rattle.switchover_model.specs.Laws.{SwitchHeardInParts}
 use Rattle.switchover_model.proofs.DoesLemmas.{receiver_part}
 use Rattle.switchover_model.proofs.NetworkLemmas.{held_in, held_is}
@@ -66,11 +66,11 @@ set_here peer x e kept is = rw (self peer, is) refl
 
 -- ---- what is told changes nothing of that
 
-abbrev KeepsReceiver : ℕ → Option Receiver → Outcome → Type 0
+abbrev KeepsReceiver : ℕ → Option Receiver → IndepOutcome → Type 0
 KeepsReceiver peer v (Goes e c) = receiver_at peer e ≡ v
 KeepsReceiver peer v (Stops why e c) = Unit {0}
 
-then_keeps : (peer : ℕ) (v : Option Receiver) (o : Outcome) (f : IndepState → List LinkCall → Outcome) → KeepsReceiver peer v o
+then_keeps : (peer : ℕ) (v : Option Receiver) (o : IndepOutcome) (f : IndepState → List LinkCall → IndepOutcome) → KeepsReceiver peer v o
     → ((e : IndepState) (c : List LinkCall) → receiver_at peer e ≡ v → KeepsReceiver peer v (f e c)) → KeepsReceiver peer v (and_works o f)
 then_keeps peer v (Goes e c) f is more = more e c is
 then_keeps peer v (Stops why e c) f is more = tt
@@ -129,12 +129,12 @@ module _ (plan : Plan) (told : Answers) (me : ℕ) (peer : EdgeId) where
 
   -- ---- two parts
 
-  then_same : (v : Option Receiver) (o : Outcome) (f g : IndepState → List LinkCall → Outcome) → KeepsReceiver peer.0 v o
+  then_same : (v : Option Receiver) (o : IndepOutcome) (f g : IndepState → List LinkCall → IndepOutcome) → KeepsReceiver peer.0 v o
       → ((e : IndepState) (c : List LinkCall) → receiver_at peer.0 e ≡ v → f e c ≡ g e c) → and_works o f ≡ and_works o g
   then_same v (Goes e c) f g is same = same e c is
   then_same v (Stops why e c) f g is same = refl
 
-  then_then : (o : Outcome) (f g : IndepState → List LinkCall → Outcome) → and_works o (λ e c. and_works (f e c) g) ≡ and_works (and_works o f) g
+  then_then : (o : IndepOutcome) (f g : IndepState → List LinkCall → IndepOutcome) → and_works o (λ e c. and_works (f e c) g) ≡ and_works (and_works o f) g
   then_then (Goes e c) f g = refl
   then_then (Stops why e c) f g = refl
 
@@ -149,7 +149,7 @@ module _ (plan : Plan) (told : Answers) (me : ℕ) (peer : EdgeId) where
   enough (suc n) zero base held e c octets few many = absurd (omega (arith, many))
   enough (suc n) (suc m) base held e c octets few many = by (λ b rest e c are one two. enough n m b rest e c are one two) (front_of 4096 held) refl
     where
-      same : (o : Outcome) (f g : IndepState → List LinkCall → Outcome) → ((e : IndepState) (c : List LinkCall) → f e c ≡ g e c) → and_works o f ≡ and_works o g
+      same : (o : IndepOutcome) (f g : IndepState → List LinkCall → IndepOutcome) → ((e : IndepState) (c : List LinkCall) → f e c ≡ g e c) → and_works o f ≡ and_works o g
       same (Goes e c) f g all = all e c
       same (Stops why e c) f g all = refl
 
@@ -196,10 +196,10 @@ module _ (plan : Plan) (told : Answers) (me : ℕ) (peer : EdgeId) where
           ≡ and_works (independent_hears_few plan told me peer (suc n) base octets e c) (λ e c. independent_hears plan told me peer more e c)
       by again More is =
           enough (suc m) (suc (length (octets ++ more))) base (octets ++ more) e c are many (omega arith)
-          ∙ (sym (on_open base octets more e c deaf) ∙ ap (λ (o : Outcome). and_works o (λ e c. independent_hears plan told me peer more e c)) (sym (few_at n base octets More e c is)))
+          ∙ (sym (on_open base octets more e c deaf) ∙ ap (λ (o : IndepOutcome). and_works o (λ e c. independent_hears plan told me peer more e c)) (sym (few_at n base octets More e c is)))
       by again (Bad wrong) is =
           few_at m base (octets ++ more) (Bad wrong) e c (front_is_read.bad_more 4096 octets more wrong are (omega arith) is)
-          ∙ ap (λ (o : Outcome). and_works o (λ e c. independent_hears plan told me peer more e c)) (sym (few_at n base octets (Bad wrong) e c is))
+          ∙ ap (λ (o : IndepOutcome). and_works o (λ e c. independent_hears plan told me peer more e c)) (sym (few_at n base octets (Bad wrong) e c is))
       by again (Got pdu rest) is =
           let whole : front_of 4096 (octets ++ more) ≡ Got pdu (rest ++ more) = front_is_read.got_more 4096 octets more rest pdu are (omega arith) is in
           let them : AreOctets (rest ++ more) = front_is_read.behind 4096 (octets ++ more) (rest ++ more) pdu are (omega arith) whole in
@@ -216,7 +216,7 @@ module _ (plan : Plan) (told : Answers) (me : ℕ) (peer : EdgeId) where
           ∙ again (place_behind base (length octets - length rest)) rest e c them (omega (arith, less, few)) (omega (arith, fewer, many)) at))
           ∙ (then_then (independent_hears_messages plan told me peer pdu.messages e c) (λ e c. independent_hears_few plan told me peer n (place_behind base (length octets - length rest)) rest e c)
           (λ e c. independent_hears plan told me peer more e c)
-          ∙ ap (λ (o : Outcome). and_works o (λ e c. independent_hears plan told me peer more e c)) (sym (few_at n base octets (Got pdu rest) e c is))))
+          ∙ ap (λ (o : IndepOutcome). and_works o (λ e c. independent_hears plan told me peer more e c)) (sym (few_at n base octets (Got pdu rest) e c is))))
 
   deaf_at : (e : IndepState) (kept : ConnectionState) → e.connection peer.0 ≡ Some kept → receiver_at peer.0 (with_receiver peer.0 Stopped e) ≡ Some Stopped
   deaf_at e kept is = ap (option_map receiver_part) (set_here peer.0 Stopped e kept is)

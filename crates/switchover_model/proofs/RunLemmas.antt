@@ -16,7 +16,7 @@ use Rattle.ldp_stream.specs.State.{place_behind}
 use Rattle.ldp_stream.proofs.CommonLemmas.{none_front}
 use Rattle.pw_messages.specs.Sender.{platform_of}
 use Rattle.status_exchange.specs.declared.wish.Wish.{Wish}
-use Rattle.status_exchange.specs.Exchange.{EdgeStatuses, Exchange, IsWiring, StatusWork, StatusMessage, Wiring, exchange_absorb, put_at_place as at, at_two, exchange_clears, first, heard_first, exchange_step, Connects, Hears, Loses, Sets}
+use Rattle.status_exchange.specs.Exchange.{EdgeStatuses, Exchange, IsWiring, StatusWork, StatusMessage, Wiring, exchange_absorb, at_two, exchange_clears, first, heard_first, exchange_step, Connects, Hears, Loses, Sets}
 use Rattle.status_exchange.specs.Exchange as exchange
 use Rattle.status_exchange.specs.Wish.{is_same_wish, status_of}
 use Rattle.status_exchange.proofs.PairLemmas.{Holds, two_at, two_away}
@@ -31,7 +31,7 @@ use Rattle.switchover_model.specs.Network.{IsGoing, SwitchState, absorbs, switch
 use Rattle.independent_model.specs.State.{ConnectionState, Stopped, Receiver, IndepState, Receiving, Broken, receiver_set, fresh_connection, id_next, statuses_of, with_connection, with_receiver, without_remotes}
 use Rattle.independent_model.specs.Tell.{notification}
 use Rattle.independent_model.specs.Wires.{is_between, other_end, wiring}
-use Rattle.independent_model.specs.Work.{Goes, IndepOutcome as Outcome, and_works}
+use Rattle.independent_model.specs.Work.{Goes, IndepOutcome, and_works}
 use Rattle.switchover_model.proofs.DoesLemmas.{Does, connect_does, receiver_part, hear_does, set_does}
 use Rattle.switchover_model.proofs.FlightLemmas.{AreTold, HasNext, IsTold, are_both, front_is, octets_in_row, octets_told, told_both}
 use Rattle.switchover_model.proofs.NetworkLemmas.{AreOpen, IsDone, IsOpen, Matches, done_matches, held_in, held_is, is_pair, same_held}
@@ -39,7 +39,7 @@ use Rattle.switchover_model.proofs.TwoLemmas.{HasRow, edge_there, other_is, wiri
 
 -- ---- an edge's work for a peer
 
-module _ (plan : Plan) (me peer : ℕ) (x : SwitchState) (y : Exchange) (t : StatusWork) (o : Outcome) (start : IndepState) (apart : (me == peer) ≡ false) (m : Matches plan x y) (d : Does plan me peer start [] t o)
+module _ (plan : Plan) (me peer : ℕ) (x : SwitchState) (y : Exchange) (t : StatusWork) (o : IndepOutcome) (start : IndepState) (apart : (me == peer) ≡ false) (m : Matches plan x y) (d : Does plan me peer start [] t o)
     (held : octets_held_by (start.connection peer) ≡ octets_held_by ((x.edges me).connection peer)) (receivers : (b : ℕ) → (b == peer) ≡ false → option_map receiver_part (start.connection b) ≡ option_map receiver_part ((x.edges me).connection b))
     (open_peer : AreOpen (option_map receiver_part (start.connection peer))) where
   abbrev work : StatusWork
@@ -75,7 +75,7 @@ module _ (plan : Plan) (me peer : ℕ) (x : SwitchState) (y : Exchange) (t : Sta
   }
 
   pub absorbed : Matches plan (absorbs me o x) (exchange_absorb me peer t y)
-  absorbed = subst (λ (p : Outcome). Matches plan (absorbs me p x) (exchange_absorb me peer t y)) (sym d.is)
+  absorbed = subst (λ (p : IndepOutcome). Matches plan (absorbs me p x) (exchange_absorb me peer t y)) (sym d.is)
       (subst (λ (u : StatusWork). Matches plan (absorbs me (Goes d.edge d.calls) x) (exchange_absorb me peer u y)) (sym d.statuses) (done_matches plan me peer x d.edge d.calls y_after apart is_done))
 
 module _ (plan : Plan) (checked : IsChecked plan) (types : HasSwitchTypes plan) where
@@ -346,7 +346,7 @@ module _ (plan : Plan) (checked : IsChecked plan) (types : HasSwitchTypes plan) 
     past : (a b : ℕ) → AreTold plan (now.heard a b) × AllTold (λ k. is_between plan k a b) (now.heard a b)
     heard_away : (a b : ℕ) → is_pair a b from to ≡ false → now.heard a b ≡ f.y.heard a b
 
-  record HeardOne (x : SwitchState) (f : Follows x) (from to : ℕ) (start : IndepState) (t : StatusMessage) (ts : List StatusMessage) (past : List StatusMessage) (o : Outcome) : Type 0 where
+  record HeardOne (x : SwitchState) (f : Follows x) (from to : ℕ) (start : IndepState) (t : StatusMessage) (ts : List StatusMessage) (past : List StatusMessage) (o : IndepOutcome) : Type 0 where
     edge : IndepState
     calls : List LinkCall
     is : o ≡ Goes edge calls
@@ -441,7 +441,7 @@ module _ (plan : Plan) (checked : IsChecked plan) (types : HasSwitchTypes plan) 
     }
 
   -- of octets that are the first of what is on its way
-  record HeardSome (x : SwitchState) (f : Follows x) (from to : ℕ) (start : IndepState) (octets more : List ℕ) (past : List StatusMessage) (o : Outcome) : Type 0 where
+  record HeardSome (x : SwitchState) (f : Follows x) (from to : ℕ) (start : IndepState) (octets more : List ℕ) (past : List StatusMessage) (o : IndepOutcome) : Type 0 where
     left : List StatusMessage
     gone : List StatusMessage
     base : ℕ
@@ -520,7 +520,7 @@ module _ (plan : Plan) (checked : IsChecked plan) (types : HasSwitchTypes plan) 
             edge = on.edge;
             calls = on.calls;
             is = by_front (Got (record { id = platform_of there.row.address; messages = notification told.row from t.wish t.id ∷ [] }) next.rest) next.front
-                ∙ (ap (λ (o : Outcome). and_works (and_works o (λ e c. Goes e c))
+                ∙ (ap (λ (o : IndepOutcome). and_works (and_works o (λ e c. Goes e c))
                 (λ e c. independent_hears_few plan takes_all to (edge_numbered from) n (place_behind base (length octets - length next.rest)) next.rest e c)) one.is ∙ on.is);
             behind = on.behind;
             split = next.split ∙ (ap (λ (l : List ℕ). octets_in_row plan from t (slice_get plan.wires t.wire) ++ l) on.split
@@ -691,7 +691,7 @@ module _ (plan : Plan) (checked : IsChecked plan) (types : HasSwitchTypes plan) 
     deliver_follows : Follows (switch_delivering plan from to count x)
     deliver_follows = record {
       y = heard.hearing.now;
-      matches = subst (λ (o : Outcome). Matches plan (absorbs to o x1) heard.hearing.now) (sym (hears_is ∙ heard.is))
+      matches = subst (λ (o : IndepOutcome). Matches plan (absorbs to o x1) heard.hearing.now) (sym (hears_is ∙ heard.is))
           (done_matches plan to from x1 last heard.calls heard.hearing.now from_to_apart is_delivered);
       holds = heard.hearing.holds;
     }

@@ -7,9 +7,9 @@ use Rattle.net_base.specs.declared.plan.places.EdgeId.{EdgeId}
 use Rattle.net_base.specs.plan.Accepted.{IsChecked}
 use Rattle.independent_model.specs.State.{first_state}
 use Rattle.independent_mode.specs.Lists.{IndepLists, independent_seen}
-use Rattle.switchover_net.specs.Rows.{AreFresh, IsRow, edge_past as no_edge, seen_row}
+use Rattle.switchover_net.specs.Rows.{AreFresh, IsRow, edge_past, seen_row}
 
-no_edge_seen : (plan : Plan) (k : ℕ) → independent_seen (no_edge plan k) ≡ first_state
+no_edge_seen : (plan : Plan) (k : ℕ) → independent_seen (edge_past plan k) ≡ first_state
 unfolding independent_seen
 no_edge_seen plan k = refl
 
@@ -23,11 +23,11 @@ fresh_more : (plan : Plan) (count : ℕ) (edges : List IndepLists) (more : Indep
     ≡ first_state → AreFresh plan (count + 1) (edges ++ more ∷ [])
 fresh_more plan count edges more are planned placed first = record {
   len = length-append edges (more ∷ []) ∙ omega (arith, are.len);
-  planned = λ k below. ap (λ (e : IndepLists). e.plan) (index_end edges more (no_edge plan k) k) ∙ planned_by k below (nat_eq k (length edges)) refl;
-  placed = λ k. ap (λ (e : IndepLists). e.me) (index_end edges more (no_edge plan k) k) ∙ placed_by k (nat_eq k (length edges)) refl;
-  first = λ k. ap independent_seen (index_end edges more (no_edge plan k) k) ∙ first_by k (nat_eq k (length edges));
+  planned = λ k below. ap (λ (e : IndepLists). e.plan) (index_end edges more (edge_past plan k) k) ∙ planned_by k below (nat_eq k (length edges)) refl;
+  placed = λ k. ap (λ (e : IndepLists). e.me) (index_end edges more (edge_past plan k) k) ∙ placed_by k (nat_eq k (length edges)) refl;
+  first = λ k. ap independent_seen (index_end edges more (edge_past plan k) k) ∙ first_by k (nat_eq k (length edges));
 } where
-  planned_by : (k : ℕ) → k < count + 1 → (b : Bool) → nat_eq k (length edges) ≡ b → (cond b more (slice_index_or edges k (no_edge plan k))).plan ≡ plan
+  planned_by : (k : ℕ) → k < count + 1 → (b : Bool) → nat_eq k (length edges) ≡ b → (cond b more (slice_index_or edges k (edge_past plan k))).plan ≡ plan
   planned_by k below true e = planned
   planned_by k below false e =
       let apart : (nat_eq k (length edges) ≡ true) → ⊥ = λ same. let wrong : false ≡ true = sym e ∙ same in absurd (cc (wrong)) in
@@ -36,11 +36,11 @@ fresh_more plan count edges more are planned placed first = record {
         | inr rest ↦ omega (arith, below, are.len)
       ])
 
-  placed_by : (k : ℕ) (b : Bool) → nat_eq k (length edges) ≡ b → (cond b more (slice_index_or edges k (no_edge plan k))).me ≡ record { 0 = k }
+  placed_by : (k : ℕ) (b : Bool) → nat_eq k (length edges) ≡ b → (cond b more (slice_index_or edges k (edge_past plan k))).me ≡ record { 0 = k }
   placed_by k true e = placed ∙ ap edge_id (sym are.len ∙ sym (eqb-true k (length edges) e))
   placed_by k false e = are.placed k
 
-  first_by : (k : ℕ) (b : Bool) → independent_seen (cond b more (slice_index_or edges k (no_edge plan k))) ≡ first_state
+  first_by : (k : ℕ) (b : Bool) → independent_seen (cond b more (slice_index_or edges k (edge_past plan k))) ≡ first_state
   first_by k true = first
   first_by k false = are.first k
 

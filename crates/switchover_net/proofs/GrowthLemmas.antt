@@ -15,7 +15,7 @@ use Rattle.ldp_stream.specs.Front.{size_of}
 use Rattle.ldp_stream.specs.FrontOf.{Front, More, Got, Bad, front_in, front_of, length_front, whole_front}
 use Rattle.ldp_stream.specs.State.{place_behind}
 use Rattle.pw_messages.specs.LinkAnswers.{Answers}
-use Rattle.status_exchange.specs.Exchange.{put_at_place as at, at_two}
+use Rattle.status_exchange.specs.Exchange.{at_two}
 use Rattle.status_exchange.specs.Laws.{is_known_active}
 use Rattle.status_exchange.specs.Wish.{is_wished_active}
 use Rattle.status_exchange.proofs.StatusLemmas.{at_same}

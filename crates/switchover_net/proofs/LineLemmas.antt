@@ -20,8 +20,8 @@ use Rattle.switchover_model.specs.declared.switch_line.SwitchLine.TheVariants as
 use Rattle.switchover_model.specs.Network.{SwitchState, switch_connecting, connects_one, cutting, switch_delivers, delivers_next, delivers_one, switch_delivering, does, done, done_all, first_network, first_differing_pair, is_line_idle, is_waiting, loses_one, next_pair, settling, some_between, switches_stand}
 use Rattle.switchover_model.specs.Text.{connect_entries, deliver_entries, entries, hear_entries, line_entries, lose_entries, next_entries, settle_entries}
 use Rattle.switchover_model.proofs.TwoLemmas.{wiring_is}
-use Rattle.switchover_net.specs.Net.{IsReached, Makes, SwitchLists, ShowsSwitchState as Shows, cut_entries, pair_entries}
-use Rattle.octet_pipes.specs.Pipes.{pipes_of, with_octets}
+use Rattle.switchover_net.specs.Net.{IsReached, Makes, SwitchLists, ShowsSwitchState, cut_entries, pair_entries}
+use Rattle.octet_pipes.specs.Pipes.{pipes_of, with_pipe_octets}
 use Rattle.switchover_net.specs.Rows.{seen_row}
 use Rattle.switchover_net.proofs.PipeLemmas.{as_two}
 use Rattle.switchover_net.proofs.ReachedLemmas.{reached_more}
@@ -43,12 +43,13 @@ both_connect plan a b old mid new first next last one two = record {
 
 pub both_lose : (plan : Plan) (a b : EdgeId) (old mid left new : SwitchLists) (first next last : List SwitchEntry) → (b.0 == a.0) ≡ false
     → Makes old mid first next (loses_one plan a.0 b.0) (lose_entries plan a.0 b.0) → Makes mid left next last (loses_one plan b.0 a.0) (lose_entries plan b.0 a.0)
-    → new.row ≡ left.row → pipes_of new.pipes ≡ with_octets a.0 b.0 [] (with_octets b.0 a.0 [] (pipes_of left.pipes)) → Makes old new first last (cutting plan a.0 b.0) (cut_entries plan a.0 b.0)
+    → new.row ≡ left.row → pipes_of new.pipes ≡ with_pipe_octets a.0 b.0 [] (with_pipe_octets b.0 a.0 [] (pipes_of left.pipes))
+    → Makes old new first last (cutting plan a.0 b.0) (cut_entries plan a.0 b.0)
 both_lose plan a b old mid left new first next last apart one two row pipes = record {
-  shows = λ x sh. let after : Shows left (loses_one plan b.0 a.0 (loses_one plan a.0 b.0 x)) = two.shows (loses_one plan a.0 b.0 x) (one.shows x sh) in record {
+  shows = λ x sh. let after : ShowsSwitchState left (loses_one plan b.0 a.0 (loses_one plan a.0 b.0 x)) = two.shows (loses_one plan a.0 b.0 x) (one.shows x sh) in record {
     edges = ap seen_row row ∙ (after.edges ∙ ap (λ (e : IndepState). put_at_place b.0 (loses plan b.0 a e) (put_at_place a.0 (loses plan a.0 b (x.edges a.0)) x.edges))
         (at_other a.0 b.0 (loses plan a.0 b (x.edges a.0)) x.edges apart));
-    pipes = pipes ∙ (ap (λ (p : ℕ → ℕ → List ℕ). with_octets a.0 b.0 [] p) (as_two b.0 a.0 [] (pipes_of left.pipes)) ∙ (as_two a.0 b.0 [] (at_two b.0 a.0 [] (pipes_of left.pipes))
+    pipes = pipes ∙ (ap (λ (p : ℕ → ℕ → List ℕ). with_pipe_octets a.0 b.0 [] p) (as_two b.0 a.0 [] (pipes_of left.pipes)) ∙ (as_two a.0 b.0 [] (at_two b.0 a.0 [] (pipes_of left.pipes))
         ∙ ap (λ (p : ℕ → ℕ → List ℕ). at_two a.0 b.0 [] (at_two b.0 a.0 [] p)) after.pipes));
   };
   tells = λ x sh. two.tells (loses_one plan a.0 b.0 x) (one.shows x sh) ∙ (ap (λ (l : List SwitchEntry). l ++ lose_entries plan b.0 a.0 (loses_one plan a.0 b.0 x)) (one.tells x sh)
@@ -60,7 +61,7 @@ both_lose plan a b old mid left new first next last apart one two row pipes = re
 -- so many octets of the piece have come
 pub record Delivered (plan : Plan) (from to : ℕ) (piece : List ℕ) (place : ℕ) (x : SwitchState) (now : SwitchLists) (first out : List SwitchEntry) : Type 0 where
   pub y : SwitchState
-  pub shows : Shows now y
+  pub shows : ShowsSwitchState now y
   pub state : switch_delivers plan from to (drop place piece) y ≡ switch_delivers plan from to piece x
   pub tells : out ++ deliver_entries plan from to (drop place piece) y ≡ first ++ deliver_entries plan from to piece x
 
@@ -71,7 +72,7 @@ piece_of count from to x = take count (x.pipes from to)
 pub record AreDelivered (plan : Plan) (from to count place : ℕ) (old now : SwitchLists) (first out : List SwitchEntry) : Type 0 where
   pub plan_is : now.row.plan ≡ plan
   pub reached : IsReached now
-  pub each : (x : SwitchState) → Shows old x → Delivered plan from to (piece_of count from to x) place x now first out
+  pub each : (x : SwitchState) → ShowsSwitchState old x → Delivered plan from to (piece_of count from to x) place x now first out
 
 pub none_delivered : (plan : Plan) (from to count : ℕ) (old : SwitchLists) (first : List SwitchEntry) → old.row.plan ≡ plan → IsReached old → AreDelivered plan from to count 0 old old first first
 none_delivered plan from to count old first is reached = record { plan_is = is; reached = reached; each = λ x sh. record { y = x; shows = sh; state = refl; tells = refl } }
@@ -107,7 +108,7 @@ pub more_delivered : (plan : Plan) (from to : EdgeId) (count place most : ℕ) (
     → AreDelivered plan from.0 to.0 count place old now first out → AreDelivered plan from.0 to.0 count (place + 1) old next first last
 more_delivered plan from to count place most old now next first out last most_is below same made are = record {
   plan_is = same ∙ are.plan_is;
-  reached = reached_more now next (line.Deliver from to 1) same are.reached (λ x sh. subst (Shows next) (one_line now.row.plan from to x) (made.shows x sh));
+  reached = reached_more now next (line.Deliver from to 1) same are.reached (λ x sh. subst (ShowsSwitchState next) (one_line now.row.plan from to x) (made.shows x sh));
   each = λ x sh. one x sh (are.each x sh) (has_more (piece_of count from.0 to.0 x) place
       (omega (arith, below, most_is, piece_long count (x.pipes from.0 to.0), ap (λ (p : ℕ → ℕ → List ℕ). length (p from.0 to.0)) sh.pipes)));
 }
@@ -115,7 +116,7 @@ more_delivered plan from to count place most old now next first out last most_is
     here : Makes now next out last (delivers_one plan from.0 to.0) (hear_entries plan from.0 to.0)
     here = subst (λ (p : Plan). Makes now next out last (delivers_one p from.0 to.0) (hear_entries p from.0 to.0)) are.plan_is made
 
-    one : (x : SwitchState) → Shows old x → Delivered plan from.0 to.0 (piece_of count from.0 to.0 x) place x now first out → HasMore (piece_of count from.0 to.0 x) place
+    one : (x : SwitchState) → ShowsSwitchState old x → Delivered plan from.0 to.0 (piece_of count from.0 to.0 x) place x now first out → HasMore (piece_of count from.0 to.0 x) place
         → Delivered plan from.0 to.0 (piece_of count from.0 to.0 x) (place + 1) x next first last
     one x sh d more = record {
       y = delivers_one plan from.0 to.0 d.y;
@@ -130,11 +131,11 @@ pub all_delivered : (plan : Plan) (from to : ℕ) (count place most : ℕ) (old 
     → AreDelivered plan from to count place old now first out
     → Makes old now first out (λ x. switch_delivers plan from to (take count (x.pipes from to)) x) (λ x. deliver_entries plan from to (take count (x.pipes from to)) x)
 all_delivered plan from to count place most old now first out most_is past are = record {
-  shows = λ x sh. let d = are.each x sh in subst (Shows now) (sym (ap (λ (l : List ℕ). switch_delivers plan from to l d.y) (gone x sh)) ∙ d.state) d.shows;
+  shows = λ x sh. let d = are.each x sh in subst (ShowsSwitchState now) (sym (ap (λ (l : List ℕ). switch_delivers plan from to l d.y) (gone x sh)) ∙ d.state) d.shows;
   tells = λ x sh. let d = are.each x sh in sym (append-nil out) ∙ (ap (λ (l : List ℕ). out ++ deliver_entries plan from to l d.y) (sym (gone x sh)) ∙ d.tells);
 }
   where
-    gone : (x : SwitchState) → Shows old x → drop place (piece_of count from to x) ≡ []
+    gone : (x : SwitchState) → ShowsSwitchState old x → drop place (piece_of count from to x) ≡ []
     gone x sh = none_left (piece_of count from to x) place (omega (arith, past, most_is, piece_long count (x.pipes from to), ap (λ (p : ℕ → ℕ → List ℕ). length (p from to)) sh.pipes))
 
 pub still_reached : (plan : Plan) (from to : ℕ) (count place : ℕ) (old now : SwitchLists) (first out : List SwitchEntry) → AreDelivered plan from to count place old now first out → IsReached now
@@ -146,14 +147,14 @@ pub ruleset delivered_steps = (none_delivered, more_delivered, all_delivered, st
 
 pub record Settled (plan : Plan) (count place : ℕ) (x : SwitchState) (now : SwitchLists) (first out : List SwitchEntry) : Type 0 where
   pub y : SwitchState
-  pub shows : Shows now y
+  pub shows : ShowsSwitchState now y
   pub state : settling plan (count - place) y ≡ settling plan count x
   pub tells : out ++ settle_entries plan (count - place) y ≡ first ++ settle_entries plan count x
 
 pub record AreSettled (plan : Plan) (count place : ℕ) (old now : SwitchLists) (first out : List SwitchEntry) : Type 0 where
   pub plan_is : now.row.plan ≡ plan
   pub reached : IsReached now
-  pub each : (x : SwitchState) → Shows old x → Settled plan count place x now first out
+  pub each : (x : SwitchState) → ShowsSwitchState old x → Settled plan count place x now first out
 
 pub none_settled : (plan : Plan) (count : ℕ) (old : SwitchLists) (first : List SwitchEntry) → old.row.plan ≡ plan → IsReached old → AreSettled plan count 0 old old first first
 none_settled plan count old first is reached = record {
@@ -166,7 +167,7 @@ none_settled plan count old first is reached = record {
     all = omega arith
 
 -- the next pair of the network is that of each state that it shows
-pair_shown : (plan : Plan) (now : SwitchLists) (y : SwitchState) (found : Option (ℕ × ℕ)) → Shows now y → now.pipes.size ≡ length plan.edges → found
+pair_shown : (plan : Plan) (now : SwitchLists) (y : SwitchState) (found : Option (ℕ × ℕ)) → ShowsSwitchState now y → now.pipes.size ≡ length plan.edges → found
     ≡ first_differing_pair (λ from to. is_waiting (pipes_of now.pipes from to)) now.pipes.size 0 now.pipes.size → next_pair plan y ≡ found
 pair_shown plan now y found sh size is = sym (is ∙ (ap (λ (n : ℕ). first_differing_pair (λ from to. is_waiting (pipes_of now.pipes from to)) n 0 n) size
     ∙ ap (λ (p : ℕ → ℕ → List ℕ). first_differing_pair (λ from to. is_waiting (p from to)) (length plan.edges) 0 (length plan.edges)) sh.pipes))
@@ -209,7 +210,7 @@ pub settled_none : (plan : Plan) (count place : ℕ) (old now : SwitchLists) (fi
     → None ≡ first_differing_pair (λ from to. is_waiting (pipes_of now.pipes from to)) now.pipes.size 0 now.pipes.size → AreSettled plan count place old now first out
     → Makes old now first out (settling plan count) (settle_entries plan count)
 settled_none plan count place old now first out below size found are = record {
-  shows = λ x sh. let d = are.each x sh in subst (Shows now)
+  shows = λ x sh. let d = are.each x sh in subst (ShowsSwitchState now)
       (ap (λ (o : Option (ℕ × ℕ)). delivers_next plan (settling plan (count - (place + 1))) o d.y) (sym (pair d)) ∙ (ap (λ (n : ℕ). settling plan n d.y) (sym one_more) ∙ d.state)) d.shows;
   tells = λ x sh. let d = are.each x sh in sym (append-nil out)
       ∙ (ap (λ (o : Option (ℕ × ℕ)). out ++ next_entries plan (settle_entries plan (count - (place + 1))) o d.y) (sym (pair d))
@@ -225,7 +226,7 @@ settled_none plan count place old now first out below size found are = record {
 pub settled_all : (plan : Plan) (count place : ℕ) (old now : SwitchLists) (first out : List SwitchEntry) → count ≤ place → AreSettled plan count place old now first out
     → Makes old now first out (settling plan count) (settle_entries plan count)
 settled_all plan count place old now first out past are = record {
-  shows = λ x sh. let d = are.each x sh in subst (Shows now) (ap (λ (n : ℕ). settling plan n d.y) (sym none) ∙ d.state) d.shows;
+  shows = λ x sh. let d = are.each x sh in subst (ShowsSwitchState now) (ap (λ (n : ℕ). settling plan n d.y) (sym none) ∙ d.state) d.shows;
   tells = λ x sh. let d = are.each x sh in sym (append-nil out) ∙ (ap (λ (n : ℕ). out ++ settle_entries plan n d.y) (sym none) ∙ d.tells);
 }
   where
@@ -267,7 +268,7 @@ some_apart plan a b (suc n) laws is = by (is_between plan n a b) refl is (λ e. 
 
 -- ---- lines
 
-pub cut_apart : (net : SwitchLists) (a b : EdgeId) → IsReached net → ((x : SwitchState) → Shows net x → is_line_idle net.row.plan x (line.Cut a b) ≡ false) → (b.0 == a.0) ≡ false
+pub cut_apart : (net : SwitchLists) (a b : EdgeId) → IsReached net → ((x : SwitchState) → ShowsSwitchState net x → is_line_idle net.row.plan x (line.Cut a b) ≡ false) → (b.0 == a.0) ≡ false
 cut_apart net a b reached runs = some_apart net.row.plan a.0 b.0 (length net.row.plan.wires) (wiring_is net.row.plan reached.checked)
     (joined (some_between net.row.plan a.0 b.0 (length net.row.plan.wires)) (not (switches_stand (done_all net.row.plan reached.lines first_network) a.0 b.0))
     (runs (done_all net.row.plan reached.lines first_network) reached.shows))
@@ -276,7 +277,8 @@ cut_apart net a b reached runs = some_apart net.row.plan a.0 b.0 (length net.row
     joined true q is = refl
     joined false q is = absurd (cc (is))
 
-pub set_ends : (net : SwitchLists) (me : EdgeId) (wire : WireId) (wish : Wish) → IsReached net → ((x : SwitchState) → Shows net x → is_line_idle net.row.plan x (line.Set me wire wish) ≡ false)
+pub set_ends : (net : SwitchLists) (me : EdgeId) (wire : WireId) (wish : Wish) → IsReached net
+    → ((x : SwitchState) → ShowsSwitchState net x → is_line_idle net.row.plan x (line.Set me wire wish) ≡ false)
     → None ≡ other_end net.row.plan me.0 wire.0 → ⊥
 set_ends net me wire wish reached runs none = no (is_same_wish (((done_all net.row.plan reached.lines first_network).edges me.0).local wire.0) wish)
     (other_end net.row.plan me.0 wire.0) (sym none) (runs (done_all net.row.plan reached.lines first_network) reached.shows)
@@ -292,20 +294,21 @@ pub made_as : (plan : Plan) (line : SwitchLine) (old new : SwitchLists) (first l
     → ((x : SwitchState) → next x ≡ does plan line x)
     → ((x : SwitchState) → told x ≡ entries plan line x) → Makes old new first last next told → Makes old new first last (does plan line) (entries plan line)
 made_as plan line old new first last next told one two made =
-    record { shows = λ x sh. subst (Shows new) (one x) (made.shows x sh); tells = λ x sh. made.tells x sh ∙ ap (λ (l : List SwitchEntry). first ++ l) (two x) }
+    record { shows = λ x sh. subst (ShowsSwitchState new) (one x) (made.shows x sh); tells = λ x sh. made.tells x sh ∙ ap (λ (l : List SwitchEntry). first ++ l) (two x) }
 
 -- ---- whether a line applies
 
-pub shown_connected : (net : SwitchLists) (x : SwitchState) (a b : ℕ) → Shows net x → is_connected (seen_row net.row a) b ≡ is_connected (x.edges a) b
+pub shown_connected : (net : SwitchLists) (x : SwitchState) (a b : ℕ) → ShowsSwitchState net x → is_connected (seen_row net.row a) b ≡ is_connected (x.edges a) b
 shown_connected net x a b sh = ap (λ (e : ℕ → IndepState). is_connected (e a) b) sh.edges
 
-pub shown_waits : (net : SwitchLists) (x : SwitchState) (from to : ℕ) → Shows net x → is_waiting (pipes_of net.pipes from to) ≡ is_waiting (x.pipes from to)
+pub shown_waits : (net : SwitchLists) (x : SwitchState) (from to : ℕ) → ShowsSwitchState net x → is_waiting (pipes_of net.pipes from to) ≡ is_waiting (x.pipes from to)
 shown_waits net x from to sh = ap (λ (p : ℕ → ℕ → List ℕ). is_waiting (p from to)) sh.pipes
 
-pub shown_wish : (net : SwitchLists) (x : SwitchState) (me wire : ℕ) (wish : Wish) → Shows net x → is_same_wish ((seen_row net.row me).local wire) wish ≡ is_same_wish ((x.edges me).local wire) wish
+pub shown_wish : (net : SwitchLists) (x : SwitchState) (me wire : ℕ) (wish : Wish) → ShowsSwitchState net x → is_same_wish ((seen_row net.row me).local wire) wish
+    ≡ is_same_wish ((x.edges me).local wire) wish
 shown_wish net x me wire wish sh = ap (λ (e : ℕ → IndepState). is_same_wish ((e me).local wire) wish) sh.edges
 
-pub shown_pair : (net : SwitchLists) (x : SwitchState) → Shows net x → net.pipes.size ≡ length net.row.plan.edges
+pub shown_pair : (net : SwitchLists) (x : SwitchState) → ShowsSwitchState net x → net.pipes.size ≡ length net.row.plan.edges
     → first_differing_pair (λ from to. is_waiting (pipes_of net.pipes from to)) net.pipes.size 0 net.pipes.size ≡ next_pair net.row.plan x
 shown_pair net x sh size = sym (pair_shown net.row.plan net x (first_differing_pair (λ from to. is_waiting (pipes_of net.pipes from to)) net.pipes.size 0 net.pipes.size) sh size refl)
 
@@ -318,28 +321,30 @@ pub ruleset idle_steps = (shown_connected, shown_waits, shown_wish, shown_pair)
 
 -- ---- a line
 
-pub idle_done : (net : SwitchLists) (line : SwitchLine) (idle : Bool) → idle ≡ true → ((x : SwitchState) → Shows net x → idle ≡ is_line_idle net.row.plan x line) → (x : SwitchState)
-    → Shows net x → Shows net (done net.row.plan line x)
-idle_done net line idle is all x sh = subst (λ (b : Bool). Shows net (if b then x else does net.row.plan line x)) (sym is ∙ all x sh) sh
+pub idle_done : (net : SwitchLists) (line : SwitchLine) (idle : Bool) → idle ≡ true → ((x : SwitchState) → ShowsSwitchState net x → idle ≡ is_line_idle net.row.plan x line) → (x : SwitchState)
+    → ShowsSwitchState net x → ShowsSwitchState net (done net.row.plan line x)
+idle_done net line idle is all x sh = subst (λ (b : Bool). ShowsSwitchState net (if b then x else does net.row.plan line x)) (sym is ∙ all x sh) sh
 
-pub idle_told : (net : SwitchLists) (line : SwitchLine) (idle : Bool) → idle ≡ true → ((x : SwitchState) → Shows net x → idle ≡ is_line_idle net.row.plan x line) → (x : SwitchState)
-    → Shows net x → Idle ∷ [] ≡ line_entries net.row.plan line x
+pub idle_told : (net : SwitchLists) (line : SwitchLine) (idle : Bool) → idle ≡ true → ((x : SwitchState) → ShowsSwitchState net x → idle ≡ is_line_idle net.row.plan x line) → (x : SwitchState)
+    → ShowsSwitchState net x → Idle ∷ [] ≡ line_entries net.row.plan line x
 idle_told net line idle is all x sh = ap (λ (b : Bool). if b then Idle ∷ [] else entries net.row.plan line x) (sym is ∙ all x sh)
 
-pub line_runs : (net : SwitchLists) (line : SwitchLine) (idle : Bool) → idle ≡ false → ((x : SwitchState) → Shows net x → idle ≡ is_line_idle net.row.plan x line) → (x : SwitchState)
-    → Shows net x → is_line_idle net.row.plan x line ≡ false
+pub line_runs : (net : SwitchLists) (line : SwitchLine) (idle : Bool) → idle ≡ false → ((x : SwitchState) → ShowsSwitchState net x → idle ≡ is_line_idle net.row.plan x line) → (x : SwitchState)
+    → ShowsSwitchState net x → is_line_idle net.row.plan x line ≡ false
 line_runs net line idle is all x sh = sym (all x sh) ∙ is
 
-pub runs_done : (old new : SwitchLists) (line : SwitchLine) (first last : List SwitchEntry) (idle : Bool) → idle ≡ false → ((x : SwitchState) → Shows old x → idle ≡ is_line_idle old.row.plan x line)
-    → Makes old new first last (does old.row.plan line) (entries old.row.plan line) → (x : SwitchState) → Shows old x → Shows new (done old.row.plan line x)
-runs_done old new line first last idle is all made x sh = subst (λ (b : Bool). Shows new (if b then x else does old.row.plan line x)) (sym is ∙ all x sh) (made.shows x sh)
+pub runs_done : (old new : SwitchLists) (line : SwitchLine) (first last : List SwitchEntry) (idle : Bool) → idle ≡ false
+    → ((x : SwitchState) → ShowsSwitchState old x → idle ≡ is_line_idle old.row.plan x line)
+    → Makes old new first last (does old.row.plan line) (entries old.row.plan line) → (x : SwitchState) → ShowsSwitchState old x → ShowsSwitchState new (done old.row.plan line x)
+runs_done old new line first last idle is all made x sh = subst (λ (b : Bool). ShowsSwitchState new (if b then x else does old.row.plan line x)) (sym is ∙ all x sh) (made.shows x sh)
 
-pub runs_told : (old new : SwitchLists) (line : SwitchLine) (last : List SwitchEntry) (idle : Bool) → idle ≡ false → ((x : SwitchState) → Shows old x → idle ≡ is_line_idle old.row.plan x line)
-    → Makes old new [] last (does old.row.plan line) (entries old.row.plan line) → (x : SwitchState) → Shows old x → last ≡ line_entries old.row.plan line x
+pub runs_told : (old new : SwitchLists) (line : SwitchLine) (last : List SwitchEntry) (idle : Bool) → idle ≡ false
+    → ((x : SwitchState) → ShowsSwitchState old x → idle ≡ is_line_idle old.row.plan x line)
+    → Makes old new [] last (does old.row.plan line) (entries old.row.plan line) → (x : SwitchState) → ShowsSwitchState old x → last ≡ line_entries old.row.plan line x
 runs_told old new line last idle is all made x sh = made.tells x sh ∙ ap (λ (b : Bool). if b then Idle ∷ [] else entries old.row.plan line x) (sym is ∙ all x sh)
 
 pub runs_reached : (old new : SwitchLists) (line : SwitchLine) (first last : List SwitchEntry) (idle : Bool) → idle ≡ false
-    → ((x : SwitchState) → Shows old x → idle ≡ is_line_idle old.row.plan x line) → new.row.plan ≡ old.row.plan → IsReached old
+    → ((x : SwitchState) → ShowsSwitchState old x → idle ≡ is_line_idle old.row.plan x line) → new.row.plan ≡ old.row.plan → IsReached old
     → Makes old new first last (does old.row.plan line) (entries old.row.plan line) → IsReached new
 runs_reached old new line first last idle is all same reached made = reached_more old new line same reached (λ x sh. runs_done old new line first last idle is all made x sh)
 

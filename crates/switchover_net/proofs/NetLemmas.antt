@@ -7,14 +7,14 @@ use Rattle.net_base.specs.declared.plan.places.EdgeId.{EdgeId}
 use Rattle.status_exchange.specs.declared.wish.Wish.{Wish}
 use Rattle.status_exchange.specs.Exchange.{put_at_place, at_two}
 use Rattle.status_exchange.proofs.StatusLemmas.{at_same}
-use Rattle.independent_model.specs.Calls.{independent_connects, independent_hears as hears, loses, sets}
+use Rattle.independent_model.specs.Calls.{independent_connects, independent_hears, loses, sets}
 use Rattle.independent_model.specs.State.{IndepState, first_state}
 use Rattle.independent_model.specs.Wires.{other_end}
 use Rattle.independent_model.specs.Work.{IndepOutcome}
 use Rattle.switchover_model.specs.declared.switch_entry.SwitchEntry.{SwitchEntry}
-use Rattle.switchover_model.specs.Network.{SwitchState, calls_of, connects_one, switch_delivering as delivering, delivers_one, edge_after, first_network, is_waiting, loses_one, put_to, setting, takes_all as taken_all}
+use Rattle.switchover_model.specs.Network.{SwitchState, calls_of, connects_one, switch_delivering, delivers_one, edge_after, first_network, is_waiting, loses_one, put_to, setting, takes_all}
 use Rattle.switchover_model.specs.Text.{connect_entries, hear_entries, lose_entries, moment, said_entries, set_entries, turned_all, used}
-use Rattle.switchover_net.specs.Net.{Makes, SwitchLists, ShowsSwitchState as Shows}
+use Rattle.switchover_net.specs.Net.{Makes, SwitchLists, ShowsSwitchState}
 use Rattle.octet_pipes.specs.Pipes.{no_octets, pipes_of}
 use Rattle.switchover_net.specs.Pipes.{bytes_of}
 use Rattle.switchover_net.specs.Rows.{HasDoneWork, RowLists, seen_row}
@@ -70,60 +70,63 @@ module _ (plan : Plan) (me peer : ℕ) (work : (ℕ → ℕ → List ℕ) → In
         ∙ append_assoc first (said_entries me (calls_of outcome)) (turned_all me 0 (used plan me (seen_row old.row me)) (used plan me (edge_after outcome))))));
   }
 
-  pub worked : (x : SwitchState) → Shows old x → Worked plan me work left new first last x.edges x.pipes
+  pub worked : (x : SwitchState) → ShowsSwitchState old x → Worked plan me work left new first last x.edges x.pipes
   worked x sh = subst (λ (e : ℕ → IndepState). Worked plan me work left new first last e x.pipes) sh.edges
       (subst (λ (p : ℕ → ℕ → List ℕ). Worked plan me work left new first last (seen_row old.row) p) sh.pipes here)
 
 -- ---- each call
 
 pub connected : (plan : Plan) (me : ℕ) (peer : EdgeId) (old new : SwitchLists) (row : RowLists) (calls : List LinkCall) (before : List Bool) (first last : List SwitchEntry)
-    → HasDoneWork me old.row row calls (independent_connects plan taken_all me peer (seen_row old.row me) []) → new.row ≡ row → before ≡ used plan me (seen_row old.row me)
+    → HasDoneWork me old.row row calls (independent_connects plan takes_all me peer (seen_row old.row me) []) → new.row ≡ row → before ≡ used plan me (seen_row old.row me)
     → pipes_of new.pipes ≡ at_two me peer.0 (pipes_of old.pipes me peer.0 ++ bytes_of calls) (pipes_of old.pipes)
     → last ≡ (first ++ said_entries me calls) ++ turned_all me 0 before (used plan me (seen_row row me))
     → Makes old new first last (connects_one plan me peer.0) (connect_entries plan me peer.0)
 connected plan me peer old new row calls before first last done row_is was put told =
-    let w : (x : SwitchState) → Shows old x → Worked plan me (λ p e. independent_connects plan taken_all me peer e []) (λ p. p) new first last x.edges x.pipes
-    = worked plan me peer.0 (λ p e. independent_connects plan taken_all me peer e []) (λ p. p) old new row calls before first last (λ p e. connects_to plan taken_all me peer e) done row_is was put told in
+    let w : (x : SwitchState) → ShowsSwitchState old x → Worked plan me (λ p e. independent_connects plan takes_all me peer e []) (λ p. p) new first last x.edges x.pipes
+    = worked plan me peer.0 (λ p e. independent_connects plan takes_all me peer e []) (λ p. p) old new row calls before first last
+    (λ p e. connects_to plan takes_all me peer e) done row_is was put told in
     record { shows = λ x sh. record { edges = (w x sh).edges; pipes = (w x sh).pipes }; tells = λ x sh. (w x sh).tells }
 
 pub was_set : (plan : Plan) (me wire : ℕ) (peer : EdgeId) (wish : Wish) (old new : SwitchLists) (row : RowLists) (calls : List LinkCall) (before : List Bool) (first last : List SwitchEntry)
-    → other_end plan me wire ≡ Some peer → HasDoneWork me old.row row calls (sets plan taken_all me wire wish (seen_row old.row me) []) → new.row ≡ row → before ≡ used plan me (seen_row old.row me)
+    → other_end plan me wire ≡ Some peer → HasDoneWork me old.row row calls (sets plan takes_all me wire wish (seen_row old.row me) []) → new.row ≡ row → before ≡ used plan me (seen_row old.row me)
     → pipes_of new.pipes ≡ at_two me peer.0 (pipes_of old.pipes me peer.0 ++ bytes_of calls) (pipes_of old.pipes)
     → last ≡ (first ++ said_entries me calls) ++ turned_all me 0 before (used plan me (seen_row row me))
     → Makes old new first last (setting plan me wire wish) (set_entries plan me wire wish)
 was_set plan me wire peer wish old new row calls before first last other done row_is was put told =
-    let w : (x : SwitchState) → Shows old x → Worked plan me (λ p e. sets plan taken_all me wire wish e []) (λ p. p) new first last x.edges x.pipes
-    = worked plan me peer.0 (λ p e. sets plan taken_all me wire wish e []) (λ p. p) old new row calls before first last
-    (λ p e. sets_to plan taken_all me peer wire wish e other) done row_is was put told in
+    let w : (x : SwitchState) → ShowsSwitchState old x → Worked plan me (λ p e. sets plan takes_all me wire wish e []) (λ p. p) new first last x.edges x.pipes
+    = worked plan me peer.0 (λ p e. sets plan takes_all me wire wish e []) (λ p. p) old new row calls before first last
+    (λ p e. sets_to plan takes_all me peer wire wish e other) done row_is was put told in
     record { shows = λ x sh. record { edges = (w x sh).edges; pipes = (w x sh).pipes }; tells = λ x sh. (w x sh).tells }
 
 pub was_heard : (plan : Plan) (me : ℕ) (peer : EdgeId) (old new : SwitchLists) (row : RowLists) (calls : List LinkCall) (before : List Bool) (first last : List SwitchEntry)
     → is_waiting (pipes_of old.pipes peer.0 me) ≡ true
-    → HasDoneWork me old.row row calls (hears plan taken_all me peer (take 1 (pipes_of old.pipes peer.0 me)) (seen_row old.row me) []) → new.row ≡ row → before ≡ used plan me (seen_row old.row me)
+    → HasDoneWork me old.row row calls (independent_hears plan takes_all me peer (take 1 (pipes_of old.pipes peer.0 me)) (seen_row old.row me) []) → new.row ≡ row → before
+    ≡ used plan me (seen_row old.row me)
     → pipes_of new.pipes ≡ at_two me peer.0 (at_two peer.0 me (drop 1 (pipes_of old.pipes peer.0 me)) (pipes_of old.pipes) me peer.0 ++ bytes_of calls)
     (at_two peer.0 me (drop 1 (pipes_of old.pipes peer.0 me)) (pipes_of old.pipes))
     → last ≡ (first ++ said_entries me calls) ++ turned_all me 0 before (used plan me (seen_row row me))
     → Makes old new first last (delivers_one plan peer.0 me) (hear_entries plan peer.0 me)
 was_heard plan me peer old new row calls before first last waits done row_is was put told =
-    let w : (x : SwitchState) → Shows old x → Worked plan me (λ p e. hears plan taken_all me peer (take 1 (p peer.0 me)) e [])
+    let w : (x : SwitchState) → ShowsSwitchState old x → Worked plan me (λ p e. independent_hears plan takes_all me peer (take 1 (p peer.0 me)) e [])
     (λ p. at_two peer.0 me (drop 1 (p peer.0 me)) p) new first last x.edges x.pipes
-    = worked plan me peer.0 (λ p e. hears plan taken_all me peer (take 1 (p peer.0 me)) e []) (λ p. at_two peer.0 me (drop 1 (p peer.0 me)) p) old new row calls before first last
-    (λ p e. hears_to plan taken_all me peer (take 1 (p peer.0 me)) e) done row_is was put told in
-    let wait : (x : SwitchState) → Shows old x → is_waiting (x.pipes peer.0 me) ≡ true = λ x sh. ap (λ (p : ℕ → ℕ → List ℕ). is_waiting (p peer.0 me)) (sym sh.pipes) ∙ waits in
+    = worked plan me peer.0 (λ p e. independent_hears plan takes_all me peer (take 1 (p peer.0 me)) e []) (λ p. at_two peer.0 me (drop 1 (p peer.0 me)) p) old new row calls before first last
+    (λ p e. hears_to plan takes_all me peer (take 1 (p peer.0 me)) e) done row_is was put told in
+    let wait : (x : SwitchState) → ShowsSwitchState old x → is_waiting (x.pipes peer.0 me) ≡ true = λ x sh. ap (λ (p : ℕ → ℕ → List ℕ). is_waiting (p peer.0 me)) (sym sh.pipes) ∙ waits in
     record {
-      shows = λ x sh. subst (λ (b : Bool). Shows new (if b then delivering plan peer.0 me 1 x else x)) (sym (wait x sh)) (record { edges = (w x sh).edges; pipes = (w x sh).pipes });
-      tells = λ x sh. subst (λ (b : Bool). last ≡ first ++ (if b then moment plan me (hears plan taken_all me peer (take 1 (x.pipes peer.0 me)) (x.edges me) []) (x.edges me) else []))
+      shows = λ x sh. subst (λ (b : Bool). ShowsSwitchState new (if b then switch_delivering plan peer.0 me 1 x else x)) (sym (wait x sh)) (record { edges = (w x sh).edges; pipes = (w x sh).pipes });
+      tells = λ x sh. subst (λ (b : Bool). last ≡ first ++ (if b then moment plan me (independent_hears plan takes_all me peer (take 1 (x.pipes peer.0 me)) (x.edges me) []) (x.edges me) else []))
           (sym (wait x sh)) (w x sh).tells;
     }
 
 pub none_waits : (plan : Plan) (from to : ℕ) (old : SwitchLists) (first : List SwitchEntry) → is_waiting (pipes_of old.pipes from to) ≡ false
     → Makes old old first first (delivers_one plan from to) (hear_entries plan from to)
 none_waits plan from to old first waits =
-    let wait : (x : SwitchState) → Shows old x → is_waiting (x.pipes from to) ≡ false = λ x sh. ap (λ (p : ℕ → ℕ → List ℕ). is_waiting (p from to)) (sym sh.pipes) ∙ waits in
+    let wait : (x : SwitchState) → ShowsSwitchState old x → is_waiting (x.pipes from to) ≡ false = λ x sh. ap (λ (p : ℕ → ℕ → List ℕ). is_waiting (p from to)) (sym sh.pipes) ∙ waits in
     record {
-      shows = λ x sh. subst (λ (b : Bool). Shows old (if b then delivering plan from to 1 x else x)) (sym (wait x sh)) sh;
+      shows = λ x sh. subst (λ (b : Bool). ShowsSwitchState old (if b then switch_delivering plan from to 1 x else x)) (sym (wait x sh)) sh;
       tells = λ x sh. subst (λ (b : Bool). first ≡ first
-          ++ (if b then moment plan to (hears plan taken_all to (record { 0 = from }) (take 1 (x.pipes from to)) (x.edges to) []) (x.edges to) else [])) (sym (wait x sh)) (sym (append-nil first));
+          ++ (if b then moment plan to (independent_hears plan takes_all to (record { 0 = from }) (take 1 (x.pipes from to)) (x.edges to) []) (x.edges to) else [])) (sym (wait x sh))
+          (sym (append-nil first));
     }
 
 pub was_lost : (plan : Plan) (me : ℕ) (peer : EdgeId) (old new : SwitchLists) (before : List Bool) (first last : List SwitchEntry)
@@ -139,5 +142,5 @@ was_lost plan me peer old new before first last done pipes was told = record {
 }
 
 -- the network before its first line
-pub opened : (net : SwitchLists) → seen_row net.row ≡ (λ me. first_state) → pipes_of net.pipes ≡ no_octets → Shows net first_network
+pub opened : (net : SwitchLists) → seen_row net.row ≡ (λ me. first_state) → pipes_of net.pipes ≡ no_octets → ShowsSwitchState net first_network
 opened net edges pipes = record { edges = edges; pipes = pipes }

@@ -5,22 +5,22 @@ use Rattle.std.proofs.lemmas.Bool.Decides.{nat_tests}
 use Rattle.net_base.specs.declared.outside.link_call.LinkCall.{LinkCall}
 use Rattle.status_exchange.specs.Exchange.{at_two}
 use Rattle.switchover_model.specs.Network.{earlier_pair, first_differing_pair, first_place, is_waiting}
-use Rattle.octet_pipes.specs.Pipes.{with_octets}
+use Rattle.octet_pipes.specs.Pipes.{with_pipe_octets}
 use Rattle.switchover_net.specs.Pipes.{bytes_of}
 
 -- ---- one pipe in the two words for it
 
-pub as_two : (from to : ℕ) (v : List ℕ) (q : ℕ → ℕ → List ℕ) → with_octets from to v q ≡ at_two from to v q
+pub as_two : (from to : ℕ) (v : List ℕ) (q : ℕ → ℕ → List ℕ) → with_pipe_octets from to v q ≡ at_two from to v q
 as_two from to v q = λ i a b. at_each a b i
   where
-    at_each : (a b : ℕ) → with_octets from to v q a b ≡ at_two from to v q a b
+    at_each : (a b : ℕ) → with_pipe_octets from to v q a b ≡ at_two from to v q a b
     at_each a b = by (a == from) refl
       where
         by : (s : Bool) → (a == from) ≡ s → (if s then (λ j. if j == to then v else q from j) else q a) b ≡ (if s && b == to then v else q a b)
         by true is = let one : a ≡ from = eqb-true a from is in rw one refl
         by false is = refl
 
-pub is_two : (from to : ℕ) (v : List ℕ) (q next : ℕ → ℕ → List ℕ) → next ≡ with_octets from to v q → next ≡ at_two from to v q
+pub is_two : (from to : ℕ) (v : List ℕ) (q next : ℕ → ℕ → List ℕ) → next ≡ with_pipe_octets from to v q → next ≡ at_two from to v q
 is_two from to v q next is = is ∙ as_two from to v q
 
 -- ---- octets that wait
@@ -115,7 +115,7 @@ bytes_end (x ∷ calls) zero past = absurd (omega (arith, past))
 bytes_end (x ∷ calls) (suc place) past = bytes_end calls place (omega (arith, past))
 
 pub put_more : (from to : ℕ) (calls : List LinkCall) (place : ℕ) (call : LinkCall) (old now next : ℕ → ℕ → List ℕ) → place < length calls → call ≡ slice_index_or calls place call
-    → next ≡ with_octets from to (now from to ++ call.bytes) now
+    → next ≡ with_pipe_octets from to (now from to ++ call.bytes) now
     → ArePut from to calls place old now → ArePut from to calls (place + 1) old next
 put_more from to calls place call old now next within at is put = record {
   rest = ap (λ (q : ℕ → ℕ → List ℕ). at_two from to (q from to ++ bytes_of (drop (place + 1) calls)) q) (is_two from to (now from to ++ call.bytes) now next is)

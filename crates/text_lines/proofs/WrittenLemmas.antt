@@ -3,7 +3,7 @@ use Rattle.std.proofs.Common.{◌≡◌, ◌≢◌, ◌≤◌, ◌<◌, ◌+◌,
 use Rattle.std.proofs.Math.Seq.{take-add, take-append-add}
 use Rattle.std.proofs.lemmas.List.{append-nil, take_all, take-append-le}
 use Rattle.net_base.specs.outside.Outside.{Appends, Rose}
-use Rattle.text_lines.specs.Written.{Written, WritingGoesOn as GoesOn, Moves, AppendsFront, IsCut, Puts, Writes}
+use Rattle.text_lines.specs.Written.{Written, WritingGoesOn, Moves, AppendsFront, IsCut, Puts, Writes}
 
 -- what was taken goes on, piece by piece
 pub appends_more : (old between new : Option (List ℕ)) (first second both : List ℕ) → first ++ second ≡ both → Appends old between first → Appends between new second → Appends old new both
@@ -28,11 +28,11 @@ appends_none None = tt
 appends_none (Some before) = ap Some (sym (append-nil before))
 
 -- nothing was put
-pub goes_none : (w : Written) → GoesOn w w []
+pub goes_none : (w : Written) → WritingGoesOn w w []
 goes_none w = record { gained = []; taken = appends_none w.taken; text = sym (append-nil w.waiting); faults = omega arith; still = λ none. (refl, refl) }
 
 -- octets wait behind what does
-pub goes_waiting : (a : Written) (waiting octets : List ℕ) → waiting ≡ a.waiting ++ octets → GoesOn a (record { taken = a.taken; faults = a.faults; waiting = waiting }) octets
+pub goes_waiting : (a : Written) (waiting octets : List ℕ) → waiting ≡ a.waiting ++ octets → WritingGoesOn a (record { taken = a.taken; faults = a.faults; waiting = waiting }) octets
 goes_waiting a waiting octets waits = record {
   gained = [];
   taken = appends_none a.taken;
@@ -50,7 +50,7 @@ joined : (p q first second gained rest : List ℕ) → gained ++ q ≡ p ++ firs
 joined p q first second gained rest one two = rw two (sym (append_assoc gained q second) ∙ (ap (λ (l : List ℕ). l ++ second) one ∙ append_assoc p first second))
 
 -- one text behind another one
-pub goes_two : (a b c : Written) (first second : List ℕ) → GoesOn a b first → GoesOn b c second → GoesOn a c (first ++ second)
+pub goes_two : (a b c : Written) (first second : List ℕ) → WritingGoesOn a b first → WritingGoesOn b c second → WritingGoesOn a c (first ++ second)
 goes_two a b c first second one two =
     let low = one.faults in
     let high = two.faults in
@@ -87,7 +87,7 @@ pub rose_later : (a b c : ℕ) → a ≤ b → Rose b c → Rose a c
 rose_later a b c low rose = grind (arith, low, rose)
 
 -- a text went on by one text, and of the next one a front was taken
-pub cut_later : (a b c : Written) (first second : List ℕ) → GoesOn a b first → IsCut b c second → IsCut a c (first ++ second)
+pub cut_later : (a b c : Written) (first second : List ℕ) → WritingGoesOn a b first → IsCut b c second → IsCut a c (first ++ second)
 cut_later a b c first second one cut =
     let all = joined a.waiting b.waiting first second one.gained (b.waiting ++ second) one.text refl in
     let len = cut.front.len in
@@ -104,13 +104,13 @@ cut_later a b c first second one cut =
     }
 
 -- one text behind another one, of which a front may have been taken
-pub puts_two : {T E : Type 0} (result : Result T E) (a b c : Written) (first second : List ℕ) → GoesOn a b first → Puts result b c second → Puts result a c (first ++ second)
+pub puts_two : {T E : Type 0} (result : Result T E) (a b c : Written) (first second : List ℕ) → WritingGoesOn a b first → Puts result b c second → Puts result a c (first ++ second)
 puts_two (Ok value) a b c first second one two = goes_two a b c first second one two
 puts_two (Err fault) a b c first second one two = cut_later a b c first second one two
 
 -- what waited moved to the sink, and a front of more waits behind what still does
 pub moves_goes : (a b : Written) (taken : Option (List ℕ)) (faults : ℕ) (waiting octets : List ℕ) → Moves a b → taken ≡ b.taken → faults ≡ b.faults → waiting ≡ b.waiting ++ octets → 0 < length octets
-    → GoesOn a (record { taken = taken; faults = faults; waiting = waiting }) octets
+    → WritingGoesOn a (record { taken = taken; faults = faults; waiting = waiting }) octets
 moves_goes a b taken faults waiting octets moves same count waits some =
     let low = moves.faults in
     record {
@@ -143,7 +143,7 @@ pub cut_waiting : (a b : Written) → AppendsFront a.taken b.taken a.waiting →
 cut_waiting a b front rose = record { front = subst (λ (l : List ℕ). AppendsFront a.taken b.taken l) (sym (append-nil a.waiting)) front; rose = rose }
 
 -- a whole text was put where nothing waited, and then what waited was taken: the text was taken
-pub whole_text : (a b : Written) (end : Option (List ℕ)) (text : List ℕ) → a.waiting ≡ [] → GoesOn a b text → Writes b.taken end b.waiting → Writes a.taken end text
+pub whole_text : (a b : Written) (end : Option (List ℕ)) (text : List ℕ) → a.waiting ≡ [] → WritingGoesOn a b text → Writes b.taken end b.waiting → Writes a.taken end text
 whole_text a b end [] none goes writes =
     let still = goes.still refl in
     let waits : b.waiting ≡ [] = still.1 ∙ none in
@@ -159,14 +159,14 @@ cut_text a b text none cut = subst (λ (l : List ℕ). AppendsFront a.taken b.ta
 -- a text is being put: what was put so far, and the rest, are the whole
 pub record Putting (old now : Written) (rest whole : List ℕ) : Type 0 where
   pub front : List ℕ
-  pub goes : GoesOn old now front
+  pub goes : WritingGoesOn old now front
   pub all : front ++ rest ≡ whole
 
 pub putting_none : (w : Written) (whole : List ℕ) → Putting w w whole whole
 putting_none w whole = record { front = []; goes = goes_none w; all = refl }
 
 -- one piece of the rest was put
-pub putting_more : (a b c : Written) (rest item later whole : List ℕ) → rest ≡ item ++ later → Putting a b rest whole → GoesOn b c item → Putting a c later whole
+pub putting_more : (a b c : Written) (rest item later whole : List ℕ) → rest ≡ item ++ later → Putting a b rest whole → WritingGoesOn b c item → Putting a c later whole
 putting_more a b c rest item later whole split putting goes = record {
   front = putting.front ++ item;
   goes = goes_two a b c putting.front item putting.goes goes;
@@ -180,6 +180,6 @@ putting_cut a b c rest item later whole split putting cut =
     subst (λ (l : List ℕ). IsCut a c l) (ap (λ (l : List ℕ). putting.front ++ l) (sym split) ∙ putting.all) longer
 
 -- nothing is left
-pub putting_all : (a b : Written) (rest whole : List ℕ) → rest ≡ [] → Putting a b rest whole → GoesOn a b whole
+pub putting_all : (a b : Written) (rest whole : List ℕ) → rest ≡ [] → Putting a b rest whole → WritingGoesOn a b whole
 putting_all a b rest whole none putting =
-    subst (λ (l : List ℕ). GoesOn a b l) (sym (append-nil putting.front) ∙ (ap (λ (l : List ℕ). putting.front ++ l) (sym none) ∙ putting.all)) putting.goes
+    subst (λ (l : List ℕ). WritingGoesOn a b l) (sym (append-nil putting.front) ∙ (ap (λ (l : List ℕ). putting.front ++ l) (sym none) ∙ putting.all)) putting.goes

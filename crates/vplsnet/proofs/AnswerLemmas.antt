@@ -21,7 +21,7 @@ use Rattle.vplsnet.specs.declared.audit_rule.AuditRule.{AuditRule}
 use Rattle.vplsnet.specs.declared.audit_rule.AuditRule.TheVariants as rule
 use Rattle.vplsnet.specs.declared.outcome.Outcome.{Outcome}
 use Rattle.vplsnet.specs.declared.outcome.Outcome.TheVariants.{Done, Usage, ReadFault, WriteFault, TooLong, ScenarioRefused, NoCircuit, CaptureRefused, ScriptRefused, AuditRefused, Stopped, DecodeRefused, Unfinished, NoMemory}
-use Rattle.vplsnet.specs.Answers.{CallsFor, Completes, Finishes, IsCutShort, IsEndOf, IsJudged, IsMade, IsRefused, IsSoundFile as IsSound, IsSoundOutcome, IsTooLong, IsWholeTaken, MakesAnswer, MakesRun, SaysOutcome, run_text}
+use Rattle.vplsnet.specs.Answers.{CallsFor, Completes, Finishes, IsCutShort, IsEndOf, IsJudged, IsMade, IsRefused, IsSoundFile, IsSoundOutcome, IsTooLong, IsWholeTaken, MakesAnswer, MakesRun, SaysOutcome, run_text}
 use Rattle.vplsnet.specs.Around.{Files, Around, HasWriteFault, IsUntouched, Has, TellsFile}
 use Rattle.vplsnet.specs.Asked.{Asked, Replay, Tables, Capture, Decode, Rehearse, Migrate, Discover, Switchover, Audit}
 use Rattle.vplsnet.specs.Audit.{stop_of}
@@ -343,11 +343,11 @@ reads_on Holds asked before octets next reads is = record {
 
 -- of two readings behind the same files, of which one tells them, the same comes next, or one of them reads on
 followed : (around : Around) (asked : Asked) (before read others : List (List ℕ)) (next other : Next) → AreReadNext (Has around.files) asked before read → IsNextInput asked (before ++ read) next
-    → AreReadNext (IsSound around) asked before others → IsNextInput asked (before ++ others) other → (next ≡ other) ⊎ ReadsOn (IsSound around) next ⊎ ReadsOn (Has around.files) other
+    → AreReadNext (IsSoundFile around) asked before others → IsNextInput asked (before ++ others) other → (next ≡ other) ⊎ ReadsOn (IsSoundFile around) next ⊎ ReadsOn (Has around.files) other
 followed around asked before [] [] next other are is told calls =
     inl (one_next asked before next other (subst (λ (l : List (List ℕ)). IsNextInput asked l next) (append-nil before) is) (subst (λ (l : List (List ℕ)). IsNextInput asked l other) (append-nil before) calls))
 followed around asked before [] (octets ∷ others) next other are is told calls =
-    inr (inl (reads_on (IsSound around) asked before octets next told.0 (subst (λ (l : List (List ℕ)). IsNextInput asked l next) (append-nil before) is)))
+    inr (inl (reads_on (IsSoundFile around) asked before octets next told.0 (subst (λ (l : List (List ℕ)). IsNextInput asked l next) (append-nil before) is)))
 followed around asked before (octets ∷ read) [] next other are is told calls =
     inr (inr (reads_on (Has around.files) asked before octets other are.0 (subst (λ (l : List (List ℕ)). IsNextInput asked l other) (append-nil before) calls)))
 followed around asked before (octets ∷ read) (same ∷ others) next other are is told calls =
@@ -357,12 +357,12 @@ followed around asked before (octets ∷ read) (same ∷ others) next other are 
     let equal : same ≡ octets = same_octets around.files are.0.wanted.name same octets tells are.0.holds in
     followed around asked (before ++ octets ∷ []) read others next other are.1
     (subst (λ (l : List (List ℕ)). IsNextInput asked l next) (sym (append_assoc before (octets ∷ []) read)) is)
-    (subst (λ (o : List ℕ). AreReadNext (IsSound around) asked (before ++ o ∷ []) others) equal told.1)
+    (subst (λ (o : List ℕ). AreReadNext (IsSoundFile around) asked (before ++ o ∷ []) others) equal told.1)
     (subst (λ (l : List (List ℕ)). IsNextInput asked l other) (sym (append_assoc before (octets ∷ []) others)) (subst (λ (o : List ℕ). IsNextInput asked (before ++ o ∷ others) other) equal calls))
 
 -- the reading of an answer, beside that of a sound surrounding
 met : (around : Around) (asked : Asked) (next : Next) (called : Outcome) → ComesTo (Has around.files) asked next → (sound : IsSoundOutcome around asked called) → (next ≡ sound.next)
-    ⊎ ReadsOn (IsSound around) next ⊎ ReadsOn (Has around.files) sound.next
+    ⊎ ReadsOn (IsSoundFile around) next ⊎ ReadsOn (Has around.files) sound.next
 met around asked next called come sound = followed around asked [] come.read sound.come.read next sound.next come.are_read come.is_next sound.come.are_read sound.come.is_next
 
 -- what calls for an outcome does not read on
@@ -398,7 +398,7 @@ unread_never around asked called unread sound = elim (met around asked (Reads un
   | inr more ↦ elim more [
     | inl on ↦ (let both : Reads unread.wanted ≡ Reads on.wanted = on.is in
         let file : unread.wanted ≡ on.wanted = cc (both) in
-        (subst (λ (w : Wanted). IsSound around w.name on.octets) (sym file) on.holds).read unread.cause)
+        (subst (λ (w : Wanted). IsSoundFile around w.name on.octets) (sym file) on.holds).read unread.cause)
     | inr on ↦ called_ends around sound.next called sound.calls on
   ]
 ]
@@ -413,7 +413,7 @@ long_called around asked named limit called long sound = elim (met around asked 
   ]
 ]
   where
-    fits_never : ReadsOn (IsSound around) (Reads (record { name = named; limit = limit })) → ⊥
+    fits_never : ReadsOn (IsSoundFile around) (Reads (record { name = named; limit = limit })) → ⊥
     fits_never on =
         let both : Reads (record { name = named; limit = limit }) ≡ Reads on.wanted = on.is in
         let file : record { name = named; limit = limit } ≡ on.wanted = cc (both) in

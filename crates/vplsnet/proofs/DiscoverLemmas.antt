@@ -15,7 +15,7 @@ use Rattle.command_run.specs.Made.{made_by}
 use Rattle.command_run.proofs.PlannedLemmas.{made_planned}
 use Rattle.command_text.specs.Planned.{IsPlanned, names_of}
 use Rattle.discovery_net.specs.Acts.{Act, Does, Tells, events_in}
-use Rattle.discovery_net.specs.Deeds.{Discovery as DiscoveryState, Hello, adjacency_lives, hello_numbered, octets_of_hello, discovery_opened as opened}
+use Rattle.discovery_net.specs.Deeds.{Discovery as DiscoveryState, Hello, adjacency_lives, hello_numbered, octets_of_hello, discovery_opened}
 use Rattle.discovery_net.specs.Lines.{Lapse, acts_of, after_line, bring_acts, downs, lapses_from, lapses_with, may_open, next_hello}
 use Rattle.discovery_net.specs.Lists.{DiscoveryLists, ended_at}
 use Rattle.discovery_net.specs.Script.{HoldsBehindEach, events_made, script_acts, script_course}
@@ -141,7 +141,8 @@ discovery_run : (plan : Plan) (lines : List ScriptLine) (net : DiscoveryLists) (
     → ended_at net reason ≡ script_course plan lines → ended net.network reason ≡ ran plan (empty_network plan) [] (events_made plan lines) → HoldsBehindEach plan lines
     → IsDiscoveryRun plan lines net.network net.notes reason
 discovery_run plan lines net reason checked are types kept going course ends standing = record {
-  is_run = is_run_over plan (events_made plan lines) net.network reason checked (acts_planned plan (opened plan) lines are) (record { plan_is = kept; going = going; ends = ends; types = types });
+  is_run = is_run_over plan (events_made plan lines) net.network reason checked (acts_planned plan (discovery_opened plan) lines are)
+      (record { plan_is = kept; going = going; ends = ends; types = types });
   course = course;
   standing = standing;
 }

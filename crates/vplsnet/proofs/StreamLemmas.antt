@@ -24,7 +24,7 @@ use Rattle.message_text.specs.Lent.{AddsLines}
 use Rattle.message_text.specs.Line.{decoded_lines}
 use Rattle.net_base.specs.outside.Outside.{Appends}
 use Rattle.net_values.specs.Octets.{AreOctets}
-use Rattle.text_lines.specs.Written.{Written, lines_written as written, WritingGoesOn, IsCut}
+use Rattle.text_lines.specs.Written.{Written, lines_written, WritingGoesOn, IsCut}
 use Rattle.text_lines.proofs.WrittenLemmas.{cut_first, cut_later, cut_text, goes_none, puts_two, whole_text, writes_appends}
 use Rattle.vplsnet.specs.declared.outcome.Outcome.{Outcome}
 use Rattle.vplsnet.specs.declared.outcome.Outcome.TheVariants.{Done, DecodeRefused, NoMemory, Unfinished, WriteFault}
@@ -437,13 +437,13 @@ ends_part whole ending a b c outcome none part (inr failed) =
 
 -- where nothing waited at first: all octets were fed, ..
 pub stream_left : (octets waiting : List ℕ) (taken : Option (List ℕ)) (faults left : ℕ) (b c : Written) (made outcome : Outcome) → AreOctets octets → waiting ≡ []
-    → LeavesSome octets (written taken faults waiting) b left
-    → made ≡ (if left == 0 then Done else Unfinished (length octets - left)) → Flushes made outcome b c → EndsStream octets (written taken faults []) c None outcome
-stream_left octets waiting taken faults left b c made outcome are none leaves is flushes = tells octets (written taken faults []) c outcome are on where
-  on : (whole : List ℕ) (ending : Ending) → IsStreamText octets whole ending → Ends whole ending (written taken faults []) c outcome
+    → LeavesSome octets (lines_written taken faults waiting) b left
+    → made ≡ (if left == 0 then Done else Unfinished (length octets - left)) → Flushes made outcome b c → EndsStream octets (lines_written taken faults []) c None outcome
+stream_left octets waiting taken faults left b c made outcome are none leaves is flushes = tells octets (lines_written taken faults []) c outcome are on where
+  on : (whole : List ℕ) (ending : Ending) → IsStreamText octets whole ending → Ends whole ending (lines_written taken faults []) c outcome
   on whole ending is_text =
-      let all = (subst (λ (w : List ℕ). LeavesSome octets (written taken faults w) b left) none leaves).on whole ending is_text in
-      ends_all whole ending (written taken faults []) b c made outcome refl all.goes
+      let all = (subst (λ (w : List ℕ). LeavesSome octets (lines_written taken faults w) b left) none leaves).on whole ending is_text in
+      ends_all whole ending (lines_written taken faults []) b c made outcome refl all.goes
       (is ∙ (ends_of all.at left (length octets) all.rest all.left_is all.place ∙ ap outcome_of_ending (sym all.ends))) flushes
 
 -- what was put before a fault, or where memory was refused, and then what waited was written
@@ -457,21 +457,22 @@ ends_at fault.NoMemory whole ending a b c outcome none stops flushes = ends_part
 -- .. there was a fault or memory was refused, ..
 pub stream_faulty : (octets waiting : List ℕ) (taken : Option (List ℕ)) (faults : ℕ) (reason : StreamStop) (refusal : StreamFault) (b c : Written) (made outcome : Outcome)
     → AreOctets octets → waiting ≡ []
-    → reason ≡ stop.Fault refusal → StopsIn reason octets (written taken faults waiting) b → made ≡ outcome_at refusal → Flushes made outcome b c
-    → EndsStream octets (written taken faults []) c None outcome
-stream_faulty octets waiting taken faults reason refusal b c made outcome are none names stops is flushes = tells octets (written taken faults []) c outcome are on where
-  on : (whole : List ℕ) (ending : Ending) → IsStreamText octets whole ending → Ends whole ending (written taken faults []) c outcome
+    → reason ≡ stop.Fault refusal → StopsIn reason octets (lines_written taken faults waiting) b → made ≡ outcome_at refusal → Flushes made outcome b c
+    → EndsStream octets (lines_written taken faults []) c None outcome
+stream_faulty octets waiting taken faults reason refusal b c made outcome are none names stops is flushes = tells octets (lines_written taken faults []) c outcome are on where
+  on : (whole : List ℕ) (ending : Ending) → IsStreamText octets whole ending → Ends whole ending (lines_written taken faults []) c outcome
   on whole ending is_text =
-      ends_at refusal whole ending (written taken faults []) b c outcome refl
-      ((subst (λ (r : StreamStop). StopsIn r octets (written taken faults []) b) names (subst (λ (w : List ℕ). StopsIn reason octets (written taken faults w) b) none stops)).on whole ending is_text)
+      ends_at refusal whole ending (lines_written taken faults []) b c outcome refl
+      ((subst (λ (r : StreamStop). StopsIn r octets (lines_written taken faults []) b) names
+      (subst (λ (w : List ℕ). StopsIn reason octets (lines_written taken faults w) b) none stops)).on whole ending is_text)
       (subst (λ (m : Outcome). Flushes m outcome b c) is flushes)
 
 -- .. or the sink failed.
 pub stream_cut : (octets waiting last : List ℕ) (taken now : Option (List ℕ)) (faults later : ℕ) (outcome : Outcome) → AreOctets octets → waiting ≡ []
-    → StopsIn stop.Failed octets (written taken faults waiting) (written now later last)
-    → outcome ≡ WriteFault → EndsStream octets (written taken faults []) (written now later []) None outcome
-stream_cut octets waiting last taken now faults later outcome are none stops is = tells octets (written taken faults []) (written now later []) outcome are on where
-  on : (whole : List ℕ) (ending : Ending) → IsStreamText octets whole ending → Ends whole ending (written taken faults []) (written now later []) outcome
+    → StopsIn stop.Failed octets (lines_written taken faults waiting) (lines_written now later last)
+    → outcome ≡ WriteFault → EndsStream octets (lines_written taken faults []) (lines_written now later []) None outcome
+stream_cut octets waiting last taken now faults later outcome are none stops is = tells octets (lines_written taken faults []) (lines_written now later []) outcome are on where
+  on : (whole : List ℕ) (ending : Ending) → IsStreamText octets whole ending → Ends whole ending (lines_written taken faults []) (lines_written now later []) outcome
   on whole ending is_text =
-      let cut = (subst (λ (w : List ℕ). StopsIn stop.Failed octets (written taken faults w) (written now later last)) none stops).on whole ending is_text in
-      ends_cut whole ending (written taken faults []) (written now later []) outcome refl is (record { front = cut.front; rose = cut.rose })
+      let cut = (subst (λ (w : List ℕ). StopsIn stop.Failed octets (lines_written taken faults w) (lines_written now later last)) none stops).on whole ending is_text in
+      ends_cut whole ending (lines_written taken faults []) (lines_written now later []) outcome refl is (record { front = cut.front; rose = cut.rose })

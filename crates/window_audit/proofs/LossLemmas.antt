@@ -8,7 +8,7 @@ use Rattle.net_base.specs.declared.trace.entry.Entry.{Entry}
 use Rattle.net_base.specs.declared.trace.entry.Entry.TheVariants as entry
 use Rattle.net_base.specs.declared.trace.state_name.StateName.TheVariants as state
 use Rattle.seen_network.specs.Once.{has_seen}
-use Rattle.seen_network.specs.Seen.{Seen, SeenCopy, copy_comes, copy_goes, delivers, end_goes, origin_among, repeats, seen_from, told_by_itself as told, with_copies, with_octets, with_on, with_rest, with_standing, with_up, without_copy, without_edge}
+use Rattle.seen_network.specs.Seen.{Seen, SeenCopy, copy_comes, copy_goes, delivers, end_goes, origin_among, repeats, seen_from, told_by_itself, with_copies, with_octets, with_on, with_rest, with_standing, with_up, without_copy, without_edge}
 use Rattle.seen_state.specs.Copies.{CopyMaps, TellsPackets, origin_under}
 use Rattle.seen_state.specs.SeenState.{Knows}
 use Rattle.seen_state.specs.declared.seen_state.SeenState.{SeenState}
@@ -110,7 +110,7 @@ follows_on a b c state state2 xs ys zs first then = record { knows = then.knows;
 
 -- ---- entry by entry
 
-told_step : (e : Entry) (es : List Entry) (seen : Seen) → HasNoEvent (e ∷ es) → seen_from seen (e ∷ es) ≡ seen_from (told e seen) es
+told_step : (e : Entry) (es : List Entry) (seen : Seen) → HasNoEvent (e ∷ es) → seen_from seen (e ∷ es) ≡ seen_from (told_by_itself e seen) es
 told_step (entry.Did event) es seen bare = absurd bare
 told_step entry.Idle es seen bare = refl
 told_step (entry.Said from to octets) es seen bare = refl
@@ -134,11 +134,11 @@ pub told_first : (seen : Seen) (entries : List Entry) (state : SeenState) (losse
 told_first seen entries state losses knows = record { mid = seen; follows = follows_none seen state losses knows; on = refl }
 
 pub told_more : (seen : Seen) (entries rest : List Entry) (e : Entry) (state state2 : SeenState) (xs ys zs : List ℕ) → HasNoEvent (e ∷ rest)
-    → ((s : Seen) → Knows state s → Follows s (told e s) state2 ys zs)
+    → ((s : Seen) → Knows state s → Follows s (told_by_itself e s) state2 ys zs)
     → IsToldSoFar seen entries (e ∷ rest) state xs ys → IsToldSoFar seen entries rest state2 xs zs
 told_more seen entries rest e state state2 xs ys zs bare step sofar = record {
-  mid = told e sofar.mid;
-  follows = follows_on seen sofar.mid (told e sofar.mid) state state2 xs ys zs sofar.follows (step sofar.mid sofar.follows.knows);
+  mid = told_by_itself e sofar.mid;
+  follows = follows_on seen sofar.mid (told_by_itself e sofar.mid) state state2 xs ys zs sofar.follows (step sofar.mid sofar.follows.knows);
   on = sym (told_step e rest sofar.mid bare) ∙ sofar.on;
 }
 

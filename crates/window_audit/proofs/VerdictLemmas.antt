@@ -3,7 +3,7 @@ use Rattle.std.proofs.Common.{◌≡◌, ◌==◌, ◌<◌, ◌≤◌, ◌+◌, 
 use Rattle.std.proofs.lemmas.Bool.{eqb-true, or_parts}
 use Rattle.std.proofs.lemmas.Bool.Decides.{nat_tests}
 use Rattle.std.specs.List.{list_any}
-use Rattle.hvpls_spokes.specs.PortSet.{holds_port as has}
+use Rattle.hvpls_spokes.specs.PortSet.{holds_port}
 use Rattle.net_base.specs.declared.plan.Plan.{Plan}
 use Rattle.net_base.specs.declared.plan.places.CircuitId.{CircuitId}
 use Rattle.net_base.specs.declared.trace.entry.Entry.{Entry}
@@ -88,7 +88,7 @@ owed_one true = grind (arith, nat_tests)
 owed_one false = grind (arith, nat_tests)
 
 pub differ_not : (plan : Plan) (trace : List Entry) (window : Window) (exits : List (ℕ × Leavings)) (at : List ℕ) → HasExits exits trace
-    → ((c : ℕ) → has at c ≡ has_left (leavings_of exits window.origin) c)
+    → ((c : ℕ) → holds_port at c ≡ has_left (leavings_of exits window.origin) c)
     → DifferAtSites plan window.sites at → IsServed plan trace window → ⊥
 differ_not plan trace window exits at known at_is differ served = differ.differ
     (at_is differ.circuit ∙ (known.at window.origin (record { 0 = differ.circuit })
@@ -96,7 +96,7 @@ differ_not plan trace window exits at known at_is differ served = differ.differ
 
 pub served : (plan : Plan) (trace : List Entry) (window : Window) (exits : List (ℕ × Leavings)) (at : List ℕ) → IsWithinLimits plan → HasExits exits trace
     → is_again (leavings_of exits window.origin) ≡ false → is_far (leavings_of exits window.origin) ≡ false
-    → ((c : ℕ) → has at c ≡ has_left (leavings_of exits window.origin) c) → ((c : ℕ) → c < 512 → has at c ≡ is_owed_at plan window.sites c) → IsServed plan trace window
+    → ((c : ℕ) → holds_port at c ≡ has_left (leavings_of exits window.origin) c) → ((c : ℕ) → c < 512 → holds_port at c ≡ is_owed_at plan window.sites c) → IsServed plan trace window
 served plan trace window exits at limits known once near at_is agree = record {
   once = λ circuit. by circuit (nat_lt circuit.0 512) refl;
   within = all_near window.origin trace (sym (known.far window.origin) ∙ near);
@@ -105,11 +105,11 @@ served plan trace window exits at limits known once near at_is agree = record {
   by circuit true h = one_or_none (times_seen window.origin circuit trace) (known.once window.origin once circuit) (is_owed_at plan window.sites circuit.0)
       (sym (known.at window.origin circuit) ∙ (sym (at_is circuit.0) ∙ agree circuit.0 (let q : circuit.0 < 512 = grind (arith, nat_tests, h) in q)))
   by circuit false h = known.beyond window.origin circuit (let q : 512 ≤ circuit.0 = grind (arith, nat_tests, h) in q)
-      ∙ sym (ap (λ b. cond (b && has window.sites circuit.0) 1 0) (let q : nat_lt circuit.0 (length plan.circuits) ≡ false = grind (arith, nat_tests, h, limits.circuits) in q))
+      ∙ sym (ap (λ b. cond (b && holds_port window.sites circuit.0) 1 0) (let q : nat_lt circuit.0 (length plan.circuits) ≡ false = grind (arith, nat_tests, h, limits.circuits) in q))
 
 pub judged : (plan : Plan) (trace : List Entry) (window : Window) (exits : List (ℕ × Leavings)) (at : List ℕ) (answer : Bool) → IsWithinLimits plan → HasExits exits trace
     → is_again (leavings_of exits window.origin) ≡ false → is_far (leavings_of exits window.origin) ≡ false
-    → ((c : ℕ) → has at c ≡ has_left (leavings_of exits window.origin) c) → AgreeOrDiffer plan window.sites at answer → Judges plan trace window answer
+    → ((c : ℕ) → holds_port at c ≡ has_left (leavings_of exits window.origin) c) → AgreeOrDiffer plan window.sites at answer → Judges plan trace window answer
 judged plan trace window exits at true limits known once near at_is agree = served plan trace window exits at limits known once near at_is agree
 judged plan trace window exits at false limits known once near at_is differ = differ_not plan trace window exits at known at_is differ
 

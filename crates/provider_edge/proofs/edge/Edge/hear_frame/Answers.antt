@@ -2,7 +2,7 @@
 use Rattle.std.proofs.Common.{◌≡◌, ◌<◌, true, length, sym, subst, ◌∙◌, ap}
 use Rattle.net_base.specs.declared.plan.Plan.{Plan}
 use Rattle.hvpls_spokes.specs.Port.{ports_of}
-use Rattle.hvpls_spokes.specs.PortSet.{holds_port as has}
+use Rattle.hvpls_spokes.specs.PortSet.{holds_port}
 use Rattle.edge_model.specs.Frame.{hearing, targets_of}
 use Rattle.edge_model.specs.Synced.{InSync}
 use Rattle.edge_forwarding.specs.Forwarding.{open_ports}
@@ -43,6 +43,6 @@ pub returns-clause-targets : goal.returns-clause-targets
 returns-clause-targets c =
     let v : EdgeLists = the_view c.self.inside in
     let synced : InSync v.plan (seen v) = subst (λ (n : EdgeLists). InSync n.plan (seen n)) (sym c.self.view_is) (c.requires.synced) in
-    subst (λ (n : EdgeLists). has c.hear.result ≡ targets_of n.plan (seen (record v { forwarding = c.hear.new.self })) c.args.service
+    subst (λ (n : EdgeLists). holds_port c.hear.result ≡ targets_of n.plan (seen (record v { forwarding = c.hear.new.self })) c.args.service
     (ports_of n.plan c.args.service n.me) c.args.frame.now c.args.arrival) c.self.view_is
     (heard_targets v c.hear.new.self c.args.service c.args.frame.now c.args.arrival c.hear.result c.self.invariant synced c.hear.ensures.keeps c.hear.ensures.step c.hear.ensures.targets)

@@ -3,7 +3,7 @@ use Rattle.std.proofs.Common.{rules, ◌≡◌, ◌∙◌, Bool, List, true, len
 use Rattle.net_base.specs.declared.plan.Plan.{Plan}
 use Rattle.independent_mode.specs.Receiver.{HoldsBy}
 use Rattle.switchover_model.specs.Network.{is_waiting}
-use Rattle.switchover_net.specs.Net.{SwitchLists as NetLists}
+use Rattle.switchover_net.specs.Net.{SwitchLists}
 use Rattle.octet_pipes.specs.Pipes.{pipes_of}
 use Rattle.switchover_net.specs.Rows.{seen_row}
 use Rattle.switchover_net.proofs.GrowthLemmas.{still_used, was_silent}
@@ -13,16 +13,16 @@ use Rattle.switchover_net.proofs.switch_net.SwitchNet.deliver_one.Goals as goal
 pub returns-then-held-clause-used : goal.returns-then-held-clause-used
 returns-then-held-clause-used c =
     still_used c.args.self.now.row.plan c.args.to.0 c.args.from c.args.self.now c.hear_one.new.self c.in_ok-calls.calls c.held-held.result c.held.result c.hear_one.ensures.going c.in_ok-calls.ensures.row
-    (subst (λ (n : NetLists). HoldsBy c.held-held.result ((seen_row n.row c.args.to.0).connection c.args.from.0)) c.self.view_is c.held-held.ensures)
-    (subst (λ (n : NetLists). HoldsBy c.held.result ((seen_row n.row c.args.to.0).connection c.args.from.0)) c.self-2.view_is c.held.ensures) (omega (arith, c.if-held.true))
+    (subst (λ (n : SwitchLists). HoldsBy c.held-held.result ((seen_row n.row c.args.to.0).connection c.args.from.0)) c.self.view_is c.held-held.ensures)
+    (subst (λ (n : SwitchLists). HoldsBy c.held.result ((seen_row n.row c.args.to.0).connection c.args.from.0)) c.self-2.view_is c.held.ensures) (omega (arith, c.if-held.true))
     c.args.used.now.items c.hear_one.ensures.plan c.requires.used
 
 pub returns-then-held-clause-step : goal.returns-then-held-clause-step
 returns-then-held-clause-step c =
     let waits : is_waiting (pipes_of c.args.self.now.pipes c.args.from.0 c.args.to.0) ≡ true = search rules in
     was_silent c.args.self.now.row.plan c.args.to.0 c.args.from c.args.self.now c.hear_one.new.self c.in_ok-calls.calls c.held-held.result c.held.result c.hear_one.ensures.going c.in_ok-calls.ensures.row
-    (subst (λ (n : NetLists). HoldsBy c.held-held.result ((seen_row n.row c.args.to.0).connection c.args.from.0)) c.self.view_is c.held-held.ensures)
-    (subst (λ (n : NetLists). HoldsBy c.held.result ((seen_row n.row c.args.to.0).connection c.args.from.0)) c.self-2.view_is c.held.ensures) (omega (arith, c.if-held.true))
+    (subst (λ (n : SwitchLists). HoldsBy c.held-held.result ((seen_row n.row c.args.to.0).connection c.args.from.0)) c.self.view_is c.held-held.ensures)
+    (subst (λ (n : SwitchLists). HoldsBy c.held.result ((seen_row n.row c.args.to.0).connection c.args.from.0)) c.self-2.view_is c.held.ensures) (omega (arith, c.if-held.true))
     c.args.out.now waits c.hear_one.ensures.pipes
 
 pub tell-requires-clause-before : goal.tell-requires-clause-before
