@@ -12,6 +12,7 @@ pub mod LinkLemmas
 pub mod NetworkLemmas
 pub mod PacketLemmas
 pub mod PairLemmas
+pub mod RingLemmas
 pub mod RunLemmas
 pub mod TellingLemmas
 pub mod TickLemmas

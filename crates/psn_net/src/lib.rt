@@ -1,6 +1,7 @@
 //! The network of a run: edges, what is on its way between them, and the trace.
 #![tactic(auto)]
 
+mod by_number;
 mod call;
 mod call_log;
 mod carried;
@@ -12,6 +13,7 @@ mod packets;
 mod pair_index;
 mod parts;
 mod psn_link;
+mod ring;
 mod sending;
 mod shared_plan;
 mod trail;

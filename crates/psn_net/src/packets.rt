@@ -5,13 +5,14 @@ ghost use Rattle.network_model.specs.State.{all_older, without_number};
 ghost use Rattle.std.specs.BTreeMap.{is_at};
 ghost use Rattle.psn_net.specs.Packets.{has_sending, is_aged, is_numbered, number_of, kept_packet, sending_order, with_copy_of, without_aged};
 
+use crate::by_number::ByNumber;
 use crate::carried::Carried;
 use crate::departure::Departure;
 use crate::sending::Sending;
 use net_base::NoMemory;
 use network_model::Packet;
 use std::alloc::Global;
-use std::collections::{BTreeMap, BTreeSet};
+use std::collections::BTreeSet;
 use std::marker::Model;
 
 /// A packet lives fewer ticks than this.
@@ -23,9 +24,8 @@ const LIFE: u64 = 64;
 /// Contracts see the packets by rising number.
 #[derive(Drop)]
 pub struct Packets {
-    by_number: BTreeMap<u64, Carried>,
+    by_number: ByNumber,
     older: BTreeSet<Sending>,
-    last: u64,
     ticks: u64,
 }
 
@@ -34,9 +34,9 @@ impl Model for Packets {
 
     ghost Value = { UnderWay };
 
-    ghost view = { λ p. record { list = packets_of p.ticks p.by_number.entries; last = p.last; ticks = p.ticks } };
+    ghost view = { λ p. record { list = packets_of p.ticks p.by_number.entries; last = p.by_number.last; ticks = p.ticks } };
 
-    ghost invariant = { λ p. ArePacketsKept p.ticks p.last p.by_number.entries × IsIndex p.by_number.entries p.older.keys };
+    ghost invariant = { λ p. ArePacketsKept p.ticks p.by_number.last p.by_number.entries × IsIndex p.by_number.entries p.older.keys };
 }
 
 impl Packets {
@@ -46,9 +46,8 @@ impl Packets {
         ensures { result ≡ record { list = []; last = 0; ticks = 0 } }
     {
         Packets {
-            by_number: BTreeMap::new(alloc),
+            by_number: ByNumber::new(alloc),
             older: BTreeSet::new(alloc),
-            last: 0,
             ticks: 0,
         }
     }
@@ -65,7 +64,7 @@ impl Packets {
     pub fn last(&self) -> u64
         ensures { result ≡ self.now.last }
     {
-        self.last
+        self.by_number.last()
     }
 
     /// The number of the packet under way with the lowest number.
@@ -73,8 +72,8 @@ impl Packets {
     pub fn first(&self) -> Option<u64>
         ensures { result ≡ option_map number_of (slice_get self.now.list 0) }
     {
-        match self.by_number.first_key_value() {
-            Some((number, _)) => Some(*number),
+        match self.by_number.first() {
+            Some((number, _)) => Some(number),
             None => None,
         }
     }
@@ -85,7 +84,7 @@ impl Packets {
         ensures packet { result ≡ find (is_numbered number) self.old.list }
         ensures rest { self.new ≡ record self.old { list = without_number number self.old.list } }
     {
-        let Some(carried) = self.by_number.remove(&number) else {
+        let Some(carried) = self.by_number.remove(number) else {
             return None;
         };
         self.older.remove(&Sending {
@@ -102,11 +101,11 @@ impl Packets {
     {
         // Asked so that what always holds of it is at hand for the proof.
         let _count = self.by_number.len();
-        let Some((number, first)) = self.by_number.first_key_value() else {
+        let Some((number, first)) = self.by_number.first() else {
             return None;
         };
         if self.ticks - first.since + 1 >= LIFE {
-            return Some(*number);
+            return Some(number);
         }
         let Some(copy) = self.older.first() else {
             return None;
@@ -156,12 +155,12 @@ impl Packets {
         ensures number { IfOk result (λ copy. copy ≡ option_map (λ packet. self.old.last + 1) (find (is_numbered number) self.old.list)) }
         ensures ok { OnOk result (self.new ≡ with_copy_of (find (is_numbered number) self.old.list) self.old) }
     {
-        let Some(carried) = self.by_number.get(&number) else {
+        let Some(carried) = self.by_number.get(number) else {
             return Ok(None);
         };
         let copy = carried.copy(alloc)?;
         self.put(copy)?;
-        Ok(Some(self.last))
+        Ok(Some(self.by_number.last()))
     }
 
     // One more packet is under way, under the next number.
@@ -175,17 +174,13 @@ impl Packets {
           last = self.old.last + 1;
         }) }
     {
-        let number = self.last + 1;
         let sending = Sending {
             since: carried.since,
-            number,
+            number: self.by_number.last() + 1,
         };
         mark_older(&mut self.older, sending, self.ticks)?;
-        match self.by_number.insert(number, carried) {
-            Ok(_) => {
-                self.last = number;
-                Ok(())
-            }
+        match self.by_number.push(carried) {
+            Ok(()) => Ok(()),
             Err(_) => {
                 self.older.remove(&sending);
                 Err(NoMemory)
