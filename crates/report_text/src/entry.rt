@@ -1,15 +1,15 @@
 //! The line of an entry.
-ghost use Rattle.std.specs.Prelude.{◌≡◌, ◌∷◌, [], map};
+ghost use Rattle.std.specs.Prelude.{◌≡◌, ◌∷◌, [], codes, map};
 ghost use Rattle.std.specs.Fmt.{decimal};
 ghost use Rattle.report_text.specs.Report.{entry_line};
-ghost use Rattle.report_text.specs.Words.{cause_name, circuit_name, edge_name, state_name, wire_end_name, wire_name};
-ghost use Rattle.text_lines.specs.Lines.{word_octets};
+ghost use Rattle.report_text.specs.Words.{cause_name, edge_name, state_name, wire_end_name, wire_name};
+ghost use Rattle.text_lines.specs.Lines.{line_of, word_octets};
 ghost use Rattle.text_lines.specs.Written.{PutsOn};
 ghost use Rattle.text_pieces.specs.Pieces.{hex};
 
 use crate::event::put_event;
 use crate::names::{
-    arrival_word, cause_text, circuit_word, edge_word, state_text, wire_end_text, wire_word,
+    arrival_word, cause_text, circuit_text, edge_word, state_text, wire_end_text, wire_word,
 };
 use net_base::{CircuitId, Down, DropCause, EdgeId, Entry, Failed, Plan, Sink, StateName, WireId};
 use text_lines::{LineWord, Page};
@@ -25,33 +25,38 @@ fn said<'a>(plan: &'a Plan, from: EdgeId, to: EdgeId, octets: &'a [u8]) -> [Line
     ]
 }
 
-// A frame that entered.
-fn entered<'a>(plan: &'a Plan, at: CircuitId, number: u64, octets: &'a [u8]) -> [LineWord<'a>; 3]
-    ensures { map word_octets result ≡ circuit_name plan.now at ∷ decimal number ∷ hex octets.now ∷ [] }
+// Puts the line of a frame that entered.
+fn put_entered<K: Sink>(
+    page: &mut Page,
+    sink: &mut K,
+    circuit: &[u8],
+    number: u64,
+    octets: &[u8],
+) -> Result<(), Failed>
+    ensures { PutsOn K.taken K.faults page.old page.new sink.old sink.new result (line_of (codes "in" ∷ circuit.now ∷ decimal number ∷ hex octets.now ∷ [])) }
 {
-    [
-        circuit_word(plan, at),
-        LineWord::Number(number),
-        LineWord::Hex(octets),
-    ]
+    page.put(sink, b"in")?;
+    page.put_next(sink, LineWord::Text(circuit))?;
+    page.put_next(sink, LineWord::Number(number))?;
+    page.put_last(sink, LineWord::Hex(octets))
 }
 
-// A frame that left.
-fn left<'a>(
-    plan: &'a Plan,
-    at: CircuitId,
+// Puts the line of a frame that left.
+fn put_left<K: Sink>(
+    page: &mut Page,
+    sink: &mut K,
+    circuit: &[u8],
     origin: u64,
     hops: u64,
-    octets: &'a [u8],
-) -> [LineWord<'a>; 4]
-    ensures { map word_octets result ≡ circuit_name plan.now at ∷ decimal origin ∷ decimal hops ∷ hex octets.now ∷ [] }
+    octets: &[u8],
+) -> Result<(), Failed>
+    ensures { PutsOn K.taken K.faults page.old page.new sink.old sink.new result (line_of (codes "left" ∷ circuit.now ∷ decimal origin ∷ decimal hops ∷ hex octets.now ∷ [])) }
 {
-    [
-        circuit_word(plan, at),
-        LineWord::Number(origin),
-        LineWord::Number(hops),
-        LineWord::Hex(octets),
-    ]
+    page.put(sink, b"left")?;
+    page.put_next(sink, LineWord::Text(circuit))?;
+    page.put_next(sink, LineWord::Number(origin))?;
+    page.put_next(sink, LineWord::Number(hops))?;
+    page.put_last(sink, LineWord::Hex(octets))
 }
 
 // A packet that came a second time.
@@ -107,8 +112,8 @@ fn pong(plan: &Plan, at: EdgeId, of: WireId, sequence: u16) -> [LineWord<'_>; 3]
 
 /// Puts the line of an entry, in the words of the plan. A place outside the plan is written as the empty text.
 ///
-/// Events and frames come first, since a long trace has little else: the words of a line lie on the stack, and room for those of every
-/// kind would be made clear for each line.
+/// Events and frames come first, since a long trace has little else, and their words are put one by one: those of the other kinds lie on
+/// the stack, and room for all of them would be made clear for each line.
 pub fn put_entry<'a, K: Sink>(
     page: &mut Page,
     sink: &mut K,
@@ -123,21 +128,19 @@ pub fn put_entry<'a, K: Sink>(
             circuit,
             number,
             ref bytes,
-        } => page.put_line(
-            sink,
-            b"in",
-            &entered(plan, circuit, number, bytes.as_slice()),
-        ),
+        } => {
+            let circuit = circuit_text(plan, circuit);
+            put_entered(page, sink, circuit, number, bytes.as_slice())
+        }
         Entry::Left {
             circuit,
             origin,
             hops,
             ref bytes,
-        } => page.put_line(
-            sink,
-            b"left",
-            &left(plan, circuit, origin, hops, bytes.as_slice()),
-        ),
+        } => {
+            let circuit = circuit_text(plan, circuit);
+            put_left(page, sink, circuit, origin, hops, bytes.as_slice())
+        }
         _ => put_any_entry(page, sink, plan, entry),
     }
 }
@@ -164,11 +167,10 @@ fn put_any_entry<'a, K: Sink>(
             circuit,
             number,
             ref bytes,
-        } => page.put_line(
-            sink,
-            b"in",
-            &entered(plan, circuit, number, bytes.as_slice()),
-        ),
+        } => {
+            let circuit = circuit_text(plan, circuit);
+            put_entered(page, sink, circuit, number, bytes.as_slice())
+        }
         Entry::Sent {
             packet,
             from,
@@ -199,11 +201,10 @@ fn put_any_entry<'a, K: Sink>(
             origin,
             hops,
             ref bytes,
-        } => page.put_line(
-            sink,
-            b"left",
-            &left(plan, circuit, origin, hops, bytes.as_slice()),
-        ),
+        } => {
+            let circuit = circuit_text(plan, circuit);
+            put_left(page, sink, circuit, origin, hops, bytes.as_slice())
+        }
         Entry::Dropped {
             edge,
             origin,

@@ -1,14 +1,17 @@
 //! The line of an event that was done.
-ghost use Rattle.std.specs.Prelude.{◌≡◌, ◌∷◌, codes};
+ghost use Rattle.std.specs.Prelude.{◌≡◌, ◌∷◌, [], codes};
+ghost use Rattle.std.specs.Fmt.{decimal};
 ghost use Rattle.report_text.specs.Words.{event_words};
 ghost use Rattle.text_lines.specs.Lines.{line_of};
 ghost use Rattle.text_lines.specs.Written.{PutsOn};
+ghost use Rattle.text_pieces.specs.Pieces.{hex};
 
-use crate::event_words::{site, words_of_event};
+use crate::event_words::words_of_event;
+use crate::names::circuit_text;
 use net_base::{Event, Failed, Plan, Sink};
 use text_lines::{LineWord, Page};
 
-/// Puts the line of an event that was done: its words behind a pointed bracket. Frames come first, as in `put_entry`.
+/// Puts the line of an event that was done: its words behind a pointed bracket. Frames and packets that arrive come first, as in `put_entry`.
 pub fn put_event<K: Sink>(
     page: &mut Page,
     sink: &mut K,
@@ -19,11 +22,34 @@ pub fn put_event<K: Sink>(
 {
     match *event {
         Event::Frame { circuit, ref bytes } => {
-            let octets = LineWord::Hex(bytes.as_slice());
-            page.put_line(sink, b">", &site(plan, b"frame", circuit, octets))
+            let circuit = circuit_text(plan, circuit);
+            put_frame(page, sink, circuit, bytes.as_slice())
         }
+        Event::Arrive { packet } => put_arrival(page, sink, packet),
         _ => put_any_event(page, sink, plan, event),
     }
+}
+
+// Puts the line of a frame that came.
+fn put_frame<K: Sink>(
+    page: &mut Page,
+    sink: &mut K,
+    circuit: &[u8],
+    octets: &[u8],
+) -> Result<(), Failed>
+    ensures { PutsOn K.taken K.faults page.old page.new sink.old sink.new result (line_of (codes ">" ∷ codes "frame" ∷ circuit.now ∷ hex octets.now ∷ [])) }
+{
+    page.put(sink, b"> frame")?;
+    page.put_next(sink, LineWord::Text(circuit))?;
+    page.put_last(sink, LineWord::Hex(octets))
+}
+
+// Puts the line of a packet that arrived.
+fn put_arrival<K: Sink>(page: &mut Page, sink: &mut K, packet: u64) -> Result<(), Failed>
+    ensures { PutsOn K.taken K.faults page.old page.new sink.old sink.new result (line_of (codes ">" ∷ codes "arrive" ∷ decimal packet ∷ [])) }
+{
+    page.put(sink, b"> arrive")?;
+    page.put_last(sink, LineWord::Number(packet))
 }
 
 // Puts the line of an event of any kind.

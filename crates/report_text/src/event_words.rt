@@ -118,12 +118,7 @@ fn end<'a>(
 }
 
 // An event's name, a circuit, and a word.
-pub(crate) fn site<'a>(
-    plan: &'a Plan,
-    name: &'a [u8],
-    at: CircuitId,
-    word: LineWord<'a>,
-) -> [LineWord<'a>; 3]
+fn site<'a>(plan: &'a Plan, name: &'a [u8], at: CircuitId, word: LineWord<'a>) -> [LineWord<'a>; 3]
     ensures { map word_octets result ≡ name.now ∷ circuit_name plan.now at ∷ word_octets word.entry ∷ [] }
 {
     [LineWord::Text(name), circuit_word(plan, at), word]

@@ -17,13 +17,20 @@ pub fn edge_word(plan: &Plan, edge: EdgeId) -> LineWord<'_>
 }
 
 /// The name of a circuit; empty outside the plan.
+pub fn circuit_text(plan: &Plan, circuit: CircuitId) -> &[u8]
+    ensures { result.now ≡ circuit_name plan.now circuit }
+{
+    match plan.circuits.get(circuit.0 as usize) {
+        Some(row) => row.name.as_slice(),
+        None => &[],
+    }
+}
+
+/// The name of a circuit as a word.
 pub fn circuit_word(plan: &Plan, circuit: CircuitId) -> LineWord<'_>
     ensures { word_octets result ≡ circuit_name plan.now circuit }
 {
-    match plan.circuits.get(circuit.0 as usize) {
-        Some(row) => LineWord::Text(row.name.as_slice()),
-        None => LineWord::Text(&[]),
-    }
+    LineWord::Text(circuit_text(plan, circuit))
 }
 
 /// The name of a wire; empty outside the plan.

@@ -1,13 +1,13 @@
 //! Pages.
-ghost use Rattle.std.specs.Prelude.{◌≡◌, ◌<◌, ◌≤◌, ◌+◌, ◌*◌, ◌++◌, ◌∷◌, [], length, take, map, IfOk, OnOk, OnErr};
+ghost use Rattle.std.specs.Prelude.{◌≡◌, ◌<◌, ◌≤◌, ◌+◌, ◌*◌, ◌++◌, ◌∷◌, [], codes, length, take, map, IfOk, OnOk, OnErr};
 ghost use Rattle.std.specs.Fmt.{decimal};
 ghost use Rattle.text_pieces.specs.Pieces.{hex, spaced};
-ghost use Rattle.text_lines.specs.Lines.{line_of, word_octets};
+ghost use Rattle.text_lines.specs.Lines.{line_end, line_of, word_octets};
 ghost use Rattle.text_lines.specs.Written.{lines_written, IsCut, Moves, PutsOn, Writes};
 
 use crate::line_word::LineWord;
 use crate::whole::write_text;
-use itoa::Buffer;
+use itoa::write_digits as write_number;
 use net_base::{Failed, NoMemory, Sink};
 use std::alloc::Global;
 use std::marker::Model;
@@ -18,6 +18,15 @@ const ROOM: usize = 65_536;
 
 /// The most octets that are turned into hexadecimal at once.
 const PIECE: usize = 64;
+
+/// Numbers of up to eight digits are below this.
+const SHORT: u64 = 100_000_000;
+
+/// The most digits that such a number has.
+const EIGHT: usize = 8;
+
+/// The most digits that any number has.
+const MOST: usize = 20;
 
 /// Octets that wait until there are many of them, and are then written to a sink at once. Contracts see it as the list of these octets.
 ///
@@ -186,7 +195,22 @@ impl Page {
         Ok(())
     }
 
-    // Puts a number in decimal. Most numbers of a report have one digit.
+    // Lets a number of at most eight digits wait. Eight octets are laid down, the digits in front, and those behind them are laid over
+    // by what comes next: a count of octets that is always the same is copied without a call.
+    #[inline(always)]
+    fn wait_number(&mut self, number: u64)
+        requires short { number < 100000000 }
+        requires room { length self.old + 8 ≤ 65536 }
+        ensures { self.new ≡ self.old ++ decimal number }
+    {
+        let mut digits = [0u8; 2 * EIGHT];
+        let begin = write_number(number, &mut digits, EIGHT);
+        self.wait(&digits[begin..begin + EIGHT]);
+        self.len -= begin;
+    }
+
+    // Puts a number in decimal. Most numbers of a report have one digit, which is put without a call.
+    #[inline(always)]
     #[tactic(auto, using(std::proofs::lemmas::Fmt::decimal_digit))]
     fn put_number<K: Sink>(&mut self, sink: &mut K, number: u64) -> Result<(), Failed>
         ensures { PutsOn K.taken K.faults self.old self.new sink.old sink.new result (decimal number) }
@@ -194,11 +218,34 @@ impl Page {
         if number < 10 {
             return self.put_octet(sink, b'0' + number as u8);
         }
-        let mut buffer = Buffer::new();
-        self.put(sink, buffer.format(number).as_bytes())
+        self.put_digits(sink, number)
+    }
+
+    // Puts the digits of a number, however many.
+    #[inline(never)]
+    fn put_digits<K: Sink>(&mut self, sink: &mut K, number: u64) -> Result<(), Failed>
+        ensures { PutsOn K.taken K.faults self.old self.new sink.old sink.new result (decimal number) }
+    {
+        if number < SHORT && self.len <= ROOM - EIGHT {
+            self.wait_number(number);
+            return Ok(());
+        }
+        self.put_long(sink, number)
+    }
+
+    // Puts a number of any length, where there may be no room for it.
+    #[cold]
+    #[inline(never)]
+    fn put_long<K: Sink>(&mut self, sink: &mut K, number: u64) -> Result<(), Failed>
+        ensures { PutsOn K.taken K.faults self.old self.new sink.old sink.new result (decimal number) }
+    {
+        let mut digits = [0u8; MOST];
+        let begin = write_number(number, &mut digits, MOST);
+        self.put(sink, &digits[begin..])
     }
 
     // Puts a word.
+    #[inline(always)]
     #[tactic(auto, using(crate::proofs::WrittenLemmas::puts_two, crate::proofs::WrittenLemmas::cut_first))]
     fn put_word<K: Sink>(&mut self, sink: &mut K, word: LineWord<'_>) -> Result<(), Failed>
         ensures { PutsOn K.taken K.faults self.old self.new sink.old sink.new result (word_octets word.entry) }
@@ -218,13 +265,35 @@ impl Page {
         }
     }
 
+    /// Puts a blank and a word. Where the kind of the word is known, nothing asks for it: so the lines of which a report has most are put
+    /// word by word.
+    #[inline(always)]
+    pub fn put_next<K: Sink>(&mut self, sink: &mut K, word: LineWord<'_>) -> Result<(), Failed>
+        ensures { PutsOn K.taken K.faults self.old self.new sink.old sink.new result (codes " " ++ word_octets word.entry) }
+    {
+        match self.put_octet(sink, b' ') {
+            Ok(()) => self.put_word(sink, word),
+            Err(fault) => Err(fault),
+        }
+    }
+
+    /// Puts a blank, the last word of a line, and the line's end.
+    #[inline(always)]
+    pub fn put_last<K: Sink>(&mut self, sink: &mut K, word: LineWord<'_>) -> Result<(), Failed>
+        ensures { PutsOn K.taken K.faults self.old self.new sink.old sink.new result (line_end (word_octets word.entry ∷ [])) }
+    {
+        match self.put_next(sink, word) {
+            Ok(()) => self.put_octet(sink, b'\n'),
+            Err(fault) => Err(fault),
+        }
+    }
+
     // Puts words with a blank before each.
     fn put_words<K: Sink>(&mut self, sink: &mut K, words: &[LineWord<'_>]) -> Result<(), Failed>
         ensures { PutsOn K.taken K.faults self.old self.new sink.old sink.new result (spaced (map word_octets words.now)) }
     {
         for word in words {
-            self.put_octet(sink, b' ')?;
-            self.put_word(sink, *word)?;
+            self.put_next(sink, *word)?;
         }
         Ok(())
     }
